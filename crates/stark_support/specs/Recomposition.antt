@@ -1,0 +1,25 @@
+-- The quotient that chunks on disjoint cosets of one subgroup recompose to.
+use Rattle.std.specs.Prelude.{ℕ, List, [], ◌∷◌, ◌++◌}
+use Rattle.stark_support.specs.Ring.{RingOps}
+use Rattle.stark_support.specs.Coset.{coset_vanishing}
+use Rattle.stark_support.specs.Extension.{basis_sum}
+
+-- The product of Z_o(x) / Z_o(s) over the cosets with the shifts in a list.
+abbrev pub lagrange_factor : {K : Type 0} {E : Type 0} → RingOps K → RingOps E → (K → E) → (K → K) → ℕ → List K → K → E → E
+lagrange_factor field ring constant inverse n [] s x = ring.one
+lagrange_factor field ring constant inverse n (o ∷ others) s x =
+    ring.mul (ring.mul (coset_vanishing ring constant inverse n o x) (constant (inverse (coset_vanishing field (λ c. c) inverse n o s))))
+    (lagrange_factor field ring constant inverse n others s x)
+
+-- What the chunks from some place on give; `before` are the shifts up to there.
+abbrev pub recomposition_from : {K : Type 0} {E : Type 0} → RingOps K → RingOps E → (K → E) → (K → K) → ℕ → List K → List K → List K → List (List E) → E → E
+recomposition_from field ring constant inverse n basis before [] chunks x = ring.zero
+recomposition_from field ring constant inverse n basis before (s ∷ after) [] x = ring.zero
+recomposition_from field ring constant inverse n basis before (s ∷ after) (q ∷ qs) x =
+    ring.add (ring.mul (lagrange_factor field ring constant inverse n (before ++ after) s x) (basis_sum ring constant basis q))
+    (recomposition_from field ring constant inverse n basis (before ++ (s ∷ [])) after qs x)
+
+-- The sum over i of L_i(x) times the value of chunk i, on the cosets of n points with these shifts: L_i is the product
+-- over the other cosets of Z_j(x) / Z_j(first point of coset i), and one where there is no other.
+abbrev pub recomposition : {K : Type 0} {E : Type 0} → RingOps K → RingOps E → (K → E) → (K → K) → ℕ → List K → List K → List (List E) → E → E
+recomposition field ring constant inverse n basis shifts chunks x = recomposition_from field ring constant inverse n basis [] shifts chunks x

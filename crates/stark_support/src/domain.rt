@@ -1,0 +1,82 @@
+//! Domains of rows: cosets of the groups of roots of one.
+ghost use Rattle.std.specs.Prelude.{◌≡◌, ◌≢◌, ◌↔◌, ℕ, ◌^◌, ◌<◌, ◌≤◌, map, IfOk, IfSome, IsNone};
+ghost use Rattle.std.specs.Int.{IsPowerOfTwo};
+ghost use Rattle.stark_support.specs.Ring.{difference};
+ghost use Rattle.stark_support.specs.Coset.{TwoAdicCoset, IsTwoAdicCoset, AreDisjoint, AreParts, coset_size, coset_vanishing, subgroup_vanishing};
+ghost use Rattle.stark_support.specs.Logarithm.{IsCeilingOfLog};
+ghost use Rattle.stark_support.specs.Selectors.{first_row_selector, last_row_selector, transition_selector};
+ghost use Rattle.stark_support.specs.Subgroup.{subgroup_of};
+
+use crate::field::{ExtensionField, Field, TwoAdicField};
+use std::alloc::{AllocError, Global};
+
+/// The size of a domain, and what its transition selector adds to a degree.
+pub trait DomainShape {
+    ghost size_of: { Self → ℕ };
+
+    ghost transition_multiple: { Self → ℕ };
+
+    /// How many points the domain has.
+    fn size(&self) -> usize
+        ensures { result ≡ size_of self.now };
+
+    /// The degree of the transition selector, in multiples of the domain's size.
+    fn transition_degree_multiple(&self) -> usize
+        ensures { result ≡ transition_multiple self.now };
+}
+
+/// The values of a domain's row selectors at one point, not normalised.
+#[derive(Clone, Copy, Debug)]
+pub struct LagrangeSelectors<T> {
+    pub is_first_row: T,
+    pub is_last_row: T,
+    pub is_transition: T,
+    pub inv_vanishing: T,
+}
+
+/// A domain: the points `s * g^i` in row order, with `g` the field's `two_adic_generator` of the size's logarithm.
+pub trait PolynomialSpace: DomainShape + Copy {
+    type Val: TwoAdicField;
+
+    /// The coset that the domain is.
+    ghost coset_of: { Self → TwoAdicCoset Self.Val };
+
+    /// The point of row 0.
+    fn first_point(&self) -> Self::Val
+        ensures { result ≡ (coset_of self.now).shift };
+
+    /// The domain with the shift `s * GENERATOR` and the least power of two from `min_size` on as its size; it has no
+    /// point in common with this one. None exactly where the field has no group of that size.
+    fn try_create_disjoint_domain(&self, min_size: usize) -> Option<Self>
+        ensures shift { IfSome result (λ d. (coset_of d).shift ≡ Self.Val.ring.mul (coset_of self.now).shift Self.Val.GENERATOR) }
+        ensures size { IfSome result (λ d. IsCeilingOfLog (coset_of d).log_size min_size) }
+        ensures disjoint { IfSome result (λ d. AreDisjoint Self.Val.ring Self.Val.root (coset_of self.now) (coset_of d)) }
+        ensures none { IsNone result ↔ (2 ^ Self.Val.TWO_ADICITY < min_size) };
+
+    /// The `num_chunks` parts with the shifts `s * g^i`; row `r` lies in part `r mod num_chunks`.
+    fn split_domains(&self, alloc: Global, num_chunks: usize) -> Result<Vec<Self>, AllocError>
+        requires power { IsPowerOfTwo num_chunks }
+        requires within { num_chunks ≤ coset_size (coset_of self.now) }
+        ensures { IfOk result (λ parts. (log_parts : ℕ) → 2 ^ log_parts ≡ num_chunks
+            → AreParts Self.Val.ring Self.Val.root (coset_of self.now) log_parts (map coset_of parts.items)) };
+
+    /// `(x/s)^K - 1`, for the size `K`.
+    fn vanishing_poly_at_point<EF: ExtensionField<Self::Val>>(&self, point: EF) -> EF
+        ensures { result ≡ coset_vanishing EF.ring (λ c. c) EF.inverse_of (coset_size (coset_of self.now)) (EF.embed (coset_of self.now).shift) point };
+
+    /// The selectors of a subgroup at a point outside it.
+    fn selectors_at_point<EF: ExtensionField<Self::Val>>(&self, point: EF) -> LagrangeSelectors<EF>
+        requires subgroup { (coset_of self.now).shift ≡ Self.Val.ring.one }
+        requires outside { subgroup_vanishing EF.ring (coset_size (coset_of self.now)) point ≢ EF.ring.zero }
+        ensures first_row { result.is_first_row ≡ first_row_selector EF.ring (λ c. c) (subgroup_of EF.inverse_of EF.embed Self.Val.root (coset_of self.now)) point }
+        ensures last_row { result.is_last_row ≡ last_row_selector EF.ring (λ c. c) (subgroup_of EF.inverse_of EF.embed Self.Val.root (coset_of self.now)) point }
+        ensures transition { result.is_transition ≡ transition_selector EF.ring (λ c. c) (subgroup_of EF.inverse_of EF.embed Self.Val.root (coset_of self.now)) point }
+        ensures inv_vanishing { result.inv_vanishing ≡ EF.inverse_of (subgroup_vanishing EF.ring (coset_size (coset_of self.now)) point) };
+
+    /// Each domain has a group of the field and a shift that isn't zero.
+    ghost lawful: { (domain : Self) → IsTwoAdicCoset Self.Val.ring Self.Val.TWO_ADICITY (coset_of domain) };
+
+    ghost size_is: { (domain : Self) → Self.size_of domain ≡ coset_size (coset_of domain) };
+
+    ghost transition_adds_nothing: { (domain : Self) → Self.transition_multiple domain ≡ 0 };
+}

@@ -1,0 +1,204 @@
+//! Fields, and the algebras over them, with their laws.
+ghost use Rattle.std.specs.Prelude.{◌≡◌, ◌≢◌, ◌<◌, ◌≤◌, ℕ, true, List, map, Option, Some, None, length};
+ghost use Rattle.std.specs.List.{slice_get};
+ghost use Rattle.stark_support.specs.Ring.{RingOps, FieldLaws, IsQuarticConstant, difference};
+ghost use Rattle.stark_support.specs.Operations.{Operations, ring_operations};
+ghost use Rattle.stark_support.specs.Embedding.{IsEmbedding};
+ghost use Rattle.stark_support.specs.Extension.{IsBasis, basis_sum};
+ghost use Rattle.stark_support.specs.TwoAdic.{TwoAdicLaws};
+
+use std::ops::{Add, Mul, Neg, Sub};
+
+/// What a list of constraints needs of the elements of a field. It has no operator, so that a builder may name it by
+/// an equality of types.
+pub trait Element: Copy {
+    ghost ONE: { Self };
+
+    const ONE: Self;
+}
+
+/// Expressions over the elements of `F`: the elements of a field over `F`, packed values, trees of symbols.
+/// An expression may stand for a value without being it, as one that says that memory was refused.
+pub trait Algebra<F>:
+    From<F>
+    + Add<Self, Output = Self>
+    + Sub<Self, Output = Self>
+    + Mul<Self, Output = Self>
+    + Neg<Output = Self>
+    + Drop
+{
+    /// What the operators compute where no memory is refused.
+    ghost operations: { Operations F Self };
+
+    /// The second stands for the value that is the first.
+    ghost stands: { Self → Self → Type 0 };
+
+    /// A second copy.
+    fn dup(&self) -> Self
+        ensures { (v : Self) → stands v self.now → stands v result };
+
+    ghost may_add: { (x y : Self) → Self.can_add x y };
+
+    ghost may_sub: { (x y : Self) → Self.can_sub x y };
+
+    ghost may_mul: { (x y : Self) → Self.can_mul x y };
+
+    ghost may_neg: { (x : Self) → Self.can_neg x };
+
+    ghost stands_itself: { (x : Self) → stands x x };
+
+    ghost embed_stands: { (k : F) (x : Self) → Self.from_gives k x → stands (operations.embed k) x };
+
+    ghost plus_stands: { (x y z v w : Self) → Self.add_gives x y z → stands v x → stands w y → stands (operations.plus v w) z };
+
+    ghost minus_stands: { (x y z v w : Self) → Self.sub_gives x y z → stands v x → stands w y → stands (operations.minus v w) z };
+
+    ghost times_stands: { (x y z v w : Self) → Self.mul_gives x y z → stands v x → stands w y → stands (operations.times v w) z };
+
+    ghost negated_stands: { (x z v : Self) → Self.neg_gives x z → stands v x → stands (operations.negated v) z };
+}
+
+/// A field, which is an algebra over itself.
+pub trait Field: Element + Eq + Default + Algebra<Self> {
+    /// The operations, as functions of the values.
+    ghost ring: { RingOps Self };
+
+    /// What `inverse` gives.
+    ghost inverse_of: { Self → Self };
+
+    /// Holds of the elements.
+    ghost is_element: { Self → Type 0 };
+
+    ghost ZERO: { Self };
+
+    ghost GENERATOR: { Self };
+
+    const ZERO: Self;
+
+    const GENERATOR: Self;
+
+    /// A value of the type is an element.
+    fn known_element(self)
+        ensures { is_element self };
+
+    fn inverse(self) -> Self
+        requires { self ≢ ring.zero }
+        ensures { result ≡ inverse_of self };
+
+    /// The axioms of a field.
+    ghost field_laws: { FieldLaws ring inverse_of };
+
+    ghost every_value: { (x : Self) → is_element x };
+
+    ghost zero_is: { ZERO ≡ ring.zero };
+
+    ghost one_is: { Self.ONE ≡ ring.one };
+
+    ghost default_is: { (x : Self) → Self.is_default x → x ≡ ring.zero };
+
+    ghost eq_same: { (x y : Self) → Self.eq x y ≡ true → x ≡ y };
+
+    ghost add_is: { (x y r : Self) → Self.add_gives x y r → r ≡ ring.add x y };
+
+    ghost sub_is: { (x y r : Self) → Self.sub_gives x y r → r ≡ difference ring x y };
+
+    ghost mul_is: { (x y r : Self) → Self.mul_gives x y r → r ≡ ring.mul x y };
+
+    ghost neg_is: { (x r : Self) → Self.neg_gives x r → r ≡ ring.neg x };
+
+    /// As an algebra a field computes what its ring does, and an element stands for itself alone.
+    ghost operations_are: { Self.operations ≡ ring_operations ring (λ x. x) };
+
+    ghost exact: { (v x : Self) → Self.stands v x → x ≡ v };
+}
+
+/// A field of the residues modulo a prime, each of which is one number of 64 bits.
+pub trait PrimeField64: Field {
+    ghost ORDER: { ℕ };
+
+    ghost number_of: { Self → ℕ };
+
+    fn as_canonical_u64(&self) -> u64
+        ensures { result ≡ number_of self.now };
+
+    ghost of_number: { ℕ → Self };
+
+    fn from_u8(number: u8) -> Self
+        ensures { result ≡ of_number number };
+
+    ghost above: { 255 < ORDER };
+
+    ghost below: { (x : Self) → number_of x < ORDER };
+
+    ghost one_number: { (n : ℕ) → n < ORDER → number_of (of_number n) ≡ n };
+
+    ghost same_number: { (x : Self) → of_number (number_of x) ≡ x };
+}
+
+/// A field with a group of `2 ^ bits` elements for each `bits` up to `TWO_ADICITY`.
+pub trait TwoAdicField: Field {
+    ghost TWO_ADICITY: { ℕ };
+
+    /// A generator of the group of `2 ^ bits` elements.
+    ghost root: { ℕ → Self };
+
+    const TWO_ADICITY: usize;
+
+    fn two_adic_generator(bits: usize) -> Self
+        requires { bits ≤ TWO_ADICITY }
+        ensures { result ≡ root bits };
+
+    ghost two_adic: { TwoAdicLaws Self.ring TWO_ADICITY root Self.GENERATOR };
+}
+
+/// A field over which `X^4 - QUARTIC_CONSTANT` has no factor.
+pub trait QuarticBase: Field {
+    ghost QUARTIC_CONSTANT: { Self };
+
+    const QUARTIC_CONSTANT: Self;
+
+    ghost quartic_constant: { IsQuarticConstant Self.ring QUARTIC_CONSTANT };
+}
+
+/// A field over a base field.
+pub trait ExtensionField<F: Field>: Field + Algebra<F> {
+    ghost DIMENSION: { ℕ };
+
+    /// An element of the base field, as one of this field.
+    ghost embed: { F → Self };
+
+    /// The elements that each element is a sum of, times its coordinates.
+    ghost basis: { List Self };
+
+    ghost coordinates: { Self → List F };
+
+    const DIMENSION: usize;
+
+    fn from_base(x: F) -> Self
+        ensures { result ≡ embed x };
+
+    fn coordinate(self, index: usize) -> F
+        requires { index < DIMENSION }
+        ensures { slice_get (coordinates self) index ≡ Some result };
+
+    /// The element with the coordinates; None if their number isn't `DIMENSION`.
+    fn from_basis_coefficients_slice(coefficients: &[F]) -> Option<Self>
+        ensures as_many { length coefficients.now ≡ DIMENSION → result ≡ Some (basis_sum Self.ring (λ c. c) basis (map embed coefficients.now)) }
+        ensures other { length coefficients.now ≢ DIMENSION → result ≡ None };
+
+    /// The sum of the basis times the coefficients; None if their number isn't `DIMENSION`.
+    fn from_ext_basis_coefficients(coefficients: &[Self]) -> Option<Self>
+        ensures as_many { length coefficients.now ≡ DIMENSION → result ≡ Some (basis_sum Self.ring (λ c. c) basis coefficients.now) }
+        ensures other { length coefficients.now ≢ DIMENSION → result ≡ None };
+
+    ghost embeds: { IsEmbedding F.ring Self.ring embed };
+
+    ghost is_basis: { IsBasis Self.ring embed DIMENSION basis coordinates };
+
+    /// As an algebra over the base field it computes what its ring does, and an element stands for itself alone.
+    ghost operations_above: { ⟦<Self as Algebra<F>>⟧.operations ≡ ring_operations Self.ring embed };
+
+    ghost from_is: { (k : F) (x : Self) → ⟦<Self as From<F>>⟧.from_gives k x → x ≡ embed k };
+
+    ghost exact_above: { (v x : Self) → ⟦<Self as Algebra<F>>⟧.stands v x → x ≡ v };
+}

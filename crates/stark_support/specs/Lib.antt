@@ -18,3 +18,5 @@ pub mod SelectorFacts
 pub mod SubgroupFacts
 pub mod PartFacts
 pub mod Recomposition
+pub mod RecompositionFacts
+pub mod CosetListFacts

@@ -1,7 +1,7 @@
 -- The quotient that chunks on disjoint cosets of one subgroup recompose to.
-use Rattle.std.specs.Prelude.{ℕ, List, [], ◌∷◌, ◌++◌}
+use Rattle.std.specs.Prelude.{ℕ, ◌^◌, List, [], ◌∷◌, ◌++◌}
 use Rattle.stark_support.specs.Ring.{RingOps}
-use Rattle.stark_support.specs.Coset.{coset_vanishing}
+use Rattle.stark_support.specs.Coset.{TwoAdicCoset, coset_vanishing}
 use Rattle.stark_support.specs.Extension.{basis_sum}
 
 -- The product of Z_o(x) / Z_o(s) over the cosets with the shifts in a list.
@@ -23,3 +23,11 @@ recomposition_from field ring constant inverse n basis before (s ∷ after) (q �
 -- over the other cosets of Z_j(x) / Z_j(first point of coset i), and one where there is no other.
 abbrev pub recomposition : {K : Type 0} {E : Type 0} → RingOps K → RingOps E → (K → E) → (K → K) → ℕ → List K → List K → List (List E) → E → E
 recomposition field ring constant inverse n basis shifts chunks x = recomposition_from field ring constant inverse n basis [] shifts chunks x
+
+-- the logarithm of the size that cosets of one subgroup share, 0 where there is none
+abbrev pub common_log_size : {K : Type 0} → List (TwoAdicCoset K) → ℕ
+common_log_size [] = 0
+common_log_size (c ∷ cs) = c.log_size
+
+abbrev pub common_size : {K : Type 0} → List (TwoAdicCoset K) → ℕ
+common_size cosets = 2 ^ common_log_size cosets

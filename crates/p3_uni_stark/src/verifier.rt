@@ -1,0 +1,58 @@
+//! What a verifier computes at the point out of the domain.
+ghost use Rattle.std.specs.Prelude.{◌≡◌, All, length, map, vec_len};
+ghost use Rattle.stark_support.specs.Coset.{AreDisjoint, AreDisjointCosets, coset_size};
+ghost use Rattle.stark_support.specs.Extension.{basis_sum};
+ghost use Rattle.stark_support.specs.Recomposition.{common_log_size, common_size, lagrange_factor, recomposition};
+
+use stark_support::{ExtensionField, Field, PolynomialSpace};
+
+/// The product of `Z_o(zeta) / Z_o(first point of the domain)` over the other domains.
+fn lagrange_factor<D: PolynomialSpace, EF: ExtensionField<D::Val>>(others: &[D], domain: &D, zeta: EF) -> EF
+    requires sizes { All (λ o. (D.coset_of o).log_size ≡ (D.coset_of domain.now).log_size) others.now }
+    requires disjoint { All (λ o. AreDisjoint D.Val.ring D.Val.root (D.coset_of domain.now) (D.coset_of o)) others.now }
+    ensures { result ≡ lagrange_factor EF.ring EF.ring (λ c. c) EF.inverse_of (coset_size (D.coset_of domain.now))
+        (map (λ o. EF.embed (D.coset_of o).shift) others.now) (EF.embed (D.coset_of domain.now).shift) zeta }
+{
+    let first_point = EF::from_base(domain.first_point());
+    let mut factor = EF::ONE;
+    for other in others {
+        let at_first_point = other.vanishing_poly_at_point(first_point);
+        factor = factor * (other.vanishing_poly_at_point(zeta) * at_first_point.inverse());
+    }
+    factor
+}
+
+/// The element whose coefficients over the basis are a chunk's values.
+fn chunk_value<F: Field, EF: ExtensionField<F>>(chunk: &[EF]) -> EF
+    requires { length chunk.now ≡ EF.DIMENSION }
+    ensures { result ≡ basis_sum EF.ring (λ c. c) EF.basis chunk.now }
+{
+    match EF::from_ext_basis_coefficients(chunk) {
+        Some(value) => value,
+        None => unreachable!(),
+    }
+}
+
+/// The quotient's value at `zeta`, from the values there of its chunks' coordinates: the sum over the chunks of
+/// `L_i(zeta)` times the element with those coordinates, where `L_i` is the product over the other domains of
+/// `Z_j(zeta) / Z_j(first point of domain i)`, and one where there is a single domain. It takes no memory.
+pub fn recompose_quotient_from_chunks<D: PolynomialSpace, EF: ExtensionField<D::Val>>(
+    quotient_chunks_domains: &[D],
+    quotient_chunks: &[Vec<EF>],
+    zeta: EF,
+) -> EF
+    requires counts { length quotient_chunks_domains.now ≡ length quotient_chunks.now }
+    requires dimensions { All (λ chunk. vec_len chunk ≡ EF.DIMENSION) quotient_chunks.now }
+    requires disjoint { AreDisjointCosets D.Val.ring D.Val.root (common_log_size (map D.coset_of quotient_chunks_domains.now)) (map D.coset_of quotient_chunks_domains.now) }
+    ensures { result ≡ recomposition EF.ring EF.ring (λ c. c) EF.inverse_of (common_size (map D.coset_of quotient_chunks_domains.now)) EF.basis
+        (map (λ domain. EF.embed (D.coset_of domain).shift) quotient_chunks_domains.now) (map (λ chunk. chunk.items) quotient_chunks.now) zeta }
+{
+    let mut quotient = EF::ZERO;
+    for (i, domain) in quotient_chunks_domains.iter().enumerate() {
+        let before = lagrange_factor(&quotient_chunks_domains[..i], domain, zeta);
+        let after = lagrange_factor(&quotient_chunks_domains[i + 1..], domain, zeta);
+        let chunk = &quotient_chunks[i];
+        quotient = quotient + before * after * chunk_value::<D::Val, EF>(chunk);
+    }
+    quotient
+}

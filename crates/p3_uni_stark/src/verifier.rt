@@ -7,7 +7,11 @@ ghost use Rattle.stark_support.specs.Recomposition.{common_log_size, common_size
 use stark_support::{ExtensionField, Field, PolynomialSpace};
 
 /// The product of `Z_o(zeta) / Z_o(first point of the domain)` over the other domains.
-fn lagrange_factor<D: PolynomialSpace, EF: ExtensionField<D::Val>>(others: &[D], domain: &D, zeta: EF) -> EF
+fn lagrange_factor<D: PolynomialSpace, EF: ExtensionField<D::Val>>(
+    others: &[D],
+    domain: &D,
+    zeta: EF,
+) -> EF
     requires sizes { All (λ o. (D.coset_of o).log_size ≡ (D.coset_of domain.now).log_size) others.now }
     requires disjoint { All (λ o. AreDisjoint D.Val.ring D.Val.root (D.coset_of domain.now) (D.coset_of o)) others.now }
     ensures { result ≡ lagrange_factor EF.ring EF.ring (λ c. c) EF.inverse_of (coset_size (D.coset_of domain.now))

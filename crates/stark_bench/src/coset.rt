@@ -3,7 +3,10 @@ ghost use Rattle.std.specs.Prelude.{◌≡◌, ◌≢◌, ◌≤◌, ℕ, ⊤, �
 ghost use Rattle.stark_support.specs.Coset.{TwoAdicCoset, coset_size, subgroup_vanishing};
 ghost use Rattle.stark_support.specs.Ring.{difference};
 
-use stark_support::{DomainShape, ExtensionField, Field, LagrangeSelectors, PolynomialSpace, TwoAdicField, log2_ceil_usize, log2_strict_usize, squared_times};
+use stark_support::{
+    DomainShape, ExtensionField, Field, LagrangeSelectors, PolynomialSpace, TwoAdicField,
+    log2_ceil_usize, log2_strict_usize, squared_times,
+};
 use std::alloc::{AllocError, Global};
 
 /// The points `shift * g^i` for `i` below `2^log_size`, with `g` the field's generator of that order.
@@ -102,7 +105,7 @@ impl<F: TwoAdicField> PolynomialSpace for Coset<F> {
     }
 
     fn selectors_at_point<EF: ExtensionField<F>>(&self, point: EF) -> LagrangeSelectors<EF> {
-        let vanishing = subgroup_vanishing(point, self.log_size);
+        let vanishing = self.vanishing_poly_at_point(point);
         let generator: EF = generator_in::<F, EF>(self.log_size);
         let transition = point - generator.inverse();
         LagrangeSelectors {

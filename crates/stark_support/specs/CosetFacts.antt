@@ -146,7 +146,7 @@ module _ {K : Type 0} {ring : RingOps K} {inverse : K → K} (laws : FieldLaws r
         let u = power ring (root c.log_size) i in
         let v = power ring (root d.log_size) j in
         let same : u ≡ ring.mul generator v = cancel_left laws c.shift u (ring.mul generator v) valid.shift_nonzero
-            (e ∙ ap (λ t. ring.mul t v) shifted ∙ laws.of_ring.mul_assoc c.shift generator v) in
+        (e ∙ ap (λ t. ring.mul t v) shifted ∙ laws.of_ring.mul_assoc c.shift generator v) in
         two_adic.outside (sym (laws.of_ring.mul_one _) ∙ ap (ring.mul (squarings ring generator adicity)) (sym (in_top_group d.log_size j valid'.within))
         ∙ sym (squarings_product laws.of_ring generator v adicity) ∙ ap (λ t. squarings ring t adicity) (sym same) ∙ in_top_group c.log_size i valid.within);
   }

@@ -18,7 +18,7 @@ module _ {K : Type 0} {ring : RingOps K} {root : ℕ → K} where
     disjoint_at i j x y below within =
         subst (λ c. AreDisjoint ring root c (view (get_or cosets j y))) (get_or-map view cosets i x (view x) (omega arith))
         (subst (λ c. AreDisjoint ring root (get_or (map view cosets) i (view x)) c) (get_or-map view cosets j y (view x) within)
-          (h.disjoint i j (view x) below (omega (arith, length-map cosets view))))
+        (h.disjoint i j (view x) below (omega (arith, length-map cosets view))))
 
     module _ (i : ℕ) (d : D) (within : i < length cosets) (read : d ≡ get_or cosets i d) where
       pub size_of_one : (view d).log_size ≡ log_size
@@ -38,14 +38,14 @@ module _ {K : Type 0} {ring : RingOps K} {root : ℕ → K} where
           let below : k < i = omega (arith, h', length-take i cosets) in
           subst (λ o. AreDisjoint ring root (view o) (view (get_or (take i cosets) k x))) (sym read)
           (subst (λ o. AreDisjoint ring root (view (get_or cosets i d)) (view o)) (sym (get_or-take i cosets k x below))
-            (disjoint_sym _ _ (disjoint_at k i x d below within)))
+          (disjoint_sym _ _ (disjoint_at k i x d below within)))
 
       behind : All (λ o. AreDisjoint ring root (view d) (view o)) (drop (i + 1) cosets)
       behind k x h' =
           let inside : (i + 1) + k < length cosets = omega (arith, h', length-drop (i + 1) cosets) in
           subst (λ o. AreDisjoint ring root (view o) (view (get_or (drop (i + 1) cosets) k x))) (sym read)
           (subst (λ o. AreDisjoint ring root (view (get_or cosets i d)) (view o)) (sym (get_or-drop (i + 1) cosets k x))
-            (disjoint_at i ((i + 1) + k) d x (omega arith) inside))
+          (disjoint_at i ((i + 1) + k) d x (omega arith) inside))
 
       pub disjoint_after : (j : ℕ) → All (λ o. AreDisjoint ring root (view d) (view o)) (take j (drop (i + 1) cosets))
       disjoint_after j = All-take (λ o. AreDisjoint ring root (view d) (view o)) j (drop (i + 1) cosets) behind

@@ -29,7 +29,7 @@ module _ {K : Type 0} {ring : RingOps K} {inverse : K → K} (laws : FieldLaws r
   cancel_left x y z nonzero h =
       same_if_no_difference laws.of_ring y z
       (zero_factor x (ring.add y (ring.neg z)) nonzero
-          (solve laws.of_ring (x ∷ y ∷ z ∷ []) (v0 ⊗ (v1 ⊖ v2)) (v0 ⊗ v1 ⊖ v0 ⊗ v2) refl ∙ ap (λ w. ring.add w (ring.neg (ring.mul x z))) h ∙ laws.of_ring.add_neg _))
+      (solve laws.of_ring (x ∷ y ∷ z ∷ []) (v0 ⊗ (v1 ⊖ v2)) (v0 ⊗ v1 ⊖ v0 ⊗ v2) refl ∙ ap (λ w. ring.add w (ring.neg (ring.mul x z))) h ∙ laws.of_ring.add_neg _))
 
   pub divide_times : (x s : K) → s ≢ ring.zero → ring.mul (ring.mul x (inverse s)) s ≡ x
   divide_times x s nonzero =
@@ -40,10 +40,13 @@ module _ {K : Type 0} {ring : RingOps K} {inverse : K → K} (laws : FieldLaws r
   quotient_is z d q nonzero product =
       ap (λ t. ring.mul t (inverse d)) (sym product) ∙ solve laws.of_ring (d ∷ q ∷ inverse d ∷ []) (v0 ⊗ v1 ⊗ v2) (v1 ⊗ (v0 ⊗ v2)) refl ∙ ap (ring.mul q) (laws.mul_inverse d nonzero) ∙ laws.of_ring.mul_one q
 
+  pub inverse_one : inverse ring.one ≡ ring.one
+  inverse_one = sym (one_mul laws.of_ring (inverse ring.one)) ∙ laws.mul_inverse ring.one laws.one_not_zero
+
   -- a square root of one is one or its opposite
   pub square_one : (s : K) → ring.mul s s ≡ ring.one → (s ≡ ring.one) ⊎ (s ≡ ring.neg ring.one)
   square_one s e = elim (one_factor_zero (ring.add s (ring.neg ring.one)) (ring.add s ring.one)
-        (solve laws.of_ring (s ∷ []) ((v0 ⊖ unit) ⊗ (v0 ⊕ unit)) (v0 ⊗ v0 ⊖ unit) refl ∙ ap (λ w. ring.add w (ring.neg ring.one)) e ∙ laws.of_ring.add_neg _)) [
-      inl h ↦ inl (same_if_no_difference laws.of_ring s ring.one h)
-    | inr h ↦ inr (unique_neg laws.of_ring ring.one s (laws.of_ring.add_comm ring.one s ∙ h))
-    ]
+      (solve laws.of_ring (s ∷ []) ((v0 ⊖ unit) ⊗ (v0 ⊕ unit)) (v0 ⊗ v0 ⊖ unit) refl ∙ ap (λ w. ring.add w (ring.neg ring.one)) e ∙ laws.of_ring.add_neg _)) [
+        | inl h ↦ inl (same_if_no_difference laws.of_ring s ring.one h)
+        | inr h ↦ inr (unique_neg laws.of_ring ring.one s (laws.of_ring.add_comm ring.one s ∙ h))
+      ]

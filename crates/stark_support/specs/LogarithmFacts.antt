@@ -13,19 +13,19 @@ at_most_or_above i j = grind arith
 
 pub two_power_at_most : (i j : ℕ) → i ≤ j → 2 ^ i ≤ 2 ^ j
 two_power_at_most i j h = elim (equal_or_below i j h) [
-    inl same ↦ subst (λ (k : ℕ). 2 ^ i ≤ 2 ^ k) same (omega arith)
+  | inl same ↦ subst (λ (k : ℕ). 2 ^ i ≤ 2 ^ k) same (omega arith)
   | inr below ↦ omega (arith, pow_below i j below)
 ]
 
 pub exponent_below : (i j : ℕ) → 2 ^ i < 2 ^ j → i < j
 exponent_below i j h = elim (at_most_or_above j i) [
-    inl above ↦ absurd (omega (arith, two_power_at_most j i above))
+  | inl above ↦ absurd (omega (arith, two_power_at_most j i above))
   | inr below ↦ below
 ]
 
 pub exponent_at_most : (i j : ℕ) → 2 ^ i ≤ 2 ^ j → i ≤ j
 exponent_at_most i j h = elim (at_most_or_above i j) [
-    inl below ↦ below
+  | inl below ↦ below
   | inr above ↦ absurd (omega (arith, pow_below j i above))
 ]
 
@@ -55,7 +55,7 @@ strict_log r k n within below is =
 -- A number is above 2 ^ a exactly where its logarithm, rounded up, is above a.
 pub above_power : (a k n : ℕ) → IsCeilingOfLog k n → a < k → 2 ^ a < n
 above_power a k n log above = elim (at_most_or_above n (2 ^ a)) [
-    inl within ↦ absurd (omega (arith, log.least a within))
+  | inl within ↦ absurd (omega (arith, log.least a within))
   | inr past ↦ past
 ]
 

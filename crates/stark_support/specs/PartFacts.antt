@@ -67,8 +67,8 @@ module _ {K : Type 0} {ring : RingOps K} {inverse : K → K} (laws : FieldLaws r
   one_more_seen view n before after new listed e shift size =
       one_more n (map view before) (map view after) listed
       (ap (map view) e ∙ map-append view before (new ∷ []) ∙
-       ap (λ (s : K). map view before ++ record { shift = s; log_size = (view new).log_size } ∷ []) shift ∙
-       ap (λ (k : ℕ). map view before ++ record { shift = coset_point ring root coset n; log_size = k } ∷ []) size)
+      ap (λ (s : K). map view before ++ record { shift = s; log_size = (view new).log_size } ∷ []) shift ∙
+      ap (λ (k : ℕ). map view before ++ record { shift = coset_point ring root coset n; log_size = k } ∷ []) size)
 
   module _ (adicity : ℕ) (generator : K) (two_adic : TwoAdicLaws ring adicity root generator) (valid : IsTwoAdicCoset ring adicity coset) (fits : log_parts ≤ coset.log_size) where
     -- a part's points have the power of its size that its shift has
@@ -82,8 +82,8 @@ module _ {K : Type 0} {ring : RingOps K} {inverse : K → K} (laws : FieldLaws r
         let in_group : small ≤ adicity = omega arith in
         power-mul laws.of_ring (coset_point ring root coset i) (power ring w a) n ∙
         ap (ring.mul (power ring (coset_point ring root coset i) n))
-          (power-power laws.of_ring w a n ∙ ap (power ring w) (omega arith) ∙ sym (power-power laws.of_ring w n a) ∙
-           ap (λ t. power ring t a) (root_has_order laws adicity root generator two_adic small in_group).reaches ∙ power-one laws.of_ring a) ∙
+        (power-power laws.of_ring w a n ∙ ap (power ring w) (omega arith) ∙ sym (power-power laws.of_ring w n a) ∙
+        ap (λ t. power ring t a) (root_has_order laws adicity root generator two_adic small in_group).reaches ∙ power-one laws.of_ring a) ∙
         laws.of_ring.mul_one _ ∙ power-mul laws.of_ring coset.shift (power ring (root coset.log_size) i) n ∙
         ap (ring.mul (power ring coset.shift n)) (power-power laws.of_ring (root coset.log_size) i n)
 
@@ -97,13 +97,13 @@ module _ {K : Type 0} {ring : RingOps K} {inverse : K → K} (laws : FieldLaws r
           let below : j * n < 2 ^ coset.log_size = let times = times_below j (2 ^ log_parts) n positive p in omega (arith, whole) in
           powers_differ laws adicity root generator two_adic coset.log_size (i * n) (j * n) valid.within (times_below i j n positive h) below
           (cancel_left laws (power ring coset.shift n) _ _ (power_nonzero laws adicity root generator two_adic coset.shift valid.shift_nonzero n)
-            (sym (size_power i a) ∙ ap (λ t. power ring t n) e ∙ size_power j b));
+          (sym (size_power i a) ∙ ap (λ t. power ring t n) e ∙ size_power j b));
     }
 
     pub all_parts : (count : ℕ) (parts : List (TwoAdicCoset K)) → count ≡ 2 ^ log_parts → ArePartsSoFar ring root coset log_parts count parts → AreParts ring root coset log_parts parts
     all_parts count parts ended listed =
         let read : (i : ℕ) (d : TwoAdicCoset K) → i < length parts → get_or parts i d ≡ coset_part ring root coset log_parts i
-              = λ i d h. get_or_from_slice_get parts i _ d (listed.part i (omega (arith, listed.number))) in
+        = λ i d h. get_or_from_slice_get parts i _ d (listed.part i (omega (arith, listed.number))) in
         record {
           number = listed.number ∙ ended;
           part = λ i h. listed.part i (omega (arith, ended));

@@ -31,12 +31,12 @@ module _ {K : Type 0} {ring : RingOps K} (laws : RingLaws ring) (inverse : K →
       let rest : K = lagrange_factor ring ring (λ c. c) inverse n (map shift (drop (i + 1) others)) s x in
       let at = λ (k : ℕ) (y : K). coset_vanishing ring (λ c. c) inverse k (shift o) y in
       let product : p ≡ ring.mul (at n x) (inverse (at n s))
-          = ep ∙ ap (λ t. ring.mul t w) (ez ∙ ap (λ k. at k x) size) ∙ ap (ring.mul (at n x)) (ew ∙ ap inverse (ev ∙ ap (λ k. at k s) size)) in
+      = ep ∙ ap (λ t. ring.mul t w) (ez ∙ ap (λ k. at k x) size) ∙ ap (ring.mul (at n x)) (ew ∙ ap inverse (ev ∙ ap (λ k. at k s) size)) in
       ap (λ t. ring.mul t rest) (en ∙ ap (ring.mul done) product) ∙
       laws.mul_assoc done (ring.mul (at n x) (inverse (at n s))) rest ∙
       ap (λ k. ring.mul done (ring.mul (ring.mul (at n x) (inverse (at n s))) (lagrange_factor ring ring (λ c. c) inverse n (map shift (drop k others)) s x))) (add-one i) ∙
       ap (λ q. ring.mul done (lagrange_factor ring ring (λ c. c) inverse n (map shift q) s x))
-          (ap (λ t. t ∷ drop (suc i) others) read ∙ sym (drop-cons others i o within)) ∙
+      (ap (λ t. t ∷ drop (suc i) others) read ∙ sym (drop-cons others i o within)) ∙
       before
 
   -- one more chunk in the sum
@@ -48,31 +48,31 @@ module _ {K : Type 0} {ring : RingOps K} (laws : RingLaws ring) (inverse : K →
       → value ≡ basis_sum ring (λ c. c) basis (values v)
       → both ≡ ring.mul front back → product ≡ ring.mul both value → next ≡ ring.add done product
       → ring.add next
-          (recomposition_from ring ring (λ c. c) inverse n basis (map shift (take (i + 1) cosets)) (map shift (drop (i + 1) cosets)) (map values (drop (i + 1) chunks)) x) ≡ whole
+      (recomposition_from ring ring (λ c. c) inverse n basis (map shift (take (i + 1) cosets)) (map shift (drop (i + 1) cosets)) (map values (drop (i + 1) chunks)) x) ≡ whole
   next_chunk {D} {V} shift values basis x done whole front back value both product next m i cosets chunks d v size in_cosets in_chunks read_coset read_chunk before ef eb ev e_both e_product e_next =
       let from : List K → List K → List (List K) → K = λ b a q. recomposition_from ring ring (λ c. c) inverse n basis b a q x in
       let factor = λ (k : ℕ) (others : List D). lagrange_factor ring ring (λ c. c) inverse k (map shift others) (shift d) x in
       let after = map shift (drop (suc i) cosets) in
       let later = from (map shift (take (i + 1) cosets)) (map shift (drop (i + 1) cosets)) (map values (drop (i + 1) chunks)) in
       let taken : map shift (take (suc i) cosets) ≡ map shift (take i cosets) ++ shift d ∷ []
-          = ap (map shift) (take-suc cosets i d in_cosets) ∙ map-append shift (take i cosets) (get_or cosets i d ∷ []) ∙ ap (λ (t : D). map shift (take i cosets) ++ shift t ∷ []) (sym read_coset) in
+      = ap (map shift) (take-suc cosets i d in_cosets) ∙ map-append shift (take i cosets) (get_or cosets i d ∷ []) ∙ ap (λ (t : D). map shift (take i cosets) ++ shift t ∷ []) (sym read_coset) in
       let weight : both ≡ lagrange_factor ring ring (λ c. c) inverse n (map shift (take i cosets) ++ after) (shift d) x
-          = e_both
-          ∙ ap (λ t. ring.mul t back) (ef ∙ ap (λ k. factor k (take i cosets)) size)
-          ∙ ap (ring.mul (factor n (take i cosets))) (eb ∙ ap (λ k. factor k (take (length cosets - (i + 1)) (drop (i + 1) cosets))) size ∙ ap (factor n) (take_rest cosets (i + 1)) ∙ ap (λ k. factor n (drop k cosets)) (add-one i))
-          ∙ sym (factor_append (map shift (take i cosets)) after (shift d) x) in
+      = e_both
+      ∙ ap (λ t. ring.mul t back) (ef ∙ ap (λ k. factor k (take i cosets)) size)
+      ∙ ap (ring.mul (factor n (take i cosets))) (eb ∙ ap (λ k. factor k (take (length cosets - (i + 1)) (drop (i + 1) cosets))) size ∙ ap (factor n) (take_rest cosets (i + 1)) ∙ ap (λ k. factor n (drop k cosets)) (add-one i))
+      ∙ sym (factor_append (map shift (take i cosets)) after (shift d) x) in
       let term : product ≡ ring.mul (lagrange_factor ring ring (λ c. c) inverse n (map shift (take i cosets) ++ after) (shift d) x) (basis_sum ring (λ c. c) basis (values v))
-          = e_product ∙ ap (λ t. ring.mul t value) weight ∙ ap (ring.mul (lagrange_factor ring ring (λ c. c) inverse n (map shift (take i cosets) ++ after) (shift d) x)) ev in
+      = e_product ∙ ap (λ t. ring.mul t value) weight ∙ ap (ring.mul (lagrange_factor ring ring (λ c. c) inverse n (map shift (take i cosets) ++ after) (shift d) x)) ev in
       ap (λ t. ring.add t later) (e_next ∙ ap (ring.add done) term) ∙
       laws.add_assoc done (ring.mul (lagrange_factor ring ring (λ c. c) inverse n (map shift (take i cosets) ++ after) (shift d) x) (basis_sum ring (λ c. c) basis (values v))) later ∙
       ap (λ m. ring.add done (ring.add (ring.mul (lagrange_factor ring ring (λ c. c) inverse n (map shift (take i cosets) ++ after) (shift d) x) (basis_sum ring (λ c. c) basis (values v)))
-          (from (map shift (take m cosets)) (map shift (drop m cosets)) (map values (drop m chunks))))) (add-one i) ∙
+      (from (map shift (take m cosets)) (map shift (drop m cosets)) (map values (drop m chunks))))) (add-one i) ∙
       ap (λ b. ring.add done (ring.add (ring.mul (lagrange_factor ring ring (λ c. c) inverse n (map shift (take i cosets) ++ after) (shift d) x) (basis_sum ring (λ c. c) basis (values v)))
-          (from b after (map values (drop (suc i) chunks))))) taken ∙
+      (from b after (map values (drop (suc i) chunks))))) taken ∙
       ap (λ p. ring.add done (from (map shift (take i cosets)) (map shift p) (values v ∷ map values (drop (suc i) chunks))))
-          (ap (λ t. t ∷ drop (suc i) cosets) read_coset ∙ sym (drop-cons cosets i d in_cosets)) ∙
+      (ap (λ t. t ∷ drop (suc i) cosets) read_coset ∙ sym (drop-cons cosets i d in_cosets)) ∙
       ap (λ q. ring.add done (from (map shift (take i cosets)) (map shift (drop i cosets)) (map values q)))
-          (ap (λ t. t ∷ drop (suc i) chunks) read_chunk ∙ sym (drop-cons chunks i v in_chunks)) ∙
+      (ap (λ t. t ∷ drop (suc i) chunks) read_chunk ∙ sym (drop-cons chunks i v in_chunks)) ∙
       before
 
 module _ {F E : Type 0} {base : RingOps F} {ring : RingOps E} {inverse : E → E} {embed : F → E} (laws : FieldLaws ring inverse) (embeds : IsEmbedding base ring embed)
@@ -84,6 +84,6 @@ module _ {F E : Type 0} {base : RingOps F} {ring : RingOps E} {inverse : E → E
   vanishing_apart c d first z valid apart at_first is e =
       let lifted = embedded_two_adic embeds adicity root generator two_adic in
       let point = only_on_points laws adicity (λ k. embed (root k)) (embed generator) lifted (embedded_coset embed d) (embedded_valid laws embeds adicity root generator two_adic d valid) (embed c.shift)
-          (ap (λ y. coset_vanishing ring (λ x. x) inverse (coset_size d) (embed d.shift) y) (sym at_first) ∙ sym is ∙ e) in
+      (ap (λ y. coset_vanishing ring (λ x. x) inverse (coset_size d) (embed d.shift) y) (sym at_first) ∙ sym is ∙ e) in
       apart.apart 0 point.0 (base_laws.mul_one c.shift ∙ embeds.injective _ _
-          (point.2 ∙ ap (ring.mul (embed d.shift)) (sym (embedded_power embeds (root d.log_size) point.0)) ∙ sym (embeds.mul d.shift (power base (root d.log_size) point.0))))
+      (point.2 ∙ ap (ring.mul (embed d.shift)) (sym (embedded_power embeds (root d.log_size) point.0)) ∙ sym (embeds.mul d.shift (power base (root d.log_size) point.0))))

@@ -17,7 +17,6 @@ pub data Expression : Type 0 where
 infixl 6 ◌⊕◌
 infixl 6 ◌⊖◌
 infixl 7 ◌⊗◌
-
 abbrev pub ◌⊕◌ : Expression → Expression → Expression
 e ⊕ f = sum_of e f
 
@@ -168,8 +167,8 @@ module _ {K : Type 0} {ring : RingOps K} (laws : RingLaws ring) (xs : List K) wh
   insert_variable_value i [] = refl
   insert_variable_value i (j ∷ m) =
       elim (leb i j) as (λ b. monomial_value ring xs (cond b (i ∷ (j ∷ m)) (j ∷ insert_variable i m)) ≡ ring.mul (value_at ring xs i) (ring.mul (value_at ring xs j) (monomial_value ring xs m))) [
-        true ↦ refl
-      | false ↦ ap (ring.mul (value_at ring xs j)) (insert_variable_value i m) ∙ mul_left_comm laws _ _ _
+        | true ↦ refl
+        | false ↦ ap (ring.mul (value_at ring xs j)) (insert_variable_value i m) ∙ mul_left_comm laws _ _ _
       ]
 
   insert_variables_value : (m n : List ℕ) → monomial_value ring xs (insert_variables m n) ≡ ring.mul (monomial_value ring xs m) (monomial_value ring xs n)
@@ -193,13 +192,13 @@ module _ {K : Type 0} {ring : RingOps K} (laws : RingLaws ring) (xs : List K) wh
   insert_term_value t [] = refl
   insert_term_value t (u ∷ p) =
       let later : (b : Bool) → terms_value ring xs (cond b (t ∷ (u ∷ p)) (u ∷ insert_term t p)) ≡ ring.add (term_value ring xs t) (ring.add (term_value ring xs u) (terms_value ring xs p)) =
-          elim [ true ↦ refl | false ↦ ap (ring.add (term_value ring xs u)) (insert_term_value t p) ∙ add_left_comm laws _ _ _ ] in
+      elim [ true ↦ refl | false ↦ ap (ring.add (term_value ring xs u)) (insert_term_value t p) ∙ add_left_comm laws _ _ _ ] in
       let cases : (b : Bool) → (b ≡ true → ring.add (term_value ring xs t) (term_value ring xs u) ≡ ring.zero) →
-            terms_value ring xs (cond b p (cond (earlier (variables t) (variables u)) (t ∷ (u ∷ p)) (u ∷ insert_term t p))) ≡ ring.add (term_value ring xs t) (ring.add (term_value ring xs u) (terms_value ring xs p)) =
-          elim [
-            true ↦ λ gone. sym (zero_add laws _) ∙ ap (λ w. ring.add w (terms_value ring xs p)) (sym (gone refl)) ∙ laws.add_assoc _ _ _
-          | false ↦ λ _. later (earlier (variables t) (variables u))
-          ] in
+      terms_value ring xs (cond b p (cond (earlier (variables t) (variables u)) (t ∷ (u ∷ p)) (u ∷ insert_term t p))) ≡ ring.add (term_value ring xs t) (ring.add (term_value ring xs u) (terms_value ring xs p)) =
+      elim [
+        | true ↦ λ gone. sym (zero_add laws _) ∙ ap (λ w. ring.add w (terms_value ring xs p)) (sym (gone refl)) ∙ laws.add_assoc _ _ _
+        | false ↦ λ _. later (earlier (variables t) (variables u))
+      ] in
       cases (cancels t u) (cancels_value t u)
 
   insert_terms_value : (p q : List Term) → terms_value ring xs (insert_terms p q) ≡ ring.add (terms_value ring xs p) (terms_value ring xs q)

@@ -2,7 +2,7 @@
 ghost use Rattle.std.specs.Prelude.{◌≡◌, ◌≢◌, ◌↔◌, ℕ, ◌^◌, ◌<◌, ◌≤◌, map, IfOk, IfSome, IsNone};
 ghost use Rattle.std.specs.Int.{IsPowerOfTwo};
 ghost use Rattle.stark_support.specs.Ring.{difference};
-ghost use Rattle.stark_support.specs.Coset.{TwoAdicCoset, IsTwoAdicCoset, AreDisjoint, AreParts, coset_size, coset_vanishing, subgroup_vanishing};
+ghost use Rattle.stark_support.specs.Coset.{TwoAdicCoset, IsTwoAdicCoset, AreDisjoint, AreParts, coset_size, coset_vanishing};
 ghost use Rattle.stark_support.specs.Logarithm.{IsCeilingOfLog};
 ghost use Rattle.stark_support.specs.Selectors.{first_row_selector, last_row_selector, transition_selector};
 ghost use Rattle.stark_support.specs.Subgroup.{subgroup_of};
@@ -67,11 +67,11 @@ pub trait PolynomialSpace: DomainShape + Copy {
     /// The selectors of a subgroup at a point outside it.
     fn selectors_at_point<EF: ExtensionField<Self::Val>>(&self, point: EF) -> LagrangeSelectors<EF>
         requires subgroup { (coset_of self.now).shift ≡ Self.Val.ring.one }
-        requires outside { subgroup_vanishing EF.ring (coset_size (coset_of self.now)) point ≢ EF.ring.zero }
+        requires outside { coset_vanishing EF.ring (λ c. c) EF.inverse_of (coset_size (coset_of self.now)) (EF.embed (coset_of self.now).shift) point ≢ EF.ring.zero }
         ensures first_row { result.is_first_row ≡ first_row_selector EF.ring (λ c. c) (subgroup_of EF.inverse_of EF.embed Self.Val.root (coset_of self.now)) point }
         ensures last_row { result.is_last_row ≡ last_row_selector EF.ring (λ c. c) (subgroup_of EF.inverse_of EF.embed Self.Val.root (coset_of self.now)) point }
         ensures transition { result.is_transition ≡ transition_selector EF.ring (λ c. c) (subgroup_of EF.inverse_of EF.embed Self.Val.root (coset_of self.now)) point }
-        ensures inv_vanishing { result.inv_vanishing ≡ EF.inverse_of (subgroup_vanishing EF.ring (coset_size (coset_of self.now)) point) };
+        ensures inv_vanishing { result.inv_vanishing ≡ EF.inverse_of (coset_vanishing EF.ring (λ c. c) EF.inverse_of (coset_size (coset_of self.now)) (EF.embed (coset_of self.now).shift) point) };
 
     /// Each domain has a group of the field and a shift that isn't zero.
     ghost lawful: { (domain : Self) → IsTwoAdicCoset Self.Val.ring Self.Val.TWO_ADICITY (coset_of domain) };

@@ -19,14 +19,12 @@ pub trait Element: Copy {
 
 /// Expressions over the elements of `F`: the elements of a field over `F`, packed values, trees of symbols.
 /// An expression may stand for a value without being it, as one that says that memory was refused.
-pub trait Algebra<F>:
-    From<F>
+pub trait Algebra<F>: From<F>
     + Add<Self, Output = Self>
     + Sub<Self, Output = Self>
     + Mul<Self, Output = Self>
     + Neg<Output = Self>
-    + Drop
-{
+    + Drop {
     /// What the operators compute where no memory is refused.
     ghost operations: { Operations F Self };
 

@@ -22,7 +22,10 @@ impl<'a, T> RowMajorMatrixView<'a, T> {
         ensures values { result.values.now ≡ values.now }
         ensures width { result.width ≡ length values.now }
     {
-        RowMajorMatrixView { values, width: values.len() }
+        RowMajorMatrixView {
+            values,
+            width: values.len(),
+        }
     }
 }
 

@@ -15,7 +15,12 @@ impl<F: QuarticBase> Default for Ext4<F> {
     ghost is_default = { λ x. x ≡ (ext4_ring F.ring F.QUARTIC_CONSTANT).zero };
 
     fn default() -> Ext4<F> {
-        Ext4 { c0: F::ZERO, c1: F::ZERO, c2: F::ZERO, c3: F::ZERO }
+        Ext4 {
+            c0: F::ZERO,
+            c1: F::ZERO,
+            c2: F::ZERO,
+            c3: F::ZERO,
+        }
     }
 }
 
@@ -23,7 +28,12 @@ impl<F: QuarticBase> From<F> for Ext4<F> {
     ghost from_gives = { λ x y. y ≡ embedded F.ring x };
 
     fn from(x: F) -> Ext4<F> {
-        Ext4 { c0: x, c1: F::ZERO, c2: F::ZERO, c3: F::ZERO }
+        Ext4 {
+            c0: x,
+            c1: F::ZERO,
+            c2: F::ZERO,
+            c3: F::ZERO,
+        }
     }
 }
 
@@ -75,10 +85,14 @@ impl<F: QuarticBase> Mul for Ext4<F> {
     fn mul(self, other: Ext4<F>) -> Ext4<F> {
         let w = F::QUARTIC_CONSTANT;
         Ext4 {
-            c0: self.c0 * other.c0 + w * (self.c1 * other.c3 + (self.c2 * other.c2 + self.c3 * other.c1)),
-            c1: (self.c0 * other.c1 + self.c1 * other.c0) + w * (self.c2 * other.c3 + self.c3 * other.c2),
-            c2: (self.c0 * other.c2 + (self.c1 * other.c1 + self.c2 * other.c0)) + w * (self.c3 * other.c3),
-            c3: (self.c0 * other.c3 + self.c1 * other.c2) + (self.c2 * other.c1 + self.c3 * other.c0),
+            c0: self.c0 * other.c0
+                + w * (self.c1 * other.c3 + (self.c2 * other.c2 + self.c3 * other.c1)),
+            c1: (self.c0 * other.c1 + self.c1 * other.c0)
+                + w * (self.c2 * other.c3 + self.c3 * other.c2),
+            c2: (self.c0 * other.c2 + (self.c1 * other.c1 + self.c2 * other.c0))
+                + w * (self.c3 * other.c3),
+            c3: (self.c0 * other.c3 + self.c1 * other.c2)
+                + (self.c2 * other.c1 + self.c3 * other.c0),
         }
     }
 }
@@ -171,7 +185,12 @@ fn cofactor<F: QuarticBase>(x: Ext4<F>, factor: F) -> Ext4<F>
 impl<F: QuarticBase> Element for Ext4<F> {
     ghost ONE = { embedded F.ring F.ring.one };
 
-    const ONE: Ext4<F> = Ext4 { c0: F::ONE, c1: F::ZERO, c2: F::ZERO, c3: F::ZERO };
+    const ONE: Ext4<F> = Ext4 {
+        c0: F::ONE,
+        c1: F::ZERO,
+        c2: F::ZERO,
+        c3: F::ZERO,
+    };
 }
 
 impl<F: QuarticBase> Field for Ext4<F> {
@@ -185,9 +204,19 @@ impl<F: QuarticBase> Field for Ext4<F> {
 
     ghost GENERATOR = { embedded F.ring F.GENERATOR };
 
-    const ZERO: Ext4<F> = Ext4 { c0: F::ZERO, c1: F::ZERO, c2: F::ZERO, c3: F::ZERO };
+    const ZERO: Ext4<F> = Ext4 {
+        c0: F::ZERO,
+        c1: F::ZERO,
+        c2: F::ZERO,
+        c3: F::ZERO,
+    };
 
-    const GENERATOR: Ext4<F> = Ext4 { c0: F::GENERATOR, c1: F::ZERO, c2: F::ZERO, c3: F::ZERO };
+    const GENERATOR: Ext4<F> = Ext4 {
+        c0: F::GENERATOR,
+        c1: F::ZERO,
+        c2: F::ZERO,
+        c3: F::ZERO,
+    };
 
     fn known_element(self) {}
 
@@ -239,7 +268,12 @@ impl<F: QuarticBase> ExtensionField<F> for Ext4<F> {
     const DIMENSION: usize = 4;
 
     fn from_base(x: F) -> Ext4<F> {
-        Ext4 { c0: x, c1: F::ZERO, c2: F::ZERO, c3: F::ZERO }
+        Ext4 {
+            c0: x,
+            c1: F::ZERO,
+            c2: F::ZERO,
+            c3: F::ZERO,
+        }
     }
 
     fn coordinate(self, index: usize) -> F {
@@ -262,10 +296,31 @@ impl<F: QuarticBase> ExtensionField<F> for Ext4<F> {
         let (zero, one) = (F::ZERO, F::ONE);
         match coefficients {
             [c0, c1, c2, c3] => Some(
-                Ext4 { c0: one, c1: zero, c2: zero, c3: zero } * *c0
-                    + (Ext4 { c0: zero, c1: one, c2: zero, c3: zero } * *c1
-                        + (Ext4 { c0: zero, c1: zero, c2: one, c3: zero } * *c2
-                            + (Ext4 { c0: zero, c1: zero, c2: zero, c3: one } * *c3 + Ext4::<F>::ZERO))),
+                Ext4 {
+                    c0: one,
+                    c1: zero,
+                    c2: zero,
+                    c3: zero,
+                } * *c0
+                    + (Ext4 {
+                        c0: zero,
+                        c1: one,
+                        c2: zero,
+                        c3: zero,
+                    } * *c1
+                        + (Ext4 {
+                            c0: zero,
+                            c1: zero,
+                            c2: one,
+                            c3: zero,
+                        } * *c2
+                            + (Ext4 {
+                                c0: zero,
+                                c1: zero,
+                                c2: zero,
+                                c3: one,
+                            } * *c3
+                                + Ext4::<F>::ZERO))),
             ),
             _ => None,
         }
@@ -290,7 +345,12 @@ impl<F: QuarticBase + TwoAdicField> TwoAdicField for Ext4<F> {
     const TWO_ADICITY: usize = F::TWO_ADICITY;
 
     fn two_adic_generator(bits: usize) -> Ext4<F> {
-        Ext4 { c0: F::two_adic_generator(bits), c1: F::ZERO, c2: F::ZERO, c3: F::ZERO }
+        Ext4 {
+            c0: F::two_adic_generator(bits),
+            c1: F::ZERO,
+            c2: F::ZERO,
+            c3: F::ZERO,
+        }
     }
 
     ghost two_adic = { embedded_two_adic (embedded_is_embedding F.field_laws.of_ring F.QUARTIC_CONSTANT) F.TWO_ADICITY F.root F.GENERATOR F.two_adic };

@@ -8,7 +8,9 @@ ghost use Rattle.stark_bench.specs.Residues.{residue, residue_ring, residue_inve
 ghost use Rattle.stark_bench.specs.Roots.{root, two_adic_laws};
 
 use crate::residue::Residue;
-use stark_support::{Algebra, Element, Field, squared_times, PrimeField64, QuarticBase, TwoAdicField};
+use stark_support::{
+    Algebra, Element, Field, PrimeField64, QuarticBase, TwoAdicField, squared_times,
+};
 use std::fmt::{self, Write};
 use std::marker::PhantomData;
 use std::ops::{Add, Mul, Neg, Sub};
@@ -17,7 +19,10 @@ use std::ops::{Add, Mul, Neg, Sub};
 fn reduced<Kind>(number: u32) -> Residue<Kind>
     ensures { result ≡ residue number }
 {
-    Residue { value: number % 12289, kind: PhantomData }
+    Residue {
+        value: number % 12289,
+        kind: PhantomData,
+    }
 }
 
 impl<Kind> PartialEq for Residue<Kind> {
@@ -121,7 +126,10 @@ impl<Kind> Algebra<Residue<Kind>> for Residue<Kind> {
 impl<Kind> Element for Residue<Kind> {
     ghost ONE = { residue 1 };
 
-    const ONE: Residue<Kind> = Residue { value: 1, kind: PhantomData };
+    const ONE: Residue<Kind> = Residue {
+        value: 1,
+        kind: PhantomData,
+    };
 }
 
 impl<Kind> Field for Residue<Kind> {
@@ -135,9 +143,15 @@ impl<Kind> Field for Residue<Kind> {
 
     ghost GENERATOR = { residue 11 };
 
-    const ZERO: Residue<Kind> = Residue { value: 0, kind: PhantomData };
+    const ZERO: Residue<Kind> = Residue {
+        value: 0,
+        kind: PhantomData,
+    };
 
-    const GENERATOR: Residue<Kind> = Residue { value: 11, kind: PhantomData };
+    const GENERATOR: Residue<Kind> = Residue {
+        value: 11,
+        kind: PhantomData,
+    };
 
     fn known_element(self) {}
 
@@ -203,7 +217,10 @@ impl<Kind> PrimeField64 for Residue<Kind> {
 impl<Kind> QuarticBase for Residue<Kind> {
     ghost QUARTIC_CONSTANT = { residue 11 };
 
-    const QUARTIC_CONSTANT: Residue<Kind> = Residue { value: 11, kind: PhantomData };
+    const QUARTIC_CONSTANT: Residue<Kind> = Residue {
+        value: 11,
+        kind: PhantomData,
+    };
 
     ghost quartic_constant = { eleven };
 }

@@ -32,9 +32,9 @@ loop-i-preserved g c =
     let domain = c.index-quotient_chunks_domains-i.result in
     let log_size = common_log_size (map coset_of domains) in
     let same_size : 2 ^ (coset_of domain).log_size ≡ 2 ^ log_size =
-        ap (λ (k : ℕ). 2 ^ k) (size_of_one coset_of log_size domains c.requires.disjoint i domain c.loop-i-test.true c.index-quotient_chunks_domains-i.is) in
+    ap (λ (k : ℕ). 2 ^ k) (size_of_one coset_of log_size domains c.requires.disjoint i domain c.loop-i-test.true c.index-quotient_chunks_domains-i.is) in
     next_chunk field.field_laws.of_ring g.EF.Field.inverse_of (2 ^ log_size) (λ d. g.EF.ExtensionField.embed (coset_of d).shift) (λ chunk. chunk.items) g.EF.ExtensionField.basis c.args.zeta c.loop-i.quotient _
-      c.lagrange_factor-before.result c.lagrange_factor-after.result c.chunk_value.result c.mul.result c.mul-in-loop-i.result c.add-quotient.result (2 ^ (coset_of domain).log_size) i domains c.args.quotient_chunks.now domain c.index-quotient_chunks-i.result
-      same_size c.loop-i-test.true (omega (arith, c.requires.counts)) c.index-quotient_chunks_domains-i.is c.index-quotient_chunks-i.is c.loop-i.invariant
-      c.lagrange_factor-before.ensures c.lagrange_factor-after.ensures (c.chunk_value.ensures ∙ ap (basis_sum g.EF.Field.ring (λ x. x) g.EF.ExtensionField.basis) c.deref.ensures.value)
-      (field.mul_is _ _ _ c.mul.ensures) (field.mul_is _ _ _ c.mul-in-loop-i.ensures) (field.add_is _ _ _ c.add-quotient.ensures)
+    c.lagrange_factor-before.result c.lagrange_factor-after.result c.chunk_value.result c.mul.result c.mul-in-loop-i.result c.add-quotient.result (2 ^ (coset_of domain).log_size) i domains c.args.quotient_chunks.now domain c.index-quotient_chunks-i.result
+    same_size c.loop-i-test.true (omega (arith, c.requires.counts)) c.index-quotient_chunks_domains-i.is c.index-quotient_chunks-i.is c.loop-i.invariant
+    c.lagrange_factor-before.ensures c.lagrange_factor-after.ensures (c.chunk_value.ensures ∙ ap (basis_sum g.EF.Field.ring (λ x. x) g.EF.ExtensionField.basis) c.deref.ensures.value)
+    (field.mul_is _ _ _ c.mul.ensures) (field.mul_is _ _ _ c.mul-in-loop-i.ensures) (field.add_is _ _ _ c.add-quotient.ensures)

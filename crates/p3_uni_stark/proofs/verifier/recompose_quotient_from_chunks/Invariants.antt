@@ -7,8 +7,8 @@ invariant-loop-i g l =
     let ring = g.EF.Field.ring in
     let n = common_size (map g.D.PolynomialSpace.coset_of l.quotient_chunks_domains) in
     ring.add l.quotient (recomposition_from ring ring (λ c. c) g.EF.Field.inverse_of n g.EF.ExtensionField.basis
-      (map (λ d. g.EF.ExtensionField.embed (g.D.PolynomialSpace.coset_of d).shift) (take l.i l.quotient_chunks_domains))
-      (map (λ d. g.EF.ExtensionField.embed (g.D.PolynomialSpace.coset_of d).shift) (drop l.i l.quotient_chunks_domains))
-      (map (λ chunk. chunk.items) (drop l.i l.quotient_chunks)) l.zeta)
+    (map (λ d. g.EF.ExtensionField.embed (g.D.PolynomialSpace.coset_of d).shift) (take l.i l.quotient_chunks_domains))
+    (map (λ d. g.EF.ExtensionField.embed (g.D.PolynomialSpace.coset_of d).shift) (drop l.i l.quotient_chunks_domains))
+    (map (λ chunk. chunk.items) (drop l.i l.quotient_chunks)) l.zeta)
     ≡ recomposition ring ring (λ c. c) g.EF.Field.inverse_of n g.EF.ExtensionField.basis
-      (map (λ d. g.EF.ExtensionField.embed (g.D.PolynomialSpace.coset_of d).shift) l.quotient_chunks_domains) (map (λ chunk. chunk.items) l.quotient_chunks) l.zeta
+    (map (λ d. g.EF.ExtensionField.embed (g.D.PolynomialSpace.coset_of d).shift) l.quotient_chunks_domains) (map (λ chunk. chunk.items) l.quotient_chunks) l.zeta

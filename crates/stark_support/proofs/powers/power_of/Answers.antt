@@ -8,8 +8,8 @@ loop-left-preserved g c =
     let field = g.met.F.Field in
     let square = field.mul_is _ _ _ c.mul-square.ensures in
     elim c.if-left-eq1.branch [
-      then-left-eq1 w ↦ rw (w.result-is, square, field.mul_is _ _ _ w.mul-result.ensures) (squared_odd field.field_laws.of_ring _ _ _ _ w.if-left-eq1.true c.loop-left.invariant)
-    | else-left-eq1 w ↦ rw (w.result-is, square) (squared_even field.field_laws.of_ring _ _ _ _ w.if-left-eq1.false c.loop-left.invariant)
+      | then-left-eq1 w ↦ rw (w.result-is, square, field.mul_is _ _ _ w.mul-result.ensures) (squared_odd field.field_laws.of_ring _ _ _ _ w.if-left-eq1.true c.loop-left.invariant)
+      | else-left-eq1 w ↦ rw (w.result-is, square) (squared_even field.field_laws.of_ring _ _ _ _ w.if-left-eq1.false c.loop-left.invariant)
     ]
 
 pub returns : goal.returns

@@ -19,7 +19,7 @@ pub new-requires-clause-nonzero : goal.new-requires-clause-nonzero
 new-requires-clause-nonzero g c =
     let coset : TwoAdicCoset g.row.F.Denot = record { shift = c.args.self.now.shift; log_size = c.args.self.now.log_size } in
     λ e. point_nonzero g.met.F.Field.field_laws _ _ _ g.met.F.TwoAdicField.two_adic coset (record { shift_nonzero = c.args.self.now.shift_nonzero; within = c.args.self.now.within }) c.loop-part._part
-        (sym c.loop-part.invariant.shift ∙ e)
+    (sym c.loop-part.invariant.shift ∙ e)
 
 pub loop-part-preserved : goal.loop-part-preserved
 loop-part-preserved g c =
@@ -42,4 +42,4 @@ returns g c = λ log_parts e.
     let ended : c.loop-part._part ≡ 2 ^ log_parts = omega (arith, e) in
     let fits : log_parts ≤ c.args.self.now.log_size = exponent_at_most log_parts c.args.self.now.log_size (omega (arith, e, c.requires.within)) in
     all_parts g.met.F.Field.field_laws g.F.TwoAdicField.root coset log_parts g.F.TwoAdicField.TWO_ADICITY g.F.Field.GENERATOR g.met.F.TwoAdicField.two_adic
-        (record { shift_nonzero = c.args.self.now.shift_nonzero; within = c.args.self.now.within }) fits c.loop-part._part _ ended (c.loop-part.invariant.listed log_parts e)
+    (record { shift_nonzero = c.args.self.now.shift_nonzero; within = c.args.self.now.within }) fits c.loop-part._part _ ended (c.loop-part.invariant.listed log_parts e)

@@ -8,7 +8,7 @@ pub new-requires-clause-nonzero : goal.new-requires-clause-nonzero
 new-requires-clause-nonzero g c =
     let field = g.met.F.Field in
     λ e. nonzero_product field.field_laws c.args.self.now.shift g.F.Field.GENERATOR c.args.self.now.shift_nonzero g.met.F.TwoAdicField.two_adic.generator_nonzero
-        (ap (g.F.Field.ring.mul c.args.self.now.shift) (sym c.GENERATOR.ensures) ∙ sym (field.mul_is _ _ _ c.mul.ensures) ∙ e)
+    (ap (g.F.Field.ring.mul c.args.self.now.shift) (sym c.GENERATOR.ensures) ∙ sym (field.mul_is _ _ _ c.mul.ensures) ∙ e)
 
 pub returns-clause-disjoint : goal.returns-clause-disjoint
 returns-clause-disjoint g c =

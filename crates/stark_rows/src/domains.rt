@@ -1,0 +1,59 @@
+//! Cosets, their parts and selectors, and the recomposition of a quotient.
+use p3_uni_stark::recompose_quotient_from_chunks;
+use stark_bench::{Coset, Ext4, S12289};
+use stark_support::{DomainShape, Element, ExtensionField, Field, PolynomialSpace};
+use std::alloc::{AllocError, Global};
+use std::test::Fail;
+
+fn number(n: u32) -> Ext4<S12289> {
+    Ext4::from_base(S12289::new(n))
+}
+
+fn coset(shift: u32, log_size: usize) -> Option<Coset<S12289>> {
+    let shift = S12289::new(shift);
+    if shift == S12289::ZERO || log_size > 12 {
+        return None;
+    }
+    Some(Coset::new(shift, log_size))
+}
+
+// At 3 on the subgroup of two points: the selectors 4, 2 and 4, the vanishing value 8, and 1/8.
+#[test]
+fn selectors(rt: HostRuntime) -> Result<(), Fail> {
+    let domain: Coset<S12289> = Coset::new(S12289::ONE, 1);
+    let zeta = number(3);
+    assert!(rt; domain.vanishing_poly_at_point(zeta) == number(8));
+    assert!(rt; domain.vanishing_poly_at_point(number(12288)) == number(0));
+    let selectors = selectors_at(&domain, zeta);
+    let Some([first, last, transition, inverse]) = selectors else { return Err(Fail::new("in the domain")) };
+    assert!(rt; first == number(4));
+    assert!(rt; last == number(2));
+    assert!(rt; transition == number(4));
+    assert!(rt; inverse == number(10753));
+    assert_eq!(rt; domain.size(), 2);
+    assert_eq!(rt; domain.transition_degree_multiple(), 0);
+    Ok(())
+}
+
+#[test]
+fn parts(rt: HostRuntime) -> Result<(), Fail> {
+    let alloc = rt.alloc();
+    let Some(domain) = coset(11, 2) else { return Err(Fail::new("no coset")) };
+    assert_eq!(rt; domain.first_point().value(), 11);
+    let parts = domain.split_domains(alloc, 2)?;
+    assert_eq!(rt; parts.len(), 2);
+    assert_eq!(rt; (parts[0].shift.value(), parts[0].log_size), (11, 1));
+    assert_eq!(rt; (parts[1].shift.value(), parts[1].log_size), (3980, 1));
+    Ok(())
+}
+
+#[test]
+fn disjoint_domains(rt: HostRuntime) -> Result<(), Fail> {
+    let domain: Coset<S12289> = Coset::new(S12289::ONE, 1);
+    for (size, log_size) in [(0, 0), (1, 0), (2, 1), (3, 2), (4096, 12)] {
+        let Some(other) = domain.try_create_disjoint_domain(size) else { return Err(Fail::new("no domain")) };
+        assert_eq!(rt; (other.shift.value(), other.log_size), (11, log_size));
+    }
+    assert!(rt; domain.try_create_disjoint_domain(4097).is_none());
+    Ok(())
+}

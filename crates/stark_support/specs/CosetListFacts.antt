@@ -1,10 +1,11 @@
 -- What one of several disjoint cosets has to do with the others.
-use Rattle.std.specs.Prelude.{◌≡◌, ◌≢◌, ℕ, ◌+◌, ◌-◌, ◌<◌, List, map, length, take, drop, All, AllPairs}
+use Rattle.std.specs.Prelude.{◌≡◌, ◌≢◌, ℕ, ◌+◌, ◌-◌, ◌<◌, List, [], ◌∷◌, map, length, take, drop, All, AllPairs}
 use Rattle.std.proofs.Common.{sym, ◌∙◌, ap, arith, get_or, subst}
 use Rattle.std.proofs.lemmas.List.{get_or-map, get_or-take, get_or-drop, length-map, length-take, length-drop}
 use Rattle.std.proofs.lemmas.List.Elements.{All-take, All-drop}
 use Rattle.stark_support.specs.Ring.{RingOps}
 use Rattle.stark_support.specs.Coset.{TwoAdicCoset, AreDisjoint, AreDisjointCosets}
+use Rattle.stark_support.specs.Recomposition.{common_log_size}
 
 module _ {K : Type 0} {ring : RingOps K} {root : ℕ → K} where
   pub disjoint_sym : (c d : TwoAdicCoset K) → AreDisjoint ring root c d → AreDisjoint ring root d c
@@ -49,3 +50,8 @@ module _ {K : Type 0} {ring : RingOps K} {root : ℕ → K} where
 
       pub disjoint_after : (j : ℕ) → All (λ o. AreDisjoint ring root (view d) (view o)) (take j (drop (i + 1) cosets))
       disjoint_after j = All-take (λ o. AreDisjoint ring root (view d) (view o)) j (drop (i + 1) cosets) behind
+
+-- Disjoint cosets of some subgroup are cosets of the one that the first is of.
+pub shared_log : {K : Type 0} {ring : RingOps K} {root : ℕ → K} (k : ℕ) (cosets : List (TwoAdicCoset K)) → AreDisjointCosets ring root k cosets → AreDisjointCosets ring root (common_log_size cosets) cosets
+shared_log {ring = ring} {root = root} k [] h = record { one_subgroup = λ i d within. absurd (omega arith); disjoint = h.disjoint }
+shared_log {ring = ring} {root = root} k (c ∷ cs) h = subst (λ (n : ℕ). AreDisjointCosets ring root n (c ∷ cs)) (sym (h.one_subgroup 0 c (omega arith))) h

@@ -50,3 +50,14 @@ module _ {K : Type 0} {ring : RingOps K} {inverse : K → K} (laws : FieldLaws r
         | inl h ↦ inl (same_if_no_difference laws.of_ring s ring.one h)
         | inr h ↦ inr (unique_neg laws.of_ring ring.one s (laws.of_ring.add_comm ring.one s ∙ h))
       ]
+
+-- the first of two values where x and y are the same element, else the second
+abbrev pub if_same : {K V : Type 0} {ring : RingOps K} {inverse : K → K} → FieldLaws ring inverse → K → K → V → V → V
+if_same laws x y same other = elim (laws.decides x y) [ inl e ↦ same | inr d ↦ other ]
+
+module _ {K V : Type 0} {ring : RingOps K} {inverse : K → K} (laws : FieldLaws ring inverse) (x y : K) (same other : V) where
+  pub if_same-same : x ≡ y → if_same laws x y same other ≡ same
+  if_same-same e = elim (laws.decides x y) as (λ d. elim d [ inl e ↦ same | inr d ↦ other ] ≡ same) [ inl h ↦ refl | inr h ↦ absurd (h e) ]
+
+  pub if_same-other : x ≢ y → if_same laws x y same other ≡ other
+  if_same-other n = elim (laws.decides x y) as (λ d. elim d [ inl e ↦ same | inr d ↦ other ] ≡ other) [ inl h ↦ absurd (n h) | inr h ↦ refl ]

@@ -87,3 +87,11 @@ module _ {F E : Type 0} {base : RingOps F} {ring : RingOps E} {inverse : E → E
       (ap (λ y. coset_vanishing ring (λ x. x) inverse (coset_size d) (embed d.shift) y) (sym at_first) ∙ sym is ∙ e) in
       apart.apart 0 point.0 (base_laws.mul_one c.shift ∙ embeds.injective _ _
       (point.2 ∙ ap (ring.mul (embed d.shift)) (sym (embedded_power embeds (root d.log_size) point.0)) ∙ sym (embeds.mul d.shift (power base (root d.log_size) point.0))))
+
+-- On a single coset the recomposition is the one chunk's element, whatever the coset.
+pub recomposition_of_one : {K : Type 0} (ring : RingOps K) (inverse : K → K) (basis : List K) (x : K) (n m : ℕ) (shifts : List K) (s : K) (chunks : List (List K)) → length shifts ≡ 1
+    → recomposition ring ring (λ c. c) inverse n basis shifts chunks x ≡ recomposition ring ring (λ c. c) inverse m basis (s ∷ []) chunks x
+recomposition_of_one ring inverse basis x n m [] s chunks h = absurd (omega arith)
+recomposition_of_one ring inverse basis x n m (t ∷ []) s [] h = refl
+recomposition_of_one ring inverse basis x n m (t ∷ []) s (q ∷ qs) h = refl
+recomposition_of_one ring inverse basis x n m (t ∷ u ∷ more) s chunks h = absurd (omega arith)

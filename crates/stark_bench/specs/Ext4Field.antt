@@ -1,9 +1,9 @@
 -- The extension of degree four, on the struct of its coordinates.
-use Rattle.std.specs.Prelude.{◌≡◌, ◌≢◌, Bool, true, false, ◌&&◌, ℕ, zero, suc, List, [], ◌∷◌, length, map, refl}
-use Rattle.std.proofs.Common.{ap, sym, ◌∙◌, arith}
+use Rattle.std.specs.Prelude.{◌≡◌, ◌≢◌, Bool, true, false, ◌&&◌, List, [], ◌∷◌, length, map, refl}
+use Rattle.std.proofs.Common.{ap, sym, arith}
 use Rattle.stark_support.specs.Ring.{RingOps, RingLaws, FieldLaws, IsQuarticConstant}
-use Rattle.stark_support.specs.RingFacts.{neg_zero, zero_add}
-use Rattle.stark_support.specs.RingSolver.{Expression, expressions, nothing, unit, variable, solve, ◌⊕◌, ◌⊗◌, v0, v1, v2, v3, v4}
+use Rattle.stark_support.specs.RingFacts.{neg_zero}
+use Rattle.stark_support.specs.RingSolver.{Expression, expressions, solve, v0, v1, v2, v3, v4}
 use Rattle.stark_support.specs.Embedding.{IsEmbedding}
 use Rattle.stark_support.specs.Extension.{IsBasis, basis_sum}
 use Rattle.stark_bench.specs.Quartic.{Quartic, quartic_ring, quartic_inverse, quartic_laws, quartic_norm, quartic_norm_nonzero, embedded_product, renamed_ring, renamed_inverse, renamed_laws}

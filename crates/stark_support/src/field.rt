@@ -56,8 +56,15 @@ pub trait Algebra<F>: From<F>
     ghost negated_stands: { (x z v : Self) → Self.neg_gives x z → stands v x → stands (operations.negated v) z };
 }
 
-/// A field, which is an algebra over itself.
-pub trait Field: Element + Eq + Default + Algebra<Self> {
+/// A field. It is not an `Algebra<Self>`: that would bring `From<Self>` as a bound, which a generic function would keep
+/// apart from the `From<T>` that every type has.
+pub trait Field: Element
+    + Eq
+    + Default
+    + Add<Self, Output = Self>
+    + Sub<Self, Output = Self>
+    + Mul<Self, Output = Self>
+    + Neg<Output = Self> {
     /// The operations, as functions of the values.
     ghost ring: { RingOps Self };
 
@@ -96,6 +103,14 @@ pub trait Field: Element + Eq + Default + Algebra<Self> {
 
     ghost eq_same: { (x y : Self) → Self.eq x y ≡ true → x ≡ y };
 
+    ghost may_add: { (x y : Self) → Self.can_add x y };
+
+    ghost may_sub: { (x y : Self) → Self.can_sub x y };
+
+    ghost may_mul: { (x y : Self) → Self.can_mul x y };
+
+    ghost may_neg: { (x : Self) → Self.can_neg x };
+
     ghost add_is: { (x y r : Self) → Self.add_gives x y r → r ≡ ring.add x y };
 
     ghost sub_is: { (x y r : Self) → Self.sub_gives x y r → r ≡ difference ring x y };
@@ -103,11 +118,6 @@ pub trait Field: Element + Eq + Default + Algebra<Self> {
     ghost mul_is: { (x y r : Self) → Self.mul_gives x y r → r ≡ ring.mul x y };
 
     ghost neg_is: { (x r : Self) → Self.neg_gives x r → r ≡ ring.neg x };
-
-    /// As an algebra a field computes what its ring does, and an element stands for itself alone.
-    ghost operations_are: { Self.operations ≡ ring_operations ring (λ x. x) };
-
-    ghost exact: { (v x : Self) → Self.stands v x → x ≡ v };
 }
 
 /// A field of the residues modulo a prime, each of which is one number of 64 bits.

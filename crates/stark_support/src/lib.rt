@@ -4,11 +4,13 @@
 mod domain;
 mod field;
 mod matrix;
+mod periodic;
 mod powers;
 mod util;
 
 pub use domain::{DomainShape, LagrangeSelectors, PolynomialSpace};
 pub use field::{Algebra, Element, ExtensionField, Field, PrimeField64, QuarticBase, TwoAdicField};
 pub use matrix::{RowMajorMatrixView, VerticalPair, ViewPair};
+pub use periodic::PeriodicColumnShapeError;
 pub use powers::{power_of, squared_times};
 pub use util::{checked_log_size_sum, checked_pow2, log2_ceil_usize, log2_strict_usize};

@@ -1,4 +1,4 @@
-use Rattle.std.proofs.Common.{◌≡◌, ◌∙◌, ◌^◌, ◌+◌, ◌-◌, ◌<◌, ap, sym, ℕ, length, map, take, drop, arith}
+use Rattle.std.proofs.Common.{◌≡◌, ◌∙◌, ◌^◌, ◌+◌, ◌-◌, ap, ℕ, length, map, arith}
 use Rattle.stark_support.specs.Recomposition.{common_log_size}
 use Rattle.stark_support.specs.Extension.{basis_sum}
 use Rattle.stark_support.specs.RecompositionFacts.{next_chunk}

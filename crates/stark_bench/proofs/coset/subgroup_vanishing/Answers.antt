@@ -1,4 +1,4 @@
-use Rattle.std.proofs.Common.{◌≡◌, ◌∙◌, ap}
+use Rattle.std.proofs.Common.{◌∙◌, ap}
 use Rattle.stark_support.specs.Ring.{difference}
 use Rattle.stark_support.specs.PowerFacts.{squarings_is_power}
 use Rattle.stark_bench.proofs.coset.subgroup_vanishing.Goals as goal

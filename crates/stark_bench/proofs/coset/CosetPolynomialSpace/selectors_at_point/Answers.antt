@@ -1,4 +1,4 @@
-use Rattle.std.proofs.Common.{◌≡◌, ◌∙◌, ap}
+use Rattle.std.proofs.Common.{◌∙◌, ap}
 use Rattle.stark_support.specs.Ring.{difference}
 use Rattle.stark_support.specs.SubgroupFacts.{generator_computed, first_computed, last_computed, first_row_computed, last_row_computed}
 use Rattle.stark_bench.proofs.coset.CosetPolynomialSpace.selectors_at_point.Goals as goal

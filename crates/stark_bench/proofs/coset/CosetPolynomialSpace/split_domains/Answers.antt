@@ -1,9 +1,8 @@
-use Rattle.std.proofs.Common.{◌≡◌, ◌≢◌, ◌≤◌, ◌-◌, ◌+◌, ◌^◌, ◌++◌, ◌∷◌, [], ℕ, ◌∙◌, ap, sym, subst, refl, map, arith}
-use Rattle.std.proofs.lemmas.List.{map-append}
-use Rattle.stark_support.specs.Coset.{TwoAdicCoset, IsTwoAdicCoset, coset_point, coset_part}
+use Rattle.std.proofs.Common.{◌≡◌, ◌≤◌, ◌-◌, ◌^◌, ◌∙◌, ap, sym, map, arith}
+use Rattle.stark_support.specs.Coset.{TwoAdicCoset}
 use Rattle.stark_support.specs.CosetFacts.{point_nonzero}
 use Rattle.stark_support.specs.LogarithmFacts.{exponent_at_most, same_exponent}
-use Rattle.stark_support.specs.PartFacts.{ArePartsSoFar, no_parts, first_shift, next_shift, one_more_seen, all_parts}
+use Rattle.stark_support.specs.PartFacts.{no_parts, first_shift, next_shift, one_more_seen, all_parts}
 use Rattle.stark_bench.proofs.coset.CosetPolynomialSpace.split_domains.Goals as goal
 
 pub overflow_sub-log_size : goal.overflow_sub-log_size

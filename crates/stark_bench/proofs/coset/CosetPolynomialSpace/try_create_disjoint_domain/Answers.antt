@@ -1,6 +1,6 @@
-use Rattle.std.proofs.Common.{◌≡◌, ◌≢◌, ◌≤◌, ◌^◌, ◌<◌, ◌∙◌, ap, sym, arith, ℕ, max}
+use Rattle.std.proofs.Common.{◌∙◌, ap, sym, arith}
 use Rattle.stark_support.specs.FieldFacts.{nonzero_product}
-use Rattle.stark_support.specs.LogarithmFacts.{above_power, within_power}
+use Rattle.stark_support.specs.LogarithmFacts.{within_power}
 use Rattle.stark_support.specs.CosetFacts.{shifted_is_disjoint}
 use Rattle.stark_bench.proofs.coset.CosetPolynomialSpace.try_create_disjoint_domain.Goals as goal
 

@@ -1,4 +1,4 @@
-use Rattle.std.proofs.Common.{◌≡◌, ◌∙◌, ap, sym}
+use Rattle.std.proofs.Common.{◌∙◌, ap, sym}
 use Rattle.stark_support.specs.Coset.{subgroup_vanishing}
 use Rattle.stark_bench.proofs.coset.CosetPolynomialSpace.vanishing_poly_at_point.Goals as goal
 

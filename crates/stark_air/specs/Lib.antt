@@ -1,0 +1,6 @@
+pub mod Tree
+pub mod Layout
+pub mod Value
+pub mod Emission
+pub mod Under
+pub mod Rows

@@ -1,0 +1,191 @@
+//! Builders, which an AIR is evaluated on.
+ghost use Rattle.std.specs.Prelude.{◌≡◌, IfOk, OnErr, List, [], ◌∷◌};
+ghost use Rattle.std.specs.List.{slice_get};
+ghost use Rattle.stark_air.specs.Emission.{EmissionLaws};
+ghost use Rattle.stark_air.specs.Layout.{Layout};
+ghost use Rattle.stark_air.specs.Tree.{Tree, Constraint, constant, difference, base, extension};
+ghost use Rattle.stark_air.specs.Value.{Environment, value, Shows};
+
+use crate::filtered::FilteredAirBuilder;
+use crate::window::WindowAccess;
+use stark_support::{Algebra, Element};
+use std::alloc::AllocError;
+use std::ops::Mul;
+
+/// What an AIR is evaluated on: a row of values and the one after it, selectors of rows, and what the asserted constraints
+/// leave. An assertion of `x` says that `x` is zero; it is Err only where memory was refused, and then nothing was asserted.
+pub trait AirBuilder {
+    type F: Element;
+
+    type Expr: Algebra<Self::F> + From<Self::Var> + From<Self::PublicVar> + From<Self::PeriodicVar>;
+
+    type Var: Copy;
+
+    type PublicVar: Copy;
+
+    type PeriodicVar: Copy;
+
+    type MainWindow: WindowAccess<Self::Var> + Drop;
+
+    type PreprocessedWindow: WindowAccess<Self::Var> + Drop;
+
+    /// The row's values.
+    ghost environment: { Self → Environment Self.Expr };
+
+    /// How much of each kind the row has.
+    ghost layout: { Self → Layout };
+
+    /// What no assertion changes besides the row, as the builder that a filtered one borrows.
+    ghost keeps: { Self → Self → Type 0 };
+
+    /// That an assertion may be refused, for want of memory.
+    ghost may_refuse: { Self → Type 0 };
+
+    /// What the builder holds once a list of constraints was asserted.
+    ghost after: { Self → List (Constraint Self.F) → Self → Type 0 };
+
+    /// The main columns' two rows. Err only where memory was refused.
+    fn main(&self) -> Result<Self::MainWindow, AllocError>
+        ensures { IfOk result (λ w.
+            (Shows ⟦<Self::Expr as From<Self::Var>>⟧.from_gives Self.Expr.stands (environment self.now).main_current (layout self.now).main (Self.MainWindow.current_at w))
+            × (Shows ⟦<Self::Expr as From<Self::Var>>⟧.from_gives Self.Expr.stands (environment self.now).main_next (layout self.now).main_next (Self.MainWindow.next_at w))) };
+
+    /// The preprocessed columns' two rows. Err only where memory was refused.
+    fn preprocessed(&self) -> Result<Self::PreprocessedWindow, AllocError>
+        ensures { IfOk result (λ w.
+            (Shows ⟦<Self::Expr as From<Self::Var>>⟧.from_gives Self.Expr.stands (environment self.now).preprocessed_current (layout self.now).preprocessed (Self.PreprocessedWindow.current_at w))
+            × (Shows ⟦<Self::Expr as From<Self::Var>>⟧.from_gives Self.Expr.stands (environment self.now).preprocessed_next (layout self.now).preprocessed_next (Self.PreprocessedWindow.next_at w))) };
+
+    /// The selector that isn't zero on the first row alone.
+    fn is_first_row(&self) -> Self::Expr
+        ensures { Self.Expr.stands (environment self.now).first_row result };
+
+    /// The selector that isn't zero on the last row alone.
+    fn is_last_row(&self) -> Self::Expr
+        ensures { Self.Expr.stands (environment self.now).last_row result };
+
+    /// The selector that is zero on the last row alone.
+    fn is_transition(&self) -> Self::Expr
+        ensures { Self.Expr.stands (environment self.now).transition result };
+
+    /// The public values.
+    fn public_values(&self) -> &[Self::PublicVar]
+        ensures { Shows ⟦<Self::Expr as From<Self::PublicVar>>⟧.from_gives Self.Expr.stands (environment self.now).public_value (layout self.now).publics (slice_get result.now) };
+
+    /// The periodic columns' values in the row.
+    fn periodic_values(&self) -> &[Self::PeriodicVar]
+        ensures { Shows ⟦<Self::Expr as From<Self::PeriodicVar>>⟧.from_gives Self.Expr.stands (environment self.now).periodic_value (layout self.now).periodics (slice_get result.now) };
+
+    /// Asserts `x`, as a constraint over the base field.
+    fn assert_zero(&mut self, x: Self::Expr) -> Result<(), AllocError>
+        ensures kept { keeps self.old self.new }
+        ensures same_environment { environment self.new ≡ environment self.old }
+        ensures same_layout { layout self.new ≡ layout self.old }
+        ensures asserted { IfOk result (λ _. (t : Tree Self.F) → Self.Expr.stands (value Self.Expr.operations (environment self.old) t) x → after self.old (base t ∷ []) self.new) }
+        ensures refused { OnErr result (after self.old [] self.new) }
+        ensures memory { OnErr result (may_refuse self.old) };
+
+    /// A builder that asserts `condition * x` for each `x` asserted on it.
+    fn when(&mut self, condition: Self::Expr) -> FilteredAirBuilder<'_, Self>
+        ensures same_builder { result.inner.ghost_name ≡ self.entry.ghost_name }
+        ensures same_value { result.inner.now ≡ self.old }
+        ensures same_condition { result.condition ≡ condition }
+    {
+        FilteredAirBuilder {
+            inner: self,
+            condition,
+        }
+    }
+
+    /// Asserts `a - b`.
+    fn assert_eq(&mut self, a: Self::Expr, b: Self::Expr) -> Result<(), AllocError>
+        ensures kept { keeps self.old self.new }
+        ensures same_environment { environment self.new ≡ environment self.old }
+        ensures same_layout { layout self.new ≡ layout self.old }
+        ensures asserted { IfOk result (λ _. (t u : Tree Self.F) → Self.Expr.stands (value Self.Expr.operations (environment self.old) t) a → Self.Expr.stands (value Self.Expr.operations (environment self.old) u) b → after self.old (base (difference t u) ∷ []) self.new) }
+        ensures refused { OnErr result (after self.old [] self.new) }
+        ensures memory { OnErr result (may_refuse self.old) }
+    {
+        self.assert_zero(a - b)
+    }
+
+    /// Asserts `a - 1`.
+    fn assert_one(&mut self, a: Self::Expr) -> Result<(), AllocError>
+        ensures kept { keeps self.old self.new }
+        ensures same_environment { environment self.new ≡ environment self.old }
+        ensures same_layout { layout self.new ≡ layout self.old }
+        ensures asserted { IfOk result (λ _. (t : Tree Self.F) → Self.Expr.stands (value Self.Expr.operations (environment self.old) t) a → after self.old (base (difference t (constant Self.F.ONE)) ∷ []) self.new) }
+        ensures refused { OnErr result (after self.old [] self.new) }
+        ensures memory { OnErr result (may_refuse self.old) }
+    {
+        self.assert_zero(a - Self::Expr::from(Self::F::ONE))
+    }
+
+    /// `when` on the selector of the first row.
+    fn when_first_row(&mut self) -> FilteredAirBuilder<'_, Self>
+        ensures same_builder { result.inner.ghost_name ≡ self.entry.ghost_name }
+        ensures same_value { result.inner.now ≡ self.old }
+        ensures same_condition { Self.Expr.stands (environment result.inner.now).first_row result.condition }
+    {
+        let condition = self.is_first_row();
+        FilteredAirBuilder {
+            inner: self,
+            condition,
+        }
+    }
+
+    /// `when` on the selector of the last row.
+    fn when_last_row(&mut self) -> FilteredAirBuilder<'_, Self>
+        ensures same_builder { result.inner.ghost_name ≡ self.entry.ghost_name }
+        ensures same_value { result.inner.now ≡ self.old }
+        ensures same_condition { Self.Expr.stands (environment result.inner.now).last_row result.condition }
+    {
+        let condition = self.is_last_row();
+        FilteredAirBuilder {
+            inner: self,
+            condition,
+        }
+    }
+
+    /// `when` on the selector of all rows but the last.
+    fn when_transition(&mut self) -> FilteredAirBuilder<'_, Self>
+        ensures same_builder { result.inner.ghost_name ≡ self.entry.ghost_name }
+        ensures same_value { result.inner.now ≡ self.old }
+        ensures same_condition { Self.Expr.stands (environment result.inner.now).transition result.condition }
+    {
+        let condition = self.is_transition();
+        FilteredAirBuilder {
+            inner: self,
+            condition,
+        }
+    }
+
+    /// Asserting nothing changes nothing, one list after another is the joined list, and the row stays.
+    ghost emission_laws: { EmissionLaws environment layout after };
+}
+
+/// A builder that also takes constraints over an extension of the field.
+pub trait ExtensionBuilder: AirBuilder {
+    type EF;
+
+    type ExprEF: Mul<Self::ExprEF, Output = Self::ExprEF> + Drop + From<Self::Expr>;
+
+    /// The second stands for the value that is the first, seen in the extension.
+    ghost stands_above: { Self.Expr → Self.ExprEF → Type 0 };
+
+    /// Asserts `x`, as a constraint over the extension.
+    fn assert_zero_ext(&mut self, x: Self::ExprEF) -> Result<(), AllocError>
+        ensures kept { Self.keeps self.old self.new }
+        ensures same_environment { Self.environment self.new ≡ Self.environment self.old }
+        ensures same_layout { Self.layout self.new ≡ Self.layout self.old }
+        ensures asserted { IfOk result (λ _. (t : Tree Self.F) → stands_above (value Self.Expr.operations (Self.environment self.old) t) x → Self.after self.old (extension t ∷ []) self.new) }
+        ensures refused { OnErr result (Self.after self.old [] self.new) }
+        ensures memory { OnErr result (Self.may_refuse self.old) };
+
+    /// Any two values of the extension may be multiplied.
+    ghost may_multiply: { (x y : Self.ExprEF) → Self.ExprEF.can_mul x y };
+
+    ghost from_stands: { (x : Self.Expr) (y : Self.ExprEF) (v : Self.Expr) → ⟦<Self::ExprEF as From<Self::Expr>>⟧.from_gives x y → Self.Expr.stands v x → stands_above v y };
+
+    ghost times_above: { (v w : Self.Expr) (x y z : Self.ExprEF) → Self.ExprEF.mul_gives x y z → stands_above v x → stands_above w y → stands_above (Self.Expr.operations.times v w) z };
+}

@@ -1,0 +1,6 @@
+//! A commitment scheme in the clear, and sample AIRs.
+#![tactic(auto)]
+
+mod samples;
+
+pub use samples::CounterAir;

@@ -1,0 +1,9 @@
+use Rattle.std.proofs.Common.{ap}
+use Rattle.stark_parts.specs.Folding.{carried_on}
+use Rattle.stark_parts.proofs.folder.VerifierConstraintFolderAirBuilder.assert_zero.Goals as goal
+
+pub returns-clause-asserted : goal.returns-clause-asserted
+returns-clause-asserted g c = λ t h.
+    let laws = g.met.EF.ExtensionField in
+    ap (λ z. record c.args.self.now { accumulator = z })
+    (carried_on g.EF.Field.ring laws.operations_above _ _ _ _ _ _ t (g.met.EF.Field.mul_is _ _ _ c.mul.ensures) (g.met.EF.Field.add_is _ _ _ c.add-self.ensures) (laws.exact_above _ _ h))

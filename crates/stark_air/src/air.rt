@@ -1,7 +1,7 @@
 //! AIRs: lists of constraints over rows of columns.
 ghost use Rattle.std.specs.Prelude.{◌≡◌, List};
 ghost use Rattle.stark_air.specs.Emission.{Asserted};
-ghost use Rattle.stark_air.specs.Layout.{Layout, Covers};
+ghost use Rattle.stark_air.specs.Layout.{Layout, Covers, LeavesWithin};
 ghost use Rattle.stark_air.specs.Tree.{Constraint};
 
 use crate::builder::ExtensionBuilder;
@@ -40,4 +40,7 @@ pub trait Air<F: Field>: BaseAir<F> {
     fn eval<AB: ExtensionBuilder<F = F>>(&self, builder: &mut AB) -> Result<(), AllocError>
         requires { Covers (AB.layout builder.old) (Self.layout self.now) }
         ensures { Asserted AB.after result builder.old (constraints self.now) builder.new };
+
+    /// No constraint reads outside the layout.
+    ghost leaves_within: { (air : Self) → LeavesWithin (Self.layout air) (constraints air) };
 }

@@ -38,7 +38,7 @@ pub trait AirBuilder {
     /// What no assertion changes besides the row, as the builder that a filtered one borrows.
     ghost keeps: { Self → Self → Type 0 };
 
-    /// That an assertion may be refused, for want of memory.
+    /// Holds of a builder whose assertions take memory, so that it may be refused.
     ghost may_refuse: { Self → Type 0 };
 
     /// What the builder holds once a list of constraints was asserted.

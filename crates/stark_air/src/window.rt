@@ -30,8 +30,7 @@ pub trait WindowAccess<T> {
         ensures { result ≡ next_at self.now i };
 }
 
-/// Two borrowed rows. `F` is a type that outlives the borrow, as a field that a builder's other values are of: a builder's
-/// window names every type that the builder does.
+/// Two borrowed rows. A builder's window has to name every type whose values the builder borrows: `F` is the one that isn't `T`.
 #[derive(Clone, Copy, Debug)]
 pub struct RowWindow<'a, T, F = ()> {
     pub current: &'a [T],

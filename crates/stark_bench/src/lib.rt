@@ -3,6 +3,7 @@
 
 mod coset;
 mod ext4;
+mod json;
 mod residue;
 
 pub use coset::Coset;

@@ -1,5 +1,6 @@
 //! Sample AIRs.
 ghost use Rattle.std.specs.Prelude.{◌≡◌, List, [], ◌∷◌, IfOk, OnErr};
+ghost use Rattle.std.proofs.Common.{rules};
 ghost use Rattle.stark_air.specs.Layout.{Covers};
 ghost use Rattle.stark_clear.specs.Samples.{counter_layout, counter_starts, counter_steps, counter_constraints};
 
@@ -32,6 +33,8 @@ impl<F> BaseAir<F> for CounterAir {
 
 impl<F: Field> Air<F> for CounterAir {
     ghost constraints = { λ _. counter_constraints F.ONE };
+
+    ghost leaves_within = { Prim.search rules };
 
     fn eval<AB: ExtensionBuilder<F = F>>(&self, builder: &mut AB) -> Result<(), AllocError> {
         assert_start(&mut *builder)?;

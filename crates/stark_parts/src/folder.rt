@@ -1,6 +1,5 @@
 //! The verifier's folder: it carries on one accumulator.
 ghost use Rattle.std.specs.Prelude.{◌≡◌, IfOk};
-ghost use Rattle.std.specs.List.{slice_get};
 ghost use Rattle.std.proofs.Common.{sym, subst};
 ghost use Rattle.stark_air.specs.Layout.{Covers};
 ghost use Rattle.stark_air.specs.Rows.{environment_of, layout_of};
@@ -11,8 +10,7 @@ ghost use Rattle.stark_parts.specs.Folding.{folder_environment, folder_layout, a
 
 use stark_air::{Air, AirBuilder, ExtensionBuilder, RowWindow};
 use stark_support::{
-    Algebra, ExtensionField, Field, LagrangeSelectors, PolynomialSpace, RowMajorMatrixView,
-    VerticalPair, ViewPair,
+    ExtensionField, LagrangeSelectors, PolynomialSpace, RowMajorMatrixView, VerticalPair, ViewPair,
 };
 use std::alloc::AllocError;
 
@@ -121,7 +119,9 @@ impl<'a, D: PolynomialSpace, EF: ExtensionField<D::Val>> ExtensionBuilder
     }
 }
 
-/// The folded sum of the constraints of an AIR, over two opened rows.
+/// The folded sum of an AIR's constraints over two opened rows, `alpha^(n - 1 - j)` times constraint `j` for each of the `n`.
+/// The rows and values have at least the lengths that the AIR declares; a trace without preprocessed columns has empty
+/// rows of them. Err only where the AIR's `eval` was refused memory of its own.
 pub fn fold_constraints<D: PolynomialSpace, EF: ExtensionField<D::Val>, A: Air<D::Val>>(
     air: &A,
     main_current: &[EF],

@@ -128,7 +128,7 @@ module _ {K : Type 0} {ring : RingOps K} {inverse : K → K} (laws : FieldLaws r
       let w = unity_is_power c.log_size valid.within y (squarings_is_power laws.of_ring y c.log_size ∙ same_if_no_difference laws.of_ring (power ring y (coset_size c)) ring.one e) in
       (w.0, w.1, sym (divide_times laws x c.shift valid.shift_nonzero) ∙ ap (λ t. ring.mul t c.shift) w.2 ∙ laws.of_ring.mul_comm _ c.shift)
 
-  squarings_more : (x : K) (k d : ℕ) → squarings ring x k ≡ ring.one → squarings ring x (d + k) ≡ ring.one
+  pub squarings_more : (x : K) (k d : ℕ) → squarings ring x k ≡ ring.one → squarings ring x (d + k) ≡ ring.one
   unfolding squarings
   squarings_more x k zero e = ap (λ n. squarings ring x n) (zero-add k) ∙ e
   squarings_more x k (suc d) e = ap (λ n. squarings ring x n) (suc-add d k) ∙ ap (λ t. ring.mul t t) (squarings_more x k d e) ∙ laws.of_ring.mul_one ring.one

@@ -20,3 +20,4 @@ pub mod PartFacts
 pub mod Recomposition
 pub mod RecompositionFacts
 pub mod CosetListFacts
+pub mod Json

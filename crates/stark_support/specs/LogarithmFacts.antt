@@ -8,7 +8,7 @@ use Rattle.stark_support.specs.Logarithm.{IsCeilingOfLog}
 equal_or_below : (i j : ℕ) → i ≤ j → (i ≡ j) ⊎ (i < j)
 equal_or_below i j h = grind arith
 
-at_most_or_above : (i j : ℕ) → (i ≤ j) ⊎ (j < i)
+pub at_most_or_above : (i j : ℕ) → (i ≤ j) ⊎ (j < i)
 at_most_or_above i j = grind arith
 
 pub two_power_at_most : (i j : ℕ) → i ≤ j → 2 ^ i ≤ 2 ^ j

@@ -3,6 +3,7 @@
 
 mod domain;
 mod field;
+mod json;
 mod matrix;
 mod periodic;
 mod powers;
@@ -10,6 +11,7 @@ mod util;
 
 pub use domain::{DomainShape, LagrangeSelectors, PolynomialSpace};
 pub use field::{Algebra, Element, ExtensionField, Field, PrimeField64, QuarticBase, TwoAdicField};
+pub use json::{JsonCodec, JsonFault, field_of, list_from_json, lists_from_json, value_from_bytes};
 pub use matrix::{RowMajorMatrixView, VerticalPair, ViewPair};
 pub use periodic::PeriodicColumnShapeError;
 pub use powers::{power_of, squared_times};

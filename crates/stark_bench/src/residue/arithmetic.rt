@@ -15,13 +15,15 @@ use std::fmt::{self, Write};
 use std::marker::PhantomData;
 use std::ops::{Add, Mul, Neg, Sub};
 
-/// The residue of a number.
-fn reduced<Kind>(number: u32) -> Residue<Kind>
-    ensures { result ≡ residue number }
-{
-    Residue {
-        value: number % 12289,
-        kind: PhantomData,
+impl<Kind> Residue<Kind> {
+    /// The residue of a number.
+    pub fn new(number: u32) -> Residue<Kind>
+        ensures { result ≡ residue number }
+    {
+        Residue {
+            value: number % 12289,
+            kind: PhantomData,
+        }
     }
 }
 
@@ -49,7 +51,7 @@ impl<Kind> Default for Residue<Kind> {
     ghost is_default = { λ x. x ≡ residue 0 };
 
     fn default() -> Residue<Kind> {
-        reduced(0)
+        Residue::new(0)
     }
 }
 
@@ -59,7 +61,7 @@ impl<Kind> Add for Residue<Kind> {
     ghost add_gives = { λ x y r. r ≡ residue_ring.add x y };
 
     fn add(self, other: Residue<Kind>) -> Residue<Kind> {
-        reduced(self.value + other.value)
+        Residue::new(self.value + other.value)
     }
 }
 
@@ -79,7 +81,7 @@ impl<Kind> Mul for Residue<Kind> {
     ghost mul_gives = { λ x y r. r ≡ residue_ring.mul x y };
 
     fn mul(self, other: Residue<Kind>) -> Residue<Kind> {
-        reduced(self.value * other.value)
+        Residue::new(self.value * other.value)
     }
 }
 
@@ -89,7 +91,7 @@ impl<Kind> Neg for Residue<Kind> {
     ghost neg_gives = { λ x r. r ≡ residue_ring.neg x };
 
     fn neg(self) -> Residue<Kind> {
-        reduced(12289 - self.value)
+        Residue::new(12289 - self.value)
     }
 }
 
@@ -162,7 +164,7 @@ impl<Kind> Field for Residue<Kind> {
         for _step in 0..12u32 {
             power = power * power % 12289 * x % 12289;
         }
-        reduced(power)
+        Residue::new(power)
     }
 
     ghost field_laws = { residue_laws };
@@ -207,7 +209,7 @@ impl<Kind> PrimeField64 for Residue<Kind> {
     ghost of_number = { residue };
 
     fn from_u8(number: u8) -> Residue<Kind> {
-        reduced(u32::from(number))
+        Residue::new(u32::from(number))
     }
 
     ghost above = { lit< tt };
@@ -238,7 +240,7 @@ impl<Kind> TwoAdicField for Residue<Kind> {
     const TWO_ADICITY: usize = 12;
 
     fn two_adic_generator(bits: usize) -> Residue<Kind> {
-        squared_times(reduced(1331), 12 - bits)
+        squared_times(Residue::new(1331), 12 - bits)
     }
 
     ghost two_adic = { two_adic_laws };

@@ -1,0 +1,53 @@
+//! Elements that JSON spells.
+ghost use Rattle.std.specs.Prelude.{◌≡◌};
+ghost use Rattle.stark_bench.specs.ElementJson.{base_at, element_at, of_four};
+
+use crate::ext4::Ext4;
+use crate::residue::Residue;
+use serde_json::Value;
+use stark_support::{JsonCodec, JsonFault, list_from_json};
+use std::alloc::Global;
+
+impl<Kind> JsonCodec for Residue<Kind> {
+    ghost reading = { base_at };
+
+    /// A whole number from 0 to 12288.
+    #[tactic(auto, unfolding(crate::specs::ElementJson::base_at))]
+    fn from_json(_alloc: Global, value: &Value) -> Result<Residue<Kind>, JsonFault> {
+        let Some(number) = value.as_u64() else {
+            return Err(JsonFault::Invalid);
+        };
+        if number >= 12289 {
+            return Err(JsonFault::Invalid);
+        }
+        Ok(Residue::new(number as u32))
+    }
+}
+
+fn from_four<F: Copy>(coordinates: &[F]) -> Option<Ext4<F>>
+    ensures { result ≡ of_four coordinates.now }
+{
+    match coordinates {
+        [c0, c1, c2, c3] => Some(Ext4 {
+            c0: *c0,
+            c1: *c1,
+            c2: *c2,
+            c3: *c3,
+        }),
+        _ => None,
+    }
+}
+
+impl<F: JsonCodec + Copy> JsonCodec for Ext4<F> {
+    ghost reading = { element_at F.reading };
+
+    /// An array of exactly four coordinates.
+    #[tactic(auto, unfolding(crate::specs::ElementJson::element_at))]
+    fn from_json(alloc: Global, value: &Value) -> Result<Ext4<F>, JsonFault> {
+        let coordinates = list_from_json::<F>(alloc, value)?;
+        match from_four(&coordinates) {
+            Some(element) => Ok(element),
+            None => Err(JsonFault::Invalid),
+        }
+    }
+}

@@ -1,0 +1,4 @@
+pub mod Lines
+pub mod Findings
+pub mod PointSteps
+pub mod Meaning

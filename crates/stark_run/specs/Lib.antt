@@ -1,0 +1,6 @@
+pub mod Check
+pub mod Input
+pub mod Numbers
+pub mod Run
+pub mod Verdict
+pub mod Point

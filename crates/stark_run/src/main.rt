@@ -1,0 +1,61 @@
+//! Checks the numbers of a proof at one point, from bytes to bytes.
+#![tactic(auto)]
+
+ghost use Rattle.std.specs.Prelude.{◌≡◌, ◌⊎◌, IfErr};
+
+mod check;
+mod input;
+mod point;
+mod run;
+mod sources;
+mod streams;
+#[cfg(test)]
+mod tests;
+mod verdict;
+
+use run::run;
+use sources::{WatchedReader, WatchedWriter};
+use std::alloc::AllocError;
+use std::process::ExitCode;
+use std::{env, io};
+use verdict::{Refusal, RunEnd, Verdict};
+
+/// The words after the program's name, or what is said where there are none.
+fn words_of(rt: &HostRuntime) -> Result<Vec<String>, Verdict>
+    ensures { IfErr result (λ v. (v ≡ Verdict.BadInput) ⊎ (v ≡ Verdict.Refused Refusal.OutOfMemory)) }
+{
+    match env::args(rt) {
+        Ok(all) => match all.skip(1).collect(rt.alloc()) {
+            Ok(words) => Ok(words),
+            Err(AllocError) => Err(Verdict::Refused(Refusal::OutOfMemory)),
+        },
+        Err(e) => {
+            if e.kind() == io::ErrorKind::OutOfMemory {
+                Err(Verdict::Refused(Refusal::OutOfMemory))
+            } else {
+                Err(Verdict::BadInput)
+            }
+        }
+    }
+}
+
+fn main(rt: HostRuntime) -> ExitCode {
+    let mut writer = WatchedWriter::new(rt.stdout());
+    let end = match words_of(&rt) {
+        Ok(words) => {
+            let mut reader = WatchedReader::new(rt.stdin());
+            run(rt.alloc(), &words, &mut reader, &mut writer)
+        }
+        Err(verdict) => run::tell(verdict, &mut writer),
+    };
+    match end {
+        RunEnd::InputFailed => {
+            let _ = eprintln!(rt; "input failed");
+        }
+        RunEnd::OutputFailed => {
+            let _ = eprintln!(rt; "output failed");
+        }
+        RunEnd::Accepted | RunEnd::Refused | RunEnd::BadInput => {}
+    }
+    ExitCode::from(end.status())
+}

@@ -1,0 +1,148 @@
+//! A run of the program, from bytes to bytes.
+
+ghost use Rattle.std.specs.Prelude.{◌≡◌, ◌↔◌, ◌⊎◌, ℕ, List, map, string_bytes, true, false, None, Ok, IfOk, IfSome, IfErr, is_err, take, codes};
+ghost use Rattle.std.specs.Io.KnownBytes.{Appends};
+ghost use Rattle.stark_run.specs.Input.{numbers_in};
+ghost use Rattle.stark_run.specs.Run.{CheckHoldsOf, command_of, judged, verdict_of, Found, Says, SaysFound, SaysOrLacksMemory, AcceptsInput, Wrote};
+ghost use Rattle.stark_run.specs.Verdict.{line_of};
+
+use crate::check::check;
+use crate::input::numbers_from;
+use crate::streams::{InputFault, Sink, Source, read_to_end, write_all};
+use crate::verdict::{Refusal, RunEnd, Verdict};
+use stark_support::JsonFault;
+use std::alloc::Global;
+
+/// What the words ask for.
+#[derive(Clone, Copy, Debug, PartialEq, Eq)]
+pub enum Command {
+    /// To check the numbers of a proof for the counter.
+    CheckCounter,
+}
+
+/// The command that the words name, compared whole.
+fn named_command(words: &[String]) -> Option<Command>
+    ensures { result ≡ command_of (map string_bytes words.now) }
+{
+    match words {
+        [verb, air] if verb.as_str() == "check" && air.as_str() == "counter" => {
+            Some(Command::CheckCounter)
+        }
+        _ => None,
+    }
+}
+
+/// What is found of the bytes of an input.
+#[tactic(auto, unfolding(crate::specs::Run::judged))]
+fn judge(alloc: Global, bytes: &[u8]) -> Verdict
+    ensures { (result ≡ judged (numbers_in bytes.now)) ⊎ (result ≡ Verdict.Refused Refusal.OutOfMemory) }
+{
+    match numbers_from(alloc, bytes) {
+        Ok(input) => {
+            if input.has_counter_shape() {
+                check(alloc, &input)
+            } else {
+                Verdict::BadInput
+            }
+        }
+        Err(JsonFault::Invalid) => Verdict::BadInput,
+        Err(JsonFault::OutOfMemory) => Verdict::Refused(Refusal::OutOfMemory),
+    }
+}
+
+/// Finds the verdict, or fails by the reader alone.
+fn find<R: Source>(alloc: Global, words: &[String], reader: &mut R) -> Result<Verdict, RunEnd>
+    requires { R.has_failed reader.old ≡ false }
+    ensures found { IfOk result (Found (command_of (map string_bytes words.now)) (R.remaining reader.old)) }
+    ensures other_words { command_of (map string_bytes words.now) ≡ None → result ≡ Ok Verdict.BadInput }
+    ensures kind { IfErr result (λ e. e ≡ RunEnd.InputFailed) }
+    ensures failed { (is_err result ≡ true) ↔ (R.has_failed reader.new ≡ true) }
+    ensures unread { command_of (map string_bytes words.now) ≡ None → reader.new ≡ reader.old }
+{
+    let Some(command) = named_command(words) else {
+        return Ok(Verdict::BadInput);
+    };
+    match read_to_end(alloc, reader) {
+        Ok(input) => match command {
+            Command::CheckCounter => Ok(judge(alloc, &input)),
+        },
+        Err(InputFault::OutOfMemory) => Ok(Verdict::Refused(Refusal::OutOfMemory)),
+        Err(InputFault::Failed) => Err(RunEnd::InputFailed),
+    }
+}
+
+/// Writes the line of a verdict.
+pub fn tell<W: Sink>(verdict: Verdict, writer: &mut W) -> RunEnd
+    requires { W.has_failed writer.old ≡ false }
+    ensures says { Says result verdict (W.contents writer.old) (W.contents writer.new) }
+    ensures input_read { result ≡ RunEnd.InputFailed → ⊥ }
+    ensures output_failed { (result ≡ RunEnd.OutputFailed) ↔ (W.has_failed writer.new ≡ true) }
+{
+    match write_all(writer, verdict.line().as_bytes()) {
+        Ok(()) => verdict.end(),
+        Err(_) => RunEnd::OutputFailed,
+    }
+}
+
+/// A run, by its exact clauses alone.
+fn ran<R: Source, W: Sink>(
+    alloc: Global,
+    words: &[String],
+    reader: &mut R,
+    writer: &mut W,
+) -> RunEnd
+    requires fresh_reader { R.has_failed reader.old ≡ false }
+    requires fresh_writer { W.has_failed writer.old ≡ false }
+    ensures says { (result ≡ RunEnd.InputFailed) ⊎ SaysFound (command_of (map string_bytes words.now)) (R.remaining reader.old) result (W.contents writer.old) (W.contents writer.new) }
+    ensures silent { result ≡ RunEnd.InputFailed → writer.new ≡ writer.old }
+    ensures input_failed { (result ≡ RunEnd.InputFailed) ↔ (R.has_failed reader.new ≡ true) }
+    ensures output_failed { (result ≡ RunEnd.OutputFailed) ↔ (W.has_failed writer.new ≡ true) }
+    ensures unread { command_of (map string_bytes words.now) ≡ None → reader.new ≡ reader.old }
+    ensures other_words { command_of (map string_bytes words.now) ≡ None → Says result Verdict.BadInput (W.contents writer.old) (W.contents writer.new) }
+{
+    match find(alloc, words, reader) {
+        Ok(verdict) => tell(verdict, writer),
+        Err(end) => end,
+    }
+}
+
+/// Runs the program on the words after its name.
+pub fn run<R: Source, W: Sink>(
+    alloc: Global,
+    words: &[String],
+    reader: &mut R,
+    writer: &mut W,
+) -> RunEnd
+    requires fresh_reader { R.has_failed reader.old ≡ false }
+    requires fresh_writer { W.has_failed writer.old ≡ false }
+    // What is written, and how the run ends.
+    ensures says { IfSome (R.remaining reader.old) (λ input.
+        SaysOrLacksMemory result (verdict_of (command_of (map string_bytes words.now)) input)
+        (W.contents writer.old) (W.contents writer.new)) }
+    // With other words it says `bad input`, and nothing is read.
+    ensures other_words { command_of (map string_bytes words.now) ≡ None → Says result Verdict.BadInput (W.contents writer.old) (W.contents writer.new) }
+    ensures unread { command_of (map string_bytes words.now) ≡ None → reader.new ≡ reader.old }
+    // These two ends come from a failed read and a failed write, and from nothing else.
+    ensures input_failed { (result ≡ RunEnd.InputFailed) ↔ (R.has_failed reader.new ≡ true) }
+    ensures output_failed { (result ≡ RunEnd.OutputFailed) ↔ (W.has_failed writer.new ≡ true) }
+    // Where neither failed, the end is that of a verdict.
+    ensures ends { R.has_failed reader.new ≡ false → W.has_failed writer.new ≡ false
+        → (result ≡ RunEnd.Accepted) ⊎ ((result ≡ RunEnd.Refused) ⊎ (result ≡ RunEnd.BadInput)) }
+    // After a failed read nothing is written.
+    ensures silent { result ≡ RunEnd.InputFailed → writer.new ≡ writer.old }
+    // In every run `accepted` is written only where the checks hold.
+    ensures accepted { IfSome (R.remaining reader.old) (λ input. (bytes : List ℕ) →
+        Wrote (W.contents writer.old) (W.contents writer.new) bytes →
+        take 8 bytes ≡ codes "accepted" →
+        verdict_of (command_of (map string_bytes words.now)) input ≡ Verdict.Accepted) }
+    // So of the numbers that the bytes spell zeta lies outside H, and the equation holds.
+    ensures holds { IfSome (R.remaining reader.old) (λ input. (bytes : List ℕ) →
+        Wrote (W.contents writer.old) (W.contents writer.new) bytes →
+        take 8 bytes ≡ codes "accepted" →
+        CheckHoldsOf input) }
+    // A run ends so only where they hold of an input, whether or not the reader tells its bytes.
+    ensures accepted_end { result ≡ RunEnd.Accepted
+        → AcceptsInput (command_of (map string_bytes words.now)) (R.remaining reader.old) × Appends (W.contents writer.old) (W.contents writer.new) (line_of Verdict.Accepted) }
+{
+    ran(alloc, words, reader, writer)
+}

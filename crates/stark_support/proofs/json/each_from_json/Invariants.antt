@@ -1,0 +1,8 @@
+use Rattle.std.proofs.Common.{◌≡◌, drop}
+use Rattle.serde_json.specs.View.{items_view}
+use Rattle.stark_support.specs.Json.{each_at}
+use Rattle.stark_support.proofs.Readings.{with_front}
+use Rattle.stark_support.proofs.json.each_from_json.Given as goal
+
+abbrev pub invariant-loop-value : goal.invariant-loop-value
+invariant-loop-value g l = with_front l.found.items (each_at g.T.JsonCodec.reading (items_view (drop l.value-index l.values))) ≡ each_at g.T.JsonCodec.reading (items_view l.values)

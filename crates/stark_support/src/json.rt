@@ -1,0 +1,129 @@
+//! Values that JSON spells.
+ghost use Rattle.std.specs.Prelude.{◌≡◌, Option, map};
+ghost use Rattle.serde_json.specs.Data.{Data};
+ghost use Rattle.serde_json.specs.View.{view, items_view};
+ghost use Rattle.serde_json.specs.Find.{get};
+ghost use Rattle.stark_support.specs.Json.{Gives, each_at, array_at, json_of};
+
+use serde_json::Value;
+use std::alloc::{AllocError, AllocFailed, Global};
+
+/// Why a value was not read.
+#[derive(Debug, Drop)]
+pub enum JsonFault {
+    /// The JSON value spells none.
+    Invalid,
+    /// A growth of memory was refused.
+    OutOfMemory,
+}
+
+impl From<AllocError> for JsonFault {
+    ghost use Rattle.std.specs.Prelude.{◌≡◌};
+    ghost use Rattle.stark_support.specs.declared.json.JsonFault.TheVariants.{OutOfMemory};
+
+    ghost from_gives = { λ _ fault. fault ≡ OutOfMemory };
+
+    fn from(_error: AllocError) -> JsonFault {
+        JsonFault::OutOfMemory
+    }
+}
+
+impl<T: Drop> From<AllocFailed<T>> for JsonFault {
+    ghost use Rattle.std.specs.Prelude.{◌≡◌};
+    ghost use Rattle.stark_support.specs.declared.json.JsonFault.TheVariants.{OutOfMemory};
+
+    ghost from_gives = { λ _ fault. fault ≡ OutOfMemory };
+
+    fn from(_failed: AllocFailed<T>) -> JsonFault {
+        JsonFault::OutOfMemory
+    }
+}
+
+/// A type whose values are read from JSON values.
+pub trait JsonCodec: Sized {
+    /// What a JSON value is read as.
+    ghost reading: { Data → Option Self };
+
+    /// The value that the JSON value spells.
+    fn from_json(alloc: Global, value: &Value) -> Result<Self, JsonFault>
+        ensures { Gives (λ x. x) result (reading (view value.now)) };
+}
+
+fn each_from_json<T: JsonCodec + Drop>(alloc: Global, values: &[Value]) -> Result<Vec<T>, JsonFault>
+    ensures { Gives (λ v. v.items) result (each_at T.reading (items_view values.now)) }
+{
+    let mut found = Vec::new(alloc);
+    for value in values {
+        let element = T::from_json(alloc, value)?;
+        found.push(element)?;
+    }
+    Ok(found)
+}
+
+/// The values that an array spells, one each.
+#[tactic(auto, unfolding(crate::specs::Json::array_at))]
+pub fn list_from_json<T: JsonCodec + Drop>(
+    alloc: Global,
+    value: &Value,
+) -> Result<Vec<T>, JsonFault>
+    ensures { Gives (λ v. v.items) result (array_at T.reading (view value.now)) }
+{
+    let Some(values) = value.as_array() else {
+        return Err(JsonFault::Invalid);
+    };
+    each_from_json(alloc, values)
+}
+
+fn each_list_from_json<T: JsonCodec + Drop>(
+    alloc: Global,
+    values: &[Value],
+) -> Result<Vec<Vec<T>>, JsonFault>
+    ensures { Gives (λ v. map (λ list. list.items) v.items) result (each_at (array_at T.reading) (items_view values.now)) }
+{
+    let mut found = Vec::new(alloc);
+    for value in values {
+        let list = list_from_json(alloc, value)?;
+        found.push(list)?;
+    }
+    Ok(found)
+}
+
+/// The lists of values that an array of arrays spells.
+#[tactic(auto, unfolding(crate::specs::Json::array_at))]
+pub fn lists_from_json<T: JsonCodec + Drop>(
+    alloc: Global,
+    value: &Value,
+) -> Result<Vec<Vec<T>>, JsonFault>
+    ensures { Gives (λ v. map (λ list. list.items) v.items) result (array_at (array_at T.reading) (view value.now)) }
+{
+    let Some(values) = value.as_array() else {
+        return Err(JsonFault::Invalid);
+    };
+    each_list_from_json(alloc, values)
+}
+
+/// What an object has under a key.
+pub fn field_of<'a>(value: &'a Value, key: &str) -> Result<&'a Value, JsonFault>
+    ensures { Gives (λ v. view v.now) result (get key.now (view value.now)) }
+{
+    match value.get(key) {
+        Some(found) => Ok(found),
+        None => Err(JsonFault::Invalid),
+    }
+}
+
+/// The JSON value that bytes spell.
+pub fn value_from_bytes(alloc: Global, bytes: &[u8]) -> Result<Value, JsonFault>
+    ensures { Gives view result (json_of bytes.now) }
+{
+    match Value::from_slice(alloc, bytes) {
+        Ok(value) => Ok(value),
+        Err(error) => {
+            if error.is_memory() {
+                Err(JsonFault::OutOfMemory)
+            } else {
+                Err(JsonFault::Invalid)
+            }
+        }
+    }
+}

@@ -1,4 +1,6 @@
 //! Cosets, their parts and selectors, and the recomposition of a quotient.
+ghost use Rattle.std.specs.Prelude.{◌≡◌, IfOk, vec_len};
+
 use p3_uni_stark::recompose_quotient_from_chunks;
 use stark_bench::{Coset, Ext4, S12289};
 use stark_support::{DomainShape, Element, ExtensionField, Field, PolynomialSpace};
@@ -22,14 +24,16 @@ fn coset(shift: u32, log_size: usize) -> Option<Coset<S12289>> {
 fn selectors(rt: HostRuntime) -> Result<(), Fail> {
     let domain: Coset<S12289> = Coset::new(S12289::ONE, 1);
     let zeta = number(3);
-    assert!(rt; domain.vanishing_poly_at_point(zeta) == number(8));
     assert!(rt; domain.vanishing_poly_at_point(number(12288)) == number(0));
-    let selectors = selectors_at(&domain, zeta);
-    let Some([first, last, transition, inverse]) = selectors else { return Err(Fail::new("in the domain")) };
-    assert!(rt; first == number(4));
-    assert!(rt; last == number(2));
-    assert!(rt; transition == number(4));
-    assert!(rt; inverse == number(10753));
+    assert!(rt; domain.vanishing_poly_at_point(zeta) == number(8));
+    if domain.vanishing_poly_at_point(zeta) == Ext4::ZERO {
+        return Err(Fail::new("3 lies in the domain"));
+    }
+    let selectors = domain.selectors_at_point(zeta);
+    assert!(rt; selectors.is_first_row == number(4));
+    assert!(rt; selectors.is_last_row == number(2));
+    assert!(rt; selectors.is_transition == number(4));
+    assert!(rt; selectors.inv_vanishing == number(10753));
     assert_eq!(rt; domain.size(), 2);
     assert_eq!(rt; domain.transition_degree_multiple(), 0);
     Ok(())
@@ -55,5 +59,32 @@ fn disjoint_domains(rt: HostRuntime) -> Result<(), Fail> {
         assert_eq!(rt; (other.shift.value(), other.log_size), (11, log_size));
     }
     assert!(rt; domain.try_create_disjoint_domain(4097).is_none());
+    Ok(())
+}
+
+fn chunk(alloc: Global, n: u32) -> Result<Vec<Ext4<S12289>>, AllocError>
+    ensures { IfOk result (λ v. vec_len v ≡ 4) }
+{
+    let mut values = Vec::new(alloc);
+    values.push(number(n))?;
+    values.push(number(0))?;
+    values.push(number(0))?;
+    values.push(number(0))?;
+    Ok(values)
+}
+
+// On the cosets of size 2 with shifts 11 and 3980, at 3.
+#[test]
+fn recompositions(rt: HostRuntime) -> Result<(), Fail> {
+    let alloc = rt.alloc();
+    let Some(domain) = coset(11, 2) else { return Err(Fail::new("no coset")) };
+    for (first, second, quotient) in [(121, 12168, 9), (7684, 7684, 7684)] {
+        let domains = domain.split_domains(alloc, 2)?;
+        let mut chunks = Vec::new(alloc);
+        chunks.push(chunk(alloc, first)?)?;
+        chunks.push(chunk(alloc, second)?)?;
+        let at_zeta: Ext4<S12289> = recompose_quotient_from_chunks(&domains, &chunks, number(3));
+        assert!(rt; at_zeta == number(quotient), "{first} and {second}");
+    }
     Ok(())
 }

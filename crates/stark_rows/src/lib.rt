@@ -3,6 +3,8 @@
 #![tactic(auto)]
 
 #[cfg(test)]
+mod constraints;
+#[cfg(test)]
 mod domains;
 #[cfg(test)]
 mod fields;

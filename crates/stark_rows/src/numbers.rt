@@ -29,8 +29,8 @@ fn two_rows(rt: HostRuntime) -> Result<(), Fail> {
     let (local, next) = ([1u8, 2, 3], [4u8, 5, 6]);
     let pair: ViewPair<u8> = VerticalPair::new(RowMajorMatrixView::new_row(&local), RowMajorMatrixView::new(&next, 3));
     assert_eq!(rt; pair.top.width, 3);
-    assert_eq!(rt; pair.top.values, &[1, 2, 3]);
+    assert!(rt; pair.top.values == [1, 2, 3].as_slice());
     assert_eq!(rt; pair.bottom.width, 3);
-    assert_eq!(rt; pair.bottom.values, &[4, 5, 6]);
+    assert!(rt; pair.bottom.values == [4, 5, 6].as_slice());
     Ok(())
 }

@@ -1,5 +1,5 @@
 -- What an accepted input means.
-use Rattle.std.proofs.Common.{◌≡◌, ◌⊎◌, inl, inr, sym, ◌∙◌, ap, ℕ, ◌-◌, ◌+◌, ◌≤◌, ◌<◌, ◌^◌, List, Option, Some, None, IfSome, Bool, true, false, arith, refl}
+use Rattle.std.proofs.Common.{◌≡◌, ◌⊎◌, inl, inr, sym, ◌∙◌, ap, ℕ, ◌-◌, ◌+◌, ◌≤◌, ◌<◌, ◌^◌, List, Option, Some, None, IfSome, Bool, true, false, if◌then◌else◌, arith, refl}
 use Rattle.stark_support.specs.Ring.{FieldLaws, difference}
 use Rattle.stark_support.specs.Powers.{power, squarings}
 use Rattle.stark_support.specs.PowerFacts.{power-power, power-one, squarings_is_power}
@@ -19,15 +19,15 @@ use Rattle.stark_run.specs.declared.verdict.Verdict.TheVariants.{Accepted, Refus
 use Rattle.stark_run.specs.declared.verdict.Refusal.TheVariants.{OodPointInDomain, OodEvaluationMismatch}
 
 -- root n to the 2^n is one, also past the field's adicity
-root_reaches : (n : ℕ) → squarings residue_ring (root n) n ≡ residue 1
+root_reaches : {M : Type 0} (n : ℕ) → squarings (residue_ring {M = M}) (root n) n ≡ residue 1
 unfolding squarings
-root_reaches n = elim (at_most_or_above n 12) [
+root_reaches {M} n = elim (at_most_or_above n 12) [
     inl within ↦ whole_order residue_laws 12 root (residue 11) two_adic_laws n within
   | inr past ↦
       let rest = n - 12 in
       let whole : n ≡ rest + 12 = omega arith in
       let none : 12 - n ≡ 0 = omega arith in
-      ap (λ k. squarings residue_ring (squarings residue_ring (residue 1331) k) n) none ∙ ap (λ k. squarings residue_ring (residue 1331) k) whole ∙
+      ap (λ k. squarings (residue_ring {M = M}) (squarings residue_ring (residue 1331) k) n) none ∙ ap (λ k. squarings (residue_ring {M = M}) (residue 1331) k) whole ∙
       squarings_more residue_laws 12 root (residue 11) two_adic_laws (residue 1331) 12 rest (whole_order residue_laws 12 root (residue 11) two_adic_laws 12 (omega arith))
 ]
 
@@ -63,20 +63,21 @@ holds_if_accepted m =
     mismatch : Refused OodEvaluationMismatch ≡ Accepted → ⊥
     mismatch h = cc
 
+bad_input_clash : BadInput ≡ Accepted → ⊥
+bad_input_clash h = cc
+
+shaped : (input : List ℕ) (m : CheckNumbers) (b : Bool) → numbers_in input ≡ Some m → has_counter_shape m ≡ b → (if b then checked m else BadInput) ≡ Accepted → CheckHoldsOf input
+shaped input m true is shape h = (m, is, shape, holds_if_accepted m h)
+shaped input m false is shape h = absurd (bad_input_clash h)
+
+spelled : (input : List ℕ) (o : Option CheckNumbers) → numbers_in input ≡ o → judged o ≡ Accepted → CheckHoldsOf input
+unfolding judged
+spelled input None is h = absurd (bad_input_clash h)
+spelled input (Some m) is h = shaped input m (has_counter_shape m) is refl h
+
 pub holds_of_verdict : (command : Option Command) (input : List ℕ) → verdict_of command input ≡ Accepted → CheckHoldsOf input
-holds_of_verdict None input h = absurd (bad h) where
-  bad : BadInput ≡ Accepted → ⊥
-  bad h = cc
-holds_of_verdict (Some CheckCounter) input h = read (numbers_in input) refl h where
-  bad : BadInput ≡ Accepted → ⊥
-  bad h = cc
-  shaped : (m : CheckNumbers) (b : Bool) → numbers_in input ≡ Some m → has_counter_shape m ≡ b → (elim b [ true ↦ checked m | false ↦ BadInput ]) ≡ Accepted → CheckHoldsOf input
-  shaped m true is shape h = (m, is, shape, holds_if_accepted m h)
-  shaped m false is shape h = absurd (bad h)
-  read : (o : Option CheckNumbers) → numbers_in input ≡ o → judged o ≡ Accepted → CheckHoldsOf input
-  unfolding judged
-  read None is h = absurd (bad h)
-  read (Some m) is h = shaped m (has_counter_shape m) is refl h
+holds_of_verdict None input h = absurd (bad_input_clash h)
+holds_of_verdict (Some CheckCounter) input h = spelled input (numbers_in input) refl h
 
 pub holds_known : (command : Option Command) (known : Option (List ℕ)) (P Q : List ℕ → Type 0)
     → IfSome known (λ input. (bytes : List ℕ) → P bytes → Q bytes → verdict_of command input ≡ Accepted)

@@ -24,9 +24,9 @@ module _ {F E : Type 0} (base : RingOps F) (ring : RingOps E) (embed : F → E) 
       → ConstraintsFault base ring embed subgroup {X = X} constraints rows zeta alpha quotient (InvalidProofShape (PreprocessedTraceWidthMismatch (length local) (length local) (length local) (length next)))
   widths_fault {X} differ =
       let fault : List E → List E → Type 0 = λ a b. ConstraintsFault base ring embed subgroup {X = X} constraints rows zeta alpha quotient
-            (InvalidProofShape (PreprocessedTraceWidthMismatch (length a) (length a) (length a) (length b))) in
+      (InvalidProofShape (PreprocessedTraceWidthMismatch (length a) (length a) (length a) (length b))) in
       subst (λ a. fault a next) (sym same_local) (subst (λ b. fault rows.preprocessed_local b) (sym same_next)
-        (two_widths (λ e. differ (ap length same_local ∙ e ∙ sym (ap length same_next)))))
+      (two_widths (λ e. differ (ap length same_local ∙ e ∙ sym (ap length same_next)))))
 
   pub one_width : length local ≡ length next → length rows.preprocessed_local ≡ length rows.preprocessed_next
   one_width e = sym (ap length same_local) ∙ e ∙ ap length same_next
@@ -34,12 +34,12 @@ module _ {F E : Type 0} (base : RingOps F) (ring : RingOps E) (embed : F → E) 
   module _ (first last transition sum vanishing product : E)
       (first_is : first ≡ first_row_selector ring (λ c. c) subgroup zeta) (last_is : last ≡ last_row_selector ring (λ c. c) subgroup zeta) (transition_is : transition ≡ transition_selector ring (λ c. c) subgroup zeta)
       (sum_is : sum ≡ folded ring alpha (constraint_values (ring_operations ring embed)
-          (environment_of (ring_operations ring embed) base.zero ring.zero rows.local rows.next local next rows.publics rows.periodic first last transition) constraints))
+      (environment_of (ring_operations ring embed) base.zero ring.zero rows.local rows.next local next rows.publics rows.periodic first last transition) constraints))
       (vanishing_is : vanishing ≡ subgroup_vanishing ring subgroup.size zeta) (product_is : product ≡ ring.mul vanishing quotient) where
     left_side : sum ≡ folded_constraints base ring embed subgroup constraints rows zeta alpha
     left_side =
         let at : List E → List E → E → E → E → E = λ l n f e t. folded ring alpha (constraint_values (ring_operations ring embed)
-              (environment_of (ring_operations ring embed) base.zero ring.zero rows.local rows.next l n rows.publics rows.periodic f e t) constraints) in
+        (environment_of (ring_operations ring embed) base.zero ring.zero rows.local rows.next l n rows.publics rows.periodic f e t) constraints) in
         sum_is ∙ ap (λ l. at l next first last transition) same_local ∙ ap (λ n. at rows.preprocessed_local n first last transition) same_next ∙
         ap (λ f. at rows.preprocessed_local rows.preprocessed_next f last transition) first_is ∙
         ap (λ e. at rows.preprocessed_local rows.preprocessed_next (first_row_selector ring (λ c. c) subgroup zeta) e transition) last_is ∙

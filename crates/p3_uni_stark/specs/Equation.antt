@@ -54,6 +54,6 @@ module _ {F E : Type 0} (base : RingOps F) (ring : RingOps E) (embed : F → E) 
   pub data ConstraintsFault {X : Type 0} (constraints : List (Constraint F)) (rows : OpenedRows F E) (zeta alpha quotient : E) : VerificationError X → Type 0 where
     two_widths : length rows.preprocessed_local ≢ length rows.preprocessed_next
         → ConstraintsFault constraints rows zeta alpha quotient (InvalidProofShape
-            (PreprocessedTraceWidthMismatch (length rows.preprocessed_local) (length rows.preprocessed_local) (length rows.preprocessed_local) (length rows.preprocessed_next)))
+        (PreprocessedTraceWidthMismatch (length rows.preprocessed_local) (length rows.preprocessed_local) (length rows.preprocessed_local) (length rows.preprocessed_next)))
     unbalanced : length rows.preprocessed_local ≡ length rows.preprocessed_next → (EquationHolds constraints rows zeta alpha quotient → ⊥)
         → ConstraintsFault constraints rows zeta alpha quotient (OodEvaluationMismatch None)

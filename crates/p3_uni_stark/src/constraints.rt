@@ -45,8 +45,7 @@ pub fn verify_constraints<D: PolynomialSpace, EF: ExtensionField<D::Val>, A: Air
 ) -> Result<(), VerificationError<PcsErr>>
     requires subgroup { (D.coset_of trace_domain).shift ≡ D.Val.ring.one }
     requires outside { coset_vanishing EF.ring (λ c. c) EF.inverse_of (coset_size (D.coset_of trace_domain)) (EF.embed (D.coset_of trace_domain).shift) zeta ≢ EF.ring.zero }
-    requires widths {
-        let rows : OpenedRows D.Val EF = record { local = trace_local.now; next = trace_next.now; preprocessed_local = row_or_empty (λ r. r.now) preprocessed_local; preprocessed_next = row_or_empty (λ r. r.now) preprocessed_next; periodic = periodic_values.now; publics = public_values.now } in
+    requires widths { let rows : OpenedRows D.Val EF = record { local = trace_local.now; next = trace_next.now; preprocessed_local = row_or_empty (λ r. r.now) preprocessed_local; preprocessed_next = row_or_empty (λ r. r.now) preprocessed_next; periodic = periodic_values.now; publics = public_values.now } in
         length rows.preprocessed_local ≡ length rows.preprocessed_next → Covers (opened_layout rows) (A.layout air.now) }
     ensures holds { IfOk result (λ _. ConstraintsHold D.Val.ring EF.ring EF.embed (subgroup_of EF.inverse_of EF.embed D.Val.root (D.coset_of trace_domain)) (A.constraints air.now)
         (record { local = trace_local.now; next = trace_next.now; preprocessed_local = row_or_empty (λ r. r.now) preprocessed_local.entry; preprocessed_next = row_or_empty (λ r. r.now) preprocessed_next.entry; periodic = periodic_values.now; publics = public_values.now })

@@ -4,7 +4,7 @@ ghost use Rattle.stark_support.specs.Coset.{TwoAdicCoset, coset_size, subgroup_v
 ghost use Rattle.stark_support.specs.Ring.{difference};
 
 use stark_support::{
-    DomainShape, ExtensionField, Field, LagrangeSelectors, PolynomialSpace, TwoAdicField,
+    DomainShape, Element, ExtensionField, Field, LagrangeSelectors, PolynomialSpace, TwoAdicField,
     log2_ceil_usize, log2_strict_usize, squared_times,
 };
 use std::alloc::{AllocError, Global};
@@ -30,6 +30,15 @@ impl<F: TwoAdicField> Clone for Coset<F> {
 impl<F: TwoAdicField> Copy for Coset<F> {}
 
 impl<F: TwoAdicField> Coset<F> {
+    /// The subgroup of `2^log_size` elements: the coset with the shift one.
+    pub fn subgroup(log_size: usize) -> Coset<F>
+        requires { log_size ≤ F.TWO_ADICITY }
+        ensures shift { result.shift ≡ F.ring.one }
+        ensures size { result.log_size ≡ log_size }
+    {
+        Coset::new(F::ONE, log_size)
+    }
+
     /// The coset of a shift in the group of `2^log_size` elements.
     pub fn new(shift: F, log_size: usize) -> Coset<F>
         requires nonzero { shift ≢ F.ring.zero }

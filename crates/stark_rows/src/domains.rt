@@ -1,5 +1,6 @@
 //! Cosets, their parts and selectors, and the recomposition of a quotient.
-ghost use Rattle.std.specs.Prelude.{◌≡◌, IfOk, vec_len};
+ghost use Rattle.std.specs.Prelude.{◌≡◌, ◌≤◌, All, IfOk, length, vec_len};
+ghost use Rattle.stark_support.specs.Coset.{coset_size};
 
 use p3_uni_stark::recompose_quotient_from_chunks;
 use stark_bench::{Coset, Ext4, S12289};
@@ -22,7 +23,7 @@ fn coset(shift: u32, log_size: usize) -> Option<Coset<S12289>> {
 // At 3 on the subgroup of two points: the selectors 4, 2 and 4, the vanishing value 8, and 1/8.
 #[test]
 fn selectors(rt: HostRuntime) -> Result<(), Fail> {
-    let domain: Coset<S12289> = Coset::new(S12289::ONE, 1);
+    let domain: Coset<S12289> = Coset::subgroup(1);
     let zeta = number(3);
     assert!(rt; domain.vanishing_poly_at_point(number(12288)) == number(0));
     assert!(rt; domain.vanishing_poly_at_point(zeta) == number(8));
@@ -42,7 +43,12 @@ fn selectors(rt: HostRuntime) -> Result<(), Fail> {
 #[test]
 fn parts(rt: HostRuntime) -> Result<(), Fail> {
     let alloc = rt.alloc();
-    let Some(domain) = coset(11, 2) else { return Err(Fail::new("no coset")) };
+    let Some(domain) = coset(11, 2) else {
+        return Err(Fail::new("no coset"))
+    };
+    if domain.size() < 2 {
+        return Err(Fail::new("no two points"));
+    }
     assert_eq!(rt; domain.first_point().value(), 11);
     let parts = domain.split_domains(alloc, 2)?;
     assert_eq!(rt; parts.len(), 2);
@@ -53,9 +59,11 @@ fn parts(rt: HostRuntime) -> Result<(), Fail> {
 
 #[test]
 fn disjoint_domains(rt: HostRuntime) -> Result<(), Fail> {
-    let domain: Coset<S12289> = Coset::new(S12289::ONE, 1);
+    let domain: Coset<S12289> = Coset::subgroup(1);
     for (size, log_size) in [(0, 0), (1, 0), (2, 1), (3, 2), (4096, 12)] {
-        let Some(other) = domain.try_create_disjoint_domain(size) else { return Err(Fail::new("no domain")) };
+        let Some(other) = domain.try_create_disjoint_domain(size) else {
+            return Err(Fail::new("no domain"))
+        };
         assert_eq!(rt; (other.shift.value(), other.log_size), (11, log_size));
     }
     assert!(rt; domain.try_create_disjoint_domain(4097).is_none());
@@ -73,17 +81,35 @@ fn chunk(alloc: Global, n: u32) -> Result<Vec<Ext4<S12289>>, AllocError>
     Ok(values)
 }
 
+fn recomposed<D: PolynomialSpace, EF: ExtensionField<D::Val>>(
+    alloc: Global,
+    domain: &D,
+    chunks: &[Vec<EF>],
+    zeta: EF,
+) -> Result<EF, AllocError>
+    requires points { 2 ≤ coset_size (D.coset_of domain.now) }
+    requires chunks { length chunks.now ≡ 2 }
+    requires dimensions { All (λ chunk. vec_len chunk ≡ EF.DIMENSION) chunks.now }
+{
+    let domains = domain.split_domains(alloc, 2)?;
+    Ok(recompose_quotient_from_chunks(&domains, chunks, zeta))
+}
+
 // On the cosets of size 2 with shifts 11 and 3980, at 3.
 #[test]
 fn recompositions(rt: HostRuntime) -> Result<(), Fail> {
     let alloc = rt.alloc();
-    let Some(domain) = coset(11, 2) else { return Err(Fail::new("no coset")) };
+    let Some(domain) = coset(11, 2) else {
+        return Err(Fail::new("no coset"))
+    };
+    if domain.size() < 2 {
+        return Err(Fail::new("no two points"));
+    }
     for (first, second, quotient) in [(121, 12168, 9), (7684, 7684, 7684)] {
-        let domains = domain.split_domains(alloc, 2)?;
         let mut chunks = Vec::new(alloc);
         chunks.push(chunk(alloc, first)?)?;
         chunks.push(chunk(alloc, second)?)?;
-        let at_zeta: Ext4<S12289> = recompose_quotient_from_chunks(&domains, &chunks, number(3));
+        let at_zeta = recomposed(alloc, &domain, &chunks, number(3))?;
         assert!(rt; at_zeta == number(quotient), "{first} and {second}");
     }
     Ok(())

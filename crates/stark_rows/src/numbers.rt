@@ -1,10 +1,21 @@
 //! Logarithms, powers of two and row views.
-use stark_support::{RowMajorMatrixView, VerticalPair, ViewPair, checked_log_size_sum, checked_pow2, log2_ceil_usize, log2_strict_usize};
+use stark_support::{
+    RowMajorMatrixView, VerticalPair, ViewPair, checked_log_size_sum, checked_pow2,
+    log2_ceil_usize, log2_strict_usize,
+};
 use std::test::Fail;
 
 #[test]
 fn logarithms(rt: HostRuntime) -> Result<(), Fail> {
-    for (n, log) in [(1, 0), (2, 1), (3, 2), (4, 2), (5, 3), (4096, 12), (4097, 13)] {
+    for (n, log) in [
+        (1, 0),
+        (2, 1),
+        (3, 2),
+        (4, 2),
+        (5, 3),
+        (4096, 12),
+        (4097, 13),
+    ] {
         prove!(1 <= n);
         assert_eq!(rt; log2_ceil_usize(n), log, "at {n}");
     }
@@ -27,7 +38,10 @@ fn powers_of_two(rt: HostRuntime) -> Result<(), Fail> {
 #[test]
 fn two_rows(rt: HostRuntime) -> Result<(), Fail> {
     let (local, next) = ([1u8, 2, 3], [4u8, 5, 6]);
-    let pair: ViewPair<u8> = VerticalPair::new(RowMajorMatrixView::new_row(&local), RowMajorMatrixView::new(&next, 3));
+    let pair: ViewPair<u8> = VerticalPair::new(
+        RowMajorMatrixView::new_row(&local),
+        RowMajorMatrixView::new(&next, 3),
+    );
     assert_eq!(rt; pair.top.width, 3);
     assert!(rt; pair.top.values == [1, 2, 3].as_slice());
     assert_eq!(rt; pair.bottom.width, 3);

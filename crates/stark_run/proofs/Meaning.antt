@@ -22,7 +22,7 @@ use Rattle.stark_run.specs.declared.verdict.Refusal.TheVariants.{OodPointInDomai
 root_reaches : {M : Type 0} (n : ℕ) → squarings (residue_ring {M = M}) (root n) n ≡ residue 1
 unfolding squarings
 root_reaches {M} n = elim (at_most_or_above n 12) [
-    inl within ↦ whole_order residue_laws 12 root (residue 11) two_adic_laws n within
+  | inl within ↦ whole_order residue_laws 12 root (residue 11) two_adic_laws n within
   | inr past ↦
       let rest = n - 12 in
       let whole : n ≡ rest + 12 = omega arith in
@@ -38,28 +38,30 @@ vanishing_at_point m point =
     let h = element_of (root n) in
     let laws = laws_of_elements in
     let reaches : power elements h (2 ^ n) ≡ elements.one =
-        sym (embedded_power (embedded_is_embedding residue_laws.of_ring (residue 11)) (root n) (2 ^ n)) ∙
-        ap element_of (sym (squarings_is_power residue_laws.of_ring (root n) n) ∙ root_reaches n) in
+    sym (embedded_power (embedded_is_embedding residue_laws.of_ring (residue 11)) (root n) (2 ^ n)) ∙
+    ap element_of (sym (squarings_is_power residue_laws.of_ring (root n) n) ∙ root_reaches n) in
     let unity : power elements (power elements h point.0) (2 ^ n) ≡ elements.one =
-        power-power laws.of_ring h point.0 (2 ^ n) ∙ ap (power elements h) (omega arith) ∙ sym (power-power laws.of_ring h (2 ^ n) point.0) ∙
-        ap (λ t. power elements t point.0) reaches ∙ power-one laws.of_ring point.0 in
+    power-power laws.of_ring h point.0 (2 ^ n) ∙ ap (power elements h) (omega arith) ∙ sym (power-power laws.of_ring h (2 ^ n) point.0) ∙
+    ap (λ t. power elements t point.0) reaches ∙ power-one laws.of_ring point.0 in
     ap (λ t. difference elements t elements.one) (ap (λ t. power elements t (2 ^ n)) point.1 ∙ unity) ∙ laws.of_ring.add_neg elements.one
 
 pub holds_if_accepted : (m : CheckNumbers) → checked m ≡ Accepted → CheckHolds m
 unfolding checked
 holds_if_accepted m =
     elim (laws_of_elements.decides (vanishing m) elements.zero)
-      as (λ d. elim d [ inl e ↦ Refused OodPointInDomain | inr n ↦ elim (laws_of_elements.decides (folded m) (elements.mul (vanishing m) (quotient m))) [ inl e ↦ Accepted | inr n' ↦ Refused OodEvaluationMismatch ] ] ≡ Accepted → CheckHolds m)
-      [ inl e ↦ λ h. absurd (refusal h)
+    as (λ d. elim d [ inl e ↦ Refused OodPointInDomain | inr n ↦ elim (laws_of_elements.decides (folded m) (elements.mul (vanishing m) (quotient m))) [ inl e ↦ Accepted | inr n' ↦ Refused OodEvaluationMismatch ] ] ≡ Accepted → CheckHolds m) [
+      | inl e ↦ λ h. absurd (refusal h)
       | inr outside ↦
           elim (laws_of_elements.decides (folded m) (elements.mul (vanishing m) (quotient m)))
-            as (λ d. elim d [ inl e ↦ Accepted | inr n' ↦ Refused OodEvaluationMismatch ] ≡ Accepted → CheckHolds m)
-            [ inl balanced ↦ λ h. record { outside = λ point. outside (vanishing_at_point m point); balanced = balanced }
-            | inr unequal ↦ λ h. absurd (mismatch h) ]
-      ]
+          as (λ d. elim d [ inl e ↦ Accepted | inr n' ↦ Refused OodEvaluationMismatch ] ≡ Accepted → CheckHolds m) [
+            | inl balanced ↦ λ h. record { outside = λ point. outside (vanishing_at_point m point); balanced = balanced }
+            | inr unequal ↦ λ h. absurd (mismatch h)
+          ]
+    ]
   where
     refusal : Refused OodPointInDomain ≡ Accepted → ⊥
     refusal h = cc
+
     mismatch : Refused OodEvaluationMismatch ≡ Accepted → ⊥
     mismatch h = cc
 

@@ -30,17 +30,17 @@ module _ {K : Type 0} {ring : RingOps K} {inverse : K → K} (laws : FieldLaws r
 pub found_of_numbers : (m : CheckNumbers) (s : Base) (n : ℕ) (local next : List Extension) (publics : List Base) (chunks : List (List Extension)) (v : Verdict)
     → s ≡ residue 1 → n ≡ m.log_height → local ≡ m.local → next ≡ m.next → publics ≡ m.publics → chunks ≡ m.chunks
     → PointVerdict residue_ring elements inverse_of element_of root (residue 11) (basis_of residue_ring) (record { shift = s; log_size = n }) constraints
-      (record { local = local; next = next; preprocessed_local = []; preprocessed_next = []; periodic = []; publics = publics }) chunks m.zeta m.alpha v
+    (record { local = local; next = next; preprocessed_local = []; preprocessed_next = []; periodic = []; publics = publics }) chunks m.zeta m.alpha v
     → (v ≡ checked m) ⊎ (v ≡ Refused OutOfMemory)
 unfolding checked
 found_of_numbers m s n local next publics chunks v es en el ex ep ec h =
     let at : Base → ℕ → List Extension → List Extension → List Base → List (List Extension) → Type 0 = λ s' n' l x p c.
-          PointVerdict residue_ring elements inverse_of element_of root (residue 11) (basis_of residue_ring) (record { shift = s'; log_size = n' }) constraints
-          (record { local = l; next = x; preprocessed_local = []; preprocessed_next = []; periodic = []; publics = p }) c m.zeta m.alpha v in
+    PointVerdict residue_ring elements inverse_of element_of root (residue 11) (basis_of residue_ring) (record { shift = s'; log_size = n' }) constraints
+    (record { local = l; next = x; preprocessed_local = []; preprocessed_next = []; periodic = []; publics = p }) c m.zeta m.alpha v in
     told_by laws_of_elements (vanishing m) (folded m) (elements.mul (vanishing m) (quotient m)) v
     (subst (λ s'. at s' m.log_height m.local m.next m.publics m.chunks) es
-      (subst (λ n'. at s n' m.local m.next m.publics m.chunks) en
-        (subst (λ l. at s n l m.next m.publics m.chunks) el
-          (subst (λ x. at s n local x m.publics m.chunks) ex
-            (subst (λ p. at s n local next p m.chunks) ep
-              (subst (λ c. at s n local next publics c) ec h))))))
+    (subst (λ n'. at s n' m.local m.next m.publics m.chunks) en
+    (subst (λ l. at s n l m.next m.publics m.chunks) el
+    (subst (λ x. at s n local x m.publics m.chunks) ex
+    (subst (λ p. at s n local next p m.chunks) ep
+    (subst (λ c. at s n local next publics c) ec h))))))

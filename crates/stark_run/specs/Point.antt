@@ -38,5 +38,5 @@ PointVerdict base ring inverse embed root generator basis coset constraints rows
     TellsPoint
     (subgroup_vanishing ring (coset_size coset) zeta ≡ ring.zero)
     (EquationHolds base ring embed (subgroup_of inverse embed root coset) constraints rows zeta alpha
-      (recomposition ring ring (λ c. c) inverse (coset_size coset) basis (embed (base.mul coset.shift generator) ∷ []) chunks zeta))
+    (recomposition ring ring (λ c. c) inverse (coset_size coset) basis (embed (base.mul coset.shift generator) ∷ []) chunks zeta))
     verdict

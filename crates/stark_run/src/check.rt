@@ -10,7 +10,6 @@ use crate::point::check_point;
 use crate::verdict::{Refusal, Verdict};
 use stark_bench::{Coset, F12289};
 use stark_clear::CounterAir;
-use stark_support::Element;
 use std::alloc::Global;
 
 /// What is found of numbers in the counter's shape.
@@ -19,7 +18,7 @@ pub fn check(alloc: Global, input: &CheckInput) -> Verdict
     requires height { input.now.log_height ≤ 12 }
     ensures { (result ≡ checked (numbers input.now)) ⊎ (result ≡ Verdict.Refused Refusal.OutOfMemory) }
 {
-    let trace_domain: Coset<F12289> = Coset::new(F12289::ONE, input.log_height as usize);
+    let trace_domain: Coset<F12289> = Coset::subgroup(input.log_height as usize);
     check_point(
         alloc,
         &CounterAir,

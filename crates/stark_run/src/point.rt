@@ -59,8 +59,7 @@ fn check_equation<D: PolynomialSpace, EF: ExtensionField<D::Val>, A: Air<D::Val>
 ) -> Verdict
     requires subgroup { (D.coset_of trace_domain).shift ≡ D.Val.ring.one }
     requires outside { coset_vanishing EF.ring (λ c. c) EF.inverse_of (coset_size (D.coset_of trace_domain)) (EF.embed (D.coset_of trace_domain).shift) zeta ≢ EF.ring.zero }
-    requires widths {
-        let rows : OpenedRows D.Val EF = record { local = local.now; next = next.now; preprocessed_local = []; preprocessed_next = []; periodic = []; publics = publics.now } in
+    requires widths { let rows : OpenedRows D.Val EF = record { local = local.now; next = next.now; preprocessed_local = []; preprocessed_next = []; periodic = []; publics = publics.now } in
         Covers (opened_layout rows) (A.layout air.now) }
     ensures { EquationVerdict D.Val.ring EF.ring EF.embed (subgroup_of EF.inverse_of EF.embed D.Val.root (D.coset_of trace_domain)) (A.constraints air.now)
         (record { local = local.now; next = next.now; preprocessed_local = []; preprocessed_next = []; periodic = []; publics = publics.now })
@@ -102,8 +101,7 @@ pub fn check_point<D: PolynomialSpace, EF: ExtensionField<D::Val>, A: Air<D::Val
     alpha: EF,
 ) -> Verdict
     requires subgroup { (D.coset_of trace_domain).shift ≡ D.Val.ring.one }
-    requires widths {
-        let rows : OpenedRows D.Val EF = record { local = local.now; next = next.now; preprocessed_local = []; preprocessed_next = []; periodic = []; publics = publics.now } in
+    requires widths { let rows : OpenedRows D.Val EF = record { local = local.now; next = next.now; preprocessed_local = []; preprocessed_next = []; periodic = []; publics = publics.now } in
         Covers (opened_layout rows) (A.layout air.now) }
     requires one { length chunks.now ≡ 1 }
     requires dimension { All (λ chunk. vec_len chunk ≡ EF.DIMENSION) chunks.now }
@@ -116,7 +114,16 @@ pub fn check_point<D: PolynomialSpace, EF: ExtensionField<D::Val>, A: Air<D::Val
     }
     match quotient_at(alloc, &trace_domain, chunks, zeta) {
         Ok(quotient) => {
-            check_equation(air, local, next, publics, trace_domain, zeta, alpha, quotient)
+            check_equation(
+                air,
+                local,
+                next,
+                publics,
+                trace_domain,
+                zeta,
+                alpha,
+                quotient,
+            )
         }
         Err(_) => Verdict::Refused(Refusal::OutOfMemory),
     }

@@ -251,7 +251,6 @@ impl<F: QuarticBase> Field for Ext4<F> {
     ghost mul_is = { λ _ _ _ h. h };
 
     ghost neg_is = { λ _ _ h. h };
-
 }
 
 /// The sum of the basis times the coordinates.

@@ -194,7 +194,6 @@ impl<Kind> Field for Residue<Kind> {
     ghost mul_is = { λ _ _ _ h. h };
 
     ghost neg_is = { λ _ _ h. h };
-
 }
 
 impl<Kind> PrimeField64 for Residue<Kind> {

@@ -1,0 +1,5 @@
+use Rattle.std.proofs.Common.{◌≡◌, ◌∙◌, sym}
+use Rattle.stark_bench.proofs.coset.Coset.subgroup.Goals as goal
+
+pub new-requires-clause-nonzero : goal.new-requires-clause-nonzero
+new-requires-clause-nonzero g c = λ e. g.met.F.Field.field_laws.one_not_zero (sym (c.ONE.ensures ∙ g.met.F.Field.one_is) ∙ e)

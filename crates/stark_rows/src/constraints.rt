@@ -6,7 +6,7 @@ use stark_parts::{InvalidProofShapeError, VerificationError, fold_constraints};
 use stark_support::{Element, ExtensionField, Field, PolynomialSpace};
 use std::test::Fail;
 
-#[derive(Debug, Drop)]
+#[derive(Drop)]
 enum NoScheme {}
 
 type Extension = Ext4<S12289>;

@@ -15,7 +15,7 @@ use stark_support::{DomainShape, ExtensionField, Field, PolynomialSpace};
 use std::alloc::{AllocError, Global};
 
 /// The error of a commitment scheme that isn't there: a check opens no commitment.
-#[derive(Debug, Drop)]
+#[derive(Drop)]
 pub enum NoScheme {}
 
 /// Whether the domain's vanishing value at a point is zero.

@@ -1,8 +1,11 @@
 //! What a verifier computes at the point out of the domain.
-ghost use Rattle.std.specs.Prelude.{◌≡◌, All, length, map, vec_len};
+ghost use Rattle.std.specs.Prelude.{◌≡◌, All, List, length, map, vec_len};
 ghost use Rattle.stark_support.specs.Coset.{AreDisjoint, AreDisjointCosets, coset_size};
 ghost use Rattle.stark_support.specs.Extension.{basis_sum};
 ghost use Rattle.stark_support.specs.Recomposition.{common_log_size, common_size, lagrange_factor, recomposition};
+ghost use Rattle.stark_support.specs.Polynomial.{value};
+ghost use Rattle.stark_support.specs.RecompositionPolynomial.{chunk_values};
+ghost use Rattle.stark_support.specs.RecompositionLaw.{AreChunksOf};
 
 use stark_support::{ExtensionField, Field, PolynomialSpace};
 
@@ -39,7 +42,8 @@ fn chunk_value<F: Field, EF: ExtensionField<F>>(chunk: &[EF]) -> EF
 
 /// The quotient's value at `zeta`, from the values there of its chunks' coordinates: the sum over the chunks of
 /// `L_i(zeta)` times the element with those coordinates, where `L_i` is the product over the other domains of
-/// `Z_j(zeta) / Z_j(first point of domain i)`, and one where there is a single domain. It takes no memory.
+/// `Z_j(zeta) / Z_j(first point of domain i)`, and one where there is a single domain. Where the chunks are those of a
+/// polynomial, the result is its value at `zeta`, wherever that lies. It takes no memory.
 pub fn recompose_quotient_from_chunks<D: PolynomialSpace, EF: ExtensionField<D::Val>>(
     quotient_chunks_domains: &[D],
     quotient_chunks: &[Vec<EF>],
@@ -48,8 +52,12 @@ pub fn recompose_quotient_from_chunks<D: PolynomialSpace, EF: ExtensionField<D::
     requires counts { length quotient_chunks_domains.now ≡ length quotient_chunks.now }
     requires dimensions { All (λ chunk. vec_len chunk ≡ EF.DIMENSION) quotient_chunks.now }
     requires disjoint { AreDisjointCosets D.Val.ring D.Val.root (common_log_size (map D.coset_of quotient_chunks_domains.now)) (map D.coset_of quotient_chunks_domains.now) }
-    ensures { result ≡ recomposition EF.ring EF.ring (λ c. c) EF.inverse_of (common_size (map D.coset_of quotient_chunks_domains.now)) EF.basis
+    ensures recomposed { result ≡ recomposition EF.ring EF.ring (λ c. c) EF.inverse_of (common_size (map D.coset_of quotient_chunks_domains.now)) EF.basis
         (map (λ domain. EF.embed (D.coset_of domain).shift) quotient_chunks_domains.now) (map (λ chunk. chunk.items) quotient_chunks.now) zeta }
+    ensures everywhere { (chunks : List (List (List EF))) (p : List EF)
+        → AreChunksOf EF.ring (EF.embed (D.Val.root (common_log_size (map D.coset_of quotient_chunks_domains.now)))) (common_size (map D.coset_of quotient_chunks_domains.now)) EF.basis
+        (map (λ domain. EF.embed (D.coset_of domain).shift) quotient_chunks_domains.now) chunks p
+        → map (λ chunk. chunk.items) quotient_chunks.now ≡ chunk_values EF.ring chunks zeta → result ≡ value EF.ring p zeta }
 {
     let mut quotient = EF::ZERO;
     for (i, domain) in quotient_chunks_domains.iter().enumerate() {

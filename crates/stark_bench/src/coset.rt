@@ -2,6 +2,9 @@
 ghost use Rattle.std.specs.Prelude.{◌≡◌, ◌≢◌, ◌≤◌, ℕ, ⊤, ◌^◌, refl};
 ghost use Rattle.stark_support.specs.Coset.{TwoAdicCoset, coset_size, subgroup_vanishing};
 ghost use Rattle.stark_support.specs.Ring.{difference};
+ghost use Rattle.stark_support.specs.SelectorFacts.{IsSubgroup};
+ghost use Rattle.stark_support.specs.Selectors.{first_row_selector, last_row_selector, transition_selector};
+ghost use Rattle.stark_support.specs.Subgroup.{group_of};
 
 use stark_support::{
     DomainShape, Element, ExtensionField, Field, LagrangeSelectors, PolynomialSpace, TwoAdicField,
@@ -65,6 +68,25 @@ fn generator_in<F: TwoAdicField, EF: ExtensionField<F>>(log_size: usize) -> EF
     EF::from_base(F::two_adic_generator(log_size))
 }
 
+/// The selectors of the group of `2^log_size` elements, at a point outside it.
+fn group_selectors<E: Field>(generator: E, log_size: usize, point: E) -> LagrangeSelectors<E>
+    requires group { IsSubgroup E.ring E.inverse_of (group_of E.inverse_of generator log_size) }
+    requires outside { subgroup_vanishing E.ring (2 ^ log_size) point ≢ E.ring.zero }
+    ensures first_row { result.is_first_row ≡ first_row_selector E.ring (λ c. c) (group_of E.inverse_of generator log_size) point }
+    ensures last_row { result.is_last_row ≡ last_row_selector E.ring (λ c. c) (group_of E.inverse_of generator log_size) point }
+    ensures transition { result.is_transition ≡ transition_selector E.ring (λ c. c) (group_of E.inverse_of generator log_size) point }
+    ensures inv_vanishing { result.inv_vanishing ≡ E.inverse_of (subgroup_vanishing E.ring (2 ^ log_size) point) }
+{
+    let vanishing = subgroup_vanishing(point, log_size);
+    let transition = point - generator.inverse();
+    LagrangeSelectors {
+        is_first_row: vanishing * (point - E::ONE).inverse(),
+        is_last_row: vanishing * transition.inverse(),
+        is_transition: transition,
+        inv_vanishing: vanishing.inverse(),
+    }
+}
+
 impl<F: TwoAdicField> DomainShape for Coset<F> {
     ghost size_of = { λ c. 2 ^ c.log_size };
 
@@ -96,6 +118,15 @@ impl<F: TwoAdicField> PolynomialSpace for Coset<F> {
         Some(Coset::new(self.shift * F::GENERATOR, log_size))
     }
 
+    fn create_disjoint_domain(&self, min_size: usize) -> Coset<F> {
+        Coset::new(self.shift * F::GENERATOR, log2_ceil_usize(min_size.max(1)))
+    }
+
+    fn next_point<EF: ExtensionField<F>>(&self, x: EF) -> Option<EF> {
+        let generator: EF = generator_in::<F, EF>(self.log_size);
+        Some(generator * x)
+    }
+
     fn split_domains(&self, alloc: Global, num_chunks: usize) -> Result<Vec<Coset<F>>, AllocError> {
         let log_size = self.log_size - log2_strict_usize(num_chunks);
         let generator = F::two_adic_generator(self.log_size);
@@ -114,15 +145,36 @@ impl<F: TwoAdicField> PolynomialSpace for Coset<F> {
     }
 
     fn selectors_at_point<EF: ExtensionField<F>>(&self, point: EF) -> LagrangeSelectors<EF> {
-        let vanishing = self.vanishing_poly_at_point(point);
         let generator: EF = generator_in::<F, EF>(self.log_size);
-        let transition = point - generator.inverse();
-        LagrangeSelectors {
-            is_first_row: vanishing * (point - EF::ONE).inverse(),
-            is_last_row: vanishing * transition.inverse(),
-            is_transition: transition,
-            inv_vanishing: vanishing.inverse(),
+        group_selectors(generator, self.log_size, point)
+    }
+
+    fn selectors_on_coset(
+        &self,
+        alloc: Global,
+        coset: &Coset<F>,
+    ) -> Result<LagrangeSelectors<Vec<F>>, AllocError> {
+        let generator = F::two_adic_generator(self.log_size);
+        let step = F::two_adic_generator(coset.log_size);
+        let mut is_first_row = Vec::new(alloc);
+        let mut is_last_row = Vec::new(alloc);
+        let mut is_transition = Vec::new(alloc);
+        let mut inv_vanishing = Vec::new(alloc);
+        let mut point = coset.shift;
+        for _row in 0..coset.size() {
+            let selectors = group_selectors(generator, self.log_size, point);
+            is_first_row.push(selectors.is_first_row)?;
+            is_last_row.push(selectors.is_last_row)?;
+            is_transition.push(selectors.is_transition)?;
+            inv_vanishing.push(selectors.inv_vanishing)?;
+            point = point * step;
         }
+        Ok(LagrangeSelectors {
+            is_first_row,
+            is_last_row,
+            is_transition,
+            inv_vanishing,
+        })
     }
 
     ghost lawful = { λ c. record { shift_nonzero = c.shift_nonzero; within = c.within } };

@@ -1,11 +1,13 @@
 //! The field of 12289 elements and its extension of degree four.
 #![tactic(auto)]
 
+mod circle;
 mod coset;
 mod ext4;
 mod json;
 mod residue;
 
+pub use circle::CircleShape;
 pub use coset::Coset;
 pub use ext4::Ext4;
 pub use residue::{F12289, Lockstep, P12289, Packed, Residue, S12289, Scalar};

@@ -3,8 +3,11 @@ ghost use Rattle.std.specs.Prelude.{◌≡◌, ◌≤◌, All, IfOk, length, vec
 ghost use Rattle.stark_support.specs.Coset.{coset_size};
 
 use p3_uni_stark::recompose_quotient_from_chunks;
-use stark_bench::{Coset, Ext4, S12289};
-use stark_support::{DomainShape, Element, ExtensionField, Field, PolynomialSpace};
+use stark_bench::{CircleShape, Coset, Ext4, S12289};
+use stark_support::{
+    DomainShape, Element, ExtensionField, Field, PeriodicColumnShapeError, PeriodicColumns,
+    PolynomialSpace,
+};
 use std::alloc::{AllocError, Global};
 use std::test::Fail;
 
@@ -40,6 +43,25 @@ fn selectors(rt: HostRuntime) -> Result<(), Fail> {
     Ok(())
 }
 
+// Of the subgroup of two points, at 11 and -11.
+#[test]
+fn selectors_on_a_coset(rt: HostRuntime) -> Result<(), Fail> {
+    let alloc = rt.alloc();
+    let domain: Coset<S12289> = Coset::subgroup(1);
+    let apart = domain.create_disjoint_domain(2);
+    let selectors = domain.selectors_on_coset(alloc, &apart)?;
+    for (values, first, second) in [
+        (selectors.is_first_row, 12, 12279),
+        (selectors.is_last_row, 10, 12277),
+        (selectors.is_transition, 12, 12279),
+        (selectors.inv_vanishing, 7271, 7271),
+    ] {
+        assert_eq!(rt; values.len(), 2);
+        assert_eq!(rt; (values[0].value(), values[1].value()), (first, second));
+    }
+    Ok(())
+}
+
 #[test]
 fn parts(rt: HostRuntime) -> Result<(), Fail> {
     let alloc = rt.alloc();
@@ -67,6 +89,65 @@ fn disjoint_domains(rt: HostRuntime) -> Result<(), Fail> {
         assert_eq!(rt; (other.shift.value(), other.log_size), (11, log_size));
     }
     assert!(rt; domain.try_create_disjoint_domain(4097).is_none());
+    let other = domain.create_disjoint_domain(3);
+    assert_eq!(rt; (other.shift.value(), other.log_size), (11, 2));
+    Ok(())
+}
+
+// On the subgroup of two points the row after 3 is at -3.
+#[test]
+fn next_points(rt: HostRuntime) -> Result<(), Fail> {
+    let domain: Coset<S12289> = Coset::subgroup(1);
+    let Some(next) = domain.next_point(number(3)) else {
+        return Err(Fail::new("no next point"))
+    };
+    assert!(rt; next == number(12286));
+    Ok(())
+}
+
+#[test]
+fn circle_shapes(rt: HostRuntime) -> Result<(), Fail> {
+    let shape = CircleShape { size: 8 };
+    assert_eq!(rt; shape.size(), 8);
+    assert_eq!(rt; shape.transition_degree_multiple(), 1);
+    Ok(())
+}
+
+fn column(alloc: Global, length: usize) -> Result<Vec<S12289>, AllocError> {
+    let mut values = Vec::new(alloc);
+    for _row in 0..length {
+        values.push(S12289::ONE)?;
+    }
+    Ok(values)
+}
+
+// Beside a trace of four rows.
+#[test]
+fn periodic_columns(rt: HostRuntime) -> Result<(), Fail> {
+    let alloc = rt.alloc();
+    let empty = [column(alloc, 0)?];
+    let three = [column(alloc, 3)?];
+    let eight = [column(alloc, 8)?];
+    let fitting = [column(alloc, 4)?, column(alloc, 1)?];
+    assert!(rt;
+        matches!(
+            PeriodicColumns::new(&empty, 4),
+            Err(PeriodicColumnShapeError::Empty { column: 0 })
+        )
+    );
+    assert!(rt;
+        matches!(
+            PeriodicColumns::new(&three, 4),
+            Err(PeriodicColumnShapeError::NotPowerOfTwo { column: 0 })
+        )
+    );
+    assert!(rt;
+        matches!(
+            PeriodicColumns::new(&eight, 4),
+            Err(PeriodicColumnShapeError::TooLong { column: 0 })
+        )
+    );
+    assert!(rt; PeriodicColumns::new(&fitting, 4).is_ok());
     Ok(())
 }
 

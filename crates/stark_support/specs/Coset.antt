@@ -49,3 +49,8 @@ pub record AreParts {K : Type 0} (ring : RingOps K) (root : ℕ → K) (coset : 
   pub part : (i : ℕ) → i < 2 ^ log_parts → slice_get parts i ≡ Some (coset_part ring root coset log_parts i)
   pub disjoint : AreDisjointCosets ring root (coset.log_size - log_parts) parts
   pub row : (r : ℕ) → coset_point ring root coset r ≡ coset_point ring root (coset_part ring root coset log_parts (r % 2 ^ log_parts)) (r / 2 ^ log_parts)
+
+-- The first `count` values of a function on a coset's points, in row order.
+pub record AreValuesOn {K : Type 0} (ring : RingOps K) (root : ℕ → K) (coset : TwoAdicCoset K) (count : ℕ) (value : K → K) (values : List K) : Type 0 where
+  pub number : length values ≡ count
+  pub at_row : (i : ℕ) → i < count → slice_get values i ≡ Some (value (coset_point ring root coset i))

@@ -21,3 +21,16 @@ pub mod Recomposition
 pub mod RecompositionFacts
 pub mod CosetListFacts
 pub mod Json
+pub mod Polynomial
+pub mod PolynomialFacts
+pub mod KeepsRing
+pub mod DegreeFacts
+pub mod Points
+pub mod PointFacts
+pub mod DivisionFacts
+pub mod RecompositionPolynomial
+pub mod RecompositionLaw
+pub mod DomainRecomposition
+pub mod CosetValueFacts
+pub mod Periodic
+pub mod PeriodicFacts

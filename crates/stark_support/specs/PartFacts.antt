@@ -1,34 +1,33 @@
 -- The parts of a coset, listed in order.
-use Rattle.std.specs.Prelude.{◌≡◌, ◌≢◌, ◌⊎◌, ℕ, zero, suc, ◌+◌, ◌-◌, ◌*◌, ◌^◌, ◌<◌, ◌≤◌, List, [], ◌∷◌, ◌++◌, length, All, AllPairs, Some, refl, map}
+use Rattle.std.specs.Prelude.{◌≡◌, ◌⊎◌, ℕ, zero, suc, ◌+◌, ◌-◌, ◌*◌, ◌^◌, ◌<◌, ◌≤◌, List, [], ◌∷◌, ◌++◌, length, Some, refl, map}
 use Rattle.std.specs.List.{slice_get}
 use Rattle.std.proofs.Common.{sym, ◌∙◌, ap, subst, inl, inr, arith, get_or, length-append, add-one, pow-add}
 use Rattle.std.proofs.lemmas.Option.{get_or_from_slice_get}
 use Rattle.std.proofs.lemmas.List.{map-append}
 use Rattle.stark_support.specs.Ring.{RingOps, FieldLaws}
-use Rattle.stark_support.specs.RingFacts.{mul_left_comm}
 use Rattle.stark_support.specs.FieldFacts.{cancel_left}
 use Rattle.stark_support.specs.Powers.{power}
 use Rattle.stark_support.specs.PowerFacts.{power-mul, power-power, power-one}
 use Rattle.stark_support.specs.TwoAdic.{TwoAdicLaws}
 use Rattle.stark_support.specs.LogarithmFacts.{two_power_at_most}
-use Rattle.stark_support.specs.Coset.{TwoAdicCoset, IsTwoAdicCoset, AreDisjoint, AreDisjointCosets, AreParts, coset_point, coset_part}
-use Rattle.stark_support.specs.CosetFacts.{power_nonzero, powers_differ, root_has_order, root_nonzero, row_in_part}
+use Rattle.stark_support.specs.Coset.{TwoAdicCoset, IsTwoAdicCoset, AreDisjoint, AreParts, coset_point, coset_part}
+use Rattle.stark_support.specs.CosetFacts.{power_nonzero, powers_differ, root_has_order, row_in_part}
 
 -- The first `count` parts.
 pub record ArePartsSoFar {K : Type 0} (ring : RingOps K) (root : ℕ → K) (coset : TwoAdicCoset K) (log_parts : ℕ) (count : ℕ) (parts : List (TwoAdicCoset K)) : Type 0 where
   pub number : length parts ≡ count
   pub part : (i : ℕ) → i < count → slice_get parts i ≡ Some (coset_part ring root coset log_parts i)
 
-slice_get-below : {A : Type 0} (xs : List A) (a : A) (i : ℕ) → i < length xs → slice_get (xs ++ a ∷ []) i ≡ slice_get xs i
+pub slice_get-below : {A : Type 0} (xs : List A) (a : A) (i : ℕ) → i < length xs → slice_get (xs ++ a ∷ []) i ≡ slice_get xs i
 slice_get-below [] a i h = absurd (omega arith)
 slice_get-below (x ∷ xs) a zero h = refl
 slice_get-below (x ∷ xs) a (suc i) h = slice_get-below xs a i (omega arith)
 
-slice_get-last : {A : Type 0} (xs : List A) (a : A) → slice_get (xs ++ a ∷ []) (length xs) ≡ Some a
+pub slice_get-last : {A : Type 0} (xs : List A) (a : A) → slice_get (xs ++ a ∷ []) (length xs) ≡ Some a
 slice_get-last [] a = refl
 slice_get-last (x ∷ xs) a = slice_get-last xs a
 
-last_or_below : (i n : ℕ) → i < n + 1 → (i ≡ n) ⊎ (i < n)
+pub last_or_below : (i n : ℕ) → i < n + 1 → (i ≡ n) ⊎ (i < n)
 last_or_below i n h = grind arith
 
 times_below : (i j n : ℕ) → 0 < n → i < j → i * n < j * n

@@ -1,8 +1,8 @@
 //! Domains of rows: cosets of the groups of roots of one.
-ghost use Rattle.std.specs.Prelude.{◌≡◌, ◌≢◌, ◌↔◌, ℕ, ◌^◌, ◌<◌, ◌≤◌, map, IfOk, IfSome, IsNone};
+ghost use Rattle.std.specs.Prelude.{◌≡◌, ◌≢◌, ◌↔◌, ℕ, ◌^◌, ◌<◌, ◌≤◌, map, Some, IfOk, IfSome, IsNone};
 ghost use Rattle.std.specs.Int.{IsPowerOfTwo};
 ghost use Rattle.stark_support.specs.Ring.{difference};
-ghost use Rattle.stark_support.specs.Coset.{TwoAdicCoset, IsTwoAdicCoset, AreDisjoint, AreParts, coset_size, coset_vanishing};
+ghost use Rattle.stark_support.specs.Coset.{TwoAdicCoset, IsTwoAdicCoset, AreDisjoint, AreParts, AreValuesOn, coset_size, coset_vanishing};
 ghost use Rattle.stark_support.specs.Logarithm.{IsCeilingOfLog};
 ghost use Rattle.stark_support.specs.Selectors.{first_row_selector, last_row_selector, transition_selector};
 ghost use Rattle.stark_support.specs.Subgroup.{subgroup_of};
@@ -53,6 +53,17 @@ pub trait PolynomialSpace: DomainShape + Copy {
         ensures disjoint { IfSome result (λ d. AreDisjoint Self.Val.ring Self.Val.root (coset_of self.now) (coset_of d)) }
         ensures none { IsNone result ↔ (2 ^ Self.Val.TWO_ADICITY < min_size) };
 
+    /// The domain that `try_create_disjoint_domain` gives, where the field has a group of that size.
+    fn create_disjoint_domain(&self, min_size: usize) -> Self
+        requires { min_size ≤ 2 ^ Self.Val.TWO_ADICITY }
+        ensures shift { (coset_of result).shift ≡ Self.Val.ring.mul (coset_of self.now).shift Self.Val.GENERATOR }
+        ensures size { IsCeilingOfLog (coset_of result).log_size min_size }
+        ensures disjoint { AreDisjoint Self.Val.ring Self.Val.root (coset_of self.now) (coset_of result) };
+
+    /// The point of the next row: `g * x`, always there in a two-adic domain.
+    fn next_point<EF: ExtensionField<Self::Val>>(&self, x: EF) -> Option<EF>
+        ensures { result ≡ Some (EF.ring.mul (EF.embed (Self.Val.root (coset_of self.now).log_size)) x) };
+
     /// The `num_chunks` parts with the shifts `s * g^i`; row `r` lies in part `r mod num_chunks`.
     fn split_domains(&self, alloc: Global, num_chunks: usize) -> Result<Vec<Self>, AllocError>
         requires power { IsPowerOfTwo num_chunks }
@@ -72,6 +83,23 @@ pub trait PolynomialSpace: DomainShape + Copy {
         ensures last_row { result.is_last_row ≡ last_row_selector EF.ring (λ c. c) (subgroup_of EF.inverse_of EF.embed Self.Val.root (coset_of self.now)) point }
         ensures transition { result.is_transition ≡ transition_selector EF.ring (λ c. c) (subgroup_of EF.inverse_of EF.embed Self.Val.root (coset_of self.now)) point }
         ensures inv_vanishing { result.inv_vanishing ≡ EF.inverse_of (coset_vanishing EF.ring (λ c. c) EF.inverse_of (coset_size (coset_of self.now)) (EF.embed (coset_of self.now).shift) point) };
+
+    /// The selectors of a subgroup at each point of a coset apart from it, in row order: four lists as long as the coset.
+    fn selectors_on_coset(
+        &self,
+        alloc: Global,
+        coset: &Self,
+    ) -> Result<LagrangeSelectors<Vec<Self::Val>>, AllocError>
+        requires subgroup { (coset_of self.now).shift ≡ Self.Val.ring.one }
+        requires disjoint { AreDisjoint Self.Val.ring Self.Val.root (coset_of self.now) (coset_of coset.now) }
+        ensures first_row { IfOk result (λ s. AreValuesOn Self.Val.ring Self.Val.root (coset_of coset.now) (coset_size (coset_of coset.now))
+            (first_row_selector Self.Val.ring (λ c. c) (subgroup_of Self.Val.inverse_of (λ c. c) Self.Val.root (coset_of self.now))) s.is_first_row.items) }
+        ensures last_row { IfOk result (λ s. AreValuesOn Self.Val.ring Self.Val.root (coset_of coset.now) (coset_size (coset_of coset.now))
+            (last_row_selector Self.Val.ring (λ c. c) (subgroup_of Self.Val.inverse_of (λ c. c) Self.Val.root (coset_of self.now))) s.is_last_row.items) }
+        ensures transition { IfOk result (λ s. AreValuesOn Self.Val.ring Self.Val.root (coset_of coset.now) (coset_size (coset_of coset.now))
+            (transition_selector Self.Val.ring (λ c. c) (subgroup_of Self.Val.inverse_of (λ c. c) Self.Val.root (coset_of self.now))) s.is_transition.items) }
+        ensures inv_vanishing { IfOk result (λ s. AreValuesOn Self.Val.ring Self.Val.root (coset_of coset.now) (coset_size (coset_of coset.now))
+            (λ x. Self.Val.inverse_of (coset_vanishing Self.Val.ring (λ c. c) Self.Val.inverse_of (coset_size (coset_of self.now)) (coset_of self.now).shift x)) s.inv_vanishing.items) };
 
     /// Each domain has a group of the field and a shift that isn't zero.
     ghost lawful: { (domain : Self) → IsTwoAdicCoset Self.Val.ring Self.Val.TWO_ADICITY (coset_of domain) };

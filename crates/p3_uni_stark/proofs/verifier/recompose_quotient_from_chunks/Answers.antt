@@ -1,9 +1,20 @@
-use Rattle.std.proofs.Common.{◌≡◌, ◌∙◌, ◌^◌, ◌+◌, ◌-◌, ap, ℕ, length, map, arith}
-use Rattle.stark_support.specs.Recomposition.{common_log_size}
+use Rattle.std.proofs.Common.{◌≡◌, ◌∙◌, ◌^◌, ◌+◌, ◌-◌, ◌≤◌, ap, ℕ, length, map, sym, arith, List, drop, take}
+use Rattle.std.proofs.lemmas.List.{drop_all}
+use Rattle.stark_support.specs.Ring.{RingOps, RingLaws}
+use Rattle.stark_support.specs.Recomposition.{common_log_size, recomposition, recomposition_from}
+use Rattle.stark_support.specs.DomainRecomposition.{recomposes_on_domains}
 use Rattle.stark_support.specs.Extension.{basis_sum}
 use Rattle.stark_support.specs.RecompositionFacts.{next_chunk}
 use Rattle.stark_support.specs.CosetListFacts.{size_of_one, sizes_before, sizes_after, disjoint_before, disjoint_after}
 use Rattle.p3_uni_stark.proofs.verifier.recompose_quotient_from_chunks.Goals as goal
+
+-- after the last coset nothing is added
+all_added : {D K : Type 0} {ring : RingOps K} (laws : RingLaws ring) (inverse : K → K) (n : ℕ) (shift : D → K) (basis front : List K) (chunks : List (List K)) (x done whole : K) (i : ℕ) (cosets : List D) → length cosets ≤ i
+    → ring.add done (recomposition_from ring ring (λ c. c) inverse n basis front (map shift (drop i cosets)) chunks x) ≡ whole → done ≡ whole
+all_added {ring = ring} laws inverse n shift basis front chunks x done whole i cosets ended before =
+    sym (laws.add_zero done) ∙
+    sym (ap (λ after. ring.add done (recomposition_from ring ring (λ c. c) inverse n basis front (map shift after) chunks x)) (drop_all i cosets ended)) ∙
+    before
 
 pub lagrange_factor-before-requires-clause-sizes : goal.lagrange_factor-before-requires-clause-sizes
 lagrange_factor-before-requires-clause-sizes g c =
@@ -38,3 +49,24 @@ loop-i-preserved g c =
     same_size c.loop-i-test.true (omega (arith, c.requires.counts)) c.index-quotient_chunks_domains-i.is c.index-quotient_chunks-i.is c.loop-i.invariant
     c.lagrange_factor-before.ensures c.lagrange_factor-after.ensures (c.chunk_value.ensures ∙ ap (basis_sum g.EF.Field.ring (λ x. x) g.EF.ExtensionField.basis) c.deref.ensures.value)
     (field.mul_is _ _ _ c.mul.ensures) (field.mul_is _ _ _ c.mul-in-loop-i.ensures) (field.add_is _ _ _ c.add-quotient.ensures)
+
+pub returns-clause-recomposed : goal.returns-clause-recomposed
+returns-clause-recomposed g c =
+    let coset_of = g.D.PolynomialSpace.coset_of in
+    let domains = c.args.quotient_chunks_domains.now in
+    let shift = λ (domain : g.row.D.Denot). g.EF.ExtensionField.embed (coset_of domain).shift in
+    let i = c.loop-i.i in
+    all_added g.met.EF.Field.field_laws.of_ring g.EF.Field.inverse_of (2 ^ common_log_size (map coset_of domains)) shift g.EF.ExtensionField.basis (map shift (take i domains))
+    (map (λ chunk. chunk.items) (drop i c.args.quotient_chunks.now)) c.args.zeta c.loop-i.quotient _ i domains c.loop-i-test.false c.loop-i.invariant
+
+pub returns-clause-everywhere : goal.returns-clause-everywhere
+returns-clause-everywhere g c = λ chunks p parts opened.
+    let field = g.met.EF.Field in
+    let coset_of = g.D.PolynomialSpace.coset_of in
+    let domains = c.args.quotient_chunks_domains.now in
+    let log_size = common_log_size (map coset_of domains) in
+    let shifts = map (λ (domain : g.row.D.Denot). g.EF.ExtensionField.embed (coset_of domain).shift) domains in
+    returns-clause-recomposed g c ∙
+    ap (λ values. recomposition g.EF.Field.ring g.EF.Field.ring (λ x. x) g.EF.Field.inverse_of (2 ^ log_size) g.EF.ExtensionField.basis shifts values c.args.zeta) opened ∙
+    recomposes_on_domains field.field_laws g.met.EF.ExtensionField.embeds g.met.D.Val.Field.field_laws.of_ring _ _ _ g.met.D.Val.TwoAdicField.two_adic coset_of g.met.D.PolynomialSpace.lawful log_size
+    domains c.requires.disjoint g.EF.ExtensionField.basis chunks p parts c.args.zeta

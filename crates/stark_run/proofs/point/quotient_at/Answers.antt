@@ -29,5 +29,5 @@ returns g c =
     let coset_of = g.D.PolynomialSpace.coset_of in
     let one : length (map (λ d. g.EF.ExtensionField.embed (coset_of d).shift) c.deref.result.now) ≡ 1 =
     length-map c.deref.result.now (λ d. g.EF.ExtensionField.embed (coset_of d).shift) ∙ ap length c.deref.ensures.value ∙ sym (length-map _ coset_of) ∙ (c.in_ok-domains.ensures 0 refl).number in
-    c.recompose_quotient_from_chunks.ensures ∙ recomposition_of_one g.EF.Field.ring g.EF.Field.inverse_of g.EF.ExtensionField.basis c.args.zeta _ (coset_size (coset_of c.args.trace_domain.now)) _
+    c.recompose_quotient_from_chunks.ensures.recomposed ∙ recomposition_of_one g.EF.Field.ring g.EF.Field.inverse_of g.EF.ExtensionField.basis c.args.zeta _ (coset_size (coset_of c.args.trace_domain.now)) _
     (g.EF.ExtensionField.embed (g.D.Val.Field.ring.mul (coset_of c.args.trace_domain.now).shift g.D.Val.Field.GENERATOR)) _ one

@@ -1,0 +1,39 @@
+//! Polynomials as lists of coefficients, the constant first.
+ghost use Rattle.std.specs.Prelude.{◌≡◌, ◌≢◌, ℕ, ◌+◌, ◌≤◌, List, length};
+ghost use Rattle.std.specs.List.{AllByRecursion};
+ghost use Rattle.stark_support.specs.Polynomial.{value, HasDegreeBelow, IsZeroPolynomial, IsRoot, IsWithoutRepeats, HoldsOfAtMost};
+
+use crate::field::Field;
+
+/// The value of a polynomial at a point.
+pub fn polynomial_value<F: Field>(coefficients: &[F], point: F) -> F
+    ensures { result ≡ value F.ring coefficients.now point }
+{
+    let mut result = F::ZERO;
+    let mut index = coefficients.len();
+    while index > 0 {
+        index -= 1;
+        result = coefficients[index] + result * point;
+    }
+    result
+}
+
+/// A law, with no code: a polynomial of degree at most `degree` that isn't zero has at most `degree` roots. So an
+/// equation of polynomials that doesn't hold fails at all points but these.
+pub fn roots_are_few<F: Field>(coefficients: &[F], degree: usize)
+    requires bounded { HasDegreeBelow (degree + 1) coefficients.now }
+    requires nonzero { ¬ IsZeroPolynomial F.ring coefficients.now }
+    ensures { HoldsOfAtMost degree (IsRoot F.ring coefficients.now) }
+{}
+
+/// The same of polynomials that no code holds, as those that a prover has committed to.
+pub fn all_roots_are_few<F: Field>(_some: F, degree: usize)
+    ensures { (p : List F) → HasDegreeBelow (degree + 1) p → ¬ IsZeroPolynomial F.ring p → HoldsOfAtMost degree (IsRoot F.ring p) }
+{}
+
+/// A law, with no code: polynomials of degree below `size` that agree at `size` points agree everywhere. So the values
+/// on a domain determine the polynomial.
+pub fn interpolation_is_unique<F: Field>(_some: F, size: usize)
+    ensures { (p q points : List F) → HasDegreeBelow size p → HasDegreeBelow size q → size ≤ length points → IsWithoutRepeats points
+        → AllByRecursion (λ x. value F.ring p x ≡ value F.ring q x) points → (x : F) → value F.ring p x ≡ value F.ring q x }
+{}

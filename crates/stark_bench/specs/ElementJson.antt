@@ -1,10 +1,12 @@
 -- What JSON values spell of the fields.
-use Rattle.std.specs.Prelude.{List, [], ◌∷◌, if◌then◌else◌, nat_lt, Option, None, Some}
-use Rattle.serde_json.specs.Data.{Data}
+use Rattle.std.specs.Prelude.{◌≡◌, List, [], ◌∷◌, if◌then◌else◌, nat_lt, Option, None, Some, refl}
+use Rattle.std.proofs.Common.{◌∙◌, ap}
+use Rattle.std.proofs.lemmas.Bool.{lt-ltb}
+use Rattle.serde_json.specs.Data.{Data, number, unsigned, array, no_items, item}
 use Rattle.stark_support.specs.Json.{◌>>=◌, whole_at, array_at}
 use Rattle.stark_bench.specs.declared.residue.Residue.{Residue}
 use Rattle.stark_bench.specs.declared.ext4.Ext4.{Ext4}
-use Rattle.stark_bench.specs.Residues.{residue}
+use Rattle.stark_bench.specs.Residues.{residue, residue_of_value}
 use Rattle.stark_bench.specs.Ext4Field.{ext4}
 
 -- a whole number below 12289
@@ -27,3 +29,21 @@ unfoldable pub element_at : {K : Type 0} → (Data → Option K) → Data → Op
 element_at coordinate_at d = do
   coordinates ← array_at coordinate_at d
   of_four coordinates
+
+-- the number, and nothing else
+abbrev pub base_written : {M : Type 0} → Residue M → Data
+base_written x = number (unsigned x.value)
+
+-- the array of the four coordinates, each as it is written
+abbrev pub element_written : {K : Type 0} → (K → Data) → Ext4 K → Data
+element_written coordinate_written x =
+    array (item (coordinate_written x.c0) (item (coordinate_written x.c1) (item (coordinate_written x.c2) (item (coordinate_written x.c3) no_items))))
+
+pub base_reads_back : {M : Type 0} (x : Residue M) → base_at (base_written x) ≡ Some x
+unfolding base_at
+base_reads_back x = ap (λ b. if b then Some (residue x.value) else None) (lt-ltb x.value 12289 x.in_range) ∙ ap Some (residue_of_value x)
+
+pub element_reads_back : {K : Type 0} (coordinate_at : Data → Option K) (coordinate_written : K → Data) → ((k : K) → coordinate_at (coordinate_written k) ≡ Some k) →
+    (x : Ext4 K) → element_at coordinate_at (element_written coordinate_written x) ≡ Some x
+unfolding element_at array_at
+element_reads_back coordinate_at coordinate_written back x = rw (back x.c0, back x.c1, back x.c2, back x.c3) refl

@@ -1,15 +1,17 @@
 //! Elements that JSON spells.
 ghost use Rattle.std.specs.Prelude.{◌≡◌};
-ghost use Rattle.stark_bench.specs.ElementJson.{base_at, element_at, of_four};
+ghost use Rattle.stark_bench.specs.ElementJson.{base_at, base_written, base_reads_back, element_at, element_written, element_reads_back, of_four};
 
 use crate::ext4::Ext4;
 use crate::residue::Residue;
 use serde_json::Value;
 use stark_support::{JsonCodec, JsonFault, list_from_json};
-use std::alloc::Global;
+use std::alloc::{AllocError, Global};
 
 impl<Kind> JsonCodec for Residue<Kind> {
     ghost reading = { base_at };
+
+    ghost writing = { base_written };
 
     /// A whole number from 0 to 12288.
     #[tactic(auto, unfolding(crate::specs::ElementJson::base_at))]
@@ -22,6 +24,13 @@ impl<Kind> JsonCodec for Residue<Kind> {
         }
         Ok(Residue::new(number as u32))
     }
+
+    /// The number itself.
+    fn to_json(&self, _alloc: Global) -> Result<Value, AllocError> {
+        Ok(Value::from(self.value()))
+    }
+
+    ghost reads_back = { base_reads_back };
 }
 
 fn from_four<F: Copy>(coordinates: &[F]) -> Option<Ext4<F>>
@@ -41,6 +50,8 @@ fn from_four<F: Copy>(coordinates: &[F]) -> Option<Ext4<F>>
 impl<F: JsonCodec + Copy> JsonCodec for Ext4<F> {
     ghost reading = { element_at F.reading };
 
+    ghost writing = { element_written F.writing };
+
     /// An array of exactly four coordinates.
     #[tactic(auto, unfolding(crate::specs::ElementJson::element_at))]
     fn from_json(alloc: Global, value: &Value) -> Result<Ext4<F>, JsonFault> {
@@ -50,4 +61,16 @@ impl<F: JsonCodec + Copy> JsonCodec for Ext4<F> {
             None => Err(JsonFault::Invalid),
         }
     }
+
+    /// The array of the four coordinates.
+    fn to_json(&self, alloc: Global) -> Result<Value, AllocError> {
+        let mut coordinates = Vec::new(alloc);
+        coordinates.push(self.c0.to_json(alloc)?)?;
+        coordinates.push(self.c1.to_json(alloc)?)?;
+        coordinates.push(self.c2.to_json(alloc)?)?;
+        coordinates.push(self.c3.to_json(alloc)?)?;
+        Ok(Value::Array(coordinates))
+    }
+
+    ghost reads_back = { element_reads_back F.reading F.writing F.reads_back };
 }

@@ -1,8 +1,10 @@
 //! The field of 12289 and its extension of degree four.
 use stark_bench::{Ext4, F12289, P12289, S12289};
 use stark_support::{
-    Algebra, Element, ExtensionField, Field, PrimeField64, TwoAdicField, power_of, squared_times,
+    Algebra, Element, ExtensionField, Field, JsonCodec, JsonFault, PrimeField64, TwoAdicField,
+    power_of, squared_times, value_from_bytes,
 };
+use std::alloc::Global;
 use std::test::Fail;
 
 fn coordinates(x: Ext4<S12289>) -> [u32; 4] {
@@ -100,5 +102,40 @@ fn coordinates_both_ways(rt: HostRuntime) -> Result<(), Fail> {
     );
     assert_eq!(rt; coordinates(Ext4::from_base(S12289::new(7))), [7, 0, 0, 0]);
     assert_eq!(rt; coordinates(Ext4::<S12289>::ONE), [1, 0, 0, 0]);
+    Ok(())
+}
+
+fn read<T: JsonCodec>(alloc: Global, text: &str) -> Result<T, JsonFault> {
+    let value = value_from_bytes(alloc, text.as_bytes())?;
+    T::from_json(alloc, &value)
+}
+
+#[test]
+fn json_both_ways(rt: HostRuntime) -> Result<(), Fail> {
+    let alloc = rt.alloc();
+    let written = element(1, 2, 3, 4).to_json(alloc)?;
+    assert_eq!(rt; written.to_string(alloc)?.as_str(), "[1,2,3,4]");
+    assert!(rt; read(alloc, "[1,2,3,4]").ok() == Some(element(1, 2, 3, 4)));
+    assert_eq!(rt;
+        S12289::new(12288)
+            .to_json(alloc)?
+            .to_string(alloc)?
+            .as_str(),
+        "12288"
+    );
+    assert!(rt; read(alloc, "12288").ok() == Some(S12289::new(12288)));
+    assert!(rt; matches!(read::<S12289>(alloc, "12289"), Err(JsonFault::Invalid)));
+    assert!(rt;
+        matches!(
+            read::<Ext4<S12289>>(alloc, "[1,2,3,12289]"),
+            Err(JsonFault::Invalid)
+        )
+    );
+    assert!(rt;
+        matches!(
+            read::<Ext4<S12289>>(alloc, "[1,2,3]"),
+            Err(JsonFault::Invalid)
+        )
+    );
     Ok(())
 }

@@ -1,7 +1,8 @@
-//! Logarithms, powers of two and row views.
+//! Logarithms, powers of two, sums of products, matrices and row views.
+use stark_bench::{Ext4, S12289};
 use stark_support::{
-    RowMajorMatrixView, VerticalPair, ViewPair, checked_log_size_sum, checked_pow2,
-    log2_ceil_usize, log2_strict_usize,
+    RowMajorMatrix, RowMajorMatrixView, VerticalPair, ViewPair, batched_linear_combination,
+    checked_log_size_sum, checked_pow2, log2_ceil_usize, log2_strict_usize,
 };
 use std::test::Fail;
 
@@ -46,5 +47,58 @@ fn two_rows(rt: HostRuntime) -> Result<(), Fail> {
     assert!(rt; pair.top.values == [1, 2, 3].as_slice());
     assert_eq!(rt; pair.bottom.width, 3);
     assert!(rt; pair.bottom.values == [4, 5, 6].as_slice());
+    Ok(())
+}
+
+#[test]
+fn sums_of_products(rt: HostRuntime) -> Result<(), Fail> {
+    let values = [S12289::new(1), S12289::new(2), S12289::new(3)];
+    let coefficients = [S12289::new(4), S12289::new(5), S12289::new(4096)];
+    assert_eq!(rt;
+        batched_linear_combination(&values, &coefficients).value(),
+        13
+    );
+    assert_eq!(rt; batched_linear_combination::<S12289>(&[], &[]).value(), 0);
+    Ok(())
+}
+
+#[test]
+fn owned_rows(rt: HostRuntime) -> Result<(), Fail> {
+    let alloc = rt.alloc();
+    let matrix = RowMajorMatrix::new(vec![in alloc; 1u8, 2, 3, 4, 5, 6]?, 3);
+    assert_eq!(rt; matrix.width(), 3);
+    assert_eq!(rt; matrix.height(), 2);
+    assert!(rt; matrix.row(0) == [1, 2, 3].as_slice());
+    assert!(rt; matrix.row(1) == [4, 5, 6].as_slice());
+    let column = RowMajorMatrix::new_col(vec![in alloc; 7u8, 8]?);
+    assert_eq!(rt; column.width(), 1);
+    assert_eq!(rt; column.height(), 2);
+    assert!(rt; column.row(1) == [8].as_slice());
+    let none = RowMajorMatrix::new(Vec::<u8>::new(alloc), 0);
+    assert_eq!(rt; none.height(), 0);
+    Ok(())
+}
+
+fn element(c0: u32, c1: u32, c2: u32, c3: u32) -> Ext4<S12289> {
+    Ext4 {
+        c0: S12289::new(c0),
+        c1: S12289::new(c1),
+        c2: S12289::new(c2),
+        c3: S12289::new(c3),
+    }
+}
+
+#[test]
+fn flat_rows(rt: HostRuntime) -> Result<(), Fail> {
+    let alloc = rt.alloc();
+    let elements = vec![in alloc; element(1, 2, 3, 4), element(5, 6, 7, 8)]?;
+    let column = RowMajorMatrix::new_col(elements);
+    let flat: RowMajorMatrix<S12289> = column.flatten_to_base(alloc)?;
+    assert_eq!(rt; flat.width(), 4);
+    assert_eq!(rt; flat.height(), 2);
+    assert_eq!(rt; flat.values.len(), 8);
+    for (index, x) in flat.values.iter().enumerate() {
+        assert_eq!(rt; x.value() as usize, index + 1);
+    }
     Ok(())
 }

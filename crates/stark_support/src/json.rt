@@ -1,5 +1,5 @@
 //! Values that JSON spells.
-ghost use Rattle.std.specs.Prelude.{◌≡◌, Option, map};
+ghost use Rattle.std.specs.Prelude.{◌≡◌, Option, Some, IfOk, map};
 ghost use Rattle.serde_json.specs.Data.{Data};
 ghost use Rattle.serde_json.specs.View.{view, items_view};
 ghost use Rattle.serde_json.specs.Find.{get};
@@ -39,14 +39,24 @@ impl<T: Drop> From<AllocFailed<T>> for JsonFault {
     }
 }
 
-/// A type whose values are read from JSON values.
+/// A type whose values JSON values spell.
 pub trait JsonCodec: Sized {
     /// What a JSON value is read as.
     ghost reading: { Data → Option Self };
 
+    /// The JSON value that spells a value.
+    ghost writing: { Self → Data };
+
     /// The value that the JSON value spells.
     fn from_json(alloc: Global, value: &Value) -> Result<Self, JsonFault>
         ensures { Gives (λ x. x) result (reading (view value.now)) };
+
+    /// The JSON value that spells this value.
+    fn to_json(&self, alloc: Global) -> Result<Value, AllocError>
+        ensures { IfOk result (λ value. view value ≡ writing self.now) };
+
+    /// What is written is read back.
+    ghost reads_back: { (x : Self) → reading (writing x) ≡ Some x };
 }
 
 fn each_from_json<T: JsonCodec + Drop>(alloc: Global, values: &[Value]) -> Result<Vec<T>, JsonFault>

@@ -1,5 +1,96 @@
-//! Views of rows of values.
-ghost use Rattle.std.specs.Prelude.{◌≡◌, length};
+//! Rows of values, owned and borrowed.
+ghost use Rattle.std.specs.Prelude.{◌≡◌, ◌<◌, ◌+◌, ◌*◌, ◌/◌, ◌%◌, ◌^◌, ◌++◌, length, IfOk, OnOk};
+ghost use Rattle.std.specs.List.{flat_map, slice_range};
+
+use crate::field::{ExtensionField, Field};
+use std::alloc::{AllocError, Global};
+
+/// Rows of a matrix, one after the other.
+#[derive(Debug, Drop)]
+pub struct RowMajorMatrix<T> {
+    pub values: Vec<T>,
+    pub width: usize,
+    /// Each row is whole; a matrix of width 0 has no value.
+    pub ghost whole_rows: { length values.items % width ≡ 0 },
+}
+
+impl<T> RowMajorMatrix<T> {
+    /// The matrix of rows of `width` values each.
+    pub fn new(values: Vec<T>, width: usize) -> RowMajorMatrix<T>
+        requires { length values.items % width ≡ 0 }
+        ensures values { result.values ≡ values }
+        ensures width { result.width ≡ width }
+    {
+        RowMajorMatrix { values, width }
+    }
+
+    /// The matrix of one column.
+    pub fn new_col(values: Vec<T>) -> RowMajorMatrix<T>
+        ensures values { result.values ≡ values }
+        ensures width { result.width ≡ 1 }
+    {
+        RowMajorMatrix { values, width: 1 }
+    }
+
+    /// The number of the values in a row.
+    pub fn width(&self) -> usize
+        ensures { result ≡ self.now.width }
+    {
+        self.width
+    }
+
+    /// The number of the rows: 0 at width 0.
+    pub fn height(&self) -> usize
+        ensures { result ≡ length self.now.values.items / self.now.width }
+    {
+        if self.width == 0 {
+            0
+        } else {
+            self.values.len() / self.width
+        }
+    }
+
+    /// The row of this index.
+    pub fn row(&self, r: usize) -> &[T]
+        requires { r < length self.now.values.items / self.now.width }
+        ensures { result.now ≡ slice_range self.now.values.items (r * self.now.width) (r * self.now.width + self.now.width) }
+    {
+        let start = r * self.width;
+        &self.values[start..start + self.width]
+    }
+}
+
+fn push_coordinates<F: Field, EF: ExtensionField<F>>(
+    values: &mut Vec<F>,
+    x: EF,
+) -> Result<(), AllocError>
+    ensures { OnOk result (values.new.items ≡ values.old.items ++ EF.coordinates x) }
+{
+    for index in 0..EF::DIMENSION {
+        values.push(x.coordinate(index))?;
+    }
+    Ok(())
+}
+
+impl<EF> RowMajorMatrix<EF> {
+    /// Each element replaced by its coordinates, coordinate 0 first.
+    pub fn flatten_to_base<F: Field>(self, alloc: Global) -> Result<RowMajorMatrix<F>, AllocError>
+    where
+        EF: ExtensionField<F>,
+        requires { self.width * EF.DIMENSION < 2 ^ 64 }
+        ensures values { IfOk result (λ flat. flat.values.items ≡ flat_map EF.coordinates self.values.items) }
+        ensures width { IfOk result (λ flat. flat.width ≡ self.width * EF.DIMENSION) }
+    {
+        let mut values = Vec::new(alloc);
+        for x in &self.values {
+            push_coordinates(&mut values, *x)?;
+        }
+        Ok(RowMajorMatrix {
+            values,
+            width: self.width * EF::DIMENSION,
+        })
+    }
+}
 
 /// Rows of a matrix, one after the other, borrowed.
 #[derive(Clone, Copy, Debug)]

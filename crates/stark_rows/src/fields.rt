@@ -1,8 +1,8 @@
 //! The field of 12289 and its extension of degree four.
 use stark_bench::{Ext4, F12289, P12289, S12289};
 use stark_support::{
-    Algebra, Element, ExtensionField, Field, JsonCodec, JsonFault, PrimeField64, TwoAdicField,
-    power_of, squared_times, value_from_bytes,
+    Algebra, Element, ExtensionField, Field, JsonCodec, JsonFault, PackedValue, PrimeField64,
+    TwoAdicField, power_of, squared_times, value_from_bytes,
 };
 use std::alloc::Global;
 use std::test::Fail;
@@ -137,5 +137,19 @@ fn json_both_ways(rt: HostRuntime) -> Result<(), Fail> {
             Err(JsonFault::Invalid)
         )
     );
+    Ok(())
+}
+
+#[test]
+fn fields_pack_themselves(rt: HostRuntime) -> Result<(), Fail> {
+    assert_eq!(rt; <S12289 as PackedValue>::WIDTH, 1);
+    assert_eq!(rt; <P12289 as PackedValue>::WIDTH, 1);
+    assert_eq!(rt; <F12289 as PackedValue>::WIDTH, 1);
+    assert_eq!(rt; <Ext4<S12289> as PackedValue>::WIDTH, 1);
+    let x = S12289::new(7);
+    assert!(rt; <S12289 as PackedValue>::from_slice(&[x]).extract(0) == x);
+    let y = element(1, 2, 3, 4);
+    assert!(rt; <Ext4<S12289> as PackedValue>::from_slice(&[y]).extract(0) == y);
+    assert!(rt; !S12289::BENEFITS_FROM_LOCKSTEP_EVALUATION);
     Ok(())
 }

@@ -8,6 +8,7 @@ pub mod PowerFacts
 pub mod TwoAdic
 pub mod Embedding
 pub mod Extension
+pub mod Lanes
 pub mod Combination
 pub mod Logarithm
 pub mod LogarithmFacts

@@ -1,5 +1,5 @@
 //! Fields, and the algebras over them, with their laws.
-ghost use Rattle.std.specs.Prelude.{◌≡◌, ◌≢◌, ◌<◌, ◌≤◌, ℕ, true, List, map, Option, Some, None, length};
+ghost use Rattle.std.specs.Prelude.{◌≡◌, ◌≢◌, ◌<◌, ◌≤◌, ℕ, true, Bool, List, map, Option, Some, None, length};
 ghost use Rattle.std.specs.List.{slice_get};
 ghost use Rattle.stark_support.specs.Ring.{RingOps, FieldLaws, IsQuarticConstant, difference};
 ghost use Rattle.stark_support.specs.Operations.{Operations, ring_operations};
@@ -7,6 +7,7 @@ ghost use Rattle.stark_support.specs.Embedding.{IsEmbedding};
 ghost use Rattle.stark_support.specs.Extension.{IsBasis, basis_sum};
 ghost use Rattle.stark_support.specs.TwoAdic.{TwoAdicLaws};
 
+use crate::packed::PackedValue;
 use std::ops::{Add, Mul, Neg, Sub};
 
 /// What a list of constraints needs of the elements of a field. It has no operator, so that a builder may name it by
@@ -65,6 +66,9 @@ pub trait Field: Element
     + Sub<Self, Output = Self>
     + Mul<Self, Output = Self>
     + Neg<Output = Self> {
+    /// Packed values of this field.
+    type Packing: PackedValue<Value = Self>;
+
     /// The operations, as functions of the values.
     ghost ring: { RingOps Self };
 
@@ -78,9 +82,14 @@ pub trait Field: Element
 
     ghost GENERATOR: { Self };
 
+    ghost BENEFITS_FROM_LOCKSTEP_EVALUATION: { Bool };
+
     const ZERO: Self;
 
     const GENERATOR: Self;
+
+    /// Whether it pays to work on two packed values at a time.
+    const BENEFITS_FROM_LOCKSTEP_EVALUATION: bool;
 
     /// A value of the type is an element.
     fn known_element(self)
@@ -118,6 +127,9 @@ pub trait Field: Element
     ghost mul_is: { (x y r : Self) → Self.mul_gives x y r → r ≡ ring.mul x y };
 
     ghost neg_is: { (x r : Self) → Self.neg_gives x r → r ≡ ring.neg x };
+
+    /// The lanes of packed values are added and multiplied as this field's elements.
+    ghost packed_ring: { Self.Packing.lane_ring ≡ ring };
 }
 
 /// A field of the residues modulo a prime, each of which is one number of 64 bits.

@@ -1,14 +1,17 @@
 //! The extension's operations.
-ghost use Rattle.std.specs.Prelude.{◌≡◌, refl, ⊤, map, [], ◌∷◌};
+ghost use Rattle.std.specs.Prelude.{false, ◌≡◌, refl, ⊤, map, [], ◌∷◌};
 ghost use Rattle.stark_support.specs.Extension.{basis_sum};
 ghost use Rattle.stark_support.specs.Ring.{difference};
+ghost use Rattle.stark_support.specs.Lanes.{one_lane, alone_is_lane_by_lane};
 ghost use Rattle.stark_support.specs.Operations.{ring_operations, exact_binary, exact_unary};
 ghost use Rattle.stark_support.specs.Embedding.{embedded_two_adic};
 ghost use Rattle.stark_bench.specs.Quartic.{quartic_norm, quartic_cofactor};
 ghost use Rattle.stark_bench.specs.Ext4Field.{coordinates_of, of_coordinates, ext4, ext4_ring, ext4_inverse, ext4_laws, embedded, embedded_is_embedding, basis_of, coordinate_list, ext4_basis, generator_x, eq_gives_same};
 
 use crate::ext4::Ext4;
-use stark_support::{Algebra, Element, ExtensionField, Field, QuarticBase, TwoAdicField};
+use stark_support::{
+    Algebra, Element, ExtensionField, Field, PackedValue, QuarticBase, TwoAdicField,
+};
 use std::ops::{Add, Mul, Neg, Sub};
 
 impl<F: QuarticBase> Default for Ext4<F> {
@@ -182,6 +185,32 @@ fn cofactor<F: QuarticBase>(x: Ext4<F>, factor: F) -> Ext4<F>
     }
 }
 
+impl<F: QuarticBase> PackedValue for Ext4<F> {
+    type Value = Ext4<F>;
+
+    ghost WIDTH = { 1 };
+
+    ghost lanes = { one_lane };
+
+    ghost lane_ring = { (ext4_ring F.ring F.QUARTIC_CONSTANT) };
+
+    const WIDTH: usize = 1;
+
+    #[tactic(auto, using(stark_support::specs::Lanes::lone_slice))]
+    fn from_slice(values: &[Ext4<F>]) -> Ext4<F> {
+        values[0]
+    }
+
+    #[tactic(auto, using(stark_support::specs::Lanes::lone_extracted))]
+    fn extract(&self, _lane: usize) -> Ext4<F> {
+        *self
+    }
+
+    ghost lane_by_lane = { alone_is_lane_by_lane (ext4_ring F.ring F.QUARTIC_CONSTANT) };
+
+    ghost exact_lanes = { λ _ _ h. h };
+}
+
 impl<F: QuarticBase> Element for Ext4<F> {
     ghost ONE = { embedded F.ring F.ring.one };
 
@@ -194,6 +223,8 @@ impl<F: QuarticBase> Element for Ext4<F> {
 }
 
 impl<F: QuarticBase> Field for Ext4<F> {
+    type Packing = Ext4<F>;
+
     ghost ring = { ext4_ring F.ring F.QUARTIC_CONSTANT };
 
     ghost inverse_of = { ext4_inverse F.ring F.inverse_of F.QUARTIC_CONSTANT };
@@ -203,6 +234,10 @@ impl<F: QuarticBase> Field for Ext4<F> {
     ghost ZERO = { embedded F.ring F.ring.zero };
 
     ghost GENERATOR = { embedded F.ring F.GENERATOR };
+
+    ghost BENEFITS_FROM_LOCKSTEP_EVALUATION = { false };
+
+    const BENEFITS_FROM_LOCKSTEP_EVALUATION: bool = false;
 
     const ZERO: Ext4<F> = Ext4 {
         c0: F::ZERO,
@@ -251,6 +286,8 @@ impl<F: QuarticBase> Field for Ext4<F> {
     ghost mul_is = { λ _ _ _ h. h };
 
     ghost neg_is = { λ _ _ h. h };
+
+    ghost packed_ring = { refl };
 }
 
 /// The sum of the basis times the coordinates.

@@ -1,6 +1,7 @@
 //! The field's operations.
-ghost use Rattle.std.specs.Prelude.{◌<◌, ◌≡◌, ◌==◌, refl, ⊤};
+ghost use Rattle.std.specs.Prelude.{false, ◌<◌, ◌≡◌, ◌==◌, refl, ⊤};
 ghost use Rattle.stark_support.specs.Ring.{difference};
+ghost use Rattle.stark_support.specs.Lanes.{one_lane, alone_is_lane_by_lane};
 ghost use Rattle.stark_support.specs.Operations.{ring_operations, exact_binary, exact_unary};
 ghost use Rattle.std.specs.Cmp.Rules.{comparing};
 ghost use Rattle.std.proofs.Common.{rules, lit<};
@@ -9,7 +10,7 @@ ghost use Rattle.stark_bench.specs.Roots.{root, two_adic_laws};
 
 use crate::residue::Residue;
 use stark_support::{
-    Algebra, Element, Field, PrimeField64, QuarticBase, TwoAdicField, squared_times,
+    Algebra, Element, Field, PackedValue, PrimeField64, QuarticBase, TwoAdicField, squared_times,
 };
 use std::fmt::{self, Write};
 use std::marker::PhantomData;
@@ -125,6 +126,32 @@ impl<Kind> Algebra<Residue<Kind>> for Residue<Kind> {
     ghost negated_stands = { exact_unary residue_ring.neg };
 }
 
+impl<Kind> PackedValue for Residue<Kind> {
+    type Value = Residue<Kind>;
+
+    ghost WIDTH = { 1 };
+
+    ghost lanes = { one_lane };
+
+    ghost lane_ring = { residue_ring };
+
+    const WIDTH: usize = 1;
+
+    #[tactic(auto, using(stark_support::specs::Lanes::lone_slice))]
+    fn from_slice(values: &[Residue<Kind>]) -> Residue<Kind> {
+        values[0]
+    }
+
+    #[tactic(auto, using(stark_support::specs::Lanes::lone_extracted))]
+    fn extract(&self, _lane: usize) -> Residue<Kind> {
+        *self
+    }
+
+    ghost lane_by_lane = { alone_is_lane_by_lane residue_ring };
+
+    ghost exact_lanes = { λ _ _ h. h };
+}
+
 impl<Kind> Element for Residue<Kind> {
     ghost ONE = { residue 1 };
 
@@ -135,6 +162,8 @@ impl<Kind> Element for Residue<Kind> {
 }
 
 impl<Kind> Field for Residue<Kind> {
+    type Packing = Residue<Kind>;
+
     ghost ring = { residue_ring };
 
     ghost inverse_of = { residue_inverse };
@@ -144,6 +173,10 @@ impl<Kind> Field for Residue<Kind> {
     ghost ZERO = { residue 0 };
 
     ghost GENERATOR = { residue 11 };
+
+    ghost BENEFITS_FROM_LOCKSTEP_EVALUATION = { false };
+
+    const BENEFITS_FROM_LOCKSTEP_EVALUATION: bool = false;
 
     const ZERO: Residue<Kind> = Residue {
         value: 0,
@@ -194,6 +227,8 @@ impl<Kind> Field for Residue<Kind> {
     ghost mul_is = { λ _ _ _ h. h };
 
     ghost neg_is = { λ _ _ h. h };
+
+    ghost packed_ring = { refl };
 }
 
 impl<Kind> PrimeField64 for Residue<Kind> {

@@ -1,0 +1,51 @@
+-- Packed values: several values, on which one operation works lane by lane.
+use Rattle.std.specs.Prelude.{◌≡◌, ◌<◌, ℕ, zero, suc, ◌^◌, Some, List, [], ◌∷◌, map, length, refl}
+use Rattle.std.specs.Simd.Lanes.{zip2}
+use Rattle.std.specs.List.{slice_get}
+use Rattle.std.proofs.Common.{ap, arith, get_or}
+use Rattle.stark_support.specs.Ring.{RingOps, difference}
+use Rattle.stark_support.specs.Operations.{Operations, ring_operations}
+
+-- Each operation works lane by lane, an embedded value is in each lane, and the lanes say all of a packed value.
+pub record IsLaneByLane {F P : Type 0} (ring : RingOps F) (operations : Operations F P) (width : ℕ) (lanes : P → List F) : Type 0 where
+  pub exponent : ℕ
+  pub power_of_two : width ≡ 2 ^ exponent
+  pub as_many : (x : P) → length (lanes x) ≡ width
+  pub same : (x y : P) → lanes x ≡ lanes y → x ≡ y
+  pub embed : (k : F) (x : P) → lanes (operations.embed k) ≡ map (λ _. k) (lanes x)
+  pub plus : (x y : P) → lanes (operations.plus x y) ≡ zip2 ring.add (lanes x) (lanes y)
+  pub minus : (x y : P) → lanes (operations.minus x y) ≡ zip2 (difference ring) (lanes x) (lanes y)
+  pub times : (x y : P) → lanes (operations.times x y) ≡ zip2 ring.mul (lanes x) (lanes y)
+  pub negated : (x : P) → lanes (operations.negated x) ≡ map ring.neg (lanes x)
+
+-- A value by itself is packed into one lane.
+abbrev pub one_lane : {F : Type 0} → F → List F
+one_lane x = x ∷ []
+
+first_or : {F : Type 0} → F → List F → F
+first_or d [] = d
+first_or d (x ∷ xs) = x
+
+pub alone_is_lane_by_lane : {F : Type 0} (ring : RingOps F) → IsLaneByLane ring (ring_operations ring (λ x. x)) 1 one_lane
+unfolding first_or
+alone_is_lane_by_lane ring = record {
+  exponent = 0;
+  power_of_two = refl;
+  as_many = λ x. refl;
+  same = λ x y e. ap (first_or x) e;
+  embed = λ k x. refl;
+  plus = λ x y. refl;
+  minus = λ x y. refl;
+  times = λ x y. refl;
+  negated = λ x. refl;
+}
+
+-- Of one lane: what it is made of, and read as.
+pub lone_slice : {F : Type 0} (xs : List F) (x : F) → length xs ≡ 1 → x ≡ get_or xs 0 x → one_lane x ≡ xs
+lone_slice [] x e is = absurd (omega arith)
+lone_slice (y ∷ []) x e is = ap one_lane is
+lone_slice (y ∷ z ∷ xs) x e is = absurd (omega arith)
+
+pub lone_extracted : {F : Type 0} (x : F) (lane : ℕ) → lane < 1 → slice_get (one_lane x) lane ≡ Some x
+lone_extracted x zero below = refl
+lone_extracted x (suc n) below = absurd (omega arith)

@@ -29,7 +29,7 @@ fn row_or_empty<'a, EF>(row: Option<&'a [EF]>) -> &'a [EF]
 /// - `PreprocessedTraceWidthMismatch` where the two preprocessed lengths differ: the current length three times, then
 ///   the next one's.
 /// - `OodEvaluationMismatch { index: None }` where the equation fails.
-/// - `OutOfMemory` only where the AIR's `eval` was refused a growth.
+/// - `OutOfMemory` only where the AIR's `eval` takes memory of its own, and was refused a growth.
 pub fn verify_constraints<D: PolynomialSpace, EF: ExtensionField<D::Val>, A: Air<D::Val>, PcsErr>(
     air: &A,
     trace_local: &[EF],
@@ -53,6 +53,7 @@ pub fn verify_constraints<D: PolynomialSpace, EF: ExtensionField<D::Val>, A: Air
     ensures fault { IfErr result (λ error. (error ≡ VerificationError.OutOfMemory) ⊎ ConstraintsFault D.Val.ring EF.ring EF.embed (subgroup_of EF.inverse_of EF.embed D.Val.root (D.coset_of trace_domain)) (A.constraints air.now)
         (record { local = trace_local.now; next = trace_next.now; preprocessed_local = row_or_empty (λ r. r.now) preprocessed_local.entry; preprocessed_next = row_or_empty (λ r. r.now) preprocessed_next.entry; periodic = periodic_values.now; publics = public_values.now })
         zeta alpha quotient error) }
+    ensures memory { IfErr result (λ error. error ≡ VerificationError.OutOfMemory → A.takes_memory air.now) }
 {
     let preprocessed_local = row_or_empty(preprocessed_local);
     let preprocessed_next = row_or_empty(preprocessed_next);

@@ -38,23 +38,25 @@ pub trait AirBuilder {
     /// What no assertion changes besides the row, as the builder that a filtered one borrows.
     ghost keeps: { Self → Self → Type 0 };
 
-    /// Holds of a builder whose assertions take memory, so that it may be refused.
-    ghost may_refuse: { Self → Type 0 };
+    /// Holds of builders whose rows or assertions take memory, so that they may be refused.
+    ghost may_refuse: { Type 0 };
 
     /// What the builder holds once a list of constraints was asserted.
     ghost after: { Self → List (Constraint Self.F) → Self → Type 0 };
 
     /// The main columns' two rows. Err only where memory was refused.
     fn main(&self) -> Result<Self::MainWindow, AllocError>
-        ensures { IfOk result (λ w.
+        ensures rows { IfOk result (λ w.
             (Shows ⟦<Self::Expr as From<Self::Var>>⟧.from_gives Self.Expr.stands (environment self.now).main_current (layout self.now).main (Self.MainWindow.current_at w))
-            × (Shows ⟦<Self::Expr as From<Self::Var>>⟧.from_gives Self.Expr.stands (environment self.now).main_next (layout self.now).main_next (Self.MainWindow.next_at w))) };
+            × (Shows ⟦<Self::Expr as From<Self::Var>>⟧.from_gives Self.Expr.stands (environment self.now).main_next (layout self.now).main_next (Self.MainWindow.next_at w))) }
+        ensures memory { OnErr result may_refuse };
 
     /// The preprocessed columns' two rows. Err only where memory was refused.
     fn preprocessed(&self) -> Result<Self::PreprocessedWindow, AllocError>
-        ensures { IfOk result (λ w.
+        ensures rows { IfOk result (λ w.
             (Shows ⟦<Self::Expr as From<Self::Var>>⟧.from_gives Self.Expr.stands (environment self.now).preprocessed_current (layout self.now).preprocessed (Self.PreprocessedWindow.current_at w))
-            × (Shows ⟦<Self::Expr as From<Self::Var>>⟧.from_gives Self.Expr.stands (environment self.now).preprocessed_next (layout self.now).preprocessed_next (Self.PreprocessedWindow.next_at w))) };
+            × (Shows ⟦<Self::Expr as From<Self::Var>>⟧.from_gives Self.Expr.stands (environment self.now).preprocessed_next (layout self.now).preprocessed_next (Self.PreprocessedWindow.next_at w))) }
+        ensures memory { OnErr result may_refuse };
 
     /// The selector that isn't zero on the first row alone.
     fn is_first_row(&self) -> Self::Expr
@@ -83,7 +85,7 @@ pub trait AirBuilder {
         ensures same_layout { layout self.new ≡ layout self.old }
         ensures asserted { IfOk result (λ _. (t : Tree Self.F) → Self.Expr.stands (value Self.Expr.operations (environment self.old) t) x → after self.old (base t ∷ []) self.new) }
         ensures refused { OnErr result (after self.old [] self.new) }
-        ensures memory { OnErr result (may_refuse self.old) };
+        ensures memory { OnErr result may_refuse };
 
     /// A builder that asserts `condition * x` for each `x` asserted on it.
     fn when(&mut self, condition: Self::Expr) -> FilteredAirBuilder<'_, Self>
@@ -104,7 +106,7 @@ pub trait AirBuilder {
         ensures same_layout { layout self.new ≡ layout self.old }
         ensures asserted { IfOk result (λ _. (t u : Tree Self.F) → Self.Expr.stands (value Self.Expr.operations (environment self.old) t) a → Self.Expr.stands (value Self.Expr.operations (environment self.old) u) b → after self.old (base (difference t u) ∷ []) self.new) }
         ensures refused { OnErr result (after self.old [] self.new) }
-        ensures memory { OnErr result (may_refuse self.old) }
+        ensures memory { OnErr result may_refuse }
     {
         self.assert_zero(a - b)
     }
@@ -116,7 +118,7 @@ pub trait AirBuilder {
         ensures same_layout { layout self.new ≡ layout self.old }
         ensures asserted { IfOk result (λ _. (t : Tree Self.F) → Self.Expr.stands (value Self.Expr.operations (environment self.old) t) a → after self.old (base (difference t (constant Self.F.ONE)) ∷ []) self.new) }
         ensures refused { OnErr result (after self.old [] self.new) }
-        ensures memory { OnErr result (may_refuse self.old) }
+        ensures memory { OnErr result may_refuse }
     {
         self.assert_zero(a - Self::Expr::from(Self::F::ONE))
     }
@@ -180,7 +182,7 @@ pub trait ExtensionBuilder: AirBuilder {
         ensures same_layout { Self.layout self.new ≡ Self.layout self.old }
         ensures asserted { IfOk result (λ _. (t : Tree Self.F) → stands_above (value Self.Expr.operations (Self.environment self.old) t) x → Self.after self.old (extension t ∷ []) self.new) }
         ensures refused { OnErr result (Self.after self.old [] self.new) }
-        ensures memory { OnErr result (Self.may_refuse self.old) };
+        ensures memory { OnErr result Self.may_refuse };
 
     /// Any two values of the extension may be multiplied.
     ghost may_multiply: { (x y : Self.ExprEF) → Self.ExprEF.can_mul x y };

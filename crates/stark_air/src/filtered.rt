@@ -46,7 +46,7 @@ impl<AB: AirBuilder> AirBuilder for FilteredAirBuilder<'_, AB> {
 
     ghost keeps = { λ s t. (t.inner.ghost_name ≡ s.inner.ghost_name) × (t.condition ≡ s.condition) };
 
-    ghost may_refuse = { λ s. AB.may_refuse s.inner.now };
+    ghost may_refuse = { AB.may_refuse };
 
     ghost after = { λ s cs t. (t.inner.ghost_name ≡ s.inner.ghost_name) × (t.condition ≡ s.condition)
         × AfterUnder AB.Expr.operations AB.Expr.stands AB.environment AB.layout AB.after s.condition s.inner.now cs t.inner.now };

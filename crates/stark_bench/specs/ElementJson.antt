@@ -1,8 +1,8 @@
 -- What JSON values spell of the fields.
-use Rattle.std.specs.Prelude.{◌≡◌, List, [], ◌∷◌, if◌then◌else◌, nat_lt, Option, None, Some, refl}
+use Rattle.std.specs.Prelude.{◌≡◌, ◌≢◌, Bool, true, false, List, [], ◌∷◌, if◌then◌else◌, nat_lt, Option, None, Some, refl}
 use Rattle.std.proofs.Common.{◌∙◌, ap}
 use Rattle.std.proofs.lemmas.Bool.{lt-ltb}
-use Rattle.serde_json.specs.Data.{Data, number, unsigned, array, no_items, item}
+use Rattle.serde_json.specs.Data.{Data, null, boolean, number, string, object, unsigned, array, no_items, item}
 use Rattle.stark_support.specs.Json.{◌>>=◌, whole_at, array_at}
 use Rattle.stark_bench.specs.declared.residue.Residue.{Residue}
 use Rattle.stark_bench.specs.declared.ext4.Ext4.{Ext4}
@@ -47,3 +47,17 @@ pub element_reads_back : {K : Type 0} (coordinate_at : Data → Option K) (coord
     (x : Ext4 K) → element_at coordinate_at (element_written coordinate_written x) ≡ Some x
 unfolding element_at array_at
 element_reads_back coordinate_at coordinate_written back x = rw (back x.c0, back x.c1, back x.c2, back x.c3) refl
+
+is_null : Data → Bool
+is_null null = true
+is_null (boolean b) = false
+is_null (number n) = false
+is_null (string s) = false
+is_null (array ds) = false
+is_null (object ms) = false
+
+pub base_never_null : {M : Type 0} (x : Residue M) → base_written x ≢ null
+base_never_null x e = let told = ap is_null e in absurd (cc)
+
+pub element_never_null : {K : Type 0} (coordinate_written : K → Data) (x : Ext4 K) → element_written coordinate_written x ≢ null
+element_never_null coordinate_written x e = let told = ap is_null e in absurd (cc)

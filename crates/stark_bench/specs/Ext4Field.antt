@@ -1,9 +1,9 @@
 -- The extension of degree four, on the struct of its coordinates.
-use Rattle.std.specs.Prelude.{◌≡◌, ◌≢◌, Bool, true, false, ◌&&◌, List, [], ◌∷◌, length, map, refl}
+use Rattle.std.specs.Prelude.{◌≡◌, ◌≢◌, Bool, true, ◌&&◌, List, [], ◌∷◌, length, map, refl}
 use Rattle.std.proofs.Common.{ap, sym, arith}
 use Rattle.stark_support.specs.Ring.{RingOps, RingLaws, FieldLaws, IsQuarticConstant}
 use Rattle.stark_support.specs.RingFacts.{neg_zero}
-use Rattle.stark_support.specs.RingSolver.{Expression, expressions, solve, v0, v1, v2, v3, v4}
+use Rattle.stark_support.specs.RingSolver.{Expression, both_parts, expressions, solve, v0, v1, v2, v3, v4}
 use Rattle.stark_support.specs.Embedding.{IsEmbedding}
 use Rattle.stark_support.specs.Extension.{IsBasis, basis_sum}
 use Rattle.stark_bench.specs.Quartic.{Quartic, quartic_ring, quartic_inverse, quartic_laws, quartic_norm, quartic_norm_nonzero, embedded_product, renamed_ring, renamed_inverse, renamed_laws}
@@ -53,30 +53,24 @@ pub norm_not_zero : {K : Type 0} {ring : RingOps K} {inverse : K → K} (laws : 
 norm_not_zero laws w constant x nonzero =
     quartic_norm_nonzero laws w constant.no_root constant.no_negative_root (coordinates_of x) (λ h. nonzero (ap of_coordinates h))
 
-left_true : (a b : Bool) → (a && b) ≡ true → a ≡ true
-left_true true b h = refl
-left_true false b h = cc
-
-right_true : (a b : Bool) → (a && b) ≡ true → b ≡ true
-right_true true b h = h
-right_true false b h = cc
-
 pub eq_gives_same : {K : Type 0} (eq : K → K → Bool) → ((x y : K) → eq x y ≡ true → x ≡ y)
     → (x y : Ext4 K) → (eq x.c0 y.c0 && (eq x.c1 y.c1 && (eq x.c2 y.c2 && eq x.c3 y.c3))) ≡ true → x ≡ y
 eq_gives_same eq same x y h =
-    let h1 = right_true _ _ h in
-    let h2 = right_true _ _ h1 in
-    let h3 = right_true _ _ h2 in
-    same_ext4 _ _ _ _ _ _ _ _ (same x.c0 y.c0 (left_true _ _ h)) (same x.c1 y.c1 (left_true _ _ h1)) (same x.c2 y.c2 (left_true _ _ h2)) (same x.c3 y.c3 h3)
+    let first = both_parts _ _ h in
+    let second = both_parts _ _ first.1 in
+    let third = both_parts _ _ second.1 in
+    same_ext4 _ _ _ _ _ _ _ _ (same x.c0 y.c0 first.0) (same x.c1 y.c1 second.0) (same x.c2 y.c2 third.0) (same x.c3 y.c3 third.1)
 
 module _ {K : Type 0} {ring : RingOps K} (laws : RingLaws ring) (w : K) where
   pub embedded_is_embedding : IsEmbedding ring (ext4_ring ring w) (embedded ring)
   embedded_is_embedding = record {
-    zero = refl;
-    one = refl;
-    add = λ x y. same_ext4 _ _ _ _ _ _ _ _ refl (sym (laws.add_zero _)) (sym (laws.add_zero _)) (sym (laws.add_zero _));
-    mul = λ x y. ap of_coordinates (embedded_product laws w x y);
-    neg = λ x. same_ext4 _ _ _ _ _ _ _ _ refl (sym (neg_zero laws)) (sym (neg_zero laws)) (sym (neg_zero laws));
+    keeps = record {
+      zero = refl;
+      one = refl;
+      add = λ x y. same_ext4 _ _ _ _ _ _ _ _ refl (sym (laws.add_zero _)) (sym (laws.add_zero _)) (sym (laws.add_zero _));
+      mul = λ x y. ap of_coordinates (embedded_product laws w x y);
+      neg = λ x. same_ext4 _ _ _ _ _ _ _ _ refl (sym (neg_zero laws)) (sym (neg_zero laws)) (sym (neg_zero laws));
+    };
     injective = λ x y e. ap (λ (a : Ext4 K). a.c0) e;
   }
 

@@ -7,8 +7,8 @@ ghost use Rattle.stark_support.specs.Selectors.{first_row_selector, last_row_sel
 ghost use Rattle.stark_support.specs.Subgroup.{group_of};
 
 use stark_support::{
-    DomainShape, Element, ExtensionField, Field, LagrangeSelectors, PolynomialSpace, TwoAdicField,
-    log2_ceil_usize, log2_strict_usize, squared_times,
+    DomainShape, Element, ExtensionField, Field, LagrangeSelectors, PeriodicColumns,
+    PolynomialSpace, TwoAdicField, log2_ceil_usize, log2_strict_usize, squared_times,
 };
 use std::alloc::{AllocError, Global};
 
@@ -111,11 +111,10 @@ impl<F: TwoAdicField> PolynomialSpace for Coset<F> {
     }
 
     fn try_create_disjoint_domain(&self, min_size: usize) -> Option<Coset<F>> {
-        let log_size = log2_ceil_usize(min_size.max(1));
-        if log_size > F::TWO_ADICITY {
+        if min_size > 1 << F::TWO_ADICITY {
             return None;
         }
-        Some(Coset::new(self.shift * F::GENERATOR, log_size))
+        Some(self.create_disjoint_domain(min_size))
     }
 
     fn create_disjoint_domain(&self, min_size: usize) -> Coset<F> {
@@ -175,6 +174,16 @@ impl<F: TwoAdicField> PolynomialSpace for Coset<F> {
             is_transition,
             inv_vanishing,
         })
+    }
+
+    fn evaluate_periodic_columns_at<EF: ExtensionField<F>>(
+        &self,
+        alloc: Global,
+        columns: &PeriodicColumns<'_, F>,
+        point: EF,
+    ) -> Result<Vec<EF>, AllocError> {
+        let generator = F::two_adic_generator(self.log_size);
+        columns.values_at(alloc, generator, point)
     }
 
     ghost lawful = { λ c. record { shift_nonzero = c.shift_nonzero; within = c.within } };

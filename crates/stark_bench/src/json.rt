@@ -1,11 +1,11 @@
 //! Elements that JSON spells.
 ghost use Rattle.std.specs.Prelude.{◌≡◌};
-ghost use Rattle.stark_bench.specs.ElementJson.{base_at, base_written, base_reads_back, element_at, element_written, element_reads_back, of_four};
+ghost use Rattle.stark_bench.specs.ElementJson.{base_at, base_written, base_reads_back, base_never_null, element_at, element_never_null, element_written, element_reads_back, of_four};
 
 use crate::ext4::Ext4;
 use crate::residue::Residue;
 use serde_json::Value;
-use stark_support::{JsonCodec, JsonFault, list_from_json};
+use stark_support::{JsonCodec, JsonFault, NeverNull, list_from_json};
 use std::alloc::{AllocError, Global};
 
 impl<Kind> JsonCodec for Residue<Kind> {
@@ -31,6 +31,10 @@ impl<Kind> JsonCodec for Residue<Kind> {
     }
 
     ghost reads_back = { base_reads_back };
+}
+
+impl<Kind> NeverNull for Residue<Kind> {
+    ghost never_null = { base_never_null };
 }
 
 fn from_four<F: Copy>(coordinates: &[F]) -> Option<Ext4<F>>
@@ -73,4 +77,8 @@ impl<F: JsonCodec + Copy> JsonCodec for Ext4<F> {
     }
 
     ghost reads_back = { element_reads_back F.reading F.writing F.reads_back };
+}
+
+impl<F: JsonCodec + Copy> NeverNull for Ext4<F> {
+    ghost never_null = { element_never_null F.writing };
 }

@@ -1,12 +1,16 @@
 //! The field of 12289 elements and its extension of degree four.
 #![tactic(auto)]
 
+mod alone;
+mod challenger;
 mod circle;
 mod coset;
 mod ext4;
 mod json;
 mod residue;
 
+pub use alone::PackedAlone;
+pub use challenger::{ClearCommitment, ScriptChallenger, Sha256Challenger};
 pub use circle::CircleShape;
 pub use coset::Coset;
 pub use ext4::Ext4;

@@ -3,4 +3,7 @@
 
 mod samples;
 
-pub use samples::CounterAir;
+pub use samples::{
+    CounterAir, CubicAir, FibonacciAir, FirstRowAir, HintedAir, MixedAir, PairAir, PeriodicAir,
+    PreprocessedAir, UnconstrainedAir,
+};

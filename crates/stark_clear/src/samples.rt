@@ -1,73 +1,17 @@
 //! Sample AIRs.
-ghost use Rattle.std.specs.Prelude.{◌≡◌, List, [], ◌∷◌, IfOk, OnErr};
-ghost use Rattle.std.proofs.Common.{rules};
-ghost use Rattle.stark_air.specs.Layout.{Covers};
-ghost use Rattle.stark_clear.specs.Samples.{counter_layout, counter_starts, counter_steps, counter_constraints};
 
-use stark_air::{Air, AirBuilder, BaseAir, ExtensionBuilder, WindowAccess};
-use stark_support::Field;
-use std::alloc::AllocError;
+mod counter;
+mod cubic;
+mod fibonacci;
+mod pair;
+mod periodic;
+mod preprocessed;
+mod small;
 
-/// A column that starts at the one public value and goes up by one from each row to the next.
-pub struct CounterAir;
-
-impl<F> BaseAir<F> for CounterAir {
-    ghost layout = { λ _. counter_layout };
-
-    fn width(&self) -> usize {
-        1
-    }
-
-    fn preprocessed_width(&self) -> usize {
-        0
-    }
-
-    fn num_public_values(&self) -> usize {
-        1
-    }
-
-    fn num_periodic_columns(&self) -> usize {
-        0
-    }
-}
-
-impl<F: Field> Air<F> for CounterAir {
-    ghost constraints = { λ _. counter_constraints F.ONE };
-
-    ghost leaves_within = { Prim.search rules };
-
-    fn eval<AB: ExtensionBuilder<F = F>>(&self, builder: &mut AB) -> Result<(), AllocError> {
-        assert_start(&mut *builder)?;
-        assert_step(builder)
-    }
-}
-
-/// The column is the public value, on the first row.
-fn assert_start<AB: AirBuilder>(builder: &mut AB) -> Result<(), AllocError>
-    requires { Covers (AB.layout builder.old) counter_layout }
-    ensures same_environment { AB.environment builder.new ≡ AB.environment builder.old }
-    ensures same_layout { AB.layout builder.new ≡ AB.layout builder.old }
-    ensures asserted { IfOk result (λ _. AB.after builder.old (counter_starts ∷ []) builder.new) }
-    ensures refused { OnErr result (AB.after builder.old [] builder.new) }
-{
-    let main = builder.main()?;
-    let x = main.current(0).unwrap();
-    let start = builder.public_values()[0];
-    builder.when_first_row().assert_eq(x.into(), start.into())
-}
-
-/// The next row is the current one plus one, on each row but the last.
-fn assert_step<AB: AirBuilder>(builder: &mut AB) -> Result<(), AllocError>
-    requires { Covers (AB.layout builder.old) counter_layout }
-    ensures same_environment { AB.environment builder.new ≡ AB.environment builder.old }
-    ensures same_layout { AB.layout builder.new ≡ AB.layout builder.old }
-    ensures asserted { IfOk result (λ _. AB.after builder.old (counter_steps AB.F.ONE ∷ []) builder.new) }
-    ensures refused { OnErr result (AB.after builder.old [] builder.new) }
-{
-    let main = builder.main()?;
-    let x = main.current(0).unwrap();
-    let next = main.next(0).unwrap();
-    builder
-        .when_transition()
-        .assert_one(AB::Expr::from(next) - AB::Expr::from(x))
-}
+pub use counter::CounterAir;
+pub use cubic::CubicAir;
+pub use fibonacci::FibonacciAir;
+pub use pair::PairAir;
+pub use periodic::PeriodicAir;
+pub use preprocessed::PreprocessedAir;
+pub use small::{FirstRowAir, HintedAir, MixedAir, UnconstrainedAir};

@@ -1,2 +1,5 @@
 pub mod Folded
 pub mod Folding
+pub mod Shape
+pub mod Replay
+pub mod Sizing

@@ -1,5 +1,5 @@
 //! The verifier's folder: it carries on one accumulator.
-ghost use Rattle.std.specs.Prelude.{◌≡◌, IfOk};
+ghost use Rattle.std.specs.Prelude.{◌≡◌, IfOk, OnErr};
 ghost use Rattle.std.proofs.Common.{sym, subst};
 ghost use Rattle.stark_air.specs.Layout.{Covers};
 ghost use Rattle.stark_air.specs.Rows.{environment_of, layout_of};
@@ -56,7 +56,7 @@ impl<'a, D: PolynomialSpace, EF: ExtensionField<D::Val>> AirBuilder
     ghost keeps = { λ s t. t ≡ record s { accumulator = t.accumulator } };
 
     /// No assertion takes memory.
-    ghost may_refuse = { λ _. ⊥ };
+    ghost may_refuse = { ⊥ };
 
     ghost after = { after_folding D.Val.ring EF.ring EF.embed };
 
@@ -121,7 +121,7 @@ impl<'a, D: PolynomialSpace, EF: ExtensionField<D::Val>> ExtensionBuilder
 
 /// The folded sum of an AIR's constraints over two opened rows, `alpha^(n - 1 - j)` times constraint `j` for each of the `n`.
 /// The rows and values have at least the lengths that the AIR declares; a trace without preprocessed columns has empty
-/// rows of them. Err only where the AIR's `eval` was refused memory of its own.
+/// rows of them. The folder takes no memory: Err only where the AIR's `eval` takes some of its own, and was refused it.
 pub fn fold_constraints<D: PolynomialSpace, EF: ExtensionField<D::Val>, A: Air<D::Val>>(
     air: &A,
     main_current: &[EF],
@@ -134,9 +134,10 @@ pub fn fold_constraints<D: PolynomialSpace, EF: ExtensionField<D::Val>, A: Air<D
     alpha: EF,
 ) -> Result<EF, AllocError>
     requires { Covers (layout_of main_current.now main_next.now preprocessed_current.now preprocessed_next.now public_values.now periodic_values.now) (A.layout air.now) }
-    ensures { IfOk result (λ sum. sum ≡ folded EF.ring alpha (constraint_values (ring_operations EF.ring EF.embed)
+    ensures folded { IfOk result (λ sum. sum ≡ folded EF.ring alpha (constraint_values (ring_operations EF.ring EF.embed)
         (environment_of (ring_operations EF.ring EF.embed) D.Val.ring.zero EF.ring.zero main_current.now main_next.now preprocessed_current.now preprocessed_next.now public_values.now periodic_values.now selectors.is_first_row selectors.is_last_row selectors.is_transition)
         (A.constraints air.now))) }
+    ensures memory { OnErr result (A.takes_memory air.now) }
 {
     let mut folder: VerifierConstraintFolder<'_, D, EF> = VerifierConstraintFolder {
         main: VerticalPair {

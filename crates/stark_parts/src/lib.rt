@@ -1,8 +1,18 @@
-//! The parts that a prover and a verifier share: their errors, and the builders that fold an AIR's constraints.
+//! The parts that a prover and a verifier share: their errors, the builders that fold an AIR's constraints, and the number
+//! of a quotient's chunks.
 #![tactic(auto)]
 
 mod error;
 mod folder;
+mod shape;
+mod symbolic;
+mod transcript;
 
 pub use error::{InvalidProofShapeError, VerificationError};
 pub use folder::{VerifierConstraintFolder, fold_constraints};
+pub use shape::{GrindExhausted, StarkShape, StarkTranscriptFailure, TranscriptPhase};
+pub use symbolic::{
+    get_log_num_quotient_chunks, get_log_num_quotient_chunks_for_domain,
+    get_log_quotient_degree_extension,
+};
+pub use transcript::{StarkProverTranscript, StarkVerifierTranscript};

@@ -151,6 +151,25 @@ fn periodic_columns(rt: HostRuntime) -> Result<(), Fail> {
     Ok(())
 }
 
+// The column [0, 1] on the subgroup of four points, at 3.
+#[test]
+fn values_of_periodic_columns(rt: HostRuntime) -> Result<(), Fail> {
+    let alloc = rt.alloc();
+    let domain: Coset<S12289> = Coset::subgroup(2);
+    let columns = [
+        vec![in alloc; S12289::ZERO, S12289::ONE]?,
+        vec![in alloc; S12289::new(7)]?,
+    ];
+    let Ok(fitting) = PeriodicColumns::new(&columns, 4) else {
+        return Err(Fail::new("the columns fit"))
+    };
+    let values = domain.evaluate_periodic_columns_at(alloc, &fitting, number(3))?;
+    assert_eq!(rt; values.len(), 2);
+    assert!(rt; values[0] == number(12285));
+    assert!(rt; values[1] == number(7));
+    Ok(())
+}
+
 fn chunk(alloc: Global, n: u32) -> Result<Vec<Ext4<S12289>>, AllocError>
     ensures { IfOk result (λ v. vec_len v ≡ 4) }
 {

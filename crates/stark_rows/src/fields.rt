@@ -1,23 +1,16 @@
 //! The field of 12289 and its extension of degree four.
+use crate::elements::element;
 use stark_bench::{Ext4, F12289, P12289, S12289};
 use stark_support::{
-    Algebra, Element, ExtensionField, Field, JsonCodec, JsonFault, PackedValue, PrimeField64,
-    TwoAdicField, power_of, squared_times, value_from_bytes,
+    Algebra, Element, ExtensionField, Field, JsonCodec, JsonFault, NeverNull, PackedExtensionField,
+    PackedValue, PrimeField64, TwoAdicField, packed_from_fn, power_of, squared_times,
+    value_from_bytes,
 };
-use std::alloc::Global;
+use std::alloc::{AllocError, Global};
 use std::test::Fail;
 
 fn coordinates(x: Ext4<S12289>) -> [u32; 4] {
     [x.c0.value(), x.c1.value(), x.c2.value(), x.c3.value()]
-}
-
-fn element(c0: u32, c1: u32, c2: u32, c3: u32) -> Ext4<S12289> {
-    Ext4 {
-        c0: S12289::new(c0),
-        c1: S12289::new(c1),
-        c2: S12289::new(c2),
-        c3: S12289::new(c3),
-    }
 }
 
 fn inverse_or_zero<F: Field>(x: F) -> F {
@@ -105,6 +98,11 @@ fn coordinates_both_ways(rt: HostRuntime) -> Result<(), Fail> {
     Ok(())
 }
 
+// Null is left to say that there is no value.
+fn written<T: NeverNull>(alloc: Global, x: &T) -> Result<bool, AllocError> {
+    Ok(!x.to_json(alloc)?.is_null())
+}
+
 fn read<T: JsonCodec>(alloc: Global, text: &str) -> Result<T, JsonFault> {
     let value = value_from_bytes(alloc, text.as_bytes())?;
     T::from_json(alloc, &value)
@@ -113,8 +111,10 @@ fn read<T: JsonCodec>(alloc: Global, text: &str) -> Result<T, JsonFault> {
 #[test]
 fn json_both_ways(rt: HostRuntime) -> Result<(), Fail> {
     let alloc = rt.alloc();
-    let written = element(1, 2, 3, 4).to_json(alloc)?;
-    assert_eq!(rt; written.to_string(alloc)?.as_str(), "[1,2,3,4]");
+    assert!(rt; written(alloc, &S12289::new(0))?);
+    assert!(rt; written(alloc, &element(0, 0, 0, 0))?);
+    let text = element(1, 2, 3, 4).to_json(alloc)?;
+    assert_eq!(rt; text.to_string(alloc)?.as_str(), "[1,2,3,4]");
     assert!(rt; read(alloc, "[1,2,3,4]").ok() == Some(element(1, 2, 3, 4)));
     assert_eq!(rt;
         S12289::new(12288)
@@ -151,5 +151,12 @@ fn fields_pack_themselves(rt: HostRuntime) -> Result<(), Fail> {
     let y = element(1, 2, 3, 4);
     assert!(rt; <Ext4<S12289> as PackedValue>::from_slice(&[y]).extract(0) == y);
     assert!(rt; !S12289::BENEFITS_FROM_LOCKSTEP_EVALUATION);
+    let next = S12289::new(8);
+    assert!(rt; <S12289 as PackedValue>::with_lane(x, 0, next) == next);
+    let answered: S12289 = packed_from_fn(|lane| S12289::new(if lane == 0 { 5 } else { 6 }));
+    assert_eq!(rt; answered.value(), 5);
+    assert!(rt;
+        <Ext4<S12289> as PackedExtensionField<S12289>>::from_packed_base(x) == element(7, 0, 0, 0)
+    );
     Ok(())
 }

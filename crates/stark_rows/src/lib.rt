@@ -3,10 +3,26 @@
 #![tactic(auto)]
 
 #[cfg(test)]
+mod airs;
+#[cfg(test)]
+mod challengers;
+#[cfg(test)]
 mod constraints;
 #[cfg(test)]
 mod domains;
 #[cfg(test)]
+mod elements;
+#[cfg(test)]
 mod fields;
 #[cfg(test)]
 mod numbers;
+#[cfg(test)]
+mod polynomials;
+#[cfg(test)]
+mod seeds;
+#[cfg(test)]
+mod sized_airs;
+#[cfg(test)]
+mod sizing;
+#[cfg(test)]
+mod transcripts;

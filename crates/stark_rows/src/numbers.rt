@@ -1,4 +1,5 @@
 //! Logarithms, powers of two, sums of products, matrices and row views.
+use crate::elements::element;
 use stark_bench::{Ext4, S12289};
 use stark_support::{
     RowMajorMatrix, RowMajorMatrixView, VerticalPair, ViewPair, batched_linear_combination,
@@ -54,11 +55,13 @@ fn two_rows(rt: HostRuntime) -> Result<(), Fail> {
 fn sums_of_products(rt: HostRuntime) -> Result<(), Fail> {
     let values = [S12289::new(1), S12289::new(2), S12289::new(3)];
     let coefficients = [S12289::new(4), S12289::new(5), S12289::new(4096)];
-    assert_eq!(rt;
-        batched_linear_combination(&values, &coefficients).value(),
-        13
-    );
-    assert_eq!(rt; batched_linear_combination::<S12289>(&[], &[]).value(), 0);
+    let sum: S12289 = batched_linear_combination(&values, &coefficients);
+    assert_eq!(rt; sum.value(), 13);
+    let none: S12289 = batched_linear_combination::<S12289, S12289>(&[], &[]);
+    assert_eq!(rt; none.value(), 0);
+    let above = [element(0, 1, 0, 0), element(1, 0, 0, 2)];
+    let sum: Ext4<S12289> = batched_linear_combination(&above, &coefficients[..2]);
+    assert!(rt; sum == element(5, 4, 0, 10));
     Ok(())
 }
 
@@ -79,15 +82,6 @@ fn owned_rows(rt: HostRuntime) -> Result<(), Fail> {
     Ok(())
 }
 
-fn element(c0: u32, c1: u32, c2: u32, c3: u32) -> Ext4<S12289> {
-    Ext4 {
-        c0: S12289::new(c0),
-        c1: S12289::new(c1),
-        c2: S12289::new(c2),
-        c3: S12289::new(c3),
-    }
-}
-
 #[test]
 fn flat_rows(rt: HostRuntime) -> Result<(), Fail> {
     let alloc = rt.alloc();
@@ -100,5 +94,22 @@ fn flat_rows(rt: HostRuntime) -> Result<(), Fail> {
     for (index, x) in flat.values.iter().enumerate() {
         assert_eq!(rt; x.value() as usize, index + 1);
     }
+    Ok(())
+}
+
+// One lane: the row itself.
+#[test]
+fn packed_rows(rt: HostRuntime) -> Result<(), Fail> {
+    let alloc = rt.alloc();
+    let values = vec![in alloc;
+        S12289::new(1),
+        S12289::new(2),
+        S12289::new(3),
+        S12289::new(4),
+    ]?;
+    let matrix = RowMajorMatrix::new(values, 2);
+    let packed: Vec<S12289> = matrix.vertically_packed_row(alloc, 1)?;
+    assert_eq!(rt; packed.len(), 2);
+    assert_eq!(rt; (packed[0].value(), packed[1].value()), (3, 4));
     Ok(())
 }

@@ -4,7 +4,7 @@ use Rattle.stark_support.specs.Ring.{FieldLaws, difference}
 use Rattle.stark_support.specs.Powers.{power, squarings}
 use Rattle.stark_support.specs.PowerFacts.{power-power, power-one, squarings_is_power}
 use Rattle.stark_support.specs.LogarithmFacts.{at_most_or_above}
-use Rattle.stark_support.specs.Embedding.{embedded_power}
+use Rattle.stark_support.specs.KeepsRing.{kept_power}
 use Rattle.stark_support.specs.CosetFacts.{root_has_order, squarings_more, whole_order}
 use Rattle.stark_bench.specs.Residues.{residue, residue_ring, residue_laws}
 use Rattle.stark_bench.specs.Roots.{root, two_adic_laws}
@@ -38,7 +38,7 @@ vanishing_at_point m point =
     let h = element_of (root n) in
     let laws = laws_of_elements in
     let reaches : power elements h (2 ^ n) ≡ elements.one =
-    sym (embedded_power (embedded_is_embedding residue_laws.of_ring (residue 11)) (root n) (2 ^ n)) ∙
+    sym (kept_power (embedded_is_embedding residue_laws.of_ring (residue 11)).keeps (root n) _ (2 ^ n) refl) ∙
     ap element_of (sym (squarings_is_power residue_laws.of_ring (root n) n) ∙ root_reaches n) in
     let unity : power elements (power elements h point.0) (2 ^ n) ≡ elements.one =
     power-power laws.of_ring h point.0 (2 ^ n) ∙ ap (power elements h) (omega arith) ∙ sym (power-power laws.of_ring h (2 ^ n) point.0) ∙

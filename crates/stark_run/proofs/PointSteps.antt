@@ -9,10 +9,18 @@ use Rattle.stark_bench.specs.Ext4Field.{basis_of}
 use Rattle.p3_uni_stark.specs.Equation.{OpenedRows}
 use Rattle.stark_run.specs.Check.{checked, constraints, elements, element_of, inverse_of, laws_of_elements, vanishing, folded, quotient}
 use Rattle.stark_run.specs.Input.{CheckNumbers, Base, Extension}
-use Rattle.stark_run.specs.Point.{PointVerdict, TellsPoint}
+use Rattle.stark_run.specs.Point.{PointVerdict, TellsEquation, TellsPoint}
 use Rattle.stark_run.specs.declared.verdict.Verdict.{Verdict}
 use Rattle.stark_run.specs.declared.verdict.Verdict.TheVariants.{Accepted, Refused, BadInput}
 use Rattle.stark_run.specs.declared.verdict.Refusal.TheVariants.{OodPointInDomain, OodEvaluationMismatch, OutOfMemory}
+
+-- What tells the equation outside the domain tells the point.
+pub told_outside : {Inside : Type 0} (Holds : Type 0) (v : Verdict) → (Inside → ⊥) → TellsEquation Holds v → TellsPoint Inside Holds v
+told_outside Holds Accepted outside h = (outside, h)
+told_outside Holds (Refused OodPointInDomain) outside h = absurd h
+told_outside Holds (Refused OodEvaluationMismatch) outside h = (outside, h)
+told_outside Holds (Refused OutOfMemory) outside h = h
+told_outside Holds BadInput outside h = absurd h
 
 -- A verdict that tells the two facts is the function of them, or memory is wanting.
 module _ {K : Type 0} {ring : RingOps K} {inverse : K → K} (laws : FieldLaws ring inverse) (at left right : K) where

@@ -1,2 +1,9 @@
 pub mod Readings
 pub mod Coordinates
+pub mod Places
+pub mod Sums
+pub mod InterpolationSteps
+pub mod Repeated
+pub mod LaneSteps
+pub mod CombinationSteps
+pub mod CellSteps

@@ -9,6 +9,7 @@ use Rattle.stark_support.specs.FieldFacts.{nonzero_product, cancel_left, divide_
 use Rattle.stark_support.specs.Powers.{power, squarings}
 use Rattle.stark_support.specs.PowerFacts.{suc-add, power-add, power-one, power-two, power-power, squarings_product, squarings_one, squarings_zero, squarings_power, squarings_is_power}
 use Rattle.stark_support.specs.TwoAdic.{TwoAdicLaws, HasOrder}
+use Rattle.stark_support.specs.PointFacts.{powers_of_order_differ}
 use Rattle.stark_support.specs.Coset.{TwoAdicCoset, IsTwoAdicCoset, AreDisjoint, coset_point, coset_part, coset_size, coset_vanishing}
 
 one_of : (k : ℕ) → 2 ^ suc k ≡ 2 * 2 ^ k
@@ -71,13 +72,15 @@ module _ {K : Type 0} {ring : RingOps K} {inverse : K → K} (laws : FieldLaws r
   power_nonzero x h zero = laws.one_not_zero
   power_nonzero x h (suc n) = nonzero_product laws x (power ring x n) h (power_nonzero x h n)
 
+  -- root k has order 2 ^ k
+  pub root_has_order : (k : ℕ) → k ≤ adicity → HasOrder ring (root k) (2 ^ k)
+  root_has_order k h = record {
+    reaches = sym (squarings_is_power laws.of_ring (root k) k) ∙ whole_order k h;
+    first = λ i positive below. order_exact k i h positive below;
+  }
+
   pub powers_differ : (k i j : ℕ) → k ≤ adicity → i < j → j < 2 ^ k → power ring (root k) i ≢ power ring (root k) j
-  powers_differ k i j h p q e =
-      let d = j - i in
-      let s : j ≡ i + d = omega arith in
-      order_exact k d h (omega arith) (omega arith)
-      (sym (cancel_left laws (power ring (root k) i) ring.one (power ring (root k) d) (power_nonzero (root k) (root_nonzero k h) i)
-      (laws.of_ring.mul_one _ ∙ e ∙ ap (λ n. power ring (root k) n) s ∙ power-add laws.of_ring (root k) i d)))
+  powers_differ k i j h less below = powers_of_order_differ laws.of_ring (root k) (2 ^ k) i j (root_has_order k h) less below
 
   -- the points of a coset are pairwise different
   pub points_differ : (c : TwoAdicCoset K) → IsTwoAdicCoset ring adicity c → (i j : ℕ) → i < j → j < coset_size c → coset_point ring root c i ≢ coset_point ring root c j
@@ -175,13 +178,6 @@ module _ {K : Type 0} {ring : RingOps K} {inverse : K → K} (laws : FieldLaws r
       ap (ring.mul c.shift) (ap (λ n. power ring w n) split ∙ power-add laws.of_ring w (r % 2 ^ p) (2 ^ p * (r / 2 ^ p))
       ∙ ap (ring.mul (power ring w (r % 2 ^ p))) (sym (power-power laws.of_ring w (2 ^ p) (r / 2 ^ p)) ∙ ap (λ t. power ring t (r / 2 ^ p)) small))
       ∙ sym (laws.of_ring.mul_assoc c.shift (power ring w (r % 2 ^ p)) (power ring (root k) (r / 2 ^ p)))
-
-  -- root k has order 2 ^ k
-  pub root_has_order : (k : ℕ) → k ≤ adicity → HasOrder ring (root k) (2 ^ k)
-  root_has_order k h = record {
-    reaches = sym (squarings_is_power laws.of_ring (root k) k) ∙ whole_order k h;
-    first = λ i positive below. order_exact k i h positive below;
-  }
 
   -- the generator is no power of a root
   pub generator_outside : (k i : ℕ) → k ≤ adicity → generator ≢ power ring (root k) i

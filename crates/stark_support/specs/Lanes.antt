@@ -1,8 +1,9 @@
 -- Packed values: several values, on which one operation works lane by lane.
-use Rattle.std.specs.Prelude.{◌≡◌, ◌<◌, ℕ, zero, suc, ◌^◌, Some, List, [], ◌∷◌, map, length, refl}
+use Rattle.std.specs.Prelude.{◌≡◌, ◌<◌, ℕ, zero, suc, ◌^◌, Some, List, [], ◌∷◌, map, length, slice_set, refl}
 use Rattle.std.specs.Simd.Lanes.{zip2}
 use Rattle.std.specs.List.{slice_get}
-use Rattle.std.proofs.Common.{ap, arith, get_or}
+use Rattle.std.proofs.Common.{ap, sym, arith, get_or}
+use Rattle.std.proofs.lemmas.Option.{same_Some}
 use Rattle.stark_support.specs.Ring.{RingOps, difference}
 use Rattle.stark_support.specs.Operations.{Operations, ring_operations}
 
@@ -45,6 +46,15 @@ pub lone_slice : {F : Type 0} (xs : List F) (x : F) → length xs ≡ 1 → x �
 lone_slice [] x e is = absurd (omega arith)
 lone_slice (y ∷ []) x e is = ap one_lane is
 lone_slice (y ∷ z ∷ xs) x e is = absurd (omega arith)
+
+pub lone_mapped : {F E : Type 0} (f : F → E) (xs : List F) (x : F) → length xs ≡ 1 → slice_get xs 0 ≡ Some x → one_lane (f x) ≡ map f xs
+lone_mapped f [] x e is = absurd (omega arith)
+lone_mapped f (y ∷ []) x e is = ap (λ z. one_lane (f z)) (sym (same_Some y x is))
+lone_mapped f (y ∷ z ∷ xs) x e is = absurd (omega arith)
+
+pub lone_replaced : {F : Type 0} (x y : F) (lane : ℕ) → lane < 1 → one_lane y ≡ slice_set (one_lane x) lane y
+lone_replaced x y zero below = refl
+lone_replaced x y (suc n) below = absurd (omega arith)
 
 pub lone_extracted : {F : Type 0} (x : F) (lane : ℕ) → lane < 1 → slice_get (one_lane x) lane ≡ Some x
 lone_extracted x zero below = refl

@@ -1,4 +1,5 @@
 pub mod Ring
+pub mod ListFacts
 pub mod RingFacts
 pub mod RingSolver
 pub mod FieldFacts
@@ -36,3 +37,10 @@ pub mod DomainRecomposition
 pub mod CosetValueFacts
 pub mod Periodic
 pub mod PeriodicFacts
+pub mod Interpolation
+pub mod InterpolationFacts
+pub mod PeriodicValueFacts
+pub mod Sponge
+pub mod SpongeFacts
+pub mod Seed
+pub mod SeedFacts

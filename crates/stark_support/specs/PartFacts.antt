@@ -1,9 +1,10 @@
 -- The parts of a coset, listed in order.
-use Rattle.std.specs.Prelude.{◌≡◌, ◌⊎◌, ℕ, zero, suc, ◌+◌, ◌-◌, ◌*◌, ◌^◌, ◌<◌, ◌≤◌, List, [], ◌∷◌, ◌++◌, length, Some, refl, map}
+use Rattle.std.specs.Prelude.{◌≡◌, ℕ, ◌+◌, ◌-◌, ◌*◌, ◌^◌, ◌<◌, ◌≤◌, List, [], ◌∷◌, ◌++◌, length, Some, refl, map}
 use Rattle.std.specs.List.{slice_get}
-use Rattle.std.proofs.Common.{sym, ◌∙◌, ap, subst, inl, inr, arith, get_or, length-append, add-one, pow-add}
+use Rattle.std.proofs.Common.{sym, ◌∙◌, ap, subst, arith, get_or, add-one, pow-add}
 use Rattle.std.proofs.lemmas.Option.{get_or_from_slice_get}
 use Rattle.std.proofs.lemmas.List.{map-append}
+use Rattle.stark_support.specs.ListFacts.{one_more_number, one_more_listed}
 use Rattle.stark_support.specs.Ring.{RingOps, FieldLaws}
 use Rattle.stark_support.specs.FieldFacts.{cancel_left}
 use Rattle.stark_support.specs.Powers.{power}
@@ -17,18 +18,6 @@ use Rattle.stark_support.specs.CosetFacts.{power_nonzero, powers_differ, root_ha
 pub record ArePartsSoFar {K : Type 0} (ring : RingOps K) (root : ℕ → K) (coset : TwoAdicCoset K) (log_parts : ℕ) (count : ℕ) (parts : List (TwoAdicCoset K)) : Type 0 where
   pub number : length parts ≡ count
   pub part : (i : ℕ) → i < count → slice_get parts i ≡ Some (coset_part ring root coset log_parts i)
-
-pub slice_get-below : {A : Type 0} (xs : List A) (a : A) (i : ℕ) → i < length xs → slice_get (xs ++ a ∷ []) i ≡ slice_get xs i
-slice_get-below [] a i h = absurd (omega arith)
-slice_get-below (x ∷ xs) a zero h = refl
-slice_get-below (x ∷ xs) a (suc i) h = slice_get-below xs a i (omega arith)
-
-pub slice_get-last : {A : Type 0} (xs : List A) (a : A) → slice_get (xs ++ a ∷ []) (length xs) ≡ Some a
-slice_get-last [] a = refl
-slice_get-last (x ∷ xs) a = slice_get-last xs a
-
-pub last_or_below : (i n : ℕ) → i < n + 1 → (i ≡ n) ⊎ (i < n)
-last_or_below i n h = grind arith
 
 times_below : (i j n : ℕ) → 0 < n → i < j → i * n < j * n
 times_below i j n h p = grind arith
@@ -52,11 +41,8 @@ module _ {K : Type 0} {ring : RingOps K} {inverse : K → K} (laws : FieldLaws r
   one_more n before after listed e =
       let new = coset_part ring root coset log_parts n in
       record {
-        number = ap length e ∙ length-append before (new ∷ []) ∙ ap (λ m. m + 1) listed.number;
-        part = λ i h. ap (λ xs. slice_get xs i) e ∙ elim (last_or_below i n h) [
-          | inl same ↦ ap (slice_get (before ++ new ∷ [])) (same ∙ sym listed.number) ∙ slice_get-last before new ∙ ap (λ m. Some (coset_part ring root coset log_parts m)) (sym same)
-          | inr below ↦ slice_get-below before new i (omega (arith, listed.number)) ∙ listed.part i below
-        ];
+        number = one_more_number before after new n listed.number e;
+        part = one_more_listed (λ i. Some (coset_part ring root coset log_parts i)) before after new n listed.number listed.part refl e;
       }
 
   -- one more of values that are seen as cosets

@@ -1,6 +1,6 @@
 -- Columns without a fault fit.
 use Rattle.std.specs.Prelude.{◌≡◌, ◌⊎◌, ℕ, zero, suc, ◌+◌, ◌/◌, ◌%◌, ◌≤◌, ◌==◌, nat_le, List, [], ◌∷◌, Bool, true, false, map, All, Option, None, Some, if◌then◌else◌, IsTrue, count_ones}
-use Rattle.std.proofs.Common.{arith, refl, inl, inr}
+use Rattle.std.proofs.Common.{◌∙◌, ◌<◌, ap, arith, get_or, length, refl, inl, inr}
 use Rattle.std.proofs.Math.Nat.{pow-suc}
 use Rattle.std.proofs.lemmas.Nat.{ones_le_self, zero_from_ones}
 use Rattle.std.specs.Int.{IsPowerOfTwo, is_power_of_two}
@@ -55,3 +55,10 @@ all_fit size trace_len column (c ∷ cs) e =
 
 pub powers : {A : Type 0} (size : A → ℕ) (trace_len : ℕ) (columns : List A) → All (λ x. ColumnFits trace_len (size x)) columns → All (λ x. IsPowerOfTwo (size x)) columns
 powers size trace_len columns fit = λ i x h. power_of_two _ (fit i x h).power
+
+-- the length of one of them
+pub power_of_column : {A : Type 0} (size : A → ℕ) (trace_len : ℕ) (columns : List A) (i : ℕ) (column : A) (n : ℕ) → All (λ x. ColumnFits trace_len (size x)) columns
+    → i < length columns → column ≡ get_or columns i column → n ≡ size column → IsPowerOfTwo n
+power_of_column size trace_len columns i column n fit below is same =
+    let power = powers size trace_len columns fit i column below in
+    (power.0, same ∙ ap size is ∙ power.1)

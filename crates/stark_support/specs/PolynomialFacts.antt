@@ -64,7 +64,7 @@ module _ {K : Type 0} {ring : RingOps K} (laws : RingLaws ring) where
       ap (λ w. ring.add (ring.add c d) (ring.mul w x)) (value_of_sum p q x) ∙
       solve laws (c ∷ d ∷ x ∷ value ring p x ∷ value ring q x ∷ []) (v0 ⊕ v1 ⊕ (v3 ⊕ v4) ⊗ v2) (v0 ⊕ v3 ⊗ v2 ⊕ (v1 ⊕ v4 ⊗ v2)) refl
 
-  value_of_scaled : (c : K) (p : List K) (x : K) → value ring (scaled ring c p) x ≡ ring.mul c (value ring p x)
+  pub value_of_scaled : (c : K) (p : List K) (x : K) → value ring (scaled ring c p) x ≡ ring.mul c (value ring p x)
   value_of_scaled c [] x = sym (mul_zero laws c)
   value_of_scaled c (d ∷ p) x =
       ap (λ w. ring.add (ring.mul c d) (ring.mul w x)) (value_of_scaled c p x) ∙

@@ -1,15 +1,16 @@
 -- How the recomposition of chunks is added up, one chunk after the other.
 use Rattle.std.specs.Prelude.{◌≡◌, ◌≢◌, ℕ, suc, ◌+◌, ◌-◌, ◌<◌, List, [], ◌∷◌, ◌++◌, map, length, take, drop, refl}
-use Rattle.std.proofs.Common.{sym, ◌∙◌, ap, arith, get_or, subst, add-one}
+use Rattle.std.proofs.Common.{sym, ◌∙◌, ap, arith, get_or, add-one}
 use Rattle.std.proofs.lemmas.List.{map-append, take_rest}
 use Rattle.std.proofs.Math.Seq.{drop-cons, take-suc}
 use Rattle.stark_support.specs.Ring.{RingOps, RingLaws, FieldLaws}
 use Rattle.stark_support.specs.RingFacts.{one_mul}
 use Rattle.stark_support.specs.Powers.{power}
-use Rattle.stark_support.specs.Embedding.{IsEmbedding, embedded_power, embedded_two_adic}
+use Rattle.stark_support.specs.Embedding.{IsEmbedding, embedded_two_adic}
+use Rattle.stark_support.specs.KeepsRing.{kept_power}
 use Rattle.stark_support.specs.TwoAdic.{TwoAdicLaws}
 use Rattle.stark_support.specs.Extension.{basis_sum}
-use Rattle.stark_support.specs.Coset.{TwoAdicCoset, IsTwoAdicCoset, AreDisjoint, coset_point, coset_size, coset_vanishing}
+use Rattle.stark_support.specs.Coset.{TwoAdicCoset, IsTwoAdicCoset, AreDisjoint, coset_size, coset_vanishing}
 use Rattle.stark_support.specs.CosetFacts.{only_on_points}
 use Rattle.stark_support.specs.Subgroup.{embedded_coset}
 use Rattle.stark_support.specs.SubgroupFacts.{embedded_valid}
@@ -86,7 +87,7 @@ module _ {F E : Type 0} {base : RingOps F} {ring : RingOps E} {inverse : E → E
       let point = only_on_points laws adicity (λ k. embed (root k)) (embed generator) lifted (embedded_coset embed d) (embedded_valid laws embeds adicity root generator two_adic d valid) (embed c.shift)
       (ap (λ y. coset_vanishing ring (λ x. x) inverse (coset_size d) (embed d.shift) y) (sym at_first) ∙ sym is ∙ e) in
       apart.apart 0 point.0 (base_laws.mul_one c.shift ∙ embeds.injective _ _
-      (point.2 ∙ ap (ring.mul (embed d.shift)) (sym (embedded_power embeds (root d.log_size) point.0)) ∙ sym (embeds.mul d.shift (power base (root d.log_size) point.0))))
+      (point.2 ∙ ap (ring.mul (embed d.shift)) (sym (kept_power embeds.keeps (root d.log_size) _ point.0 refl)) ∙ sym (embeds.keeps.mul d.shift (power base (root d.log_size) point.0))))
 
 -- On a single coset the recomposition is the one chunk's element, whatever the coset.
 pub recomposition_of_one : {K : Type 0} (ring : RingOps K) (inverse : K → K) (basis : List K) (x : K) (n m : ℕ) (shifts : List K) (s : K) (chunks : List (List K)) → length shifts ≡ 1

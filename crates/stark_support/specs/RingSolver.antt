@@ -148,7 +148,7 @@ abbrev terms_value : {K : Type 0} → RingOps K → List K → List Term → K
 terms_value ring xs [] = ring.zero
 terms_value ring xs (t ∷ p) = ring.add (term_value ring xs t) (terms_value ring xs p)
 
-both_parts : (a b : Bool) → (a && b) ≡ true → (a ≡ true) × (b ≡ true)
+pub both_parts : (a b : Bool) → (a && b) ≡ true → (a ≡ true) × (b ≡ true)
 both_parts true b h = (refl, h)
 both_parts false b h = cc
 

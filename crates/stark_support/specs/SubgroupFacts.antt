@@ -14,7 +14,7 @@ use Rattle.stark_support.specs.Subgroup.{group_of, subgroup_of, embedded_coset}
 module _ {F E : Type 0} {base : RingOps F} {ring : RingOps E} {inverse : E → E} {embed : F → E} (laws : FieldLaws ring inverse) (embeds : IsEmbedding base ring embed)
     (adicity : ℕ) (root : ℕ → F) (generator : F) (two_adic : TwoAdicLaws base adicity root generator) where
   pub embedded_nonzero : (x : F) → x ≢ base.zero → embed x ≢ ring.zero
-  embedded_nonzero x nonzero e = nonzero (embeds.injective _ _ (e ∙ sym embeds.zero))
+  embedded_nonzero x nonzero e = nonzero (embeds.injective _ _ (e ∙ sym embeds.keeps.zero))
 
   pub embedded_valid : (coset : TwoAdicCoset F) → IsTwoAdicCoset base adicity coset → IsTwoAdicCoset ring adicity (embedded_coset embed coset)
   embedded_valid coset valid = record { shift_nonzero = embedded_nonzero coset.shift valid.shift_nonzero; within = valid.within }
@@ -22,7 +22,7 @@ module _ {F E : Type 0} {base : RingOps F} {ring : RingOps E} {inverse : E → E
   -- where the shift is one, the vanishing value is x ^ n - 1
   pub vanishing_of_subgroup : (n : ℕ) (s : F) (x : E) → s ≡ base.one → coset_vanishing ring (λ c. c) inverse n (embed s) x ≡ subgroup_vanishing ring n x
   vanishing_of_subgroup n s x unshifted =
-      ap (λ t. difference ring (power ring (ring.mul x (inverse t)) n) ring.one) (ap embed unshifted ∙ embeds.one) ∙
+      ap (λ t. difference ring (power ring (ring.mul x (inverse t)) n) ring.one) (ap embed unshifted ∙ embeds.keeps.one) ∙
       ap (λ t. difference ring (power ring t n) ring.one) (ap (ring.mul x) (inverse_one laws) ∙ laws.of_ring.mul_one x)
 
   pub is_subgroup_of : (coset : TwoAdicCoset F) → IsTwoAdicCoset base adicity coset → IsSubgroup ring inverse (subgroup_of inverse embed root coset)

@@ -2,12 +2,14 @@
 ghost use Rattle.std.specs.Prelude.{◌≡◌, ◌≢◌, ◌↔◌, ℕ, ◌^◌, ◌<◌, ◌≤◌, map, Some, IfOk, IfSome, IsNone};
 ghost use Rattle.std.specs.Int.{IsPowerOfTwo};
 ghost use Rattle.stark_support.specs.Ring.{difference};
-ghost use Rattle.stark_support.specs.Coset.{TwoAdicCoset, IsTwoAdicCoset, AreDisjoint, AreParts, AreValuesOn, coset_size, coset_vanishing};
+ghost use Rattle.stark_support.specs.Coset.{TwoAdicCoset, IsTwoAdicCoset, AreDisjoint, AreParts, AreValuesOn, coset_point, coset_size, coset_vanishing};
 ghost use Rattle.stark_support.specs.Logarithm.{IsCeilingOfLog};
+ghost use Rattle.stark_support.specs.Periodic.{periodic_value};
 ghost use Rattle.stark_support.specs.Selectors.{first_row_selector, last_row_selector, transition_selector};
 ghost use Rattle.stark_support.specs.Subgroup.{subgroup_of};
 
 use crate::field::{ExtensionField, Field, TwoAdicField};
+use crate::periodic::PeriodicColumns;
 use std::alloc::{AllocError, Global};
 
 /// The size of a domain, and what its transition selector adds to a degree.
@@ -26,7 +28,7 @@ pub trait DomainShape {
 }
 
 /// The values of a domain's row selectors at one point, not normalised.
-#[derive(Clone, Copy, Debug)]
+#[derive(Debug, Drop)]
 pub struct LagrangeSelectors<T> {
     pub is_first_row: T,
     pub is_last_row: T,
@@ -101,6 +103,18 @@ pub trait PolynomialSpace: DomainShape + Copy {
         ensures inv_vanishing { IfOk result (λ s. AreValuesOn Self.Val.ring Self.Val.root (coset_of coset.now) (coset_size (coset_of coset.now))
             (λ x. Self.Val.inverse_of (coset_vanishing Self.Val.ring (λ c. c) Self.Val.inverse_of (coset_size (coset_of self.now)) (coset_of self.now).shift x)) s.inv_vanishing.items) };
 
+    /// The values at `point` of columns that repeat down as many rows as the domain has points: of a column of length `P` that
+    /// is `u(point^(K/P))`, with `u` of degree below `P` taking the column on the group of `P` points.
+    fn evaluate_periodic_columns_at<EF: ExtensionField<Self::Val>>(
+        &self,
+        alloc: Global,
+        columns: &PeriodicColumns<'_, Self::Val>,
+        point: EF,
+    ) -> Result<Vec<EF>, AllocError>
+        requires { columns.now.trace_len ≡ coset_size (coset_of self.now) }
+        ensures { IfOk result (λ values. values.items
+            ≡ map (λ column. periodic_value Self.Val.ring Self.Val.inverse_of (Self.Val.root (coset_of self.now).log_size) (coset_size (coset_of self.now)) EF.ring EF.embed column.items point) columns.now.columns.now) };
+
     /// Each domain has a group of the field and a shift that isn't zero.
     ghost lawful: { (domain : Self) → IsTwoAdicCoset Self.Val.ring Self.Val.TWO_ADICITY (coset_of domain) };
 
@@ -108,3 +122,18 @@ pub trait PolynomialSpace: DomainShape + Copy {
 
     ghost transition_adds_nothing: { (domain : Self) → Self.transition_multiple domain ≡ 0 };
 }
+
+/// A law, with no code: the points of a domain differ pairwise.
+pub fn points_differ<D: PolynomialSpace>(_domain: &D)
+    ensures { (i j : ℕ) → i < j → j < coset_size (D.coset_of _domain.now) → coset_point D.Val.ring D.Val.root (D.coset_of _domain.now) i ≢ coset_point D.Val.ring D.Val.root (D.coset_of _domain.now) j }
+{}
+
+/// A law, with no code: a domain's vanishing value is the same at all points of another coset of its subgroup that has no point
+/// in common with it, and not zero there.
+pub fn vanishing_is_constant<D: PolynomialSpace>(_domain: &D, _other: &D)
+    requires subgroup { (D.coset_of _other.now).log_size ≡ (D.coset_of _domain.now).log_size }
+    requires disjoint { AreDisjoint D.Val.ring D.Val.root (D.coset_of _domain.now) (D.coset_of _other.now) }
+    ensures constant { (i : ℕ) → coset_vanishing D.Val.ring (λ c. c) D.Val.inverse_of (coset_size (D.coset_of _domain.now)) (D.coset_of _domain.now).shift (coset_point D.Val.ring D.Val.root (D.coset_of _other.now) i)
+        ≡ coset_vanishing D.Val.ring (λ c. c) D.Val.inverse_of (coset_size (D.coset_of _domain.now)) (D.coset_of _domain.now).shift (D.coset_of _other.now).shift }
+    ensures nonzero { (i : ℕ) → coset_vanishing D.Val.ring (λ c. c) D.Val.inverse_of (coset_size (D.coset_of _domain.now)) (D.coset_of _domain.now).shift (coset_point D.Val.ring D.Val.root (D.coset_of _other.now) i) ≢ D.Val.ring.zero }
+{}

@@ -222,3 +222,19 @@ pub trait ExtensionField<F: Field>: Field + Algebra<F> {
 
     ghost exact_above: { (v x : Self) → ⟦<Self as Algebra<F>>⟧.stands v x → x ≡ v };
 }
+
+/// An extension field whose elements are packed beside those of its base field. It is a trait of its own: as a part of
+/// `ExtensionField` its type keeps a trait's method from being generic in an extension.
+pub trait PackedExtensionField<F: Field>: ExtensionField<F> {
+    /// Packed values of this field, as many as the base field packs.
+    type ExtensionPacking: PackedValue<Value = Self>;
+
+    /// Packed elements of the base field, each embedded.
+    fn from_packed_base(x: F::Packing) -> Self::ExtensionPacking
+        ensures { Self.ExtensionPacking.lanes result ≡ map Self.embed (F.Packing.lanes x) };
+
+    /// The lanes are added and multiplied as this field's elements.
+    ghost extension_packed_ring: { Self.ExtensionPacking.lane_ring ≡ Self.ring };
+
+    ghost packed_as_wide: { Self.ExtensionPacking.WIDTH ≡ F.Packing.WIDTH };
+}

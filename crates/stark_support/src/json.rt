@@ -1,6 +1,6 @@
 //! Values that JSON spells.
-ghost use Rattle.std.specs.Prelude.{◌≡◌, Option, Some, IfOk, map};
-ghost use Rattle.serde_json.specs.Data.{Data};
+ghost use Rattle.std.specs.Prelude.{◌≡◌, ◌≢◌, Option, Some, IfOk, map};
+ghost use Rattle.serde_json.specs.Data.{Data, null};
 ghost use Rattle.serde_json.specs.View.{view, items_view};
 ghost use Rattle.serde_json.specs.Find.{get};
 ghost use Rattle.stark_support.specs.Json.{Gives, each_at, array_at, json_of};
@@ -57,6 +57,12 @@ pub trait JsonCodec: Sized {
 
     /// What is written is read back.
     ghost reads_back: { (x : Self) → reading (writing x) ≡ Some x };
+}
+
+/// A type none of whose values is spelled by null, as the elements of fields and commitments: in its place null can say that
+/// there is no value.
+pub trait NeverNull: JsonCodec {
+    ghost never_null: { (x : Self) → Self.writing x ≢ null };
 }
 
 fn each_from_json<T: JsonCodec + Drop>(alloc: Global, values: &[Value]) -> Result<Vec<T>, JsonFault>

@@ -1,22 +1,41 @@
 //! Fields, domains and their written laws, on which a STARK stands.
 #![tactic(auto)]
 
+mod challenger;
 mod domain;
 mod field;
+mod interpolation;
 mod json;
 mod matrix;
 mod packed;
+mod pattern;
 mod periodic;
 mod polynomial;
 mod powers;
 mod util;
 
-pub use domain::{DomainShape, LagrangeSelectors, PolynomialSpace};
-pub use field::{Algebra, Element, ExtensionField, Field, PrimeField64, QuarticBase, TwoAdicField};
-pub use json::{JsonCodec, JsonFault, field_of, list_from_json, lists_from_json, value_from_bytes};
+pub use challenger::{
+    CanObserve, CanSample, CanSampleBits, ExtensionChallenger, FieldChallenger, GrindingChallenger,
+    TranscriptSponge, observe_bytes, observe_slice,
+};
+pub use domain::{
+    DomainShape, LagrangeSelectors, PolynomialSpace, points_differ, vanishing_is_constant,
+};
+pub use field::{
+    Algebra, Element, ExtensionField, Field, PackedExtensionField, PrimeField64, QuarticBase,
+    TwoAdicField,
+};
+pub use interpolation::interpolate;
+pub use json::{
+    JsonCodec, JsonFault, NeverNull, field_of, list_from_json, lists_from_json, value_from_bytes,
+};
 pub use matrix::{RowMajorMatrix, RowMajorMatrixView, VerticalPair, ViewPair};
-pub use packed::PackedValue;
+pub use packed::{PackedValue, packed_from_fn};
+pub use pattern::{DomainSeparator, Hierarchy, Interaction, InteractionPattern, Kind, Length};
 pub use periodic::{PeriodicColumnShapeError, PeriodicColumns};
-pub use polynomial::{all_roots_are_few, interpolation_is_unique, polynomial_value, roots_are_few};
+pub use polynomial::{
+    all_roots_are_few, interpolation_is_unique, polynomial_value, polynomial_value_in,
+    roots_are_few, vanishing_divides,
+};
 pub use powers::{batched_linear_combination, power_of, squared_times};
 pub use util::{checked_log_size_sum, checked_pow2, log2_ceil_usize, log2_strict_usize};

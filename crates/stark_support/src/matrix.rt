@@ -1,8 +1,9 @@
 //! Rows of values, owned and borrowed.
-ghost use Rattle.std.specs.Prelude.{◌≡◌, ◌<◌, ◌+◌, ◌*◌, ◌/◌, ◌%◌, ◌^◌, ◌++◌, length, IfOk, OnOk};
-ghost use Rattle.std.specs.List.{flat_map, slice_range};
+ghost use Rattle.std.specs.Prelude.{◌≡◌, ◌<◌, ◌+◌, ◌*◌, ◌/◌, ◌%◌, ◌^◌, ◌++◌, ℕ, Some, length, IfOk, OnOk};
+ghost use Rattle.std.specs.List.{flat_map, slice_get, slice_range};
 
 use crate::field::{ExtensionField, Field};
+use crate::packed::PackedValue;
 use std::alloc::{AllocError, Global};
 
 /// Rows of a matrix, one after the other.
@@ -57,6 +58,51 @@ impl<T> RowMajorMatrix<T> {
     {
         let start = r * self.width;
         &self.values[start..start + self.width]
+    }
+}
+
+impl<T: Copy> RowMajorMatrix<T> {
+    /// The values of a column in `count` rows from row `r` on, taken round the end.
+    fn cells_down(
+        &self,
+        alloc: Global,
+        r: usize,
+        column: usize,
+        count: usize,
+    ) -> Result<Vec<T>, AllocError>
+        requires row { r < length self.now.values.items / self.now.width }
+        requires column { column < self.now.width }
+        ensures number { IfOk result (λ cells. length cells.items ≡ count) }
+        ensures cells { IfOk result (λ cells. (i : ℕ) → i < count → slice_get cells.items i
+            ≡ slice_get self.now.values.items (((r + i) % (length self.now.values.items / self.now.width)) * self.now.width + column)) }
+    {
+        let height = self.height();
+        let mut cells = Vec::new(alloc);
+        let mut row = r;
+        for _cell in 0..count {
+            cells.push(self.values[row * self.width + column])?;
+            row = (row + 1) % height;
+        }
+        Ok(cells)
+    }
+
+    /// For each column the packed values of the rows `r`, `r + 1`, .., a row a lane, taken round the end.
+    pub fn vertically_packed_row<P: PackedValue<Value = T>>(
+        &self,
+        alloc: Global,
+        r: usize,
+    ) -> Result<Vec<P>, AllocError>
+        requires { r < length self.now.values.items / self.now.width }
+        ensures number { IfOk result (λ packed. length packed.items ≡ self.now.width) }
+        ensures lanes { IfOk result (λ packed. (c : ℕ) (p : P) → slice_get packed.items c ≡ Some p → (i : ℕ) → i < P.WIDTH → slice_get (P.lanes p) i
+            ≡ slice_get self.now.values.items (((r + i) % (length self.now.values.items / self.now.width)) * self.now.width + c)) }
+    {
+        let mut packed = Vec::new(alloc);
+        for column in 0..self.width {
+            let cells = self.cells_down(alloc, r, column, P::WIDTH)?;
+            packed.push(P::from_slice(&cells))?;
+        }
+        Ok(packed)
     }
 }
 

@@ -1,5 +1,5 @@
 //! Values of a field, packed into lanes.
-ghost use Rattle.std.specs.Prelude.{◌≡◌, ◌<◌, ℕ, List, length, Some};
+ghost use Rattle.std.specs.Prelude.{◌≡◌, ◌<◌, ℕ, List, length, Some, slice_set};
 ghost use Rattle.std.specs.List.{slice_get};
 ghost use Rattle.stark_support.specs.Ring.{RingOps};
 ghost use Rattle.stark_support.specs.Lanes.{IsLaneByLane};
@@ -32,8 +32,25 @@ pub trait PackedValue: Copy + Algebra<Self::Value> {
         requires { lane < WIDTH }
         ensures { slice_get (lanes self.now) lane ≡ Some result };
 
+    /// The same values but for one lane.
+    fn with_lane(self, lane: usize, value: Self::Value) -> Self
+        requires { lane < WIDTH }
+        ensures { lanes result ≡ slice_set (lanes self) lane value };
+
     ghost lane_by_lane: { IsLaneByLane lane_ring ⟦<Self as Algebra<Self::Value>>⟧.operations WIDTH lanes };
 
     /// A packed value stands for itself alone.
     ghost exact_lanes: { (v x : Self) → ⟦<Self as Algebra<Self::Value>>⟧.stands v x → x ≡ v };
+}
+
+/// The packed values whose lane `i` has what `value_of` answers at `i`.
+pub fn packed_from_fn<P: PackedValue, G: Fn(usize) -> P::Value + Drop>(value_of: G) -> P
+    requires { G.IsAlwaysCallable value_of }
+    ensures { (lane : ℕ) → lane < P.WIDTH → (value : P.Value) × (G.post value_of lane value) × (slice_get (P.lanes result) lane ≡ Some value) }
+{
+    let mut packed = P::from(value_of(0));
+    for lane in 1..P::WIDTH {
+        packed = packed.with_lane(lane, value_of(lane));
+    }
+    packed
 }

@@ -1,8 +1,17 @@
 //! Periodic columns.
-ghost use Rattle.std.specs.Prelude.{◌≡◌, ◌≤◌, None, Some, All, IfOk, MatchResult, map, vec_len};
+ghost use Rattle.std.specs.Prelude.{◌≡◌, ◌≤◌, ◌%◌, ℕ, None, Some, All, IfOk, MatchResult, length, map, slice_index_or, vec_len};
+ghost use Rattle.std.specs.List.{slice_get};
 ghost use Rattle.std.specs.Int.{IsPowerOfTwo};
-ghost use Rattle.stark_support.specs.Periodic.{ColumnFits, column_fault, first_fault};
+ghost use Rattle.stark_support.specs.Periodic.{ColumnFits, column_fault, first_fault, periodic_value};
+ghost use Rattle.stark_support.specs.Points.{powers_from};
+ghost use Rattle.stark_support.specs.Powers.{power};
+ghost use Rattle.stark_support.specs.TwoAdic.{HasOrder};
 
+use crate::field::{ExtensionField, Field};
+use crate::interpolation::interpolate;
+use crate::polynomial::polynomial_value_in;
+use crate::powers::power_of;
+use std::alloc::{AllocError, Global};
 use thiserror::Error;
 
 /// Why a periodic column fits no trace of the given length; the first column at fault is named, and of its faults the first
@@ -75,5 +84,64 @@ impl<'a, F> PeriodicColumns<'a, F> {
             Some(fault) => Err(fault),
             None => Ok(PeriodicColumns { columns, trace_len }),
         }
+    }
+}
+
+/// The first `count` powers of `generator`, from the zeroth on.
+fn first_powers<F: Field>(alloc: Global, generator: F, count: usize) -> Result<Vec<F>, AllocError>
+    ensures { IfOk result (λ powers. powers.items ≡ powers_from F.ring generator 0 count) }
+{
+    let mut powers = Vec::new(alloc);
+    let mut power = F::ONE;
+    for _index in 0..count {
+        powers.push(power)?;
+        power = generator * power;
+    }
+    Ok(powers)
+}
+
+/// The value at `point` of a column that repeats down `height` rows, whose domain `generator` generates.
+fn periodic_value<F: Field, EF: ExtensionField<F>>(
+    alloc: Global,
+    column: &[F],
+    generator: F,
+    height: usize,
+    point: EF,
+) -> Result<EF, AllocError>
+    requires order { HasOrder F.ring generator height }
+    requires height { IsPowerOfTwo height }
+    requires power { IsPowerOfTwo (length column.now) }
+    requires within { length column.now ≤ height }
+    ensures { IfOk result (λ value. value ≡ periodic_value F.ring F.inverse_of generator height EF.ring EF.embed column.now point) }
+{
+    let repeats = height / column.len();
+    let group = first_powers(alloc, power_of(generator, repeats as u64), column.len())?;
+    let polynomial = interpolate(alloc, &group, column)?;
+    let folded_point = power_of(point, repeats as u64);
+    Ok(polynomial_value_in(&polynomial, folded_point))
+}
+
+impl<F: Field> PeriodicColumns<'_, F> {
+    /// The columns' values at `point`, where `generator` generates the domain of the trace: of a column of length `P` beside
+    /// `N` rows that is the value at `point^(N/P)` of the polynomial of degree below `P` that takes the column on the group of
+    /// `P` points. So at the point of row `i` it is the column's entry `i`, counted round its end.
+    pub fn values_at<EF: ExtensionField<F>>(
+        &self,
+        alloc: Global,
+        generator: F,
+        point: EF,
+    ) -> Result<Vec<EF>, AllocError>
+        requires order { HasOrder F.ring generator self.now.trace_len }
+        requires height { IsPowerOfTwo self.now.trace_len }
+        ensures values { IfOk result (λ values. values.items
+            ≡ map (λ column. periodic_value F.ring F.inverse_of generator self.now.trace_len EF.ring EF.embed column.items point) self.now.columns.now) }
+        ensures rows { IfOk result (λ values. (i : ℕ) → point ≡ EF.embed (power F.ring generator i)
+            → (c : ℕ) (column : _) → slice_get self.now.columns.now c ≡ Some column → slice_get values.items c ≡ Some (EF.embed (slice_index_or column.items (i % length column.items) F.ring.zero))) }
+    {
+        let mut values = Vec::new(alloc);
+        for column in self.columns {
+            values.push(periodic_value(alloc, column, generator, self.trace_len, point)?)?;
+        }
+        Ok(values)
     }
 }

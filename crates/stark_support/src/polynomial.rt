@@ -1,9 +1,12 @@
 //! Polynomials as lists of coefficients, the constant first.
-ghost use Rattle.std.specs.Prelude.{◌≡◌, ◌≢◌, ℕ, ◌+◌, ◌≤◌, List, length};
+ghost use Rattle.std.specs.Prelude.{◌≡◌, ◌≢◌, ℕ, ◌+◌, ◌<◌, ◌≤◌, List, length};
 ghost use Rattle.std.specs.List.{AllByRecursion};
-ghost use Rattle.stark_support.specs.Polynomial.{value, HasDegreeBelow, IsZeroPolynomial, IsRoot, IsWithoutRepeats, HoldsOfAtMost};
+ghost use Rattle.stark_support.specs.DivisionFacts.{VanishingQuotient};
+ghost use Rattle.stark_support.specs.Powers.{power};
+ghost use Rattle.stark_support.specs.TwoAdic.{HasOrder};
+ghost use Rattle.stark_support.specs.Polynomial.{value, value_over, HasDegreeBelow, IsZeroPolynomial, IsRoot, IsWithoutRepeats, HoldsOfAtMost};
 
-use crate::field::Field;
+use crate::field::{ExtensionField, Field};
 
 /// The value of a polynomial at a point.
 pub fn polynomial_value<F: Field>(coefficients: &[F], point: F) -> F
@@ -14,6 +17,19 @@ pub fn polynomial_value<F: Field>(coefficients: &[F], point: F) -> F
     while index > 0 {
         index -= 1;
         result = coefficients[index] + result * point;
+    }
+    result
+}
+
+/// The value of a polynomial over the base field at a point of an extension.
+pub fn polynomial_value_in<F: Field, EF: ExtensionField<F>>(coefficients: &[F], point: EF) -> EF
+    ensures { result ≡ value_over EF.ring EF.embed coefficients.now point }
+{
+    let mut result = EF::ZERO;
+    let mut index = coefficients.len();
+    while index > 0 {
+        index -= 1;
+        result = EF::from_base(coefficients[index]) + result * point;
     }
     result
 }
@@ -36,4 +52,12 @@ pub fn all_roots_are_few<F: Field>(_some: F, degree: usize)
 pub fn interpolation_is_unique<F: Field>(_some: F, size: usize)
     ensures { (p q points : List F) → HasDegreeBelow size p → HasDegreeBelow size q → size ≤ length points → IsWithoutRepeats points
         → AllByRecursion (λ x. value F.ring p x ≡ value F.ring q x) points → (x : F) → value F.ring p x ≡ value F.ring q x }
+{}
+
+/// A law, with no code: a polynomial that is zero on the group of `size` elements that `generator` generates is `X^size - 1`
+/// times a polynomial of `size` coefficients less.
+pub fn vanishing_divides<F: Field>(_generator: F, size: usize)
+    requires positive { 1 ≤ size }
+    requires order { HasOrder F.ring _generator size }
+    ensures { (p : List F) → ((k : ℕ) → k < size → value F.ring p (power F.ring _generator k) ≡ F.ring.zero) → VanishingQuotient F.ring size p }
 {}

@@ -1,5 +1,6 @@
 //! The extension's operations.
 ghost use Rattle.std.specs.Prelude.{false, ◌≡◌, refl, ⊤, map, [], ◌∷◌};
+ghost use Rattle.std.proofs.Common.{sym};
 ghost use Rattle.stark_support.specs.Extension.{basis_sum};
 ghost use Rattle.stark_support.specs.Ring.{difference};
 ghost use Rattle.stark_support.specs.Lanes.{one_lane, alone_is_lane_by_lane};
@@ -8,9 +9,11 @@ ghost use Rattle.stark_support.specs.Embedding.{embedded_two_adic};
 ghost use Rattle.stark_bench.specs.Quartic.{quartic_norm, quartic_cofactor};
 ghost use Rattle.stark_bench.specs.Ext4Field.{coordinates_of, of_coordinates, ext4, ext4_ring, ext4_inverse, ext4_laws, embedded, embedded_is_embedding, basis_of, coordinate_list, ext4_basis, generator_x, eq_gives_same};
 
+use crate::alone::PackedAlone;
 use crate::ext4::Ext4;
 use stark_support::{
-    Algebra, Element, ExtensionField, Field, PackedValue, QuarticBase, TwoAdicField,
+    Algebra, Element, ExtensionField, Field, PackedExtensionField, PackedValue, QuarticBase,
+    TwoAdicField,
 };
 use std::ops::{Add, Mul, Neg, Sub};
 
@@ -206,6 +209,11 @@ impl<F: QuarticBase> PackedValue for Ext4<F> {
         *self
     }
 
+    #[tactic(auto, using(stark_support::specs::Lanes::lone_replaced))]
+    fn with_lane(self, _lane: usize, value: Ext4<F>) -> Ext4<F> {
+        value
+    }
+
     ghost lane_by_lane = { alone_is_lane_by_lane (ext4_ring F.ring F.QUARTIC_CONSTANT) };
 
     ghost exact_lanes = { λ _ _ h. h };
@@ -376,6 +384,19 @@ impl<F: QuarticBase> ExtensionField<F> for Ext4<F> {
     ghost from_is = { λ _ _ h. h };
 
     ghost exact_above = { λ _ _ h. h };
+}
+
+impl<F: QuarticBase + PackedAlone> PackedExtensionField<F> for Ext4<F> {
+    type ExtensionPacking = Ext4<F>;
+
+    #[tactic(auto, using(stark_support::specs::Lanes::lone_mapped))]
+    fn from_packed_base(x: F::Packing) -> Ext4<F> {
+        Ext4::from(x.extract(0))
+    }
+
+    ghost extension_packed_ring = { refl };
+
+    ghost packed_as_wide = { sym F.one_wide };
 }
 
 impl<F: QuarticBase + TwoAdicField> TwoAdicField for Ext4<F> {

@@ -8,6 +8,7 @@ ghost use Rattle.std.proofs.Common.{rules, lit<};
 ghost use Rattle.stark_bench.specs.Residues.{residue, residue_ring, residue_inverse, residue_laws, eq_gives_same, eleven, value_of_residue, residue_of_value};
 ghost use Rattle.stark_bench.specs.Roots.{root, two_adic_laws};
 
+use crate::alone::PackedAlone;
 use crate::residue::Residue;
 use stark_support::{
     Algebra, Element, Field, PackedValue, PrimeField64, QuarticBase, TwoAdicField, squared_times,
@@ -147,6 +148,11 @@ impl<Kind> PackedValue for Residue<Kind> {
         *self
     }
 
+    #[tactic(auto, using(stark_support::specs::Lanes::lone_replaced))]
+    fn with_lane(self, _lane: usize, value: Residue<Kind>) -> Residue<Kind> {
+        value
+    }
+
     ghost lane_by_lane = { alone_is_lane_by_lane residue_ring };
 
     ghost exact_lanes = { λ _ _ h. h };
@@ -229,6 +235,10 @@ impl<Kind> Field for Residue<Kind> {
     ghost neg_is = { λ _ _ h. h };
 
     ghost packed_ring = { refl };
+}
+
+impl<Kind> PackedAlone for Residue<Kind> {
+    ghost one_wide = { refl };
 }
 
 impl<Kind> PrimeField64 for Residue<Kind> {

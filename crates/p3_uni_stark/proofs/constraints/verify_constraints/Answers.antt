@@ -15,7 +15,7 @@ returns-then-eq-clause-holds g c =
     let domain = g.D.PolynomialSpace.coset_of c.args.trace_domain in
     constraints_hold _ _ _ _ _ _ _ _ _ c.row_or_empty-preprocessed_local.result.now c.row_or_empty-preprocessed_next.result.now c.row_or_empty-preprocessed_local.ensures c.row_or_empty-preprocessed_next.ensures
     selectors.result.is_first_row selectors.result.is_last_row selectors.result.is_transition c.in_ok-folded.folded c.vanishing_poly_at_point.result c.mul.result
-    selectors.ensures.first_row selectors.ensures.last_row selectors.ensures.transition c.in_ok-folded.ensures
+    selectors.ensures.first_row selectors.ensures.last_row selectors.ensures.transition c.in_ok-folded.ensures.folded
     (c.vanishing_poly_at_point.ensures ∙ vanishing_of_subgroup field.field_laws g.met.EF.ExtensionField.embeds _ _ _ g.met.D.Val.TwoAdicField.two_adic _ domain.shift c.args.zeta c.requires.subgroup)
     (field.mul_is _ _ _ c.mul.ensures) c.if-got_local-got_next.false (field.eq_same _ _ (sym c.eq.ensures ∙ c.if-eq.true))
 
@@ -26,6 +26,6 @@ returns-else-eq-clause-fault g c =
     let domain = g.D.PolynomialSpace.coset_of c.args.trace_domain in
     inr (constraints_fail _ _ _ _ _ _ _ _ _ c.row_or_empty-preprocessed_local.result.now c.row_or_empty-preprocessed_next.result.now c.row_or_empty-preprocessed_local.ensures c.row_or_empty-preprocessed_next.ensures
     selectors.result.is_first_row selectors.result.is_last_row selectors.result.is_transition c.in_ok-folded.folded c.vanishing_poly_at_point.result c.mul.result
-    selectors.ensures.first_row selectors.ensures.last_row selectors.ensures.transition c.in_ok-folded.ensures
+    selectors.ensures.first_row selectors.ensures.last_row selectors.ensures.transition c.in_ok-folded.ensures.folded
     (c.vanishing_poly_at_point.ensures ∙ vanishing_of_subgroup field.field_laws g.met.EF.ExtensionField.embeds _ _ _ g.met.D.Val.TwoAdicField.two_adic _ domain.shift c.args.zeta c.requires.subgroup)
     (field.mul_is _ _ _ c.mul.ensures) c.if-got_local-got_next.false (differ_if_untrue g.EF.PartialEq.eq c.in_ok-folded.folded c.mul.result c.eq.result (g.met.EF.Eq.laws.refl c.in_ok-folded.folded) c.eq.ensures c.if-eq.false))

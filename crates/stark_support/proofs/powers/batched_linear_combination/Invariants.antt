@@ -1,6 +1,11 @@
-use Rattle.std.proofs.Common.{◌≡◌, drop}
-use Rattle.stark_support.specs.Combination.{linear_combination}
+use Rattle.std.proofs.Common.{◌≤◌, List, length, drop}
+use Rattle.stark_support.specs.Combination.{EachStands, linear_combination}
 use Rattle.stark_support.proofs.powers.batched_linear_combination.Given as goal
 
 abbrev pub invariant-loop-index : goal.invariant-loop-index
-invariant-loop-index g l = g.F.Field.ring.add l.sum (linear_combination g.F.Field.ring (drop l.index l.values) (drop l.index l.coefficients)) ≡ linear_combination g.F.Field.ring l.values l.coefficients
+invariant-loop-index g l =
+    (l.index ≤ length l.values)
+    × ((vs : List g.row.A.Denot) → EachStands g.A.Algebra.stands vs (drop l.index l.values) → g.A.Algebra.stands (linear_combination g.A.Algebra.operations g.F.Field.ZERO vs (drop l.index l.coefficients)) l.sum)
+
+abbrev pub decreases-loop-index : goal.decreases-loop-index
+decreases-loop-index g l = l.index

@@ -1,4 +1,4 @@
-use Rattle.std.proofs.Common.{◌≡◌, ◌∙◌, sym}
+use Rattle.std.proofs.Common.{◌∙◌, sym}
 use Rattle.stark_bench.proofs.coset.Coset.subgroup.Goals as goal
 
 pub new-requires-clause-nonzero : goal.new-requires-clause-nonzero

@@ -1,6 +1,6 @@
 use Rattle.std.proofs.Common.{◌∙◌, ap, sym}
 use Rattle.stark_support.specs.Coset.{TwoAdicCoset}
-use Rattle.stark_support.specs.CosetValueFacts.{no_values, one_more_value, own_subgroup, own_vanishing, apart_outside}
+use Rattle.stark_support.specs.CosetValueFacts.{no_values, one_more_value, own_subgroup, unshifted_vanishing, apart_outside}
 use Rattle.stark_support.specs.PartFacts.{first_shift, next_shift}
 use Rattle.stark_support.specs.Selectors.{first_row_selector, last_row_selector, transition_selector}
 use Rattle.stark_support.specs.Subgroup.{group_of}
@@ -54,6 +54,6 @@ loop-row-preserved g c =
       transition = one_more_value ring root coset _ n _ _ x _ c.loop-row.invariant.transition c.in_ok-push-3.ensures.items at
           (selectors.transition ∙ ap (λ h. transition_selector ring (λ k. k) (group_of inverse h self.log_size) x) generator);
       inv_vanishing = one_more_value ring root coset _ n _ _ x _ c.loop-row.invariant.inv_vanishing c.in_ok-push-4.ensures.items at
-          (selectors.inv_vanishing ∙ ap inverse (sym (own_vanishing laws _ _ _ g.met.F.TwoAdicField.two_adic (record { shift = self.shift; log_size = self.log_size })
+          (selectors.inv_vanishing ∙ ap inverse (sym (unshifted_vanishing laws _ _ _ g.met.F.TwoAdicField.two_adic (record { shift = self.shift; log_size = self.log_size })
           (record { shift_nonzero = self.shift_nonzero; within = self.within }) c.requires.subgroup x)));
     }

@@ -3,7 +3,7 @@ use Rattle.stark_support.specs.Coset.{subgroup_vanishing}
 use Rattle.stark_bench.proofs.coset.CosetPolynomialSpace.vanishing_poly_at_point.Goals as goal
 
 pub inverse-requires : goal.inverse-requires
-inverse-requires g c = λ e. c.args.self.now.shift_nonzero (g.met.EF.ExtensionField.embeds.injective _ _ (sym c.from_base.ensures ∙ e ∙ sym g.met.EF.ExtensionField.embeds.zero))
+inverse-requires g c = λ e. c.args.self.now.shift_nonzero (g.met.EF.ExtensionField.embeds.injective _ _ (sym c.from_base.ensures ∙ e ∙ sym g.met.EF.ExtensionField.embeds.keeps.zero))
 
 pub returns : goal.returns
 returns g c =

@@ -1,0 +1,8 @@
+use Rattle.stark_air.specs.SymbolicTrees.{base_part_is, extension_part_is}
+use Rattle.stark_air.proofs.symbolic.constraints.get_all_symbolic_constraints.Goals as goal
+
+pub returns-clause-base : goal.returns-clause-base
+returns-clause-base g c = rw (← base_part_is g.F.Field.ring (g.A.Air.constraints c.args.air.now), ← c.in_ok-constraints.ensures) c.parts_of.ensures.base
+
+pub returns-clause-extension : goal.returns-clause-extension
+returns-clause-extension g c = rw (← extension_part_is g.F.Field.ring (g.A.Air.constraints c.args.air.now), ← c.in_ok-constraints.ensures) c.parts_of.ensures.extension

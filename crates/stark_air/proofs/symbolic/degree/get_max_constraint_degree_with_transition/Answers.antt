@@ -1,0 +1,9 @@
+use Rattle.std.proofs.Common.{◌∙◌, ap}
+use Rattle.stark_air.specs.GreatestDegree.{greatest_from, greatest_is}
+use Rattle.stark_air.proofs.symbolic.degree.get_max_constraint_degree_with_transition.Goals as goal
+
+pub returns : goal.returns
+returns g c =
+    c.greatest_degree_of.ensures ∙
+    ap (greatest_from c.args.transition_degree 0) c.deref.ensures.value ∙
+    greatest_is c.args.transition_degree g.F.Field.ring _ (g.A.Air.constraints c.args.air.now) c.in_ok-constraints.ensures

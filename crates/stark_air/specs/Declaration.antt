@@ -1,0 +1,25 @@
+-- What an AIR declares of itself, and how its counts follow.
+use Rattle.std.specs.Prelude.{◌≡◌, ℕ, List, [], ◌∷◌, Option, None, Some, length}
+use Rattle.stark_air.specs.Layout.{Layout}
+
+-- Rows of `width` values each, one after the other.
+pub record Trace (F : Type 0) : Type 0 where
+  pub width : ℕ
+  pub values : List F
+
+-- The columns of the declared trace; none without one.
+abbrev pub trace_width : {F : Type 0} → Option (Trace F) → ℕ
+trace_width None = 0
+trace_width (Some trace) = trace.width
+
+-- How much of a next row constraints may read: nothing where no column of it is declared, else the whole row.
+abbrev pub next_width : List ℕ → ℕ → ℕ
+next_width [] width = 0
+next_width (column ∷ columns) width = width
+
+-- The counts of a layout are those of what is declared.
+pub record IsDeclared {F : Type 0} (layout : Layout) (preprocessed : Option (Trace F)) (periodic : List (List F)) (main_next : List ℕ) (preprocessed_next : List ℕ) : Type 0 where
+  pub preprocessed_width : layout.preprocessed ≡ trace_width preprocessed
+  pub periodic_columns : layout.periodics ≡ length periodic
+  pub main_next_row : layout.main_next ≡ next_width main_next layout.main
+  pub preprocessed_next_row : layout.preprocessed_next ≡ next_width preprocessed_next layout.preprocessed

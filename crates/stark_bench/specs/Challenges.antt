@@ -1,0 +1,92 @@
+-- The bench's two sponges.
+use Rattle.std.specs.Prelude.{◌≡◌, ℕ, suc, zero, ◌+◌, ◌%◌, ◌^◌, Bool, true, false, cond, eqb, ltb, ◌&&◌, List, [], ◌∷◌, ◌++◌, length, get_or, take, map, flat_map, Option, None, Some, option_map}
+use Rattle.std.specs.Int.{w64, from_be_bytes}
+use Rattle.sha2.specs.Sha256.{sha256}
+use Rattle.stark_support.specs.Periodic.{or_later}
+use Rattle.stark_support.specs.Seed.{number}
+use Rattle.stark_bench.specs.declared.residue.Residue.{Residue}
+use Rattle.stark_bench.specs.declared.ext4.Ext4.{Ext4}
+use Rattle.stark_bench.specs.Residues.{residue}
+use Rattle.stark_bench.specs.Ext4Field.{ext4}
+
+-- ---- searches for a witness
+
+-- The least number below n at which the test holds.
+unfoldable pub least : (ℕ → Bool) → ℕ → Option ℕ
+least p zero = None
+least p (suc n) = or_later (least p n) (cond (p n) (Some n) None)
+
+-- The element of the least number that passes.
+abbrev pub found_by : {C M : Type 0} → (C → ℕ → Residue M → Bool) → C → ℕ → Option (Residue M)
+found_by passes state bits = option_map residue (least (λ n. passes state bits (residue n)) 12289)
+
+-- ---- elements of the extension, by their coordinates
+
+abbrev pub four_drawn : {C K : Type 0} → (C → K) → (C → C) → C → Ext4 K
+four_drawn draw after s = ext4 (draw s) (draw (after s)) (draw (after (after s))) (draw (after (after (after s))))
+
+abbrev pub after_four : {C : Type 0} → (C → C) → C → C
+after_four after s = after (after (after (after s)))
+
+-- ---- a list handed out round and round
+
+-- The list, and the place of the next element.
+abbrev pub script_element : {M : Type 0} → List (Residue M) × ℕ → Residue M
+script_element s = get_or s.0 s.1 (residue 0)
+
+abbrev pub script_next : {K : Type 0} → List K × ℕ → List K × ℕ
+script_next s = (s.0, (s.1 + 1) % length s.0)
+
+abbrev pub script_bits : {M : Type 0} → List (Residue M) × ℕ → ℕ → ℕ
+script_bits s bits = (script_element s).value % 2 ^ bits
+
+-- A witness passes where 2 ^ bits divides its number and one.
+abbrev pub script_passes : {C M : Type 0} → C → ℕ → Residue M → Bool
+script_passes s bits w = cond (eqb bits 0) true (ltb bits 64 && eqb ((w.value + 1) % 2 ^ bits) 0)
+
+-- ---- SHA-256
+
+-- The state after a byte that says what is done, and bytes.
+abbrev pub absorbed : List ℕ → ℕ → List ℕ → List ℕ
+absorbed s tag bytes = sha256 (s ++ tag ∷ bytes)
+
+-- The number that a state hands out: its first 8 bytes, the high one first.
+abbrev pub leading : List ℕ → ℕ
+leading s = from_be_bytes w64 (take 8 s)
+
+abbrev pub after_element : {M : Type 0} → List ℕ → Residue M → List ℕ
+after_element s x = absorbed s 0 (number x.value)
+
+abbrev pub after_draw : List ℕ → List ℕ
+after_draw s = absorbed s 1 []
+
+abbrev pub after_bits : List ℕ → List ℕ
+after_bits s = absorbed s 2 []
+
+abbrev pub drawn_element : {M : Type 0} → List ℕ → Residue M
+drawn_element s = residue (leading (after_draw s))
+
+abbrev pub drawn_bits : List ℕ → ℕ → ℕ
+drawn_bits s bits = leading (after_bits s) % 2 ^ bits
+
+abbrev pub sha_passes : {M : Type 0} → List ℕ → ℕ → Residue M → Bool
+sha_passes s bits w = cond (eqb bits 0) true (ltb bits 64 && eqb (drawn_bits (after_element s w) bits) 0)
+
+abbrev pub sha_after_check : {M : Type 0} → List ℕ → ℕ → Residue M → List ℕ
+sha_after_check s bits w = cond (eqb bits 0) s (after_bits (after_element s w))
+
+-- ---- a commitment in the clear
+
+-- A count is its 8 bytes, each as an element.
+abbrev pub count_elements : {F : Type 0} → (ℕ → F) → ℕ → List F
+count_elements of_number n = map of_number (number n)
+
+abbrev pub column_elements : {F : Type 0} → (ℕ → F) → List F → List F
+column_elements of_number column = count_elements of_number (length column) ++ column
+
+abbrev pub matrix_elements : {F : Type 0} → (ℕ → F) → List (List F) → List F
+matrix_elements of_number columns = count_elements of_number (length columns) ++ flat_map (column_elements of_number) columns
+
+-- The number of matrices, then each: its number of columns, then each: its length and its coefficients.
+abbrev pub commitment_elements : {F : Type 0} → (ℕ → F) → List (List (List F)) → List F
+commitment_elements of_number matrices = count_elements of_number (length matrices) ++ flat_map (matrix_elements of_number) matrices

@@ -1,0 +1,16 @@
+use Rattle.std.proofs.Common.{◌≡◌}
+use Rattle.stark_support.specs.Seed.{shape_seed}
+use Rattle.stark_support.specs.SeedFacts.{seed_joined, no_other_shape}
+use Rattle.stark_parts.specs.Shape.{shape_numbers}
+use Rattle.stark_parts.proofs.shape.StarkShape.domain_separator.Goals as goal
+
+pub returns-clause-seed : goal.returns-clause-seed
+returns-clause-seed g c =
+    seed_joined 1 g.EF.ExtensionField.DIMENSION (shape_numbers c.args.self.now) c.in_ok-separator.separator c.in_ok-pattern.pattern c.flag.result c.flag-2.result
+    c.in_ok-separator.ensures c.in_ok-pattern.ensures c.flag.ensures c.flag-2.ensures
+
+pub returns-clause-of_this_shape : goal.returns-clause-of_this_shape
+returns-clause-of_this_shape g c =
+    no_other_shape 1 g.EF.ExtensionField.DIMENSION (shape_numbers c.args.self.now) c.in_ok-separator.separator c.known_numbers.ensures
+    (seed_joined 1 g.EF.ExtensionField.DIMENSION (shape_numbers c.args.self.now) c.in_ok-separator.separator c.in_ok-pattern.pattern c.flag.result c.flag-2.result
+    c.in_ok-separator.ensures c.in_ok-pattern.ensures c.flag.ensures c.flag-2.ensures)

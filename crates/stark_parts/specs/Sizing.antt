@@ -1,0 +1,13 @@
+-- How many chunks a quotient is cut into.
+use Rattle.std.specs.Prelude.{ℕ, ◌+◌, ◌-◌, max, List, Option, unwrap_or}
+use Rattle.stark_air.specs.Tree.{Constraint}
+use Rattle.stark_air.specs.Degree.{saturated, greatest_degree}
+
+-- The greatest degree multiple of the constraints, or the author's own bound where that is more; d for the transition selector.
+abbrev pub constraint_degree : {F : Type 0} → ℕ → List (Constraint F) → Option ℕ → ℕ
+constraint_degree d cs hint = max (greatest_degree d cs) (unwrap_or hint 0)
+
+-- The bound on the quotient's degree, in multiples of the trace's length: one below the constraints' degree, which counts
+-- as 2 at least, and as one more under zero knowledge.
+abbrev pub quotient_multiple : ℕ → ℕ → ℕ
+quotient_multiple degree is_zk = max (saturated (degree + is_zk)) 2 - 1

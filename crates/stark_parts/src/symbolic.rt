@@ -1,0 +1,83 @@
+//! How many chunks a quotient is cut into, by the degrees of an AIR's constraints.
+ghost use Rattle.std.specs.Prelude.{◌≡◌, ◌≤◌, max, unwrap_or, IfOk};
+ghost use Rattle.stark_support.specs.Logarithm.{IsCeilingOfLog};
+ghost use Rattle.stark_air.specs.Layout.{Covers};
+ghost use Rattle.stark_air.specs.SymbolicLayout.{symbolic_layout};
+ghost use Rattle.stark_parts.specs.Sizing.{constraint_degree, quotient_multiple};
+
+use stark_air::{
+    Air, AirLayout, BaseAir, get_max_constraint_degree_extension,
+    get_max_constraint_degree_with_transition,
+};
+use stark_support::{DomainShape, Field, log2_ceil_usize};
+use std::alloc::{AllocError, Global};
+
+/// The greater of a degree and the author's own bound.
+fn at_least_the_hint<F, A: BaseAir<F>>(air: &A, degree: usize) -> usize
+    ensures { result ≡ max degree (unwrap_or (A.degree_hint air.now) 0) }
+{
+    degree.max(air.max_constraint_degree().unwrap_or(0))
+}
+
+/// The logarithm, rounded up, of the chunks that a quotient of constraints of this degree needs.
+fn log_chunks_of_degree(degree: usize, is_zk: usize) -> usize
+    ensures { IsCeilingOfLog result (quotient_multiple degree is_zk) }
+{
+    log2_ceil_usize(degree.saturating_add(is_zk).max(2) - 1)
+}
+
+/// The logarithm of the number of chunks that the quotient of the AIR's constraints, base and extension, is cut into over a
+/// two-adic domain: `log2_ceil(max(degree + is_zk, 2) - 1)`, where the degree is the greater of the greatest degree multiple
+/// and the author's own bound, and a sum above the greatest `usize` counts as that. The trace's length decides nothing.
+/// Under zero knowledge `is_zk` is 1, and else 0. Err only where memory was refused.
+pub fn get_log_quotient_degree_extension<F: Field, EF, A: Air<F>>(
+    alloc: Global,
+    air: &A,
+    layout: AirLayout,
+    trace_len: usize,
+    is_zk: usize,
+) -> Result<usize, AllocError>
+    requires covered { Covers (symbolic_layout layout) (A.layout air.now) }
+    requires flag { is_zk ≤ 1 }
+    ensures { IfOk result (λ log. IsCeilingOfLog log (quotient_multiple (constraint_degree 0 (A.constraints air.now) (A.degree_hint air.now)) is_zk)) }
+{
+    let degree = get_max_constraint_degree_extension::<F, EF, A>(alloc, air, layout, trace_len)?;
+    Ok(log_chunks_of_degree(at_least_the_hint(air, degree), is_zk))
+}
+
+/// `get_log_quotient_degree_extension` where the constraints over the extension are over the field itself.
+pub fn get_log_num_quotient_chunks<F: Field, A: Air<F>>(
+    alloc: Global,
+    air: &A,
+    layout: AirLayout,
+    trace_len: usize,
+    is_zk: usize,
+) -> Result<usize, AllocError>
+    requires covered { Covers (symbolic_layout layout) (A.layout air.now) }
+    requires flag { is_zk ≤ 1 }
+    ensures { IfOk result (λ log. IsCeilingOfLog log (quotient_multiple (constraint_degree 0 (A.constraints air.now) (A.degree_hint air.now)) is_zk)) }
+{
+    get_log_quotient_degree_extension::<F, F, A>(alloc, air, layout, trace_len, is_zk)
+}
+
+/// The same over any domain, whose `transition_degree_multiple` is the degree of the transition selector.
+pub fn get_log_num_quotient_chunks_for_domain<F: Field, A: Air<F>, D: DomainShape>(
+    alloc: Global,
+    air: &A,
+    layout: AirLayout,
+    domain: &D,
+    is_zk: usize,
+) -> Result<usize, AllocError>
+    requires covered { Covers (symbolic_layout layout) (A.layout air.now) }
+    requires flag { is_zk ≤ 1 }
+    ensures { IfOk result (λ log. IsCeilingOfLog log (quotient_multiple (constraint_degree (D.transition_multiple domain.now) (A.constraints air.now) (A.degree_hint air.now)) is_zk)) }
+{
+    let transition_degree = domain.transition_degree_multiple();
+    let degree = get_max_constraint_degree_with_transition::<F, F, A>(
+        alloc,
+        air,
+        layout,
+        transition_degree,
+    )?;
+    Ok(log_chunks_of_degree(at_least_the_hint(air, degree), is_zk))
+}

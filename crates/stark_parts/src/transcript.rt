@@ -1,0 +1,119 @@
+//! The transcript of a proof of one AIR, played over a challenger that the caller lends.
+ghost use Rattle.std.specs.Prelude.{◌≡◌, ◌++◌, ◌∷◌, [], option_map};
+ghost use Rattle.stark_support.specs.Sponge.{draw_extension, replay};
+ghost use Rattle.stark_parts.specs.Replay.{checked, element_events, ground, optional_events, optional_fault, preprocessed_fault, random_fault};
+
+mod prover;
+mod verifier;
+
+use crate::shape::{GrindExhausted, StarkShape, StarkTranscriptFailure};
+pub use prover::StarkProverTranscript;
+use stark_support::{
+    CanObserve, CanSample, GrindingChallenger, PrimeField64, TranscriptSponge, observe_slice,
+};
+pub use verifier::StarkVerifierTranscript;
+
+fn optional_fault(
+    is_described: bool,
+    is_there: bool,
+    missing: StarkTranscriptFailure,
+    unexpected: StarkTranscriptFailure,
+) -> Option<StarkTranscriptFailure>
+    ensures { result ≡ optional_fault is_described is_there missing unexpected }
+{
+    match (is_described, is_there) {
+        (true, false) => Some(missing),
+        (false, true) => Some(unexpected),
+        _ => None,
+    }
+}
+
+fn preprocessed_fault(shape: &StarkShape, is_there: bool) -> Option<StarkTranscriptFailure>
+    ensures { result ≡ preprocessed_fault shape.now is_there }
+{
+    let width = shape.preprocessed_width;
+    optional_fault(
+        width > 0,
+        is_there,
+        StarkTranscriptFailure::MissingPreprocessedCommitment { width },
+        StarkTranscriptFailure::UnexpectedPreprocessedCommitment,
+    )
+}
+
+fn random_fault(shape: &StarkShape, is_there: bool) -> Option<StarkTranscriptFailure>
+    ensures { result ≡ random_fault shape.now is_there }
+{
+    optional_fault(
+        shape.has_randomization,
+        is_there,
+        StarkTranscriptFailure::MissingRandomCommitment,
+        StarkTranscriptFailure::UnexpectedRandomCommitment,
+    )
+}
+
+fn observe_optional<C, F, EF, K>(challenger: &mut C, commitment: Option<&K>)
+where
+    F: PrimeField64,
+    C: CanObserve<F> + CanObserve<K> + CanSample<EF> + GrindingChallenger<Witness = F>,
+    ensures { challenger.new ≡ replay ⟦<C as TranscriptSponge<F, EF, K>>⟧.sponge (optional_events (option_map (λ k. k.now) commitment.entry)) challenger.old }
+{
+    if let Some(commitment) = commitment {
+        challenger.observe(commitment);
+    }
+}
+
+// What follows the commitment to the trace: the preprocessed one, the public values, and alpha.
+#[tactic(auto, using(stark_support::specs::SpongeFacts::replay_append, stark_support::specs::SpongeFacts::replay_elements))]
+fn play_constraints<C, F, EF, K>(
+    challenger: &mut C,
+    preprocessed: Option<&K>,
+    public_values: &[F],
+) -> EF
+where
+    F: PrimeField64,
+    C: CanObserve<F> + CanObserve<K> + CanSample<EF> + GrindingChallenger<Witness = F>,
+    ensures answer { result ≡ ⟦<C as TranscriptSponge<F, EF, K>>⟧.sponge.draw (replay ⟦<C as TranscriptSponge<F, EF, K>>⟧.sponge (optional_events (option_map (λ k. k.now) preprocessed.entry) ++ element_events public_values.now) challenger.old) }
+    ensures state { challenger.new ≡ replay ⟦<C as TranscriptSponge<F, EF, K>>⟧.sponge ((optional_events (option_map (λ k. k.now) preprocessed.entry) ++ element_events public_values.now) ++ draw_extension ∷ []) challenger.old }
+{
+    observe_optional::<C, F, EF, K>(&mut *challenger, preprocessed);
+    observe_slice(&mut *challenger, public_values);
+    challenger.sample()
+}
+
+// The check of the work, where some is asked for, and zeta.
+fn check_work<C, F, EF, K>(
+    challenger: &mut C,
+    bits: usize,
+    witness: F,
+) -> Result<EF, StarkTranscriptFailure>
+where
+    F: PrimeField64,
+    C: CanObserve<F> + CanObserve<K> + CanSample<EF> + GrindingChallenger<Witness = F>,
+    ensures answer { result ≡ (checked ⟦<C as TranscriptSponge<F, EF, K>>⟧.sponge bits witness challenger.old).answer }
+    ensures state { challenger.new ≡ (checked ⟦<C as TranscriptSponge<F, EF, K>>⟧.sponge bits witness challenger.old).state }
+{
+    if bits > 0 && !challenger.check_witness(bits, witness) {
+        return Err(StarkTranscriptFailure::OodPowWitness { bits });
+    }
+    Ok(challenger.sample())
+}
+
+// The search for a witness, where work is asked for, and zeta.
+fn find_work<C, F, EF, K>(
+    challenger: &mut C,
+    bits: usize,
+) -> Result<(EF, Option<F>), GrindExhausted>
+where
+    F: PrimeField64,
+    C: CanObserve<F> + CanObserve<K> + CanSample<EF> + GrindingChallenger<Witness = F>,
+    ensures answer { result ≡ (ground ⟦<C as TranscriptSponge<F, EF, K>>⟧.sponge bits challenger.old).answer }
+    ensures state { challenger.new ≡ (ground ⟦<C as TranscriptSponge<F, EF, K>>⟧.sponge bits challenger.old).state }
+{
+    if bits == 0 {
+        return Ok((challenger.sample(), None));
+    }
+    match challenger.grind(bits) {
+        Some(witness) => Ok((challenger.sample(), Some(witness))),
+        None => Err(GrindExhausted { bits }),
+    }
+}

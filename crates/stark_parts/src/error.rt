@@ -1,8 +1,10 @@
 //! Why a proof is refused.
 ghost use Rattle.std.specs.Prelude.{◌≡◌};
+ghost use Rattle.stark_parts.specs.Errors.{IsFaultIn, transcript_error};
 ghost use Rattle.stark_parts.specs.declared.error.VerificationError.TheVariants.{InvalidProofShape, PeriodicColumn, OutOfMemory};
 
-use stark_support::PeriodicColumnShapeError;
+use crate::shape::{GrindExhausted, StarkTranscriptFailure};
+use stark_support::{PeriodicColumnShapeError, SchemeFault};
 use std::alloc::AllocError;
 use thiserror::Error;
 
@@ -177,5 +179,88 @@ impl<PcsErr> From<AllocError> for VerificationError<PcsErr> {
 
     fn from(_error: AllocError) -> Self {
         VerificationError::OutOfMemory
+    }
+}
+
+impl<PcsErr> From<StarkTranscriptFailure> for VerificationError<PcsErr> {
+    ghost from_gives = { λ failure outcome. outcome ≡ transcript_error failure };
+
+    fn from(failure: StarkTranscriptFailure) -> Self {
+        match failure {
+            StarkTranscriptFailure::MissingPreprocessedCommitment { .. }
+            | StarkTranscriptFailure::UnexpectedPreprocessedCommitment => {
+                VerificationError::InvalidProofShape(
+                    InvalidProofShapeError::PreprocessedVerifierKeyInconsistency,
+                )
+            }
+            StarkTranscriptFailure::MissingRandomCommitment
+            | StarkTranscriptFailure::UnexpectedRandomCommitment => {
+                VerificationError::RandomizationError
+            }
+            StarkTranscriptFailure::OodPowWitness { .. } => VerificationError::InvalidOodPowWitness,
+        }
+    }
+}
+
+/// Why no proof is made; `E` is the error of the commitment scheme.
+#[derive(Debug, Drop, Error)]
+pub enum ProvingError<E> {
+    /// The commitment scheme refuses. The phases are `preprocessing commitment`, `trace commitment`, `quotient commitment`,
+    /// `randomization commitment` and `opening`.
+    #[error("the commitment scheme refuses: {phase}")]
+    Pcs { phase: &'static str, source: E },
+    /// No element is a witness of the work that is asked for.
+    #[error("no witness of {bits} bits of work")]
+    GrindExhausted { bits: usize },
+    /// The quotient's domain would be above the greatest one.
+    #[error("a quotient domain of {got} bits, above {maximum}")]
+    QuotientDomainTooLarge { maximum: usize, got: usize },
+    /// A periodic column doesn't fit the trace.
+    #[error("invalid periodic column: {0}")]
+    PeriodicColumn(PeriodicColumnShapeError),
+    /// Memory was refused.
+    #[error("out of memory")]
+    OutOfMemory,
+}
+
+impl<E> From<GrindExhausted> for ProvingError<E> {
+    ghost use Rattle.stark_parts.specs.declared.error.ProvingError.{ProvingError};
+
+    ghost from_gives = { λ error outcome. outcome ≡ ProvingError.GrindExhausted error.bits };
+
+    fn from(error: GrindExhausted) -> Self {
+        ProvingError::GrindExhausted { bits: error.bits }
+    }
+}
+
+impl<E> From<PeriodicColumnShapeError> for ProvingError<E> {
+    ghost use Rattle.stark_parts.specs.declared.error.ProvingError.{ProvingError};
+
+    ghost from_gives = { λ error outcome. outcome ≡ ProvingError.PeriodicColumn error };
+
+    fn from(error: PeriodicColumnShapeError) -> Self {
+        ProvingError::PeriodicColumn(error)
+    }
+}
+
+impl<E> From<AllocError> for ProvingError<E> {
+    ghost use Rattle.stark_parts.specs.declared.error.ProvingError.{ProvingError};
+
+    ghost from_gives = { λ _ outcome. outcome ≡ ProvingError.OutOfMemory };
+
+    fn from(_error: AllocError) -> Self {
+        ProvingError::OutOfMemory
+    }
+}
+
+impl<E> ProvingError<E> {
+    /// What a scheme's fault is in a phase.
+    pub fn in_phase(phase: &'static str, fault: SchemeFault<E>) -> ProvingError<E>
+        ensures { IsFaultIn phase.now fault result }
+    {
+        match fault {
+            SchemeFault::Refused(source) => ProvingError::Pcs { phase, source },
+            SchemeFault::OutOfMemory => ProvingError::OutOfMemory,
+        }
     }
 }

@@ -1,14 +1,19 @@
-//! The parts that a prover and a verifier share: their errors, the builders that fold an AIR's constraints, and the number
-//! of a quotient's chunks.
+//! The parts that a prover and a verifier share: configurations, errors, the builders that fold an AIR's constraints, the
+//! number of a quotient's chunks, transcripts.
 #![tactic(auto)]
 
+mod config;
 mod error;
 mod folder;
 mod shape;
 mod symbolic;
 mod transcript;
 
-pub use error::{InvalidProofShapeError, VerificationError};
+pub use config::{
+    Com, Domain, PackedChallenge, PackedVal, PcsError, PcsProverError, StarkConfig,
+    StarkGenericConfig, StarkOpeningLayout, Val,
+};
+pub use error::{InvalidProofShapeError, ProvingError, VerificationError};
 pub use folder::{VerifierConstraintFolder, fold_constraints};
 pub use shape::{GrindExhausted, StarkShape, StarkTranscriptFailure, TranscriptPhase};
 pub use symbolic::{

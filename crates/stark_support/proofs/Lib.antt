@@ -1,3 +1,4 @@
+mod TableSteps
 pub mod Readings
 pub mod Coordinates
 pub mod Places

@@ -44,3 +44,8 @@ pub mod Sponge
 pub mod SpongeFacts
 pub mod Seed
 pub mod SeedFacts
+pub mod Claims
+pub mod PeriodicTable
+pub mod Scheme
+pub mod SchemeFacts
+pub mod MaskFacts

@@ -2,6 +2,7 @@
 #![tactic(auto)]
 
 mod challenger;
+mod claims;
 mod domain;
 mod field;
 mod interpolation;
@@ -10,14 +11,17 @@ mod matrix;
 mod packed;
 mod pattern;
 mod periodic;
+mod periodic_table;
 mod polynomial;
 mod powers;
+mod scheme;
 mod util;
 
 pub use challenger::{
     CanObserve, CanSample, CanSampleBits, ExtensionChallenger, FieldChallenger, GrindingChallenger,
     TranscriptSponge, observe_bytes, observe_slice,
 };
+pub use claims::{MatrixClaim, OpenedRounds, OpeningClaim, OpeningRound};
 pub use domain::{
     DomainShape, LagrangeSelectors, PolynomialSpace, points_differ, vanishing_is_constant,
 };
@@ -33,9 +37,11 @@ pub use matrix::{RowMajorMatrix, RowMajorMatrixView, VerticalPair, ViewPair};
 pub use packed::{PackedValue, packed_from_fn};
 pub use pattern::{DomainSeparator, Hierarchy, Interaction, InteractionPattern, Kind, Length};
 pub use periodic::{PeriodicColumnShapeError, PeriodicColumns};
+pub use periodic_table::PeriodicLdeTable;
 pub use polynomial::{
     all_roots_are_few, interpolation_is_unique, polynomial_value, polynomial_value_in,
     roots_are_few, vanishing_divides,
 };
 pub use powers::{batched_linear_combination, power_of, squared_times};
+pub use scheme::{DomainVal, Pcs, SchemeFault, UnivariateStarkPcs};
 pub use util::{checked_log_size_sum, checked_pow2, log2_ceil_usize, log2_strict_usize};

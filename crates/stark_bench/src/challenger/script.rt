@@ -14,7 +14,7 @@ use std::alloc::{AllocError, Global};
 use std::marker::Model;
 
 /// Hands out the elements of a list, round and round. What it observes changes nothing.
-#[derive(Debug, Drop)]
+#[derive(Clone, Debug, Drop)]
 pub struct ScriptChallenger<F> {
     list: Vec<F>,
     position: usize,

@@ -17,7 +17,7 @@ use std::alloc::{AllocError, Global};
 use std::marker::{Model, PhantomData};
 
 /// A state of 32 bytes, each of which is the digest of the one before and of what was done.
-#[derive(Debug, Drop)]
+#[derive(Clone, Debug, Drop)]
 pub struct Sha256Challenger<F> {
     state: [u8; 32],
     field: PhantomData<F>,

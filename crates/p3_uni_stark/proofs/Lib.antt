@@ -1,1 +1,3 @@
 pub mod EquationSteps
+pub mod Rows
+pub mod ReadBack

@@ -1,1 +1,4 @@
 pub mod Equation
+pub mod ProofView
+pub mod ProofJson
+pub mod ShapeFaults

@@ -2,7 +2,25 @@
 #![tactic(auto)]
 
 mod constraints;
+mod proof;
 mod verifier;
 
 pub use constraints::verify_constraints;
-pub use verifier::recompose_quotient_from_chunks;
+pub use proof::{
+    Commitments, OpenedValues, OpeningsDecodeError, PreprocessedOpenedValues, Proof,
+    ProofDecodeError,
+};
+pub use stark_air::{
+    AirLayout, BaseEntry, ConstraintLayout, SubAirBuilder, SubSliced, SymbolicAirBuilder,
+    SymbolicExpression, SymbolicVariable, get_all_symbolic_constraints, get_constraint_layout,
+    get_max_constraint_degree_extension, get_symbolic_constraints,
+};
+pub use stark_parts::{
+    Com, Domain, GrindExhausted, InvalidProofShapeError, PackedChallenge, PackedVal, PcsError,
+    PcsProverError, ProvingError, StarkConfig, StarkGenericConfig, StarkOpeningLayout,
+    StarkProverTranscript, StarkShape, StarkTranscriptFailure, StarkVerifierTranscript, Val,
+    VerificationError, VerifierConstraintFolder, get_log_num_quotient_chunks,
+    get_log_num_quotient_chunks_for_domain, get_log_quotient_degree_extension,
+};
+pub use stark_support::PeriodicColumnShapeError;
+pub use verifier::{recompose_quotient_from_chunks, validate_degree_bits};

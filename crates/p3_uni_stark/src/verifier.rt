@@ -7,6 +7,9 @@ ghost use Rattle.stark_support.specs.Polynomial.{value};
 ghost use Rattle.stark_support.specs.RecompositionPolynomial.{chunk_values};
 ghost use Rattle.stark_support.specs.RecompositionLaw.{AreChunksOf};
 
+mod shape;
+
+pub use shape::validate_degree_bits;
 use stark_support::{ExtensionField, Field, PolynomialSpace};
 
 /// The product of `Z_o(zeta) / Z_o(first point of the domain)` over the other domains.

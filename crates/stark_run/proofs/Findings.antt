@@ -3,7 +3,7 @@ use Rattle.std.proofs.Common.{◌≡◌, ◌⊎◌, ℕ, List, [], Option, None,
 use Rattle.std.specs.Io.KnownBytes.{Appends, Keeps}
 use Rattle.stark_run.specs.Verdict.{line_of, end_of}
 use Rattle.stark_run.specs.Run.{IsInput, Found, Says, SaysFound, SaysOrLacksMemory, AcceptsInput, verdict_of}
-use Rattle.stark_run.specs.declared.run.Command.{Command}
+use Rattle.stark_run.specs.declared.words.Command.{Command}
 use Rattle.stark_run.specs.declared.verdict.Verdict.{Verdict}
 use Rattle.stark_run.specs.declared.verdict.Verdict.TheVariants as verdict
 use Rattle.stark_run.specs.declared.verdict.Refusal.TheVariants as refusal

@@ -1,4 +1,6 @@
 pub mod Lines
 pub mod Findings
+pub mod Parts
+pub mod Sizes
 pub mod PointSteps
 pub mod Meaning

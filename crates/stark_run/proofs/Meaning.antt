@@ -1,6 +1,8 @@
 -- What an accepted input means.
-use Rattle.std.proofs.Common.{◌≡◌, ◌⊎◌, inl, inr, sym, ◌∙◌, ap, ℕ, ◌-◌, ◌+◌, ◌≤◌, ◌<◌, ◌^◌, List, Option, Some, None, IfSome, Bool, true, false, if◌then◌else◌, arith, refl}
-use Rattle.stark_support.specs.Ring.{FieldLaws, difference}
+use Rattle.std.proofs.Common.{◌≡◌, ◌⊎◌, inl, inr, sym, ◌∙◌, ap, ℕ, ◌-◌, ◌+◌, ◌≤◌, ◌<◌, ◌^◌, ◌≢◌, ◌==◌, length, nat_le, List, Option, Some, None, IfSome, Bool, true, false, if◌then◌else◌, arith, refl}
+use Rattle.std.proofs.lemmas.Bool.{eqb-true, leb-true}
+use Rattle.stark_support.specs.Ring.{RingOps, FieldLaws, difference}
+use Rattle.stark_support.specs.FieldFacts.{if_same}
 use Rattle.stark_support.specs.Powers.{power, squarings}
 use Rattle.stark_support.specs.PowerFacts.{power-power, power-one, squarings_is_power}
 use Rattle.stark_support.specs.LogarithmFacts.{at_most_or_above}
@@ -9,14 +11,18 @@ use Rattle.stark_support.specs.CosetFacts.{root_has_order, squarings_more, whole
 use Rattle.stark_bench.specs.Residues.{residue, residue_ring, residue_laws}
 use Rattle.stark_bench.specs.Roots.{root, two_adic_laws}
 use Rattle.stark_bench.specs.Ext4Field.{embedded_is_embedding}
-use Rattle.stark_run.specs.Check.{checked, CheckHolds, IsPointOfH, elements, element_of, laws_of_elements, vanishing, folded, quotient}
-use Rattle.stark_run.specs.Input.{CheckNumbers, Base, Extension, has_counter_shape, numbers_in}
+use Rattle.stark_run.specs.Airs.{CheckedAir, IsCutInto, log_chunks_of, sample, shape_of}
+use Rattle.stark_run.specs.Check.{checked, CheckHolds, IsBalanced, IsPointOfH, element_of, found_at_point, folded, if_none, laws_of_elements, periodic_fault, quotient, vanishing}
+use Rattle.stark_run.specs.Input.{CheckNumbers, elements, has_shape, numbers_in}
 use Rattle.stark_run.specs.Run.{CheckHoldsOf, judged, verdict_of}
-use Rattle.stark_run.specs.declared.run.Command.{Command}
-use Rattle.stark_run.specs.declared.run.Command.TheVariants.{CheckCounter}
+use Rattle.stark_run.proofs.Sizes.{cut_of_sample}
+use Rattle.stark_run.specs.declared.words.Command.{Command}
+use Rattle.stark_run.specs.declared.words.Command.TheVariants.{Check}
+use Rattle.stark_run.specs.declared.words.SampleAir.{SampleAir}
 use Rattle.stark_run.specs.declared.verdict.Verdict.{Verdict}
 use Rattle.stark_run.specs.declared.verdict.Verdict.TheVariants.{Accepted, Refused, BadInput}
-use Rattle.stark_run.specs.declared.verdict.Refusal.TheVariants.{OodPointInDomain, OodEvaluationMismatch}
+use Rattle.stark_run.specs.declared.verdict.Refusal.{Refusal}
+use Rattle.stark_run.specs.declared.verdict.Refusal.TheVariants.{OodPointInDomain, OodEvaluationMismatch, PeriodicColumn, QuotientDomainTooLarge}
 
 -- root n to the 2^n is one, also past the field's adicity
 root_reaches : {M : Type 0} (n : ℕ) → squarings (residue_ring {M = M}) (root n) n ≡ residue 1
@@ -45,44 +51,68 @@ vanishing_at_point m point =
     ap (λ t. power elements t point.0) reaches ∙ power-one laws.of_ring point.0 in
     ap (λ t. difference elements t elements.one) (ap (λ t. power elements t (2 ^ n)) point.1 ∙ unity) ∙ laws.of_ring.add_neg elements.one
 
-pub holds_if_accepted : (m : CheckNumbers) → checked m ≡ Accepted → CheckHolds m
-unfolding checked
-holds_if_accepted m =
-    elim (laws_of_elements.decides (vanishing m) elements.zero)
-    as (λ d. elim d [ inl e ↦ Refused OodPointInDomain | inr n ↦ elim (laws_of_elements.decides (folded m) (elements.mul (vanishing m) (quotient m))) [ inl e ↦ Accepted | inr n' ↦ Refused OodEvaluationMismatch ] ] ≡ Accepted → CheckHolds m) [
-      | inl e ↦ λ h. absurd (refusal h)
-      | inr outside ↦
-          elim (laws_of_elements.decides (folded m) (elements.mul (vanishing m) (quotient m)))
-          as (λ d. elim d [ inl e ↦ Accepted | inr n' ↦ Refused OodEvaluationMismatch ] ≡ Accepted → CheckHolds m) [
-            | inl balanced ↦ λ h. record { outside = λ point. outside (vanishing_at_point m point); balanced = balanced }
-            | inr unequal ↦ λ h. absurd (mismatch h)
-          ]
-    ]
-  where
-    refusal : Refused OodPointInDomain ≡ Accepted → ⊥
-    refusal h = cc
-
-    mismatch : Refused OodEvaluationMismatch ≡ Accepted → ⊥
-    mismatch h = cc
+refusal_clash : (why : Refusal) → Refused why ≡ Accepted → ⊥
+refusal_clash why h = cc
 
 bad_input_clash : BadInput ≡ Accepted → ⊥
 bad_input_clash h = cc
 
-shaped : (input : List ℕ) (m : CheckNumbers) (b : Bool) → numbers_in input ≡ Some m → has_counter_shape m ≡ b → (if b then checked m else BadInput) ≡ Accepted → CheckHoldsOf input
-shaped input m true is shape h = (m, is, shape, holds_if_accepted m h)
-shaped input m false is shape h = absurd (bad_input_clash h)
+module _ {K : Type 0} {ring : RingOps K} {inverse : K → K} (laws : FieldLaws ring inverse) (x y : K) where
+  same_if_accepted : if_same laws x y Accepted (Refused OodEvaluationMismatch) ≡ Accepted → x ≡ y
+  same_if_accepted = elim (laws.decides x y) as (λ d. elim d [ inl e ↦ Accepted | inr n ↦ Refused OodEvaluationMismatch ] ≡ Accepted → x ≡ y) [
+    | inl e ↦ λ h. e
+    | inr n ↦ λ h. absurd (refusal_clash OodEvaluationMismatch h)
+  ]
 
-spelled : (input : List ℕ) (o : Option CheckNumbers) → numbers_in input ≡ o → judged o ≡ Accepted → CheckHoldsOf input
-unfolding judged
-spelled input None is h = absurd (bad_input_clash h)
-spelled input (Some m) is h = shaped input m (has_counter_shape m) is refl h
+  other_if_accepted : (v : Verdict) → if_same laws x y (Refused OodPointInDomain) v ≡ Accepted → (x ≢ y) × (v ≡ Accepted)
+  other_if_accepted v = elim (laws.decides x y) as (λ d. elim d [ inl e ↦ Refused OodPointInDomain | inr n ↦ v ] ≡ Accepted → (x ≢ y) × (v ≡ Accepted)) [
+    | inl e ↦ λ h. absurd (refusal_clash OodPointInDomain h)
+    | inr n ↦ λ h. (n, h)
+  ]
 
-pub holds_of_verdict : (command : Option Command) (input : List ℕ) → verdict_of command input ≡ Accepted → CheckHoldsOf input
+none_if_accepted : {X : Type 0} (fault : Option X) (v : Verdict) → if_none fault v (Refused PeriodicColumn) ≡ Accepted → (fault ≡ None) × (v ≡ Accepted)
+none_if_accepted None v h = (refl, h)
+none_if_accepted (Some x) v h = absurd (refusal_clash PeriodicColumn h)
+
+true_if_accepted : (b : Bool) (v w : Verdict) → (w ≡ Accepted → ⊥) → (if b then v else w) ≡ Accepted → (b ≡ true) × (v ≡ Accepted)
+true_if_accepted true v w other h = (refl, h)
+true_if_accepted false v w other h = absurd (other h)
+
+module _ (air : CheckedAir) (log_chunks : ℕ) (m : CheckNumbers) where
+  holds_at_point : found_at_point air log_chunks m ≡ Accepted → (IsPointOfH m → ⊥) × (periodic_fault air m ≡ None) × IsBalanced air log_chunks m
+  unfolding found_at_point
+  holds_at_point h =
+      let point = other_if_accepted laws_of_elements (vanishing m) elements.zero _ h in
+      let columns = none_if_accepted (periodic_fault air m) _ point.1 in
+      (λ inside. point.0 (vanishing_at_point m inside), columns.0, same_if_accepted laws_of_elements (folded air m) (elements.mul (vanishing m) (quotient log_chunks m)) columns.1)
+
+  pub holds_if_accepted : IsCutInto air log_chunks → checked air log_chunks m ≡ Accepted → CheckHolds air log_chunks m
+  unfolding checked
+  holds_if_accepted cut h =
+      let domain = true_if_accepted (nat_le (m.log_height + log_chunks) 12) _ (Refused QuotientDomainTooLarge) (refusal_clash QuotientDomainTooLarge) h in
+      let count = true_if_accepted (length m.chunks == 2 ^ log_chunks) (found_at_point air log_chunks m) BadInput bad_input_clash domain.1 in
+      let point = holds_at_point count.1 in
+      record {
+        cut = cut;
+        within = leb-true (m.log_height + log_chunks) 12 domain.0;
+        chunks = eqb-true (length m.chunks) (2 ^ log_chunks) count.0;
+        outside = point.0;
+        fitting = point.1;
+        balanced = point.2;
+      }
+
+spelled : (air : SampleAir) (input : List ℕ) (o : Option CheckNumbers) → numbers_in (shape_of (sample air)) input ≡ o → judged (sample air) (log_chunks_of air) o ≡ Accepted → CheckHoldsOf (Some (Check air)) input
+spelled air input None is h = absurd (bad_input_clash h)
+spelled air input (Some m) is h =
+    let shaped = true_if_accepted (has_shape (shape_of (sample air)) m) (checked (sample air) (log_chunks_of air) m) BadInput bad_input_clash h in
+    (air, refl, m, is, shaped.0, holds_if_accepted (sample air) (log_chunks_of air) m (cut_of_sample air) shaped.1)
+
+pub holds_of_verdict : (command : Option Command) (input : List ℕ) → verdict_of command input ≡ Accepted → CheckHoldsOf command input
 holds_of_verdict None input h = absurd (bad_input_clash h)
-holds_of_verdict (Some CheckCounter) input h = spelled input (numbers_in input) refl h
+holds_of_verdict (Some (Check air)) input h = spelled air input (numbers_in (shape_of (sample air)) input) refl h
 
 pub holds_known : (command : Option Command) (known : Option (List ℕ)) (P Q : List ℕ → Type 0)
     → IfSome known (λ input. (bytes : List ℕ) → P bytes → Q bytes → verdict_of command input ≡ Accepted)
-    → IfSome known (λ input. (bytes : List ℕ) → P bytes → Q bytes → CheckHoldsOf input)
+    → IfSome known (λ input. (bytes : List ℕ) → P bytes → Q bytes → CheckHoldsOf command input)
 holds_known command None P Q h = tt
 holds_known command (Some input) P Q h = λ bytes p q. holds_of_verdict command input (h bytes p q)

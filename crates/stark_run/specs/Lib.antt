@@ -1,3 +1,4 @@
+pub mod Airs
 pub mod Check
 pub mod Input
 pub mod Numbers

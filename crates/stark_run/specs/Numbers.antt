@@ -4,4 +4,13 @@ use Rattle.stark_run.specs.declared.input.CheckInput.{CheckInput}
 use Rattle.stark_run.specs.Input.{CheckNumbers}
 
 abbrev pub numbers : CheckInput → CheckNumbers
-numbers c = record { log_height = c.log_height; publics = c.publics.items; local = c.local.items; next = c.next.items; alpha = c.alpha; zeta = c.zeta; chunks = map (λ chunk. chunk.items) c.chunks.items }
+numbers c = record {
+  log_height = c.log_height;
+  publics = c.publics.items;
+  local = c.local.items;
+  next = c.next.items;
+  preprocessed_local = c.preprocessed_local.items;
+  alpha = c.alpha;
+  zeta = c.zeta;
+  chunks = map (λ chunk. chunk.items) c.chunks.items;
+}

@@ -1,38 +1,53 @@
 -- What a run writes, and how it ends.
-use Rattle.std.specs.Prelude.{true, ◌≡◌, ℕ, List, [], ◌∷◌, ◌++◌, if◌then◌else◌, Option, None, Some, ◌&&◌, codes, take, ◌⊎◌, IfSome}
+use Rattle.std.specs.Prelude.{◌≡◌, true, ℕ, List, [], ◌∷◌, ◌++◌, if◌then◌else◌, Option, None, Some, option_map, codes, take, ◌⊎◌, IfSome}
 use Rattle.std.specs.Str.{bytes_eq}
 use Rattle.std.specs.Io.KnownBytes.{Appends, Keeps}
+use Rattle.stark_run.specs.Airs.{CheckedAir, log_chunks_of, sample, shape_of}
 use Rattle.stark_run.specs.Check.{checked, CheckHolds}
-use Rattle.stark_run.specs.Input.{CheckNumbers, has_counter_shape, numbers_in}
+use Rattle.stark_run.specs.Input.{CheckNumbers, has_shape, numbers_in}
 use Rattle.stark_run.specs.Verdict.{line_of, end_of}
 use Rattle.stark_run.specs.declared.verdict.Verdict.{Verdict}
 use Rattle.stark_run.specs.declared.verdict.Verdict.TheVariants as verdict
 use Rattle.stark_run.specs.declared.verdict.Refusal.TheVariants as refusal
 use Rattle.stark_run.specs.declared.verdict.RunEnd.{RunEnd}
 use Rattle.stark_run.specs.declared.verdict.RunEnd.TheVariants.{Accepted, Refused, BadInput, InputFailed, OutputFailed}
-use Rattle.stark_run.specs.declared.run.Command.{Command}
-use Rattle.stark_run.specs.declared.run.Command.TheVariants.{CheckCounter}
+use Rattle.stark_run.specs.declared.words.Command.{Command}
+use Rattle.stark_run.specs.declared.words.Command.TheVariants.{Check}
+use Rattle.stark_run.specs.declared.words.SampleAir.{SampleAir}
+use Rattle.stark_run.specs.declared.words.SampleAir.TheVariants.{Counter, Cubic, Fibonacci, Periodic, Preprocessed, Pair}
 
--- The input spells numbers in the counter's shape of which the check holds.
-abbrev pub CheckHoldsOf : List ℕ → Type 0
-CheckHoldsOf input = (m : CheckNumbers) × (numbers_in input ≡ Some m) × (has_counter_shape m ≡ true) × CheckHolds m
+-- The command is the check of an AIR, and the input spells numbers of its widths and counts of which that check holds.
+abbrev pub CheckHoldsOf : Option Command → List ℕ → Type 0
+CheckHoldsOf command input = (air : SampleAir) × (command ≡ Some (Check air)) × (m : CheckNumbers) × (numbers_in (shape_of (sample air)) input ≡ Some m)
+    × (has_shape (shape_of (sample air)) m ≡ true) × CheckHolds (sample air) (log_chunks_of air) m
+
+-- the AIR of a name, compared whole
+abbrev pub named_air : List ℕ → Option SampleAir
+named_air name =
+    if bytes_eq name (codes "counter") then Some Counter
+    else if bytes_eq name (codes "cubic") then Some Cubic
+    else if bytes_eq name (codes "fibonacci") then Some Fibonacci
+    else if bytes_eq name (codes "periodic") then Some Periodic
+    else if bytes_eq name (codes "preprocessed") then Some Preprocessed
+    else if bytes_eq name (codes "pair") then Some Pair
+    else None
 
 -- the command that the words name, compared whole
 abbrev pub command_of : List (List ℕ) → Option Command
 command_of [] = None
 command_of (verb ∷ []) = None
-command_of (verb ∷ air ∷ []) = if bytes_eq verb (codes "check") && bytes_eq air (codes "counter") then Some CheckCounter else None
+command_of (verb ∷ air ∷ []) = if bytes_eq verb (codes "check") then option_map Check (named_air air) else None
 command_of (verb ∷ air ∷ more ∷ rest) = None
 
 -- what is found of numbers, if they were read
-unfoldable pub judged : Option CheckNumbers → Verdict
-judged None = verdict.BadInput
-judged (Some m) = if has_counter_shape m then checked m else verdict.BadInput
+abbrev pub judged : CheckedAir → ℕ → Option CheckNumbers → Verdict
+judged air log_chunks None = verdict.BadInput
+judged air log_chunks (Some m) = if has_shape (shape_of air) m then checked air log_chunks m else verdict.BadInput
 
 -- what is found of an input
 abbrev pub verdict_of : Option Command → List ℕ → Verdict
 verdict_of None input = verdict.BadInput
-verdict_of (Some CheckCounter) input = judged (numbers_in input)
+verdict_of (Some (Check air)) input = judged (sample air) (log_chunks_of air) (numbers_in (shape_of (sample air)) input)
 
 -- This is the reader's input, where the reader tells its bytes.
 abbrev pub IsInput : Option (List ℕ) → List ℕ → Type 0

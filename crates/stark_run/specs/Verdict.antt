@@ -3,13 +3,15 @@ use Rattle.std.specs.Prelude.{ℕ, List, ◌++◌, codes}
 use Rattle.stark_run.specs.declared.verdict.RunEnd.{RunEnd}
 use Rattle.stark_run.specs.declared.verdict.RunEnd.TheVariants as ends
 use Rattle.stark_run.specs.declared.verdict.Refusal.{Refusal}
-use Rattle.stark_run.specs.declared.verdict.Refusal.TheVariants.{OodEvaluationMismatch, OodPointInDomain, OutOfMemory}
+use Rattle.stark_run.specs.declared.verdict.Refusal.TheVariants.{OodEvaluationMismatch, OodPointInDomain, PeriodicColumn, QuotientDomainTooLarge, OutOfMemory}
 use Rattle.stark_run.specs.declared.verdict.Verdict.{Verdict}
 use Rattle.stark_run.specs.declared.verdict.Verdict.TheVariants.{Accepted, Refused, BadInput}
 
 abbrev pub name_of : Refusal → List ℕ
 name_of OodEvaluationMismatch = codes "OodEvaluationMismatch"
 name_of OodPointInDomain = codes "OodPointInDomain"
+name_of PeriodicColumn = codes "PeriodicColumn"
+name_of QuotientDomainTooLarge = codes "QuotientDomainTooLarge"
 name_of OutOfMemory = codes "OutOfMemory"
 
 -- what is written, with the newline

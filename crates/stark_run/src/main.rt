@@ -3,8 +3,12 @@
 
 ghost use Rattle.std.specs.Prelude.{◌≡◌, ◌⊎◌, IfErr};
 
+#[cfg(test)]
+mod air_tests;
+mod airs;
 mod check;
 mod input;
+mod judge;
 mod point;
 mod run;
 mod sources;
@@ -12,6 +16,7 @@ mod streams;
 #[cfg(test)]
 mod tests;
 mod verdict;
+mod words;
 
 use run::run;
 use sources::{WatchedReader, WatchedWriter};

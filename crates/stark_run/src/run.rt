@@ -2,53 +2,14 @@
 
 ghost use Rattle.std.specs.Prelude.{◌≡◌, ◌↔◌, ◌⊎◌, ℕ, List, map, string_bytes, true, false, None, Ok, IfOk, IfSome, IfErr, is_err, take, codes};
 ghost use Rattle.std.specs.Io.KnownBytes.{Appends};
-ghost use Rattle.stark_run.specs.Input.{numbers_in};
-ghost use Rattle.stark_run.specs.Run.{CheckHoldsOf, command_of, judged, verdict_of, Found, Says, SaysFound, SaysOrLacksMemory, AcceptsInput, Wrote};
+ghost use Rattle.stark_run.specs.Run.{CheckHoldsOf, command_of, verdict_of, Found, Says, SaysFound, SaysOrLacksMemory, AcceptsInput, Wrote};
 ghost use Rattle.stark_run.specs.Verdict.{line_of};
 
-use crate::check::check;
-use crate::input::numbers_from;
+use crate::judge::judge_sample;
 use crate::streams::{InputFault, Sink, Source, read_to_end, write_all};
 use crate::verdict::{Refusal, RunEnd, Verdict};
-use stark_support::JsonFault;
+use crate::words::{Command, named_command};
 use std::alloc::Global;
-
-/// What the words ask for.
-#[derive(Clone, Copy, Debug, PartialEq, Eq)]
-pub enum Command {
-    /// To check the numbers of a proof for the counter.
-    CheckCounter,
-}
-
-/// The command that the words name, compared whole.
-fn named_command(words: &[String]) -> Option<Command>
-    ensures { result ≡ command_of (map string_bytes words.now) }
-{
-    match words {
-        [verb, air] if verb.as_str() == "check" && air.as_str() == "counter" => {
-            Some(Command::CheckCounter)
-        }
-        _ => None,
-    }
-}
-
-/// What is found of the bytes of an input.
-#[tactic(auto, unfolding(crate::specs::Run::judged))]
-fn judge(alloc: Global, bytes: &[u8]) -> Verdict
-    ensures { (result ≡ judged (numbers_in bytes.now)) ⊎ (result ≡ Verdict.Refused Refusal.OutOfMemory) }
-{
-    match numbers_from(alloc, bytes) {
-        Ok(input) => {
-            if input.has_counter_shape() {
-                check(alloc, &input)
-            } else {
-                Verdict::BadInput
-            }
-        }
-        Err(JsonFault::Invalid) => Verdict::BadInput,
-        Err(JsonFault::OutOfMemory) => Verdict::Refused(Refusal::OutOfMemory),
-    }
-}
 
 /// Finds the verdict, or fails by the reader alone.
 fn find<R: Source>(alloc: Global, words: &[String], reader: &mut R) -> Result<Verdict, RunEnd>
@@ -64,7 +25,7 @@ fn find<R: Source>(alloc: Global, words: &[String], reader: &mut R) -> Result<Ve
     };
     match read_to_end(alloc, reader) {
         Ok(input) => match command {
-            Command::CheckCounter => Ok(judge(alloc, &input)),
+            Command::Check(air) => Ok(judge_sample(alloc, air, &input)),
         },
         Err(InputFault::OutOfMemory) => Ok(Verdict::Refused(Refusal::OutOfMemory)),
         Err(InputFault::Failed) => Err(RunEnd::InputFailed),
@@ -135,11 +96,11 @@ pub fn run<R: Source, W: Sink>(
         Wrote (W.contents writer.old) (W.contents writer.new) bytes →
         take 8 bytes ≡ codes "accepted" →
         verdict_of (command_of (map string_bytes words.now)) input ≡ Verdict.Accepted) }
-    // So of the numbers that the bytes spell zeta lies outside H, and the equation holds.
+    // So of the numbers that the bytes spell for the AIR that is named, its check holds.
     ensures holds { IfSome (R.remaining reader.old) (λ input. (bytes : List ℕ) →
         Wrote (W.contents writer.old) (W.contents writer.new) bytes →
         take 8 bytes ≡ codes "accepted" →
-        CheckHoldsOf input) }
+        CheckHoldsOf (command_of (map string_bytes words.now)) input) }
     // A run ends so only where they hold of an input, whether or not the reader tells its bytes.
     ensures accepted_end { result ≡ RunEnd.Accepted
         → AcceptsInput (command_of (map string_bytes words.now)) (R.remaining reader.old) × Appends (W.contents writer.old) (W.contents writer.new) (line_of Verdict.Accepted) }

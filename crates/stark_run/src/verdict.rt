@@ -38,6 +38,10 @@ pub enum Refusal {
     OodEvaluationMismatch,
     /// The point lies in the domain of the trace.
     OodPointInDomain,
+    /// A periodic column doesn't fit the height.
+    PeriodicColumn,
+    /// The field has no group as large as the quotient's domain.
+    QuotientDomainTooLarge,
     /// A growth of memory was refused.
     OutOfMemory,
 }
@@ -62,6 +66,8 @@ impl Verdict {
             Verdict::Accepted => "accepted\n",
             Verdict::Refused(Refusal::OodEvaluationMismatch) => "refused OodEvaluationMismatch\n",
             Verdict::Refused(Refusal::OodPointInDomain) => "refused OodPointInDomain\n",
+            Verdict::Refused(Refusal::PeriodicColumn) => "refused PeriodicColumn\n",
+            Verdict::Refused(Refusal::QuotientDomainTooLarge) => "refused QuotientDomainTooLarge\n",
             Verdict::Refused(Refusal::OutOfMemory) => "refused OutOfMemory\n",
             Verdict::BadInput => "bad input\n",
         }

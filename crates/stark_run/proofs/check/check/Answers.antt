@@ -1,9 +1,13 @@
-use Rattle.std.proofs.Common.{◌≡◌, ap, map}
+use Rattle.std.proofs.Common.{◌≡◌, ◌⊎◌, subst, ℕ}
+use Rattle.stark_run.specs.Check.{checked}
 use Rattle.stark_run.specs.Numbers.{numbers}
-use Rattle.stark_run.proofs.PointSteps.{found_of_numbers}
+use Rattle.stark_run.specs.Airs.{checked_air}
+use Rattle.stark_run.proofs.Parts.{same_ceiling}
+use Rattle.stark_run.specs.declared.verdict.Verdict.TheVariants.{Refused}
+use Rattle.stark_run.specs.declared.verdict.Refusal.TheVariants.{OutOfMemory}
 use Rattle.stark_run.proofs.check.check.Goals as goal
 
-pub returns : goal.returns
-returns c =
-    found_of_numbers (numbers c.args.input.now) c.subgroup-trace_domain.result.shift c.subgroup-trace_domain.result.log_size c.deref.result.now c.deref-2.result.now c.deref-3.result.now _ c.check_point.result
-    c.subgroup-trace_domain.ensures.shift c.subgroup-trace_domain.ensures.size c.deref.ensures.value c.deref-2.ensures.value c.deref-3.ensures.value (ap (map _) c.deref-4.ensures.value) c.check_point.ensures
+pub returns-in-Ok : goal.returns-in-Ok
+returns-in-Ok g c = λ log_chunks cut.
+    subst (λ (k : ℕ). (c.check_cut.result ≡ checked (checked_air (g.A.BaseAir.layout c.args.air.now) (g.A.BaseAir.main_next_row_columns c.args.air.now) (g.A.BaseAir.periodic_columns c.args.air.now) (g.A.BaseAir.degree_hint c.args.air.now) (g.A.Air.constraints c.args.air.now)) k (numbers c.args.input.now)) ⊎ (c.check_cut.result ≡ Refused OutOfMemory))
+    (same_ceiling c.in-Ok.log_chunks log_chunks _ c.in-Ok.ensures cut) c.check_cut.ensures

@@ -7,6 +7,8 @@ mod airs;
 #[cfg(test)]
 mod challengers;
 #[cfg(test)]
+mod configurations;
+#[cfg(test)]
 mod constraints;
 #[cfg(test)]
 mod domains;
@@ -19,10 +21,14 @@ mod numbers;
 #[cfg(test)]
 mod polynomials;
 #[cfg(test)]
+mod proofs;
+#[cfg(test)]
 mod seeds;
 #[cfg(test)]
 mod sized_airs;
 #[cfg(test)]
 mod sizing;
+#[cfg(test)]
+mod tables;
 #[cfg(test)]
 mod transcripts;

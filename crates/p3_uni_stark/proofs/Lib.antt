@@ -1,3 +1,4 @@
 pub mod EquationSteps
 pub mod Rows
 pub mod ReadBack
+pub mod SetUpSteps

@@ -2,10 +2,12 @@
 #![tactic(auto)]
 
 mod constraints;
+mod preprocessed;
 mod proof;
 mod verifier;
 
 pub use constraints::verify_constraints;
+pub use preprocessed::{PreprocessedProverData, PreprocessedVerifierKey, setup_preprocessed};
 pub use proof::{
     Commitments, OpenedValues, OpeningsDecodeError, PreprocessedOpenedValues, Proof,
     ProofDecodeError,

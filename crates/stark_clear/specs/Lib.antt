@@ -1,1 +1,12 @@
 pub mod Samples
+pub mod Columns
+pub mod ClearClaims
+pub mod ColumnPoints
+pub mod Opened
+pub mod ColumnFacts
+pub mod OpenedFacts
+pub mod ClearScheme
+pub mod ClearFacts
+pub mod RowFacts
+pub mod PlainChunks
+pub mod PlainChunkFacts

@@ -3,7 +3,7 @@ use Rattle.stark_support.specs.Points.{powers_from}
 use Rattle.stark_support.specs.PointFacts.{powers_length}
 use Rattle.stark_support.specs.Polynomial.{IsWithoutRepeats}
 use Rattle.stark_support.specs.PeriodicValueFacts.{divides, period_without_repeats}
-use Rattle.stark_support.proofs.periodic.periodic_value.Goals as goal
+use Rattle.stark_support.proofs.periodic.column_polynomial.Goals as goal
 
 pub interpolate-requires-clause-same_length : goal.interpolate-requires-clause-same_length
 interpolate-requires-clause-same_length g c =

@@ -1,0 +1,57 @@
+-- When claims are true of the columns that a commitment lists, and which claim is the first that isn't.
+use Rattle.std.specs.Prelude.{◌≡◌, ℕ, zero, suc, ⊤, List, [], ◌∷◌, length, Option, None, Some}
+use Rattle.std.specs.List.{AllByRecursion}
+use Rattle.stark_support.specs.Ring.{RingOps}
+use Rattle.stark_support.specs.Polynomial.{value_over}
+use Rattle.stark_support.specs.Coset.{TwoAdicCoset, coset_size}
+use Rattle.stark_support.specs.Claims.{RoundClaim}
+use Rattle.stark_clear.specs.declared.clear.check.ClearError.{ClearError}
+use Rattle.stark_clear.specs.declared.clear.check.ClearError.TheVariants.{Stopped, Shape, Value}
+
+-- Two lists are of one length, and what stands at the same place of them is related.
+unfoldable pub PlaceByPlace : {A B : Type 0} → (A → B → Type 0) → List A → List B → Type 0
+PlaceByPlace R [] [] = ⊤
+PlaceByPlace R [] (y ∷ ys) = ⊥
+PlaceByPlace R (x ∷ xs) [] = ⊥
+PlaceByPlace R (x ∷ xs) (y ∷ ys) = R x y × PlaceByPlace R xs ys
+
+-- Element i is the first of which P fails.
+unfoldable pub IsFirstFault : {A : Type 0} → (A → Type 0) → List A → ℕ → Type 0
+IsFirstFault P [] i = ⊥
+IsFirstFault P (x ∷ xs) zero = P x → ⊥
+IsFirstFault P (x ∷ xs) (suc i) = P x × IsFirstFault P xs i
+
+-- The number of the first of which P fails; none where it holds of all.
+abbrev pub FindsFirstFault : {A : Type 0} → (A → Type 0) → List A → Option ℕ → Type 0
+FindsFirstFault P xs None = AllByRecursion P xs
+FindsFirstFault P xs (Some i) = IsFirstFault P xs i
+
+-- Each column has as many coefficients as the claimed domain points, and there are as many columns as values at each point.
+abbrev pub MatrixHasShape : {F E : Type 0} → List (List F) → TwoAdicCoset F × List (E × List E) → Type 0
+MatrixHasShape columns claim = AllByRecursion (λ column. length column ≡ coset_size claim.0) columns × AllByRecursion (λ p. length p.1 ≡ length columns) claim.1
+
+abbrev pub RoundHasShape : {F E : Type 0} → RoundClaim F E (List (List (List F))) → Type 0
+RoundHasShape claim = PlaceByPlace MatrixHasShape claim.0 claim.1
+
+abbrev pub HasValue : {F E : Type 0} → RingOps E → (F → E) → E → List F → E → Type 0
+HasValue ring embed x column v = v ≡ value_over ring embed column x
+
+-- Each value is that of the column at its place.
+abbrev pub HasValues : {F E : Type 0} → RingOps E → (F → E) → List (List F) → E × List E → Type 0
+HasValues ring embed columns p = PlaceByPlace (HasValue ring embed p.0) columns p.1
+
+abbrev pub MatrixIsTrue : {F E : Type 0} → RingOps E → (F → E) → List (List F) → TwoAdicCoset F × List (E × List E) → Type 0
+MatrixIsTrue ring embed columns claim = AllByRecursion (HasValues ring embed columns) claim.1
+
+abbrev pub RoundIsTrue : {F E : Type 0} → RingOps E → (F → E) → RoundClaim F E (List (List (List F))) → Type 0
+RoundIsTrue ring embed claim = PlaceByPlace (MatrixIsTrue ring embed) claim.0 claim.1
+
+-- All shapes and all values are as claimed.
+abbrev pub ClaimsAreTrue : {F E : Type 0} → RingOps E → (F → E) → List (RoundClaim F E (List (List (List F)))) → Type 0
+ClaimsAreTrue ring embed claims = AllByRecursion RoundHasShape claims × AllByRecursion (RoundIsTrue ring embed) claims
+
+-- The first round of a wrong shape, and where no round has one the first with a wrong value.
+abbrev pub ClaimsFault : {F E : Type 0} → RingOps E → (F → E) → List (RoundClaim F E (List (List (List F)))) → ClearError → Type 0
+ClaimsFault ring embed claims Stopped = ⊥
+ClaimsFault ring embed claims (Shape round) = IsFirstFault RoundHasShape claims round
+ClaimsFault ring embed claims (Value round) = AllByRecursion RoundHasShape claims × IsFirstFault (RoundIsTrue ring embed) claims round

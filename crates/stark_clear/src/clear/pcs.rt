@@ -1,0 +1,233 @@
+//! The scheme in the clear.
+ghost use Rattle.std.specs.Prelude.{◌≡◌, ◌≤◌, ◌/◌, ◌*◌, ◌^◌, ℕ, List, [], ◌∷◌, false, map, length, IfErr, IfOk};
+ghost use Rattle.std.specs.Int.{IsPowerOfTwo};
+ghost use Rattle.std.specs.List.{AllByRecursion};
+ghost use Rattle.stark_support.specs.Claims.{IfRefused, claim_view, opened_view, round_view};
+ghost use Rattle.stark_support.specs.Coset.{coset_size};
+ghost use Rattle.stark_support.specs.PeriodicTable.{HasPeriodicValues};
+ghost use Rattle.stark_support.specs.Scheme.{AreQuotientChunks, OpenedRound, QuotientChunk, RoundStands, TakesRows, committed_chunk, handed, matrix_row, natural_coset, true_claim, true_values, zk_bits};
+ghost use Rattle.stark_clear.specs.ClearFacts.{clear_laws};
+ghost use Rattle.stark_clear.specs.ClearScheme.{clear_scheme};
+
+use crate::clear::check::{ClearError, check_claims};
+use crate::clear::commit::{chunks_of, columns_of, committed, committed_alone, copied};
+use crate::clear::opening::{open_rounds, rows_on};
+use stark_bench::{ClearCommitment, Coset};
+use stark_support::{
+    ExtensionField, OpenedRounds, OpeningClaim, OpeningRound, Pcs, PeriodicColumns,
+    PeriodicLdeTable, PolynomialSpace, RowMajorMatrix, SchemeFault, TwoAdicField,
+    UnivariateStarkPcs, log2_strict_usize, periodic_lde_table,
+};
+use std::alloc::{AllocError, Global};
+use std::marker::PhantomData;
+use thiserror::Error;
+
+/// Why the prover's side of the scheme in the clear stops.
+#[derive(Debug, Drop, Error)]
+pub enum ClearProverError {
+    /// The scheme was made to stop at this call.
+    #[error("stopped")]
+    Stopped,
+}
+
+/// The proof of an opening in the clear: nothing, since the commitment shows its columns.
+#[derive(Clone, Copy, Debug, Drop, PartialEq, Eq)]
+pub struct ClearProof;
+
+/// A scheme that commits to columns by listing their coefficients. It hides nothing.
+#[derive(Clone, Debug, Drop)]
+pub struct ClearPcs<F> {
+    field: PhantomData<F>,
+}
+
+impl<F> ClearPcs<F> {
+    /// The scheme.
+    pub fn new() -> ClearPcs<F> {
+        ClearPcs { field: PhantomData }
+    }
+}
+
+impl<F: TwoAdicField, EF: ExtensionField<F>, C> Pcs<EF, C> for ClearPcs<F> {
+    type Domain = Coset<F>;
+
+    type Commitment = ClearCommitment<F>;
+
+    type ProverData = ClearCommitment<F>;
+
+    type Proof = ClearProof;
+
+    type Error = ClearError;
+
+    type ProverError = ClearProverError;
+
+    ghost ZK = { false };
+
+    ghost scheme = { clear_scheme EF.ring EF.embed F.TWO_ADICITY };
+
+    const ZK: bool = false;
+
+    fn natural_domain_for_degree(&self, degree: usize) -> Coset<F> {
+        Coset::subgroup(log2_strict_usize(degree))
+    }
+
+    fn copy_commitment(
+        &self,
+        alloc: Global,
+        commitment: &ClearCommitment<F>,
+    ) -> Result<ClearCommitment<F>, AllocError> {
+        let copy = copied(alloc, commitment.matrices())?;
+        Ok(ClearCommitment::new(copy))
+    }
+
+    fn commit(
+        &self,
+        alloc: Global,
+        domain: Coset<F>,
+        matrix: RowMajorMatrix<F>,
+    ) -> Result<(ClearCommitment<F>, ClearCommitment<F>), SchemeFault<ClearProverError>>
+        requires power { IsPowerOfTwo (length matrix.values.items / matrix.width) }
+        requires within { coset_size (⟦<Coset<F> as PolynomialSpace>⟧.coset_of domain) ≤ 2 ^ F.TWO_ADICITY }
+        requires room { length matrix.values.items / matrix.width ≤ coset_size (⟦<Coset<F> as PolynomialSpace>⟧.coset_of domain) }
+        ensures stands { IfOk result (λ made. (columns : List (List F)) × ⟦<ClearPcs<F> as Pcs<EF, C>>⟧.scheme.Stands self.now made.0 made.1 (record { domain = ⟦<Coset<F> as PolynomialSpace>⟧.coset_of domain; columns = columns } ∷ [])
+            × ((log_height : ℕ) → 2 ^ log_height ≡ length matrix.values.items / matrix.width
+            → TakesRows F.ring F.root (natural_coset F.ring log_height) matrix.width (matrix_row matrix.values.items matrix.width) columns)) }
+        ensures refused { IfErr result (λ fault. IfRefused fault (⟦<ClearPcs<F> as Pcs<EF, C>>⟧.scheme.RefusesCommit self.now (⟦<Coset<F> as PolynomialSpace>⟧.coset_of domain) matrix.values.items matrix.width)) }
+    {
+        let columns = columns_of(alloc, &domain, &matrix)?;
+        let made = committed_alone(alloc, columns)?;
+        Ok(made)
+    }
+
+    fn get_evaluations_on_domain(
+        &self,
+        alloc: Global,
+        prover_data: &ClearCommitment<F>,
+        index: usize,
+        domain: Coset<F>,
+    ) -> Result<RowMajorMatrix<F>, AllocError> {
+        let rows = rows_on(alloc, prover_data.matrices(), index, &domain)?;
+        Ok(rows)
+    }
+}
+
+impl<F: TwoAdicField, EF: ExtensionField<F>, C> UnivariateStarkPcs<EF, C> for ClearPcs<F> {
+    fn log_min_trace_height(&self) -> usize {
+        0
+    }
+
+    fn log_max_trace_height(&self) -> usize {
+        F::TWO_ADICITY
+    }
+
+    fn commit_preprocessing(
+        &self,
+        alloc: Global,
+        domain: Coset<F>,
+        matrix: RowMajorMatrix<F>,
+    ) -> Result<(ClearCommitment<F>, ClearCommitment<F>), SchemeFault<ClearProverError>>
+        requires power { IsPowerOfTwo (length matrix.values.items / matrix.width) }
+        requires within { coset_size (⟦<Coset<F> as PolynomialSpace>⟧.coset_of domain) ≤ 2 ^ F.TWO_ADICITY }
+        requires room { length matrix.values.items / matrix.width ≤ coset_size (⟦<Coset<F> as PolynomialSpace>⟧.coset_of domain) }
+        ensures stands { IfOk result (λ made. (columns : List (List F)) × ⟦<ClearPcs<F> as Pcs<EF, C>>⟧.scheme.Stands self.now made.0 made.1 (record { domain = ⟦<Coset<F> as PolynomialSpace>⟧.coset_of domain; columns = columns } ∷ [])
+            × ((log_height : ℕ) → 2 ^ log_height ≡ length matrix.values.items / matrix.width
+            → TakesRows F.ring F.root (natural_coset F.ring log_height) matrix.width (matrix_row matrix.values.items matrix.width) columns)) }
+        ensures refused { IfErr result (λ fault. IfRefused fault (⟦<ClearPcs<F> as Pcs<EF, C>>⟧.scheme.RefusesPreprocessing self.now (⟦<Coset<F> as PolynomialSpace>⟧.coset_of domain) matrix.values.items matrix.width)) }
+    {
+        let columns = columns_of(alloc, &domain, &matrix)?;
+        let made = committed_alone(alloc, columns)?;
+        Ok(made)
+    }
+
+    fn commit_quotient(
+        &self,
+        alloc: Global,
+        domain: Coset<F>,
+        flat: RowMajorMatrix<F>,
+        num_chunks: usize,
+    ) -> Result<(ClearCommitment<F>, ClearCommitment<F>), SchemeFault<ClearProverError>>
+        requires height { length flat.values.items ≡ coset_size (⟦<Coset<F> as PolynomialSpace>⟧.coset_of domain) * flat.width }
+        requires power { IsPowerOfTwo num_chunks }
+        requires parts { num_chunks ≤ coset_size (⟦<Coset<F> as PolynomialSpace>⟧.coset_of domain) }
+        requires within { coset_size (⟦<Coset<F> as PolynomialSpace>⟧.coset_of domain) * 2 ^ zk_bits false ≤ num_chunks * 2 ^ F.TWO_ADICITY }
+        ensures stands { IfOk result (λ made. (chunks : List (QuotientChunk F))
+            × ⟦<ClearPcs<F> as Pcs<EF, C>>⟧.scheme.Stands self.now made.0 made.1 (map (committed_chunk F.ring false) chunks)
+            × ((log_parts : ℕ) → 2 ^ log_parts ≡ num_chunks
+            → AreQuotientChunks F.ring F.root EF.ring EF.inverse_of EF.embed false (⟦<Coset<F> as PolynomialSpace>⟧.coset_of domain) log_parts flat.width (matrix_row flat.values.items flat.width) chunks)) }
+        ensures refused { IfErr result (λ fault. IfRefused fault (⟦<ClearPcs<F> as Pcs<EF, C>>⟧.scheme.RefusesQuotient self.now (⟦<Coset<F> as PolynomialSpace>⟧.coset_of domain) flat.values.items flat.width num_chunks)) }
+    {
+        let chunks = chunks_of(alloc, &domain, &flat, num_chunks)?;
+        let made = committed(alloc, chunks)?;
+        Ok(made)
+    }
+
+    fn get_opt_randomization_poly_commitment(
+        &self,
+        _alloc: Global,
+        _domain: Coset<F>,
+    ) -> Result<Option<(ClearCommitment<F>, ClearCommitment<F>)>, SchemeFault<ClearProverError>> {
+        Ok(None)
+    }
+
+    fn get_evaluations_on_domain_no_random(
+        &self,
+        alloc: Global,
+        prover_data: &ClearCommitment<F>,
+        index: usize,
+        domain: Coset<F>,
+    ) -> Result<RowMajorMatrix<F>, AllocError> {
+        let rows = rows_on(alloc, prover_data.matrices(), index, &domain)?;
+        Ok(rows)
+    }
+
+    fn build_periodic_lde_table(
+        &self,
+        alloc: Global,
+        columns: &PeriodicColumns<'_, F>,
+        trace_domain: Coset<F>,
+        quotient_domain: Coset<F>,
+    ) -> Result<PeriodicLdeTable<F>, AllocError>
+        requires { columns.now.trace_len ≡ coset_size (⟦<Coset<F> as PolynomialSpace>⟧.coset_of trace_domain) }
+        ensures { IfOk result (λ table. HasPeriodicValues F.ring F.inverse_of F.root (⟦<Coset<F> as PolynomialSpace>⟧.coset_of trace_domain) (⟦<Coset<F> as PolynomialSpace>⟧.coset_of quotient_domain)
+            (map (λ column. column.items) columns.now.columns.now) table.values.items table.width table.period) }
+    {
+        let table = periodic_lde_table(alloc, columns, &trace_domain, &quotient_domain)?;
+        Ok(table)
+    }
+
+    fn open_with_preprocessing(
+        &self,
+        alloc: Global,
+        rounds: Vec<OpeningRound<'_, EF, ClearCommitment<F>>>,
+        _challenger: &mut C,
+        _preprocessed_index: Option<usize>,
+    ) -> Result<(OpenedRounds<EF>, ClearProof), SchemeFault<ClearProverError>>
+        ensures true_values { IfOk result (λ opened. (made : List (OpenedRound F EF (List (List (List F))) (List (List (List F))))) → AllByRecursion (RoundStands ⟦<ClearPcs<F> as Pcs<EF, C>>⟧.scheme self.now) made
+            → map round_view rounds.entry.items ≡ map handed made → opened_view opened.0 ≡ map (true_values EF.ring EF.embed) made) }
+        ensures whole { IfOk result (λ opened. (made : List (OpenedRound F EF (List (List (List F))) (List (List (List F))))) → AllByRecursion (RoundStands ⟦<ClearPcs<F> as Pcs<EF, C>>⟧.scheme self.now) made
+            → map round_view rounds.entry.items ≡ map handed made → ⟦<ClearPcs<F> as Pcs<EF, C>>⟧.scheme.Whole self.now
+            → ⟦<ClearPcs<F> as Pcs<EF, C>>⟧.scheme.Accepts self.now (map (true_claim EF.ring EF.embed) made) opened.1 _challenger.old _preprocessed_index) }
+        ensures refused { IfErr result (λ fault. IfRefused fault (⟦<ClearPcs<F> as Pcs<EF, C>>⟧.scheme.RefusesOpening self.now (map round_view rounds.entry.items) _challenger.old _preprocessed_index)) }
+    {
+        let opened = open_rounds::<F, EF>(alloc, &rounds)?;
+        Ok((opened, ClearProof))
+    }
+
+    fn verify_with_preprocessing(
+        &self,
+        _alloc: Global,
+        claims: Vec<OpeningClaim<'_, EF, ClearCommitment<F>, Coset<F>>>,
+        _proof: &ClearProof,
+        _challenger: &mut C,
+        _preprocessed_index: Option<usize>,
+    ) -> Result<(), SchemeFault<ClearError>>
+        ensures accepted { IfOk result (λ _. ⟦<ClearPcs<F> as Pcs<EF, C>>⟧.scheme.Accepts self.now (map (claim_view ⟦<Coset<F> as PolynomialSpace>⟧.coset_of) claims.entry.items) _proof.now _challenger.old _preprocessed_index) }
+        ensures refused { IfErr result (λ fault. IfRefused fault (⟦<ClearPcs<F> as Pcs<EF, C>>⟧.scheme.Refuses self.now (map (claim_view ⟦<Coset<F> as PolynomialSpace>⟧.coset_of) claims.entry.items) _proof.now _challenger.old _preprocessed_index)) }
+    {
+        match check_claims::<Coset<F>, EF>(&claims) {
+            Ok(()) => Ok(()),
+            Err(error) => Err(SchemeFault::Refused(error)),
+        }
+    }
+
+    ghost scheme_laws = { clear_laws EF.ring EF.embed F.TWO_ADICITY F.two_adic.bounded };
+}

@@ -48,7 +48,7 @@ pub element_reads_back : {K : Type 0} (coordinate_at : Data → Option K) (coord
 unfolding element_at array_at
 element_reads_back coordinate_at coordinate_written back x = rw (back x.c0, back x.c1, back x.c2, back x.c3) refl
 
-is_null : Data → Bool
+pub is_null : Data → Bool
 is_null null = true
 is_null (boolean b) = false
 is_null (number n) = false

@@ -4,6 +4,7 @@
 mod alone;
 mod challenger;
 mod circle;
+mod commitment_json;
 mod coset;
 mod ext4;
 mod json;

@@ -10,3 +10,4 @@ pub mod ClearFacts
 pub mod RowFacts
 pub mod PlainChunks
 pub mod PlainChunkFacts
+pub mod ClearJson

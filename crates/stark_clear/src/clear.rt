@@ -3,6 +3,7 @@
 mod check;
 mod columns;
 mod commit;
+mod json;
 mod opening;
 mod pcs;
 

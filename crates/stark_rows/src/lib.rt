@@ -7,6 +7,8 @@ mod airs;
 #[cfg(test)]
 mod challengers;
 #[cfg(test)]
+mod clear_scheme;
+#[cfg(test)]
 mod configurations;
 #[cfg(test)]
 mod constraints;

@@ -22,10 +22,10 @@ use std::alloc::{AllocError, Global};
 use std::marker::PhantomData;
 use thiserror::Error;
 
-/// Why the prover's side of the scheme in the clear stops.
+/// Why the prover's side of the scheme in the clear gives no answer.
 #[derive(Debug, Drop, Error)]
 pub enum ClearProverError {
-    /// The scheme was made to stop at this call.
+    /// The scheme was made to stop at this call; nothing makes it so yet.
     #[error("stopped")]
     Stopped,
 }
@@ -34,14 +34,17 @@ pub enum ClearProverError {
 #[derive(Clone, Copy, Debug, Drop, PartialEq, Eq)]
 pub struct ClearProof;
 
-/// A scheme that commits to columns by listing their coefficients. It hides nothing.
+/// A scheme that commits to columns by listing their coefficients, so that it hides nothing and needs no proof of an opening.
+/// Each committed column has as many coefficients as its domain has points. It commits to traces of 1 to `2^TWO_ADICITY` rows,
+/// in a time that grows with the square of that number, and leaves the challenger alone. Verifying is Ok exactly where
+/// all claims are true of the listed columns; else it names the first round at fault.
 #[derive(Clone, Debug, Drop)]
 pub struct ClearPcs<F> {
     field: PhantomData<F>,
 }
 
 impl<F> ClearPcs<F> {
-    /// The scheme.
+    /// The scheme. It takes no memory.
     pub fn new() -> ClearPcs<F> {
         ClearPcs { field: PhantomData }
     }

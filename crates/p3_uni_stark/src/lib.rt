@@ -4,6 +4,7 @@
 mod constraints;
 mod preprocessed;
 mod proof;
+mod security;
 mod verifier;
 
 pub use constraints::verify_constraints;
@@ -12,6 +13,7 @@ pub use proof::{
     Commitments, OpenedValues, OpeningsDecodeError, PreprocessedOpenedValues, Proof,
     ProofDecodeError,
 };
+pub use security::{OpeningShape, StarkSecurityParams, num_batched_openings, ood_error_bound};
 pub use stark_air::{
     AirLayout, BaseEntry, ConstraintLayout, SubAirBuilder, SubSliced, SymbolicAirBuilder,
     SymbolicExpression, SymbolicVariable, get_all_symbolic_constraints, get_constraint_layout,
@@ -24,5 +26,8 @@ pub use stark_parts::{
     VerificationError, VerifierConstraintFolder, get_log_num_quotient_chunks,
     get_log_num_quotient_chunks_for_domain, get_log_quotient_degree_extension,
 };
-pub use stark_support::PeriodicColumnShapeError;
-pub use verifier::{recompose_quotient_from_chunks, validate_degree_bits};
+pub use stark_support::{GrindingSites, PeriodicColumnShapeError};
+pub use verifier::{
+    PcsProof, StarkInstance, StarkOperations, StarkProof, recompose_quotient_from_chunks,
+    validate_degree_bits, verify, verify_with_preprocessed,
+};

@@ -7,10 +7,23 @@ ghost use Rattle.stark_support.specs.Polynomial.{value};
 ghost use Rattle.stark_support.specs.RecompositionPolynomial.{chunk_values};
 ghost use Rattle.stark_support.specs.RecompositionLaw.{AreChunksOf};
 
+mod argument;
+mod claims;
+mod equation;
+mod opened;
+mod operations;
+mod point;
+mod preprocessed;
+mod quotient;
+mod run;
 mod shape;
+mod steps;
+mod verdict;
 
+pub use operations::{PcsProof, StarkInstance, StarkOperations, StarkProof};
 pub use shape::validate_degree_bits;
 use stark_support::{ExtensionField, Field, PolynomialSpace};
+pub use verdict::{verify, verify_with_preprocessed};
 
 /// The product of `Z_o(zeta) / Z_o(first point of the domain)` over the other domains.
 fn lagrange_factor<D: PolynomialSpace, EF: ExtensionField<D::Val>>(

@@ -15,7 +15,9 @@ pub use config::{
 };
 pub use error::{InvalidProofShapeError, ProvingError, VerificationError};
 pub use folder::{VerifierConstraintFolder, fold_constraints};
-pub use shape::{GrindExhausted, StarkShape, StarkTranscriptFailure, TranscriptPhase};
+pub use shape::{
+    GrindExhausted, StarkShape, StarkTranscriptFailure, TranscriptPhase, opens_next_row,
+};
 pub use symbolic::{
     get_log_num_quotient_chunks, get_log_num_quotient_chunks_for_domain,
     get_log_quotient_degree_extension,

@@ -117,8 +117,8 @@ fn described(alloc: Global, table: &[(bool, Interaction)]) -> Result<Vec<Interac
     Ok(steps)
 }
 
-/// Whether any column of a next row is declared.
-fn opens_next_row(columns: &[usize]) -> bool
+/// Whether any column of a next row is declared, and so the row is opened.
+pub fn opens_next_row(columns: &[usize]) -> bool
     ensures { result ≡ opens_next_row columns.now }
 {
     match columns {

@@ -25,6 +25,8 @@ mod polynomials;
 #[cfg(test)]
 mod proofs;
 #[cfg(test)]
+mod security;
+#[cfg(test)]
 mod seeds;
 #[cfg(test)]
 mod sized_airs;
@@ -34,3 +36,5 @@ mod sizing;
 mod tables;
 #[cfg(test)]
 mod transcripts;
+#[cfg(test)]
+mod wide_air;

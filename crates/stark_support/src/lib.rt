@@ -15,6 +15,7 @@ mod periodic_table;
 mod polynomial;
 mod powers;
 mod scheme;
+mod security;
 mod util;
 
 pub use challenger::{
@@ -44,4 +45,5 @@ pub use polynomial::{
 };
 pub use powers::{batched_linear_combination, power_of, squared_times};
 pub use scheme::{DomainVal, Pcs, SchemeFault, UnivariateStarkPcs};
+pub use security::{FriRegime, GrindingSites};
 pub use util::{checked_log_size_sum, checked_pow2, log2_ceil_usize, log2_strict_usize};

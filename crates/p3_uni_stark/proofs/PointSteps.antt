@@ -1,0 +1,49 @@
+-- The points of a subgroup are where its vanishing polynomial is zero.
+use Rattle.std.proofs.Common.{◌≡◌, ◌∙◌, sym, ap, refl, ℕ, List, [], ◌∷◌, map, length, Option}
+use Rattle.std.proofs.lemmas.Simd.{map-map}
+use Rattle.stark_support.specs.Ring.{RingOps, FieldLaws}
+use Rattle.stark_support.specs.Powers.{power}
+use Rattle.stark_support.specs.Embedding.{IsEmbedding, embedded_two_adic}
+use Rattle.stark_support.specs.TwoAdic.{TwoAdicLaws}
+use Rattle.stark_support.specs.Coset.{TwoAdicCoset, IsTwoAdicCoset, coset_point, coset_size, coset_vanishing}
+use Rattle.stark_support.specs.CosetFacts.{only_on_points, zero_on_points}
+use Rattle.stark_support.specs.Subgroup.{embedded_coset}
+use Rattle.stark_support.specs.Periodic.{first_fault}
+use Rattle.stark_support.specs.declared.periodic.PeriodicColumnShapeError.{PeriodicColumnShapeError}
+use Rattle.stark_support.specs.SubgroupFacts.{embedded_valid}
+
+module _ {F E : Type 0} {base : RingOps F} {ring : RingOps E} {inverse : E → E} {embed : F → E} (laws : FieldLaws ring inverse) (embeds : IsEmbedding base ring embed)
+    (adicity : ℕ) (root : ℕ → F) (generator : F) (two_adic : TwoAdicLaws base adicity root generator)
+    (coset : TwoAdicCoset F) (valid : IsTwoAdicCoset base adicity coset) (unshifted : coset.shift ≡ base.one) (x : E) where
+  point_is_power : (i : ℕ) → coset_point ring (λ k. embed (root k)) (embedded_coset embed coset) i ≡ power ring (embed (root coset.log_size)) i
+  point_is_power i =
+      let y = power ring (embed (root coset.log_size)) i in
+      ap (λ t. ring.mul t y) (ap embed unshifted ∙ embeds.keeps.one) ∙ laws.of_ring.mul_comm ring.one y ∙ laws.of_ring.mul_one y
+
+  pub zero_at_point : (i : ℕ) × (x ≡ power ring (embed (root coset.log_size)) i) → coset_vanishing ring (λ c. c) inverse (coset_size coset) (embed coset.shift) x ≡ ring.zero
+  zero_at_point point =
+      ap (coset_vanishing ring (λ c. c) inverse (coset_size coset) (embed coset.shift)) (point.1 ∙ sym (point_is_power point.0)) ∙
+      zero_on_points laws adicity (λ k. embed (root k)) (embed generator) (embedded_two_adic embeds adicity root generator two_adic) (embedded_coset embed coset)
+      (embedded_valid laws embeds adicity root generator two_adic coset valid) point.0
+
+  pub point_where_zero : coset_vanishing ring (λ c. c) inverse (coset_size coset) (embed coset.shift) x ≡ ring.zero → (i : ℕ) × (x ≡ power ring (embed (root coset.log_size)) i)
+  point_where_zero zero =
+      let found = only_on_points laws adicity (λ k. embed (root k)) (embed generator) (embedded_two_adic embeds adicity root generator two_adic) (embedded_coset embed coset)
+      (embedded_valid laws embeds adicity root generator two_adic coset valid) x zero in
+      (found.0, found.2 ∙ point_is_power found.0)
+
+same_maps : {V W : Type 0} (f g : V → W) → ((v : V) → f v ≡ g v) → (vs : List V) → map f vs ≡ map g vs
+same_maps f g same [] = refl
+same_maps f g same (v ∷ vs) = ap (λ w. w ∷ map f vs) (same v) ∙ ap (λ ws. g v ∷ ws) (same_maps f g same vs)
+
+-- The lengths of columns, as they lie in memory.
+module _ {V A : Type 0} (items : V → List A) (count : V → ℕ) (counted : (v : V) → count v ≡ length (items v)) (columns : List V) (lists : List (List A)) (listed : map items columns ≡ lists) where
+  same_lengths : map count columns ≡ map (λ column. length column) lists
+  same_lengths = same_maps count (λ v. length (items v)) counted columns ∙ sym (map-map (λ column. length column) items columns) ∙ ap (map (λ column. length column)) listed
+
+  pub same_fault : (n m : ℕ) (fault : Option PeriodicColumnShapeError) → n ≡ m → first_fault n 0 (map count columns) ≡ fault → first_fault m 0 (map (λ column. length column) lists) ≡ fault
+  same_fault n m fault same found = sym (ap (first_fault n 0) same_lengths ∙ ap (λ (k : ℕ). first_fault k 0 (map (λ column. length column) lists)) same) ∙ found
+
+  -- What is computed of each column is computed of the lists.
+  pub same_values : {B : Type 0} (f : List A → B) (others : List V) (values : List B) → others ≡ columns → values ≡ map (λ v. f (items v)) others → values ≡ map f lists
+  same_values f others values same computed = computed ∙ ap (map (λ v. f (items v))) same ∙ sym (map-map f items columns) ∙ ap (map f) listed

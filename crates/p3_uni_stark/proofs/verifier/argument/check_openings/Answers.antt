@@ -1,0 +1,6 @@
+use Rattle.std.proofs.Common.{rules, inr}
+use Rattle.p3_uni_stark.specs.OpenedClaims.{refused}
+use Rattle.p3_uni_stark.proofs.verifier.argument.check_openings.Goals as goal
+
+pub returns-in-Err-Refused-clause-fault : goal.returns-in-Err-Refused-clause-fault
+returns-in-Err-Refused-clause-fault g c = inr (refused (search rules))

@@ -1,0 +1,156 @@
+//! What a proof claims of its commitments, for the scheme to verify.
+ghost use Rattle.std.specs.Prelude.{◌≡◌, IfOk, [], ◌∷◌, map, option_map};
+ghost use Rattle.stark_support.specs.Claims.{claim_view, point_view};
+ghost use Rattle.p3_uni_stark.specs.OpenedClaims.{chunks_round, claims_of, one_matrix, preprocessed_place, preprocessed_rounds, random_rounds, row_points};
+ghost use Rattle.p3_uni_stark.specs.ProofView.{openings_view, preprocessed_view};
+
+use crate::preprocessed::PreprocessedVerifierKey;
+use crate::proof::{Commitments, OpenedValues, PreprocessedOpenedValues};
+use stark_parts::StarkOpeningLayout;
+use stark_support::{OpeningClaim, PolynomialSpace};
+use std::alloc::{AllocError, Global};
+
+/// A row at one point.
+fn at_point<'p, EF: Copy>(
+    alloc: Global,
+    point: EF,
+    row: &'p [EF],
+) -> Result<Vec<(EF, &'p [EF])>, AllocError>
+    ensures { IfOk result (λ points. map point_view points.items ≡ (point, row.now) ∷ []) }
+{
+    let mut points = Vec::new(alloc);
+    points.push((point, row))?;
+    Ok(points)
+}
+
+/// The current row, and the next one at the next point where it is opened.
+fn row_points<'p, EF: Copy>(
+    alloc: Global,
+    zeta: EF,
+    next_zeta: EF,
+    local: &'p [EF],
+    next: &'p Option<Vec<EF>>,
+) -> Result<Vec<(EF, &'p [EF])>, AllocError>
+    ensures { IfOk result (λ points. map point_view points.items ≡ row_points zeta next_zeta local.now (option_map (λ row. row.items) next.now)) }
+{
+    let mut points = Vec::new(alloc);
+    points.push((zeta, local))?;
+    match next {
+        Some(row) => {
+            points.push((next_zeta, row.as_slice()))?;
+            Ok(points)
+        }
+        None => Ok(points),
+    }
+}
+
+/// A round of one matrix.
+fn one_matrix<'p, EF: Copy, K, D: PolynomialSpace>(
+    alloc: Global,
+    commitment: &'p K,
+    domain: D,
+    points: Vec<(EF, &'p [EF])>,
+) -> Result<OpeningClaim<'p, EF, K, D>, AllocError>
+    ensures { IfOk result (λ claim. claim_view D.coset_of claim ≡ one_matrix commitment.now (D.coset_of domain) (map point_view points.entry.items)) }
+{
+    let mut matrices = Vec::new(alloc);
+    matrices.push((domain, points))?;
+    Ok((commitment, matrices))
+}
+
+/// The round of the quotient's chunks, a matrix each.
+fn quotient_round<'p, EF: Copy, K, D: PolynomialSpace>(
+    alloc: Global,
+    commitment: &'p K,
+    domain: D,
+    zeta: EF,
+    chunks: &'p [Vec<EF>],
+) -> Result<OpeningClaim<'p, EF, K, D>, AllocError>
+    ensures { IfOk result (λ claim. claim_view D.coset_of claim ≡ chunks_round commitment.now (D.coset_of domain) zeta (map (λ chunk. chunk.items) chunks.now)) }
+{
+    let mut matrices = Vec::new(alloc);
+    for chunk in chunks {
+        matrices.push((domain, at_point(alloc, zeta, chunk.as_slice())?))?;
+    }
+    Ok((commitment, matrices))
+}
+
+/// The round of the random commitment, if it is there.
+fn random_rounds<'p, EF: Copy, K, D: PolynomialSpace>(
+    alloc: Global,
+    domain: D,
+    zeta: EF,
+    commitment: &'p Option<K>,
+    row: &'p Option<Vec<EF>>,
+) -> Result<Vec<OpeningClaim<'p, EF, K, D>>, AllocError>
+    ensures { IfOk result (λ claims. map (claim_view D.coset_of) claims.items ≡ random_rounds (D.coset_of domain) zeta commitment.now (option_map (λ row. row.items) row.now)) }
+{
+    let mut claims = Vec::new(alloc);
+    match (commitment, row) {
+        (Some(commitment), Some(row)) => {
+            let points = at_point(alloc, zeta, row.as_slice())?;
+            claims.push(one_matrix(alloc, commitment, domain, points)?)?;
+            Ok(claims)
+        }
+        _ => Ok(claims),
+    }
+}
+
+/// The round of the preprocessed columns, if there are any.
+fn preprocessed_round<'p, EF: Copy, K, D: PolynomialSpace>(
+    alloc: Global,
+    domain: D,
+    zeta: EF,
+    next_zeta: EF,
+    key: &'p PreprocessedVerifierKey<K>,
+    rows: &'p PreprocessedOpenedValues<EF>,
+) -> Result<OpeningClaim<'p, EF, K, D>, AllocError>
+    ensures { IfOk result (λ claim. claim_view D.coset_of claim ≡ one_matrix key.now.commitment (D.coset_of domain) (row_points zeta next_zeta (preprocessed_view rows.now).local (preprocessed_view rows.now).next)) }
+{
+    let points = row_points(alloc, zeta, next_zeta, rows.local.as_slice(), &rows.next)?;
+    let claim = one_matrix(alloc, &key.commitment, domain, points)?;
+    Ok(claim)
+}
+
+/// All claims of a proof, on the committed trace's domain: random commitment, trace, quotient, preprocessed columns.
+pub fn claims_of<'p, EF: Copy, K, D: PolynomialSpace>(
+    alloc: Global,
+    domain: D,
+    zeta: EF,
+    next_zeta: EF,
+    key: Option<&'p PreprocessedVerifierKey<K>>,
+    commitments: &'p Commitments<K>,
+    opened: &'p OpenedValues<EF>,
+) -> Result<Vec<OpeningClaim<'p, EF, K, D>>, AllocError>
+    ensures { IfOk result (λ claims. map (claim_view D.coset_of) claims.items ≡ claims_of (D.coset_of domain) zeta next_zeta (option_map (λ k. k.now) key.entry) commitments.now.trace commitments.now.quotient_chunks commitments.now.random (openings_view opened.now)) }
+{
+    let mut claims = random_rounds(alloc, domain, zeta, &commitments.random, &opened.random)?;
+    let local = opened.trace_local.as_slice();
+    let points = row_points(alloc, zeta, next_zeta, local, &opened.trace_next)?;
+    let trace = one_matrix(alloc, &commitments.trace, domain, points)?;
+    claims.push(trace)?;
+    let chunks = opened.quotient_chunks.as_slice();
+    let quotient = quotient_round(alloc, &commitments.quotient_chunks, domain, zeta, chunks)?;
+    claims.push(quotient)?;
+    match key {
+        Some(key) => match &opened.preprocessed {
+            Some(rows) => {
+                let fixed = preprocessed_round(alloc, domain, zeta, next_zeta, key, rows)?;
+                claims.push(fixed)?;
+                Ok(claims)
+            }
+            None => Ok(claims),
+        },
+        None => Ok(claims),
+    }
+}
+
+/// The place of the preprocessed round, where a key is given.
+pub fn preprocessed_place<K>(is_zk: bool, key: Option<&PreprocessedVerifierKey<K>>) -> Option<usize>
+    ensures { result ≡ preprocessed_place is_zk (option_map (λ k. k.now) key.entry) }
+{
+    match key {
+        Some(_) => Some(StarkOpeningLayout::new(is_zk).preprocessed),
+        None => None,
+    }
+}

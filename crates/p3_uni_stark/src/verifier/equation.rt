@@ -1,0 +1,109 @@
+//! The equation at the sampled point, over the opened values.
+ghost use Rattle.std.specs.Prelude.{◌≡◌, ◌≢◌, ◌⊎◌, ◌^◌, ◌-◌, ◌≤◌, All, IfErr, IfOk, length, map, option_map, replicate, unwrap_or, vec_len};
+ghost use Rattle.stark_support.specs.Coset.{coset_size, coset_vanishing};
+ghost use Rattle.stark_support.specs.Recomposition.{recomposition};
+ghost use Rattle.stark_support.specs.Subgroup.{subgroup_of};
+ghost use Rattle.stark_air.specs.Layout.{Covers};
+ghost use Rattle.stark_parts.specs.declared.error.VerificationError.TheVariants.{OutOfMemory};
+ghost use Rattle.p3_uni_stark.specs.Acceptance.{preprocessed_next, rows_of};
+ghost use Rattle.p3_uni_stark.specs.Equation.{EquationHolds, opened_layout, row_or_empty};
+ghost use Rattle.p3_uni_stark.specs.FirstFault.{EquationFault};
+ghost use Rattle.p3_uni_stark.specs.ProofView.{openings_view, preprocessed_view};
+ghost use Rattle.p3_uni_stark.specs.Sizes.{chunk_shifts};
+
+use crate::constraints::verify_constraints;
+use crate::proof::{OpenedValues, PreprocessedOpenedValues};
+use crate::verifier::quotient::quotient_at;
+use crate::verifier::run::SampledPoint;
+use crate::verifier::steps::ProofDomains;
+use stark_air::Air;
+use stark_parts::VerificationError;
+use stark_support::{ExtensionField, Field, PolynomialSpace};
+use std::alloc::{AllocError, Global};
+
+/// An element, so many times.
+fn repeated<T: Copy>(alloc: Global, element: T, count: usize) -> Result<Vec<T>, AllocError>
+    ensures { IfOk result (λ row. row.items ≡ replicate count element) }
+{
+    let mut row = Vec::new(alloc);
+    for _column in 0..count {
+        row.push(element)?;
+    }
+    Ok(row)
+}
+
+/// A row of zeros.
+fn zeros<EF: Field>(alloc: Global, width: usize) -> Result<Vec<EF>, AllocError>
+    ensures { IfOk result (λ row. row.items ≡ replicate width EF.ring.zero) }
+{
+    let row = repeated(alloc, EF::ZERO, width)?;
+    Ok(row)
+}
+
+/// A row, and the filler where it isn't opened.
+fn row_or<'a, EF>(row: &'a Option<Vec<EF>>, filler: &'a [EF]) -> &'a [EF]
+    ensures { result.now ≡ unwrap_or (option_map (λ row. row.items) row.now) filler.now }
+{
+    match row {
+        Some(row) => row.as_slice(),
+        None => filler,
+    }
+}
+
+/// The next preprocessed row: the filler where the current one alone is opened.
+fn preprocessed_next<'a, EF>(
+    rows: &'a Option<PreprocessedOpenedValues<EF>>,
+    filler: &'a [EF],
+) -> Option<&'a [EF]>
+    ensures { row_or_empty (λ row. row.now) result ≡ preprocessed_next filler.now (option_map preprocessed_view rows.now) }
+{
+    match rows {
+        Some(rows) => Some(row_or(&rows.next, filler)),
+        None => None,
+    }
+}
+
+/// The folded constraints against the quotient that the chunks recompose to: `OodEvaluationMismatch` where they differ.
+pub fn check_equation<D: PolynomialSpace, EF: ExtensionField<D::Val>, A: Air<D::Val>, X>(
+    alloc: Global,
+    air: &A,
+    opened: &OpenedValues<EF>,
+    public_values: &[D::Val],
+    domains: ProofDomains<D>,
+    point: &SampledPoint<EF>,
+) -> Result<(), VerificationError<X>>
+    requires subgroup { (D.coset_of domains.trace).shift ≡ D.Val.ring.one }
+    requires outside { coset_vanishing EF.ring (λ c. c) EF.inverse_of (coset_size (D.coset_of domains.trace)) (EF.embed (D.coset_of domains.trace).shift) point.now.zeta ≢ EF.ring.zero }
+    requires covered { Covers (opened_layout (rows_of EF.ring.zero (A.layout air.now).main (A.layout air.now).preprocessed (openings_view opened.now) point.now.periodic_values.items public_values.now)) (A.layout air.now) }
+    requires one_width { length (rows_of EF.ring.zero (A.layout air.now).main (A.layout air.now).preprocessed (openings_view opened.now) point.now.periodic_values.items public_values.now).preprocessed_local ≡ length (rows_of EF.ring.zero (A.layout air.now).main (A.layout air.now).preprocessed (openings_view opened.now) point.now.periodic_values.items public_values.now).preprocessed_next }
+    requires number { length (openings_view opened.now).quotient_chunks ≡ 2 ^ domains.log_chunks }
+    requires dimension { All (λ chunk. length chunk ≡ EF.DIMENSION) (openings_view opened.now).quotient_chunks }
+    requires within { domains.log_chunks ≤ (D.coset_of domains.quotient).log_size }
+    ensures holds { IfOk result (λ _. EquationHolds D.Val.ring EF.ring EF.embed (subgroup_of EF.inverse_of EF.embed D.Val.root (D.coset_of domains.trace)) (A.constraints air.now)
+        (rows_of EF.ring.zero (A.layout air.now).main (A.layout air.now).preprocessed (openings_view opened.now) point.now.periodic_values.items public_values.now) point.now.zeta point.now.alpha
+        (recomposition EF.ring EF.ring (λ c. c) EF.inverse_of (2 ^ ((D.coset_of domains.quotient).log_size - domains.log_chunks)) EF.basis
+        (chunk_shifts D.Val.ring D.Val.root EF.embed (D.coset_of domains.quotient) domains.log_chunks) (openings_view opened.now).quotient_chunks point.now.zeta)) }
+    ensures fault { IfErr result (λ error. (error ≡ OutOfMemory) ⊎ EquationFault (EquationHolds D.Val.ring EF.ring EF.embed (subgroup_of EF.inverse_of EF.embed D.Val.root (D.coset_of domains.trace)) (A.constraints air.now)
+        (rows_of EF.ring.zero (A.layout air.now).main (A.layout air.now).preprocessed (openings_view opened.now) point.now.periodic_values.items public_values.now) point.now.zeta point.now.alpha
+        (recomposition EF.ring EF.ring (λ c. c) EF.inverse_of (2 ^ ((D.coset_of domains.quotient).log_size - domains.log_chunks)) EF.basis
+        (chunk_shifts D.Val.ring D.Val.root EF.embed (D.coset_of domains.quotient) domains.log_chunks) (openings_view opened.now).quotient_chunks point.now.zeta)) error) }
+{
+    let (zeta, alpha) = (point.zeta, point.alpha);
+    let chunks = opened.quotient_chunks.as_slice();
+    let quotient = quotient_at(alloc, &domains.quotient, domains.log_chunks, chunks, zeta)?;
+    let next_filler: Vec<EF> = zeros(alloc, air.width())?;
+    let fixed_filler: Vec<EF> = zeros(alloc, air.preprocessed_width())?;
+    verify_constraints(
+        air,
+        opened.trace_local.as_slice(),
+        row_or(&opened.trace_next, next_filler.as_slice()),
+        opened.preprocessed_local(),
+        preprocessed_next(&opened.preprocessed, fixed_filler.as_slice()),
+        point.periodic_values.as_slice(),
+        public_values,
+        domains.trace,
+        zeta,
+        alpha,
+        quotient,
+    )
+}

@@ -1,0 +1,80 @@
+//! What a verifier's clauses say of a configuration's types and values, in two records.
+ghost use Rattle.std.specs.Prelude.{List, Option};
+ghost use Rattle.p3_uni_stark.specs.Instance.{Instance, ProtocolOps};
+ghost use Rattle.p3_uni_stark.specs.declared.preprocessed.PreprocessedVerifierKey.{PreprocessedVerifierKey};
+
+use crate::proof::Proof;
+use stark_air::Air;
+use stark_parts::{Com, StarkGenericConfig, Val};
+use stark_support::{GrindingChallenger, Pcs, TranscriptSponge};
+
+/// All that a configuration's types compute, in one record.
+pub trait StarkOperations: StarkGenericConfig {
+    ghost operations: { ProtocolOps Self.Pcs Self.Pcs.Domain.Val Self.Challenge Self.Challenger Self.Pcs.Commitment Self.Pcs.ProverData Self.Pcs.Proof Self.Pcs.Error Self.Pcs.ProverError };
+}
+
+impl<SC> StarkOperations for SC
+where
+    SC: StarkGenericConfig,
+    SC::Challenger: GrindingChallenger<Witness = Val<SC>>,
+{
+    ghost operations = { record {
+      opening = record {
+        fields = record {
+          base = SC.Pcs.Domain.Val.ring;
+          base_inverse = SC.Pcs.Domain.Val.inverse_of;
+          same = SC.Pcs.Domain.Val.eq;
+          adicity = SC.Pcs.Domain.Val.TWO_ADICITY;
+          root = SC.Pcs.Domain.Val.root;
+          generator = SC.Pcs.Domain.Val.GENERATOR;
+          ring = SC.Challenge.ring;
+          inverse = SC.Challenge.inverse_of;
+          embed = SC.Challenge.embed;
+          dimension = SC.Challenge.DIMENSION;
+          basis = SC.Challenge.basis;
+        };
+        is_zk = SC.Pcs.ZK;
+        scheme = SC.Pcs.scheme;
+      };
+      sponge = ⟦<SC::Challenger as TranscriptSponge<Val<SC>, SC::Challenge, Com<SC>>>⟧.sponge;
+    } };
+}
+
+/// What a verifier is given besides a proof, in one record.
+pub trait StarkInstance<A>: StarkGenericConfig {
+    ghost instance: { Self → A → List Self.Pcs.Domain.Val → Option (PreprocessedVerifierKey Self.Pcs.Commitment) → Instance Self.Pcs Self.Pcs.Domain.Val Self.Challenger Self.Pcs.Commitment };
+}
+
+impl<SC, A> StarkInstance<A> for SC
+where
+    SC: StarkGenericConfig,
+    A: Air<Val<SC>>,
+{
+    ghost instance = { λ config air public_values key. record {
+      scheme = SC.config.scheme config;
+      first_state = SC.config.first_state config;
+      ood_bits = SC.config.ood_bits config;
+      layout = A.layout air;
+      main_next_columns = A.main_next_row_columns air;
+      preprocessed_next_columns = A.preprocessed_next_row_columns air;
+      periodic_columns = A.periodic_columns air;
+      degree_hint = A.degree_hint air;
+      constraints = A.constraints air;
+      public_values = public_values;
+      key = key;
+    } };
+}
+
+/// The opening proofs of a configuration's scheme.
+pub type PcsProof<SC> = <<SC as StarkGenericConfig>::Pcs as Pcs<
+    <SC as StarkGenericConfig>::Challenge,
+    <SC as StarkGenericConfig>::Challenger,
+>>::Proof;
+
+/// The proofs of a configuration.
+pub type StarkProof<SC> = Proof<
+    Com<SC>,
+    <SC as StarkGenericConfig>::Challenge,
+    PcsProof<SC>,
+    Val<SC>,
+>;

@@ -1,0 +1,91 @@
+//! The domains of a proof: the trace's, the committed trace's and the quotient's.
+ghost use Rattle.std.specs.Prelude.{◌≡◌, ℕ, ◌+◌, ◌-◌, ◌^◌, ◌<◌, ◌≤◌, All, IfErr, IfOk, None, Some, length, map, vec_len};
+ghost use Rattle.stark_support.specs.Recomposition.{recomposition};
+ghost use Rattle.p3_uni_stark.specs.ShapeFaults.{quotient_fault};
+ghost use Rattle.p3_uni_stark.specs.Sizes.{chunk_shifts, log_parts_of, quotient_coset};
+
+use crate::verifier::recompose_quotient_from_chunks;
+use stark_air::{Air, AirLayout};
+use stark_parts::{InvalidProofShapeError, get_log_num_quotient_chunks_for_domain};
+use stark_support::{ExtensionField, PolynomialSpace, checked_log_size_sum};
+use std::alloc::{AllocError, Global};
+
+/// The logarithm of the number of parts of an AIR's quotient over a domain.
+pub fn log_parts_of<D: PolynomialSpace, A: Air<D::Val>>(
+    alloc: Global,
+    air: &A,
+    domain: &D,
+    is_zk: usize,
+) -> Result<usize, AllocError>
+    requires flag { is_zk ≤ 1 }
+    ensures parts { IfOk result (λ log. log ≡ log_parts_of (A.constraints air.now) (A.degree_hint air.now) is_zk) }
+    ensures bound { IfOk result (λ log. log ≤ 64) }
+{
+    let layout = AirLayout::from_air(air);
+    let log = get_log_num_quotient_chunks_for_domain::<D::Val, A, D>(
+        alloc, air, layout, domain, is_zk,
+    )?;
+    Ok(log)
+}
+
+fn too_large(maximum: usize, got: usize) -> InvalidProofShapeError
+    ensures { result ≡ InvalidProofShapeError.QuotientDomainTooLarge None maximum got }
+{
+    InvalidProofShapeError::QuotientDomainTooLarge {
+        air: None,
+        maximum,
+        got,
+    }
+}
+
+/// The domain of a quotient of `2^log_parts` parts: apart from the committed trace's, and as many times larger.
+/// `QuotientDomainTooLarge` where the number of chunks or the domain's size doesn't fit, or the field has no group of
+/// that size.
+pub fn quotient_domain_of<D: PolynomialSpace>(
+    committed: &D,
+    degree_bits: usize,
+    log_parts: usize,
+    is_zk: usize,
+    greatest_height: usize,
+) -> Result<D, InvalidProofShapeError>
+    requires height { degree_bits ≡ (D.coset_of committed.now).log_size }
+    requires fits { degree_bits < 64 }
+    requires bound { log_parts ≤ 64 }
+    requires flag { is_zk ≤ 1 }
+    ensures clear { IfOk result (λ _. quotient_fault log_parts is_zk degree_bits D.Val.TWO_ADICITY greatest_height ≡ None) }
+    ensures fault { IfErr result (λ error. quotient_fault log_parts is_zk degree_bits D.Val.TWO_ADICITY greatest_height ≡ Some error) }
+    ensures count { IfOk result (λ _. log_parts + is_zk < 64) }
+    ensures domain { IfOk result (λ d. D.coset_of d ≡ quotient_coset D.Val.ring D.Val.GENERATOR (D.coset_of committed.now) log_parts) }
+{
+    let log_chunks = log_parts + is_zk;
+    if log_chunks >= 64 {
+        return Err(too_large(63, log_chunks));
+    }
+    let log_size = degree_bits + log_parts;
+    let Some((_, size)) = checked_log_size_sum(degree_bits, log_parts) else {
+        return Err(too_large(63, log_size));
+    };
+    match committed.try_create_disjoint_domain(size) {
+        Some(domain) => Ok(domain),
+        None => Err(too_large(greatest_height, log_size)),
+    }
+}
+
+/// The quotient's value at a point, from the values there of its chunks' coordinates: the chunks stand on the parts of
+/// the quotient's domain.
+pub fn quotient_at<D: PolynomialSpace, EF: ExtensionField<D::Val>>(
+    alloc: Global,
+    quotient_domain: &D,
+    log_chunks: usize,
+    chunks: &[Vec<EF>],
+    zeta: EF,
+) -> Result<EF, AllocError>
+    requires number { length chunks.now ≡ 2 ^ log_chunks }
+    requires within { log_chunks ≤ (D.coset_of quotient_domain.now).log_size }
+    requires dimension { All (λ chunk. vec_len chunk ≡ EF.DIMENSION) chunks.now }
+    ensures { IfOk result (λ quotient. quotient ≡ recomposition EF.ring EF.ring (λ c. c) EF.inverse_of (2 ^ ((D.coset_of quotient_domain.now).log_size - log_chunks)) EF.basis
+        (chunk_shifts D.Val.ring D.Val.root EF.embed (D.coset_of quotient_domain.now) log_chunks) (map (λ chunk. chunk.items) chunks.now) zeta) }
+{
+    let domains = quotient_domain.split_domains(alloc, chunks.len())?;
+    Ok(recompose_quotient_from_chunks(&domains, chunks, zeta))
+}

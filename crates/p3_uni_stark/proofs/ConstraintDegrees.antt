@@ -67,7 +67,7 @@ listed P (x ∷ xs) zero d default h = h.0
 listed P (x ∷ xs) (suc c) d default h = listed P xs c d default h.1
 
 -- constants may be taken into the coefficients first
-value_of_embedded : {F E G : Type 0} (ring : RingOps G) (above : E → G) (embed : F → E) (p : List F) (x : G) → value_over ring (λ k. above (embed k)) p x ≡ value_over ring above (map embed p) x
+pub value_of_embedded : {F E G : Type 0} (ring : RingOps G) (above : E → G) (embed : F → E) (p : List F) (x : G) → value_over ring (λ k. above (embed k)) p x ≡ value_over ring above (map embed p) x
 value_of_embedded ring above embed [] x = refl
 value_of_embedded ring above embed (c ∷ p) x = ap (λ w. ring.add (above (embed c)) (ring.mul w x)) (value_of_embedded ring above embed p x)
 

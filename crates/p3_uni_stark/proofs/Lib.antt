@@ -18,3 +18,4 @@ pub mod ErrorBoundSteps
 pub mod TakenValueSteps
 pub mod Fitting
 pub mod BoundSteps
+pub mod SoundAcceptanceSteps

@@ -1,11 +1,14 @@
 -- The equation over opened values is the equation of the polynomials that take them.
 use Rattle.std.proofs.Common.{◌≡◌, ◌∙◌, ap, sym, refl, arith, ℕ, zero, suc, ◌<◌, List, [], ◌∷◌, map, Option, None, Some, IfSome, slice_index_or}
+use Rattle.std.specs.List.{AllByRecursion}
+use Rattle.std.proofs.lemmas.List.{length-map}
 use Rattle.stark_support.specs.Ring.{RingOps, FieldLaws, difference as ring_difference}
 use Rattle.stark_support.specs.Operations.{ring_operations}
 use Rattle.stark_support.specs.Coset.{subgroup_vanishing}
 use Rattle.stark_support.specs.Periodic.{periodic_value}
-use Rattle.stark_support.specs.Polynomial.{value as polynomial_value}
+use Rattle.stark_support.specs.Polynomial.{value as polynomial_value, value_over, HasDegreeBelow}
 use Rattle.stark_support.specs.Recomposition.{recomposition}
+use Rattle.stark_support.specs.RecompositionPolynomial.{chunk_values}
 use Rattle.stark_air.specs.Tree.{Tree, Constraint, base, extension, constant, main_current, main_next, preprocessed_current, preprocessed_next, public_value, first_row, last_row, transition, sum, difference, product, negation}
 use Rattle.stark_air.specs.Tree as tree
 use Rattle.stark_air.specs.Layout.{Layout, TreeWithin, LeavesWithin}
@@ -15,8 +18,9 @@ use Rattle.p3_uni_stark.specs.Equation.{OpenedRows, opened_environment, Equation
 use Rattle.p3_uni_stark.specs.ProofView.{OpeningsView, PreprocessedView}
 use Rattle.p3_uni_stark.specs.ConstraintPolynomial.{AirInstance, Columns, height, group, next_point, environment_at}
 use Rattle.p3_uni_stark.specs.BadValues.{IsBalanced}
-use Rattle.p3_uni_stark.specs.TakenValues.{values_at, TakeOpenedValues, BreakingNeedsBadDraws}
+use Rattle.p3_uni_stark.specs.TakenValues.{values_at, embedded_polynomials, TakeOpenedValues, BreakingNeedsBadDraws}
 use Rattle.p3_uni_stark.proofs.BadValueSteps.{alpha_or_zeta_is_bad}
+use Rattle.p3_uni_stark.proofs.ConstraintDegrees.{value_of_embedded}
 
 -- Two environments have the same values at each leaf of a layout.
 pub record AgreeWithin {E : Type 0} (l : Layout) (e : Environment E) (f : Environment E) : Type 0 where
@@ -137,3 +141,20 @@ pub accepted_needs_bad_draws : {F E : Type 0} (i : AirInstance F E) (laws : Fiel
 accepted_needs_bad_draws i laws l opened rows shifts alpha zeta quotient within stand periodic_is recomposed balanced =
     λ columns chunks same_publics taken breaks. alpha_or_zeta_is_bad i laws columns breaks shifts chunks alpha zeta
     (balanced_of_opened i columns zeta l opened rows stand chunks taken same_publics periodic_is within shifts alpha quotient recomposed balanced)
+
+module _ {F E : Type 0} (ring : RingOps E) (embed : F → E) (x : E) where
+  -- The values of polynomials over the base field.
+  pub values_of_embedded : (polynomials : List (List F)) → values_at ring (embedded_polynomials embed polynomials) x ≡ map (λ p. value_over ring embed p x) polynomials
+  values_of_embedded [] = refl
+  values_of_embedded (p ∷ ps) =
+      ap (λ v. v ∷ values_at ring (embedded_polynomials embed ps) x) (sym (value_of_embedded ring (λ c. c) embed p x)) ∙ ap (λ vs. value_over ring embed p x ∷ vs) (values_of_embedded ps)
+
+  pub chunk_values_of_embedded : (chunks : List (List (List F))) → chunk_values ring (map (embedded_polynomials embed) chunks) x ≡ map (λ chunk. map (λ p. value_over ring embed p x) chunk) chunks
+  chunk_values_of_embedded [] = refl
+  chunk_values_of_embedded (chunk ∷ chunks) =
+      ap (λ v. v ∷ chunk_values ring (map (embedded_polynomials embed) chunks) x) (values_of_embedded chunk) ∙ ap (λ vs. map (λ p. value_over ring embed p x) chunk ∷ vs) (chunk_values_of_embedded chunks)
+
+-- Embedding keeps degrees.
+pub embedded_fit : {F E : Type 0} (embed : F → E) (m : ℕ) (polynomials : List (List F)) → AllByRecursion (HasDegreeBelow m) polynomials → AllByRecursion (HasDegreeBelow m) (embedded_polynomials embed polynomials)
+embedded_fit embed m [] fit = tt
+embedded_fit embed m (p ∷ ps) fit = (rw (length-map p embed) fit.0, embedded_fit embed m ps fit.1)

@@ -15,3 +15,4 @@ pub mod BadValues
 pub mod ErrorBound
 pub mod TakenValues
 pub mod Openings
+pub mod SoundAcceptance

@@ -11,6 +11,10 @@ use Rattle.p3_uni_stark.specs.BadValues.{Satisfies, IsBadAlpha, IsBadZeta}
 abbrev pub values_at : {E : Type 0} → RingOps E → List (List E) → E → List E
 values_at ring polynomials x = map (λ p. value ring p x) polynomials
 
+-- polynomials over the base field, seen in the extension
+abbrev pub embedded_polynomials : {F E : Type 0} → (F → E) → List (List F) → List (List E)
+embedded_polynomials embed polynomials = map (λ p. map embed p) polynomials
+
 module _ {F E : Type 0} (i : AirInstance F E) where
   -- The current rows and the chunks are the polynomials' values at zeta; the next rows, where they are opened, are those at
   -- the next row's point.

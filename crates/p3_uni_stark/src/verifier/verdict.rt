@@ -10,6 +10,7 @@ ghost use Rattle.p3_uni_stark.specs.ProofView.{openings_view, proof_view};
 ghost use Rattle.p3_uni_stark.specs.ShapeFaults.{opened_fault, preprocessed_fault};
 ghost use Rattle.stark_parts.specs.Shape.{opens_next_row};
 ghost use Rattle.p3_uni_stark.specs.Sizes.{log_parts_of, quotient_coset};
+ghost use Rattle.p3_uni_stark.specs.SoundAcceptance.{BreakingNeedsBadChallenges};
 
 use crate::preprocessed::PreprocessedVerifierKey;
 use crate::verifier::equation::check_equation;
@@ -86,6 +87,7 @@ where
     SC::Challenger: GrindingChallenger<Witness = Val<SC>>,
     A: Air<Val<SC>>,
     ensures accepted { IfOk result (λ _. Accepted ⟦<SC as StarkOperations>⟧.operations (⟦<SC as StarkInstance<A>>⟧.instance config.now air.now public_values.now (option_map (λ k. k.now) key.entry)) (proof_view proof.now)) }
+    ensures sound { IfOk result (λ _. BreakingNeedsBadChallenges ⟦<SC as StarkOperations>⟧.operations (⟦<SC as StarkInstance<A>>⟧.instance config.now air.now public_values.now (option_map (λ k. k.now) key.entry)) (proof_view proof.now)) }
     ensures refused { IfErr result (λ error. (error ≡ OutOfMemory) ⊎ FirstFault ⟦<SC as StarkOperations>⟧.operations (⟦<SC as StarkInstance<A>>⟧.instance config.now air.now public_values.now (option_map (λ k. k.now) key.entry)) (proof_view proof.now) error) }
     ensures exact { IfErr result (λ error. (error ≡ OutOfMemory) ⊎ (Accepted ⟦<SC as StarkOperations>⟧.operations (⟦<SC as StarkInstance<A>>⟧.instance config.now air.now public_values.now (option_map (λ k. k.now) key.entry)) (proof_view proof.now) → ⊥)) }
 {
@@ -125,6 +127,7 @@ where
     SC::Challenger: GrindingChallenger<Witness = Val<SC>>,
     A: Air<Val<SC>>,
     ensures accepted { IfOk result (λ _. Accepted ⟦<SC as StarkOperations>⟧.operations (⟦<SC as StarkInstance<A>>⟧.instance config.now air.now public_values.now None) (proof_view proof.now)) }
+    ensures sound { IfOk result (λ _. BreakingNeedsBadChallenges ⟦<SC as StarkOperations>⟧.operations (⟦<SC as StarkInstance<A>>⟧.instance config.now air.now public_values.now None) (proof_view proof.now)) }
     ensures refused { IfErr result (λ error. (error ≡ OutOfMemory) ⊎ FirstFault ⟦<SC as StarkOperations>⟧.operations (⟦<SC as StarkInstance<A>>⟧.instance config.now air.now public_values.now None) (proof_view proof.now) error) }
     ensures exact { IfErr result (λ error. (error ≡ OutOfMemory) ⊎ (Accepted ⟦<SC as StarkOperations>⟧.operations (⟦<SC as StarkInstance<A>>⟧.instance config.now air.now public_values.now None) (proof_view proof.now) → ⊥)) }
 {

@@ -3,6 +3,7 @@ use Rattle.p3_uni_stark.specs.ProofView.{openings_view}
 use Rattle.stark_parts.specs.Shape.{opens_next_row}
 use Rattle.p3_uni_stark.proofs.Excluded.{exact}
 use Rattle.p3_uni_stark.proofs.ShapeSteps.{publics_are}
+use Rattle.p3_uni_stark.proofs.SoundAcceptanceSteps.{sound_of_parts}
 use Rattle.p3_uni_stark.proofs.Verdicts.{equation_refused, run_refused, shape_refused}
 use Rattle.p3_uni_stark.proofs.verifier.verdict.verify_with_preprocessed.Goals as goal
 
@@ -30,3 +31,7 @@ returns-clause-refused g c = equation_refused c.in-Ok.ensures.clear c.in-Ok-chec
 pub returns-clause-exact : goal.returns-clause-exact
 returns-clause-exact g c =
     exact g.met.SC.Pcs.UnivariateStarkPcs.scheme_laws (equation_refused c.in-Ok.ensures.clear c.in-Ok-check_run.ensures.holds c.in-Err-test_equation.ensures.fault)
+
+pub returns-in-Ok-test_equation-clause-sound : goal.returns-in-Ok-test_equation-clause-sound
+returns-in-Ok-test_equation-clause-sound g c =
+    sound_of_parts c.in-Ok.ensures.clear c.in-Ok-check_run.ensures.holds c.in-Ok-test_equation.ensures.holds g.met.SC.Challenge.Field.field_laws (g.met.A.Air.leaves_within c.args.air.now) (g.met.A.BaseAir.as_declared c.args.air.now)

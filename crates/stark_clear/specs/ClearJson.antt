@@ -6,7 +6,7 @@ use Rattle.stark_clear.specs.declared.clear.pcs.ClearProof.{ClearProof}
 
 -- Null spells the proof, and nothing else does.
 abbrev pub proof_at : Data → Option ClearProof
-proof_at d = option_map (λ _. record { }) (as_null d)
+proof_at d = option_map (λ _. record {}) (as_null d)
 
 abbrev pub proof_written : ClearProof → Data
 proof_written proof = null

@@ -11,6 +11,7 @@ use stark_parts::{StarkConfig, StarkGenericConfig};
 use stark_support::{
     CanSample, DomainShape, DomainVal, ExtensionField, JsonCodec, JsonFault, OpeningClaim, Pcs,
     PeriodicColumns, PolynomialSpace, RowMajorMatrix, SchemeFault, UnivariateStarkPcs,
+    value_from_bytes,
 };
 use std::alloc::{AllocError, Global};
 use std::test::Fail;
@@ -291,10 +292,11 @@ fn a_quotient_in_chunks(rt: HostRuntime) -> Result<(), Fail> {
     let scheme: Scheme = ClearPcs::new();
     let domain: Coset<F12289> = Coset::subgroup(1);
     let apart = domain.create_disjoint_domain(2);
-    let flat = RowMajorMatrix::new(column(alloc, &[1, 2, 3, 4])?, 2);
-    if flat.values.len() != apart.size() * flat.width {
+    let values = column(alloc, &[1, 2, 3, 4])?;
+    if values.len() != 4 || apart.size() != 2 {
         return Err(Fail::new("other rows"));
     }
+    let flat = RowMajorMatrix::new(values, 2);
     let made = <Scheme as UnivariateStarkPcs<Point, AnyChallenger>>::commit_quotient(
         &scheme, alloc, apart, flat, 2,
     );
@@ -326,6 +328,31 @@ fn the_proof_is_null(rt: HostRuntime) -> Result<(), Fail> {
             Err(JsonFault::Invalid)
         )
     );
+    Ok(())
+}
+
+fn commitment_of(alloc: Global, text: &str) -> Result<Commitment, JsonFault> {
+    let value = value_from_bytes(alloc, text.as_bytes())?;
+    Commitment::from_json(alloc, &value)
+}
+
+#[test]
+fn a_commitment_in_json(rt: HostRuntime) -> Result<(), Fail> {
+    let alloc = rt.alloc();
+    let written = listed(alloc, &[6150, 6144])?.to_json(alloc)?;
+    assert_eq!(rt; written.to_string(alloc)?.as_str(), "[[[6150,6144]]]");
+    let Ok(read) = commitment_of(alloc, "[[[6150,6144]]]") else {
+        return Err(Fail::new("the commitment was not read"));
+    };
+    assert!(rt; lists(&read, &[6150, 6144]));
+    for text in [
+        "null",
+        "[[6150,6144]]",
+        "[[[6150,12289]]]",
+        "[[[6150],null]]",
+    ] {
+        assert!(rt; matches!(commitment_of(alloc, text), Err(JsonFault::Invalid)));
+    }
     Ok(())
 }
 

@@ -1,4 +1,7 @@
 //! How many draws can be bad, and the numbers of security parameters.
+ghost use Rattle.std.specs.Prelude.{◌≡◌, ◌≤◌, unwrap_or};
+ghost use Rattle.p3_uni_stark.specs.Openings.{random_columns};
+
 use crate::sized_airs::{ColumnAir, SteppedSquareAir};
 use crate::wide_air::WideAir;
 use p3_uni_stark::{
@@ -6,7 +9,7 @@ use p3_uni_stark::{
     recompose_quotient_from_chunks,
 };
 use stark_air::{Air, AirLayout};
-use stark_bench::{CircleShape, Coset, Ext4, S12289};
+use stark_bench::{Coset, Ext4, S12289};
 use stark_clear::{CounterAir, CubicAir, FibonacciAir, PairAir, PreprocessedAir, UnconstrainedAir};
 use stark_parts::fold_constraints;
 use stark_support::{
@@ -67,10 +70,19 @@ fn batched_openings(rt: HostRuntime) -> Result<(), Fail> {
     let plain = OpeningShape::new();
     let hiding = OpeningShape::hiding(0);
     assert_eq!(rt; num_batched_openings(100, true, 0, false, 2, 4, plain), 208);
-    assert_eq!(rt; num_batched_openings(100, true, 0, false, 2, 4, hiding), 212);
-    assert_eq!(rt; num_batched_openings(100, false, 0, false, 2, 4, plain), 108);
+    assert_eq!(rt;
+        num_batched_openings(100, true, 0, false, 2, 4, hiding),
+        212
+    );
+    assert_eq!(rt;
+        num_batched_openings(100, false, 0, false, 2, 4, plain),
+        108
+    );
     assert_eq!(rt; num_batched_openings(100, true, 6, true, 2, 4, plain), 220);
-    assert_eq!(rt; num_batched_openings(3, true, 0, false, 1, 4, OpeningShape::Circle), 20);
+    assert_eq!(rt;
+        num_batched_openings(3, true, 0, false, 1, 4, OpeningShape::Circle),
+        20
+    );
     Ok(())
 }
 
@@ -105,7 +117,10 @@ fn params(
     air: &WideAir,
     openings: OpeningShape,
     grinding: GrindingSites,
-) -> Result<StarkSecurityParams, AllocError> {
+) -> Result<StarkSecurityParams, AllocError>
+    requires hint { unwrap_or air.now.hint 0 ≤ 5 }
+    requires random { random_columns openings ≡ 0 }
+{
     let domain: Coset<S12289> = Coset::subgroup(3);
     StarkSecurityParams::from_air::<S12289, Extension, WideAir, Coset<S12289>>(
         alloc,
@@ -125,8 +140,14 @@ fn params(
 fn functions_of_an_air(rt: HostRuntime) -> Result<(), Fail> {
     let alloc = rt.alloc();
     let none = GrindingSites::NONE;
-    let next = WideAir { reads_next: true, hint: None };
-    let alone = WideAir { reads_next: false, hint: None };
+    let next = WideAir {
+        reads_next: true,
+        hint: None,
+    };
+    let alone = WideAir {
+        reads_next: false,
+        hint: None,
+    };
     let plain = params(alloc, &next, OpeningShape::new(), none)?;
     assert_eq!(rt; plain.num_batched_functions, 20);
     assert_eq!(rt; plain.num_constraints, 3);
@@ -209,13 +230,16 @@ fn is_balanced(zeta: Extension, quotient: Extension) -> Result<bool, AllocError>
 
 #[test]
 fn bad_zetas_of_a_false_trace(rt: HostRuntime) -> Result<(), Fail> {
-    let domain: Coset<S12289> = Coset::new(S12289::new(11), 1);
+    let rows: Coset<S12289> = Coset::subgroup(1);
+    let domain = rows.create_disjoint_domain(2);
     let chunks = [vec![in rt.alloc(); number(6143), Ext4::ZERO, Ext4::ZERO, Ext4::ZERO]?];
     let mut found = Vec::new(rt.alloc());
     for n in 0..12289u32 {
         let zeta = number(n);
         let quotient = recompose_quotient_from_chunks::<Coset<S12289>, Extension>(
-            &[domain], &chunks, zeta,
+            &[domain],
+            &chunks,
+            zeta,
         );
         if is_balanced(zeta, quotient)? {
             found.push(n)?;

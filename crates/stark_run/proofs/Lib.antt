@@ -4,3 +4,5 @@ pub mod Parts
 pub mod Sizes
 pub mod PointSteps
 pub mod Meaning
+pub mod TakenColumns
+pub mod Judged

@@ -14,10 +14,10 @@ use Rattle.stark_bench.specs.Ext4Field.{embedded_is_embedding}
 use Rattle.stark_run.specs.Airs.{CheckedAir, IsCutInto, log_chunks_of, sample, shape_of}
 use Rattle.stark_run.specs.Check.{checked, CheckHolds, IsBalanced, IsPointOfH, element_of, found_at_point, folded, if_none, laws_of_elements, periodic_fault, quotient, vanishing}
 use Rattle.stark_run.specs.Input.{CheckNumbers, elements, has_shape, numbers_in}
-use Rattle.stark_run.specs.Run.{CheckHoldsOf, judged, verdict_of}
+use Rattle.stark_run.specs.Run.{CheckHoldsOf, HoldsOf, IsVerdict, judged}
 use Rattle.stark_run.proofs.Sizes.{cut_of_sample}
 use Rattle.stark_run.specs.declared.words.Command.{Command}
-use Rattle.stark_run.specs.declared.words.Command.TheVariants.{Check}
+use Rattle.stark_run.specs.declared.words.Command.TheVariants.{Check, Verify}
 use Rattle.stark_run.specs.declared.words.SampleAir.{SampleAir}
 use Rattle.stark_run.specs.declared.verdict.Verdict.{Verdict}
 use Rattle.stark_run.specs.declared.verdict.Verdict.TheVariants.{Accepted, Refused, BadInput}
@@ -107,12 +107,15 @@ spelled air input (Some m) is h =
     let shaped = true_if_accepted (has_shape (shape_of (sample air)) m) (checked (sample air) (log_chunks_of air) m) BadInput bad_input_clash h in
     (air, refl, m, is, shaped.0, holds_if_accepted (sample air) (log_chunks_of air) m (cut_of_sample air) shaped.1)
 
-pub holds_of_verdict : (command : Option Command) (input : List ℕ) → verdict_of command input ≡ Accepted → CheckHoldsOf command input
-holds_of_verdict None input h = absurd (bad_input_clash h)
-holds_of_verdict (Some (Check air)) input h = spelled air input (numbers_in (shape_of (sample air)) input) refl h
+module _ (verified : SampleAir → List ℕ → Verdict → Type 0) where
+  holds_of_verdict : (command : Option Command) (input : List ℕ) → IsVerdict verified command input Accepted → HoldsOf verified command input
+  unfolding IsVerdict
+  holds_of_verdict None input h = absurd (bad_input_clash (sym h))
+  holds_of_verdict (Some (Check air)) input h = inl (spelled air input (numbers_in (shape_of (sample air)) input) refl (sym h))
+  holds_of_verdict (Some (Verify air)) input h = inr (air, refl, h)
 
-pub holds_known : (command : Option Command) (known : Option (List ℕ)) (P Q : List ℕ → Type 0)
-    → IfSome known (λ input. (bytes : List ℕ) → P bytes → Q bytes → verdict_of command input ≡ Accepted)
-    → IfSome known (λ input. (bytes : List ℕ) → P bytes → Q bytes → CheckHoldsOf command input)
-holds_known command None P Q h = tt
-holds_known command (Some input) P Q h = λ bytes p q. holds_of_verdict command input (h bytes p q)
+  pub holds_known : (command : Option Command) (known : Option (List ℕ)) (P Q : List ℕ → Type 0)
+      → IfSome known (λ input. (bytes : List ℕ) → P bytes → Q bytes → IsVerdict verified command input Accepted)
+      → IfSome known (λ input. (bytes : List ℕ) → P bytes → Q bytes → HoldsOf verified command input)
+  holds_known command None P Q h = tt
+  holds_known command (Some input) P Q h = λ bytes p q. holds_of_verdict command input (h bytes p q)

@@ -29,7 +29,7 @@ use Rattle.stark_run.specs.Point.{EquationVerdict, TellsEquation, chunk_shifts, 
 use Rattle.stark_run.specs.declared.input.CheckShape.{CheckShape}
 use Rattle.stark_run.specs.declared.verdict.Verdict.{Verdict}
 use Rattle.stark_run.specs.declared.verdict.Verdict.TheVariants.{Accepted, Refused, BadInput}
-use Rattle.stark_run.specs.declared.verdict.Refusal.TheVariants.{OodPointInDomain, OodEvaluationMismatch, PeriodicColumn, QuotientDomainTooLarge, OutOfMemory}
+use Rattle.stark_run.specs.declared.verdict.Refusal.TheVariants.{OodPointInDomain, OodEvaluationMismatch, PeriodicColumn, QuotientDomainTooLarge, OutOfMemory, Proof}
 
 -- A verdict that tells an equation is the function of its sides, or memory is wanting.
 module _ {K : Type 0} {ring : RingOps K} {inverse : K → K} (laws : FieldLaws ring inverse) (left right : K) where
@@ -40,6 +40,7 @@ module _ {K : Type 0} {ring : RingOps K} {inverse : K → K} (laws : FieldLaws r
   told_by (Refused PeriodicColumn) h = absurd h
   told_by (Refused QuotientDomainTooLarge) h = absurd h
   told_by (Refused OutOfMemory) h = inr refl
+  told_by (Refused (Proof why)) h = absurd h
   told_by BadInput h = absurd h
 
 -- What is found at zeta, step by step.

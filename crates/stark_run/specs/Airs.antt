@@ -1,5 +1,6 @@
 -- The AIRs of which a check can be made, and what a check takes of each.
-use Rattle.std.specs.Prelude.{ℕ, ◌+◌, List, [], ◌∷◌, Option, None}
+use Rattle.std.specs.Prelude.{ℕ, ◌+◌, List, [], ◌∷◌, Option, None, Some}
+use Rattle.stark_air.specs.Declaration.{Trace}
 use Rattle.stark_air.specs.Layout.{Layout}
 use Rattle.stark_air.specs.Tree.{Constraint}
 use Rattle.stark_support.specs.Logarithm.{IsCeilingOfLog}
@@ -20,9 +21,24 @@ pub record CheckedAir : Type 0 where
   pub periodic_columns : List (List Base)
   pub degree_hint : Option ℕ
   pub constraints : List (Constraint Base)
+  pub preprocessed_trace : Option (Trace Base)
+  -- the preprocessed columns whose next row is read
+  pub preprocessed_next_columns : List ℕ
 
-abbrev pub checked_air : Layout → List ℕ → List (List Base) → Option ℕ → List (Constraint Base) → CheckedAir
-checked_air layout next_columns periodic_columns degree_hint constraints = record { layout = layout; next_columns = next_columns; periodic_columns = periodic_columns; degree_hint = degree_hint; constraints = constraints }
+abbrev pub checked_air : Layout → List ℕ → List (List Base) → Option ℕ → List (Constraint Base) → Option (Trace Base) → List ℕ → CheckedAir
+checked_air layout next_columns periodic_columns degree_hint constraints preprocessed_trace preprocessed_next_columns = record {
+  layout = layout;
+  next_columns = next_columns;
+  periodic_columns = periodic_columns;
+  degree_hint = degree_hint;
+  constraints = constraints;
+  preprocessed_trace = preprocessed_trace;
+  preprocessed_next_columns = preprocessed_next_columns;
+}
+
+-- the preprocessed column 1, 2, 3, 4
+abbrev pub one_to_four : Trace Base
+one_to_four = record { width = 1; values = residue 1 ∷ residue 2 ∷ residue 3 ∷ residue 4 ∷ [] }
 
 -- The widths and counts of the numbers of a check, and whether the next row is read.
 abbrev pub shape_of : CheckedAir → CheckShape
@@ -34,12 +50,12 @@ IsCutInto air log_chunks = IsCeilingOfLog log_chunks (quotient_multiple (constra
 
 -- the sample AIR of a name
 abbrev pub sample : SampleAir → CheckedAir
-sample Counter = checked_air counter_layout (0 ∷ []) [] None (counter_constraints (residue 1))
-sample Cubic = checked_air column_layout [] [] None cubic_constraints
-sample Fibonacci = checked_air fibonacci_layout (0 ∷ 1 ∷ []) [] None fibonacci_constraints
-sample Periodic = checked_air periodic_layout [] ((residue 0 ∷ residue 1 ∷ []) ∷ []) None periodic_constraints
-sample Preprocessed = checked_air preprocessed_layout [] [] None preprocessed_constraints
-sample Pair = checked_air pair_layout (0 ∷ 1 ∷ []) [] None (pair_constraints (residue 1))
+sample Counter = checked_air counter_layout (0 ∷ []) [] None (counter_constraints (residue 1)) None []
+sample Cubic = checked_air column_layout [] [] None cubic_constraints None []
+sample Fibonacci = checked_air fibonacci_layout (0 ∷ 1 ∷ []) [] None fibonacci_constraints None []
+sample Periodic = checked_air periodic_layout [] ((residue 0 ∷ residue 1 ∷ []) ∷ []) None periodic_constraints None []
+sample Preprocessed = checked_air preprocessed_layout [] [] None preprocessed_constraints (Some one_to_four) []
+sample Pair = checked_air pair_layout (0 ∷ 1 ∷ []) [] None (pair_constraints (residue 1)) None []
 
 -- the cubic one's constraint has degree 3, that of the others 2 at most
 abbrev pub log_chunks_of : SampleAir → ℕ

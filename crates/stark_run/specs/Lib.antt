@@ -5,3 +5,6 @@ pub mod Numbers
 pub mod Run
 pub mod Verdict
 pub mod Point
+pub mod ProofInput
+pub mod Refusals
+pub mod Verify

@@ -9,7 +9,7 @@ use Rattle.p3_uni_stark.specs.Equation.{OpenedRows, EquationHolds}
 use Rattle.stark_run.specs.declared.verdict.Verdict.{Verdict}
 use Rattle.stark_run.specs.declared.verdict.Verdict.TheVariants.{Accepted, Refused, BadInput}
 use Rattle.stark_run.specs.declared.verdict.Refusal.{Refusal}
-use Rattle.stark_run.specs.declared.verdict.Refusal.TheVariants.{OodPointInDomain, OodEvaluationMismatch, PeriodicColumn, QuotientDomainTooLarge, OutOfMemory}
+use Rattle.stark_run.specs.declared.verdict.Refusal.TheVariants.{OodPointInDomain, OodEvaluationMismatch, PeriodicColumn, QuotientDomainTooLarge, OutOfMemory, Proof}
 
 -- The domain of a quotient of 2 ^ log_chunks chunks: as many times larger, and shifted by the field's generator.
 abbrev pub quotient_coset : {F : Type 0} → RingOps F → F → TwoAdicCoset F → ℕ → TwoAdicCoset F
@@ -27,6 +27,7 @@ TellsEquation Holds (Refused OodEvaluationMismatch) = Holds → ⊥
 TellsEquation Holds (Refused PeriodicColumn) = ⊥
 TellsEquation Holds (Refused QuotientDomainTooLarge) = ⊥
 TellsEquation Holds (Refused OutOfMemory) = Unit {0}
+TellsEquation Holds (Refused (Proof why)) = ⊥
 TellsEquation Holds BadInput = ⊥
 
 abbrev pub EquationVerdict : {F E : Type 0} → RingOps F → RingOps E → (F → E) → Subgroup E → List (Constraint F) → OpenedRows F E → E → E → E → Verdict → Type 0

@@ -12,7 +12,7 @@ use Rattle.stark_run.specs.declared.verdict.Refusal.TheVariants as refusal
 use Rattle.stark_run.specs.declared.verdict.RunEnd.{RunEnd}
 use Rattle.stark_run.specs.declared.verdict.RunEnd.TheVariants.{Accepted, Refused, BadInput, InputFailed, OutputFailed}
 use Rattle.stark_run.specs.declared.words.Command.{Command}
-use Rattle.stark_run.specs.declared.words.Command.TheVariants.{Check}
+use Rattle.stark_run.specs.declared.words.Command.TheVariants.{Check, Verify}
 use Rattle.stark_run.specs.declared.words.SampleAir.{SampleAir}
 use Rattle.stark_run.specs.declared.words.SampleAir.TheVariants.{Counter, Cubic, Fibonacci, Periodic, Preprocessed, Pair}
 
@@ -36,7 +36,10 @@ named_air name =
 abbrev pub command_of : List (List ℕ) → Option Command
 command_of [] = None
 command_of (verb ∷ []) = None
-command_of (verb ∷ air ∷ []) = if bytes_eq verb (codes "check") then option_map Check (named_air air) else None
+command_of (verb ∷ air ∷ []) =
+    if bytes_eq verb (codes "check") then option_map Check (named_air air)
+    else if bytes_eq verb (codes "verify") then option_map Verify (named_air air)
+    else None
 command_of (verb ∷ air ∷ more ∷ rest) = None
 
 -- what is found of numbers, if they were read
@@ -44,18 +47,9 @@ abbrev pub judged : CheckedAir → ℕ → Option CheckNumbers → Verdict
 judged air log_chunks None = verdict.BadInput
 judged air log_chunks (Some m) = if has_shape (shape_of air) m then checked air log_chunks m else verdict.BadInput
 
--- what is found of an input
-abbrev pub verdict_of : Option Command → List ℕ → Verdict
-verdict_of None input = verdict.BadInput
-verdict_of (Some (Check air)) input = judged (sample air) (log_chunks_of air) (numbers_in (shape_of (sample air)) input)
-
 -- This is the reader's input, where the reader tells its bytes.
 abbrev pub IsInput : Option (List ℕ) → List ℕ → Type 0
 IsInput known input = IfSome known (λ bytes. input ≡ bytes)
-
--- It was found of the reader's input, or memory was wanting.
-abbrev pub Found : Option Command → Option (List ℕ) → Verdict → Type 0
-Found command known v = (input : List ℕ) × IsInput known input × ((v ≡ verdict_of command input) ⊎ (v ≡ verdict.Refused refusal.OutOfMemory))
 
 -- A run ended so that found v, and wrote from old to new.
 abbrev pub Says : RunEnd → Verdict → Option (List ℕ) → Option (List ℕ) → Type 0
@@ -65,17 +59,37 @@ Says Accepted v old new = (end_of v ≡ Accepted) × Appends old new (line_of v)
 Says Refused v old new = (end_of v ≡ Refused) × Appends old new (line_of v)
 Says BadInput v old new = (end_of v ≡ BadInput) × Appends old new (line_of v)
 
--- a run found this, or that memory is wanting
-abbrev pub SaysOrLacksMemory : RunEnd → Verdict → Option (List ℕ) → Option (List ℕ) → Type 0
-SaysOrLacksMemory end v old new = Says end v old new ⊎ Says end (verdict.Refused refusal.OutOfMemory) old new
+-- Over what a verifier finds of an input, for each AIR.
+module _ (verified : SampleAir → List ℕ → Verdict → Type 0) where
+  -- This is what is found of an input.
+  unfoldable pub IsVerdict : Option Command → List ℕ → Verdict → Type 0
+  IsVerdict None input v = v ≡ verdict.BadInput
+  IsVerdict (Some (Check air)) input v = v ≡ judged (sample air) (log_chunks_of air) (numbers_in (shape_of (sample air)) input)
+  IsVerdict (Some (Verify air)) input v = verified air input v
 
--- An input that is the reader's, where the reader tells its bytes, is accepted.
-abbrev pub AcceptsInput : Option Command → Option (List ℕ) → Type 0
-AcceptsInput command known = (input : List ℕ) × IsInput known input × (verdict_of command input ≡ verdict.Accepted)
+  -- So the check of an AIR holds of the numbers that the input spells, or an AIR's verifier accepts the proof that it spells.
+  abbrev pub HoldsOf : Option Command → List ℕ → Type 0
+  HoldsOf command input = CheckHoldsOf command input ⊎ ((air : SampleAir) × (command ≡ Some (Verify air)) × verified air input verdict.Accepted)
 
--- A run found something of the reader's input and said so.
-abbrev pub SaysFound : Option Command → Option (List ℕ) → RunEnd → Option (List ℕ) → Option (List ℕ) → Type 0
-SaysFound command known end old new = (v : Verdict) × Found command known v × Says end v old new
+  -- It is, or memory was wanting.
+  abbrev pub IsVerdictOrLacksMemory : Option Command → List ℕ → Verdict → Type 0
+  IsVerdictOrLacksMemory command input v = IsVerdict command input v ⊎ (v ≡ verdict.Refused refusal.OutOfMemory)
+
+  -- It was found of the reader's input, or memory was wanting.
+  abbrev pub Found : Option Command → Option (List ℕ) → Verdict → Type 0
+  Found command known v = (input : List ℕ) × IsInput known input × IsVerdictOrLacksMemory command input v
+
+  -- A run said what is found of this input, or that memory is wanting.
+  abbrev pub SaysVerdict : Option Command → List ℕ → RunEnd → Option (List ℕ) → Option (List ℕ) → Type 0
+  SaysVerdict command input end old new = (v : Verdict) × IsVerdictOrLacksMemory command input v × Says end v old new
+
+  -- A run found something of the reader's input and said so.
+  abbrev pub SaysFound : Option Command → Option (List ℕ) → RunEnd → Option (List ℕ) → Option (List ℕ) → Type 0
+  SaysFound command known end old new = (v : Verdict) × Found command known v × Says end v old new
+
+  -- An input that is the reader's, where the reader tells its bytes, is accepted.
+  abbrev pub AcceptsInput : Option Command → Option (List ℕ) → Type 0
+  AcceptsInput command known = (input : List ℕ) × IsInput known input × IsVerdict command input verdict.Accepted
 
 -- The run wrote these bytes, where it is known what the writer holds.
 abbrev pub Wrote : Option (List ℕ) → Option (List ℕ) → List ℕ → Type 0

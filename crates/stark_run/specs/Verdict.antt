@@ -3,7 +3,8 @@ use Rattle.std.specs.Prelude.{ℕ, List, ◌++◌, codes}
 use Rattle.stark_run.specs.declared.verdict.RunEnd.{RunEnd}
 use Rattle.stark_run.specs.declared.verdict.RunEnd.TheVariants as ends
 use Rattle.stark_run.specs.declared.verdict.Refusal.{Refusal}
-use Rattle.stark_run.specs.declared.verdict.Refusal.TheVariants.{OodEvaluationMismatch, OodPointInDomain, PeriodicColumn, QuotientDomainTooLarge, OutOfMemory}
+use Rattle.stark_run.specs.declared.verdict.Refusal.TheVariants.{OodEvaluationMismatch, OodPointInDomain, PeriodicColumn, QuotientDomainTooLarge, OutOfMemory, Proof}
+use Rattle.stark_run.specs.Refusals.{proof_name_of}
 use Rattle.stark_run.specs.declared.verdict.Verdict.{Verdict}
 use Rattle.stark_run.specs.declared.verdict.Verdict.TheVariants.{Accepted, Refused, BadInput}
 
@@ -13,6 +14,7 @@ name_of OodPointInDomain = codes "OodPointInDomain"
 name_of PeriodicColumn = codes "PeriodicColumn"
 name_of QuotientDomainTooLarge = codes "QuotientDomainTooLarge"
 name_of OutOfMemory = codes "OutOfMemory"
+name_of (Proof why) = proof_name_of why
 
 -- what is written, with the newline
 abbrev pub line_of : Verdict → List ℕ

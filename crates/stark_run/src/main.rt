@@ -10,12 +10,17 @@ mod check;
 mod input;
 mod judge;
 mod point;
+mod proof_input;
+mod refusal;
 mod run;
 mod sources;
 mod streams;
 #[cfg(test)]
 mod tests;
 mod verdict;
+mod verify;
+#[cfg(test)]
+mod verify_tests;
 mod words;
 
 use run::run;

@@ -2,19 +2,21 @@
 
 ghost use Rattle.std.specs.Prelude.{◌≡◌, ◌↔◌, ◌⊎◌, ℕ, List, map, string_bytes, true, false, None, Ok, IfOk, IfSome, IfErr, is_err, take, codes};
 ghost use Rattle.std.specs.Io.KnownBytes.{Appends};
-ghost use Rattle.stark_run.specs.Run.{CheckHoldsOf, command_of, verdict_of, Found, Says, SaysFound, SaysOrLacksMemory, AcceptsInput, Wrote};
+ghost use Rattle.stark_run.specs.Run.{AcceptsInput, Found, HoldsOf, IsVerdict, Says, SaysFound, SaysVerdict, Wrote, command_of};
 ghost use Rattle.stark_run.specs.Verdict.{line_of};
 
 use crate::judge::judge_sample;
 use crate::streams::{InputFault, Sink, Source, read_to_end, write_all};
 use crate::verdict::{Refusal, RunEnd, Verdict};
-use crate::words::{Command, named_command};
+use crate::verify::{VerifiedInput, verify_sample};
+use crate::words::{Command, SampleAir, named_command};
 use std::alloc::Global;
 
 /// Finds the verdict, or fails by the reader alone.
+#[tactic(auto, unfolding(crate::specs::Run::IsVerdict))]
 fn find<R: Source>(alloc: Global, words: &[String], reader: &mut R) -> Result<Verdict, RunEnd>
     requires { R.has_failed reader.old ≡ false }
-    ensures found { IfOk result (Found (command_of (map string_bytes words.now)) (R.remaining reader.old)) }
+    ensures found { IfOk result (Found (⟦<SampleAir as VerifiedInput>⟧.verified) (command_of (map string_bytes words.now)) (R.remaining reader.old)) }
     ensures other_words { command_of (map string_bytes words.now) ≡ None → result ≡ Ok Verdict.BadInput }
     ensures kind { IfErr result (λ e. e ≡ RunEnd.InputFailed) }
     ensures failed { (is_err result ≡ true) ↔ (R.has_failed reader.new ≡ true) }
@@ -26,6 +28,7 @@ fn find<R: Source>(alloc: Global, words: &[String], reader: &mut R) -> Result<Ve
     match read_to_end(alloc, reader) {
         Ok(input) => match command {
             Command::Check(air) => Ok(judge_sample(alloc, air, &input)),
+            Command::Verify(air) => Ok(verify_sample(alloc, air, &input)),
         },
         Err(InputFault::OutOfMemory) => Ok(Verdict::Refused(Refusal::OutOfMemory)),
         Err(InputFault::Failed) => Err(RunEnd::InputFailed),
@@ -54,7 +57,7 @@ fn ran<R: Source, W: Sink>(
 ) -> RunEnd
     requires fresh_reader { R.has_failed reader.old ≡ false }
     requires fresh_writer { W.has_failed writer.old ≡ false }
-    ensures says { (result ≡ RunEnd.InputFailed) ⊎ SaysFound (command_of (map string_bytes words.now)) (R.remaining reader.old) result (W.contents writer.old) (W.contents writer.new) }
+    ensures says { (result ≡ RunEnd.InputFailed) ⊎ SaysFound (⟦<SampleAir as VerifiedInput>⟧.verified) (command_of (map string_bytes words.now)) (R.remaining reader.old) result (W.contents writer.old) (W.contents writer.new) }
     ensures silent { result ≡ RunEnd.InputFailed → writer.new ≡ writer.old }
     ensures input_failed { (result ≡ RunEnd.InputFailed) ↔ (R.has_failed reader.new ≡ true) }
     ensures output_failed { (result ≡ RunEnd.OutputFailed) ↔ (W.has_failed writer.new ≡ true) }
@@ -78,7 +81,7 @@ pub fn run<R: Source, W: Sink>(
     requires fresh_writer { W.has_failed writer.old ≡ false }
     // What is written, and how the run ends.
     ensures says { IfSome (R.remaining reader.old) (λ input.
-        SaysOrLacksMemory result (verdict_of (command_of (map string_bytes words.now)) input)
+        SaysVerdict (⟦<SampleAir as VerifiedInput>⟧.verified) (command_of (map string_bytes words.now)) input result
         (W.contents writer.old) (W.contents writer.new)) }
     // With other words it says `bad input`, and nothing is read.
     ensures other_words { command_of (map string_bytes words.now) ≡ None → Says result Verdict.BadInput (W.contents writer.old) (W.contents writer.new) }
@@ -95,15 +98,15 @@ pub fn run<R: Source, W: Sink>(
     ensures accepted { IfSome (R.remaining reader.old) (λ input. (bytes : List ℕ) →
         Wrote (W.contents writer.old) (W.contents writer.new) bytes →
         take 8 bytes ≡ codes "accepted" →
-        verdict_of (command_of (map string_bytes words.now)) input ≡ Verdict.Accepted) }
-    // So of the numbers that the bytes spell for the AIR that is named, its check holds.
+        IsVerdict (⟦<SampleAir as VerifiedInput>⟧.verified) (command_of (map string_bytes words.now)) input Verdict.Accepted) }
+    // So the named AIR's check holds of the numbers that the bytes spell, or its verifier accepts the proof that they spell.
     ensures holds { IfSome (R.remaining reader.old) (λ input. (bytes : List ℕ) →
         Wrote (W.contents writer.old) (W.contents writer.new) bytes →
         take 8 bytes ≡ codes "accepted" →
-        CheckHoldsOf (command_of (map string_bytes words.now)) input) }
+        HoldsOf (⟦<SampleAir as VerifiedInput>⟧.verified) (command_of (map string_bytes words.now)) input) }
     // A run ends so only where they hold of an input, whether or not the reader tells its bytes.
     ensures accepted_end { result ≡ RunEnd.Accepted
-        → AcceptsInput (command_of (map string_bytes words.now)) (R.remaining reader.old) × Appends (W.contents writer.old) (W.contents writer.new) (line_of Verdict.Accepted) }
+        → AcceptsInput (⟦<SampleAir as VerifiedInput>⟧.verified) (command_of (map string_bytes words.now)) (R.remaining reader.old) × Appends (W.contents writer.old) (W.contents writer.new) (line_of Verdict.Accepted) }
 {
     ran(alloc, words, reader, writer)
 }

@@ -3,6 +3,8 @@
 ghost use Rattle.std.specs.Prelude.{◌≡◌};
 ghost use Rattle.stark_run.specs.Verdict.{line_of, end_of, status_of};
 
+use crate::refusal::ProofRefusal;
+
 /// How a run ends.
 #[derive(Clone, Copy, Debug, PartialEq, Eq)]
 pub enum RunEnd {
@@ -31,7 +33,7 @@ impl RunEnd {
     }
 }
 
-/// Why readable numbers are refused.
+/// Why what was read is refused.
 #[derive(Clone, Copy, Debug, PartialEq, Eq)]
 pub enum Refusal {
     /// The folded constraints differ from the vanishing value times the quotient.
@@ -44,6 +46,8 @@ pub enum Refusal {
     QuotientDomainTooLarge,
     /// A growth of memory was refused.
     OutOfMemory,
+    /// A proof is refused for a reason that no check of numbers finds.
+    Proof(ProofRefusal),
 }
 
 /// What is found of an input.
@@ -69,6 +73,7 @@ impl Verdict {
             Verdict::Refused(Refusal::PeriodicColumn) => "refused PeriodicColumn\n",
             Verdict::Refused(Refusal::QuotientDomainTooLarge) => "refused QuotientDomainTooLarge\n",
             Verdict::Refused(Refusal::OutOfMemory) => "refused OutOfMemory\n",
+            Verdict::Refused(Refusal::Proof(why)) => why.line(),
             Verdict::BadInput => "bad input\n",
         }
     }

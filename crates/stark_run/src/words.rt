@@ -3,7 +3,7 @@
 ghost use Rattle.std.specs.Prelude.{◌≡◌, map, string_bytes};
 ghost use Rattle.stark_run.specs.Run.{command_of, named_air};
 
-/// The AIRs of which a check can be made.
+/// The AIRs that have a name.
 #[derive(Clone, Copy, Debug, PartialEq, Eq)]
 pub enum SampleAir {
     /// A column that counts from the public value.
@@ -25,6 +25,8 @@ pub enum SampleAir {
 pub enum Command {
     /// To check the numbers of a proof for an AIR.
     Check(SampleAir),
+    /// To verify a proof for an AIR.
+    Verify(SampleAir),
 }
 
 /// The AIR of a name, compared whole.
@@ -50,6 +52,10 @@ pub fn named_command(words: &[String]) -> Option<Command>
         [verb, air] if verb.as_str() == "check" => {
             let air = named_air(air.as_str())?;
             Some(Command::Check(air))
+        }
+        [verb, air] if verb.as_str() == "verify" => {
+            let air = named_air(air.as_str())?;
+            Some(Command::Verify(air))
         }
         _ => None,
     }

@@ -86,9 +86,9 @@ has_periodic_values field inverse root trace domain columns folded values width 
       value = λ r c column below there.
           let point = coset_point field root domain r in
           let listed : slice_get (folded_row field point folded) c ≡ Some (periodic_value field inverse generator height field (λ x. x) column point) =
-              ap (λ t. slice_get (folded_row field point t) c) are
-              ∙ slice_get-map (λ q. value field q.0 (power field point q.1)) (map (folded_column field inverse generator height) columns) c
-              ∙ ap (option_map (λ q. value field q.0 (power field point q.1))) (slice_get-map (folded_column field inverse generator height) columns c ∙ ap (option_map (folded_column field inverse generator height)) there) in
+          ap (λ t. slice_get (folded_row field point t) c) are
+          ∙ slice_get-map (λ q. value field q.0 (power field point q.1)) (map (folded_column field inverse generator height) columns) c
+          ∙ ap (option_map (λ q. value field q.0 (power field point q.1))) (slice_get-map (folded_column field inverse generator height) columns c ∙ ap (option_map (folded_column field inverse generator height)) there) in
           ap (λ n. slice_get values ((r % n) * width + c)) long ∙ ap (λ n. slice_get values (n * width + c)) (mod-eq_of_lt below)
           ∙ ap (λ w. slice_get values (r * w + c)) same_width ∙ rows.value r c _ below listed
           ∙ ap (λ g. Some (periodic_value field inverse g height field (λ x. x) column point)) is_root

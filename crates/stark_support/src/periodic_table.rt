@@ -126,9 +126,5 @@ pub fn periodic_lde_table<D: PolynomialSpace>(
     let generator = D::Val::two_adic_generator(log2_strict_usize(trace_domain.size()));
     let folded = columns.folded(alloc, generator)?;
     let values = rows_on(alloc, &folded, quotient_domain)?;
-    Ok(PeriodicLdeTable::new(
-        values,
-        columns.columns.len(),
-        quotient_domain.size(),
-    ))
+    Ok(PeriodicLdeTable::new(values, columns.columns.len(), quotient_domain.size()))
 }

@@ -25,12 +25,12 @@ check_point-requires-clause-chunks g c =
     length-map c.args.input.now.chunks.items (λ chunk. chunk.items) ∙ sym c.args.input.now.chunks.ok.0 ∙ sym c.len.ensures ∙ c.if-len-log_chunks.false ∙ shifted_one c.args.log_chunks (omega (arith, within))
 
 pub returns-in_default : goal.returns-in_default
-returns-in_default g c = inl (found_too_large (checked_air (g.A.BaseAir.layout c.args.air.now) (g.A.BaseAir.main_next_row_columns c.args.air.now) (g.A.BaseAir.periodic_columns c.args.air.now) (g.A.BaseAir.degree_hint c.args.air.now) (g.A.Air.constraints c.args.air.now)) c.args.log_chunks (numbers c.args.input.now) (c.in_default.ensures.none.0 refl))
+returns-in_default g c = inl (found_too_large (checked_air (g.A.BaseAir.layout c.args.air.now) (g.A.BaseAir.main_next_row_columns c.args.air.now) (g.A.BaseAir.periodic_columns c.args.air.now) (g.A.BaseAir.degree_hint c.args.air.now) (g.A.Air.constraints c.args.air.now) (g.A.BaseAir.preprocessed_trace c.args.air.now) (g.A.BaseAir.preprocessed_next_row_columns c.args.air.now)) c.args.log_chunks (numbers c.args.input.now) (c.in_default.ensures.none.0 refl))
 
 pub returns-then-len-log_chunks : goal.returns-then-len-log_chunks
 returns-then-len-log_chunks g c =
     let within : c.args.input.now.log_height + c.args.log_chunks ≤ 12 = within_adicity _ c.in-Some.ensures.none.1 in
-    inl (found_uncounted (checked_air (g.A.BaseAir.layout c.args.air.now) (g.A.BaseAir.main_next_row_columns c.args.air.now) (g.A.BaseAir.periodic_columns c.args.air.now) (g.A.BaseAir.degree_hint c.args.air.now) (g.A.Air.constraints c.args.air.now)) c.args.log_chunks (numbers c.args.input.now) within (λ count.
+    inl (found_uncounted (checked_air (g.A.BaseAir.layout c.args.air.now) (g.A.BaseAir.main_next_row_columns c.args.air.now) (g.A.BaseAir.periodic_columns c.args.air.now) (g.A.BaseAir.degree_hint c.args.air.now) (g.A.Air.constraints c.args.air.now) (g.A.BaseAir.preprocessed_trace c.args.air.now) (g.A.BaseAir.preprocessed_next_row_columns c.args.air.now)) c.args.log_chunks (numbers c.args.input.now) within (λ count.
     c.if-len-log_chunks.true (c.len.ensures ∙ c.args.input.now.chunks.ok.0 ∙ sym (length-map c.args.input.now.chunks.items (λ chunk. chunk.items)) ∙ count ∙ sym (shifted_one c.args.log_chunks (omega (arith, within))))))
 
 pub returns : goal.returns
@@ -38,6 +38,6 @@ returns g c =
     let within : c.args.input.now.log_height + c.args.log_chunks ≤ 12 = within_adicity _ c.in-Some.ensures.none.1 in
     let count = length-map c.args.input.now.chunks.items (λ chunk. chunk.items) ∙ sym c.args.input.now.chunks.ok.0 ∙ sym c.len.ensures ∙ c.if-len-log_chunks.false ∙ shifted_one c.args.log_chunks (omega (arith, within)) in
     elim c.check_point.ensures [
-      | inl is ↦ inl (is ∙ found_counted (checked_air (g.A.BaseAir.layout c.args.air.now) (g.A.BaseAir.main_next_row_columns c.args.air.now) (g.A.BaseAir.periodic_columns c.args.air.now) (g.A.BaseAir.degree_hint c.args.air.now) (g.A.Air.constraints c.args.air.now)) c.args.log_chunks (numbers c.args.input.now) within count)
+      | inl is ↦ inl (is ∙ found_counted (checked_air (g.A.BaseAir.layout c.args.air.now) (g.A.BaseAir.main_next_row_columns c.args.air.now) (g.A.BaseAir.periodic_columns c.args.air.now) (g.A.BaseAir.degree_hint c.args.air.now) (g.A.Air.constraints c.args.air.now) (g.A.BaseAir.preprocessed_trace c.args.air.now) (g.A.BaseAir.preprocessed_next_row_columns c.args.air.now)) c.args.log_chunks (numbers c.args.input.now) within count)
       | inr memory ↦ inr memory
     ]

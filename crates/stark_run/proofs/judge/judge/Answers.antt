@@ -11,5 +11,5 @@ check-requires-clause-shape g c = ap (λ s. has_shape s (numbers c.in-Ok-numbers
 
 pub returns-in-Err-Invalid : goal.returns-in-Err-Invalid
 returns-in-Err-Invalid g c = λ log_chunks cut.
-    inl (judged_unread (checked_air (g.A.BaseAir.layout c.args.air.now) (g.A.BaseAir.main_next_row_columns c.args.air.now) (g.A.BaseAir.periodic_columns c.args.air.now) (g.A.BaseAir.degree_hint c.args.air.now) (g.A.Air.constraints c.args.air.now)) log_chunks c.in-Ok.shape c.args.bytes.now c.in-Ok.ensures
+    inl (judged_unread (checked_air (g.A.BaseAir.layout c.args.air.now) (g.A.BaseAir.main_next_row_columns c.args.air.now) (g.A.BaseAir.periodic_columns c.args.air.now) (g.A.BaseAir.degree_hint c.args.air.now) (g.A.Air.constraints c.args.air.now) (g.A.BaseAir.preprocessed_trace c.args.air.now) (g.A.BaseAir.preprocessed_next_row_columns c.args.air.now)) log_chunks c.in-Ok.shape c.args.bytes.now c.in-Ok.ensures
     (subst (λ fault. Gives numbers (Err fault) (numbers_in c.in-Ok.shape c.args.bytes.now)) c.in-Err-Invalid.field-0-is c.in-Err-Invalid.ensures.numbers))

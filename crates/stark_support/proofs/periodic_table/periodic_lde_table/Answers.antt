@@ -13,7 +13,7 @@ pub two_adic_generator-generator-requires : goal.two_adic_generator-generator-re
 two_adic_generator-generator-requires g c =
     let coset = g.D.PolynomialSpace.coset_of c.args.trace_domain.now in
     let same : c.log2_strict_usize.result ≡ coset.log_size =
-        own_exponent c.log2_strict_usize.result c.size.result coset.log_size c.log2_strict_usize.ensures (c.size.ensures ∙ g.met.D.PolynomialSpace.size_is c.args.trace_domain.now) in
+    own_exponent c.log2_strict_usize.result c.size.result coset.log_size c.log2_strict_usize.ensures (c.size.ensures ∙ g.met.D.PolynomialSpace.size_is c.args.trace_domain.now) in
     subst (λ k. k ≤ g.D.Val.TwoAdicField.TWO_ADICITY) (sym same) (g.met.D.PolynomialSpace.lawful c.args.trace_domain.now).within
 
 pub folded-requires-clause-order : goal.folded-requires-clause-order
@@ -21,7 +21,7 @@ folded-requires-clause-order g c =
     let ring = g.D.Val.Field.ring in
     let coset = g.D.PolynomialSpace.coset_of c.args.trace_domain.now in
     let same : c.log2_strict_usize.result ≡ coset.log_size =
-        own_exponent c.log2_strict_usize.result c.size.result coset.log_size c.log2_strict_usize.ensures (c.size.ensures ∙ g.met.D.PolynomialSpace.size_is c.args.trace_domain.now) in
+    own_exponent c.log2_strict_usize.result c.size.result coset.log_size c.log2_strict_usize.ensures (c.size.ensures ∙ g.met.D.PolynomialSpace.size_is c.args.trace_domain.now) in
     subst (HasOrder ring c.two_adic_generator-generator.result) (sym c.requires)
     (subst (λ h. HasOrder ring h (coset_size coset)) (sym (c.two_adic_generator-generator.ensures ∙ ap g.D.Val.TwoAdicField.root same))
     (root_has_order g.met.D.Val.Field.field_laws _ g.D.Val.TwoAdicField.root _ g.met.D.Val.TwoAdicField.two_adic coset.log_size (g.met.D.PolynomialSpace.lawful c.args.trace_domain.now).within))
@@ -43,7 +43,7 @@ returns g c =
     let h = c.two_adic_generator-generator.result in
     let height = c.args.columns.now.trace_len in
     let same : c.log2_strict_usize.result ≡ coset.log_size =
-        own_exponent c.log2_strict_usize.result c.size.result coset.log_size c.log2_strict_usize.ensures (c.size.ensures ∙ g.met.D.PolynomialSpace.size_is c.args.trace_domain.now) in
+    own_exponent c.log2_strict_usize.result c.size.result coset.log_size c.log2_strict_usize.ensures (c.size.ensures ∙ g.met.D.PolynomialSpace.size_is c.args.trace_domain.now) in
     has_periodic_values ring inverse root coset (g.D.PolynomialSpace.coset_of c.args.quotient_domain.now) (map (λ column. column.items) columns) (map folded_view c.deref.result.now)
     c.new.result.values.items c.new.result.width c.new.result.period height h
     (c.two_adic_generator-generator.ensures ∙ ap root same) c.requires

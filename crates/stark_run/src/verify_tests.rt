@@ -63,59 +63,84 @@ fn honest_proof_of_the_counter(rt: HostRuntime) -> Result<(), Fail> {
 fn changed_proofs_of_the_counter(rt: HostRuntime) -> Result<(), Fail> {
     let next = "\"trace_next\":[[7,0,0,0]]";
     let no_next = "\"trace_next\":null";
-    let rows: [(&[(&str, &str)], &str); 12] = [
-        (&[], "accepted\n"),
+    let rows = [
+        ("", "", "", "", "accepted\n"),
         (
-            &[(next, no_next), ("\"publics\":[5]", "\"publics\":[5,5]")],
+            next,
+            no_next,
+            "\"publics\":[5]",
+            "\"publics\":[5,5]",
             "refused PublicValuesLengthMismatch\n",
         ),
-        (&[(next, no_next)], "refused TraceNextMismatch\n"),
+        (next, no_next, "", "", "refused TraceNextMismatch\n"),
         (
-            &[("\"ood_pow_witness\":0", "\"ood_pow_witness\":7")],
+            "\"ood_pow_witness\":0",
+            "\"ood_pow_witness\":7",
+            "",
+            "",
             "refused NonCanonicalOodPowWitness\n",
         ),
         (
-            &[("\"challenger\":[4,0,0,0,3,", "\"challenger\":[4,0,0,0,1,")],
+            "\"challenger\":[4,0,0,0,3,",
+            "\"challenger\":[4,0,0,0,1,",
+            "",
+            "",
             "refused OodPointInDomain\n",
         ),
         (
-            &[
-                ("\"challenger\":[4,0,0,0,3,", "\"challenger\":[4,0,0,0,1,"),
-                ("[[4,0,0,0]]", "[[5,0,0,0]]"),
-            ],
+            "\"challenger\":[4,0,0,0,3,",
+            "\"challenger\":[4,0,0,0,1,",
+            "[[4,0,0,0]]",
+            "[[5,0,0,0]]",
             "refused OodPointInDomain\n",
         ),
         (
-            &[("[[4,0,0,0]]", "[[5,0,0,0]]")],
+            "[[4,0,0,0]]",
+            "[[5,0,0,0]]",
+            "",
+            "",
             "refused InvalidOpeningArgument\n",
         ),
         (
-            &[("\"degree_bits\":1", "\"degree_bits\":8")],
+            "\"degree_bits\":1",
+            "\"degree_bits\":8",
+            "",
+            "",
             "refused InvalidOpeningArgument\n",
         ),
         (
-            &[("\"degree_bits\":1", "\"degree_bits\":9")],
+            "\"degree_bits\":1",
+            "\"degree_bits\":9",
+            "",
+            "",
             "refused OodPointInDomain\n",
         ),
         (
-            &[("\"degree_bits\":1", "\"degree_bits\":13")],
+            "\"degree_bits\":1",
+            "\"degree_bits\":13",
+            "",
+            "",
             "refused DegreeBitsTooLarge\n",
         ),
         (
-            &[(
-                "\"random\":null,\"trace_local\"",
-                "\"random\":[[0,0,0,0]],\"trace_local\"",
-            )],
+            "\"random\":null,\"trace_local\"",
+            "\"random\":[[0,0,0,0]],\"trace_local\"",
+            "",
+            "",
             "refused RandomizationError\n",
         ),
         (
-            &[("\"challenger\"", "\"ood_bits\":16,\"challenger\"")],
+            "\"challenger\"",
+            "\"ood_bits\":16,\"challenger\"",
+            "",
+            "",
             "refused InvalidOodPowWitness\n",
         ),
     ];
-    for (changes, line) in rows {
-        let found = line_of(rt.alloc(), "counter", COUNTER, changes)?;
-        assert_eq!(rt; found.as_slice(), line.as_bytes());
+    for (from, to, also_from, also_to, line) in rows {
+        let changes = [(from, to), (also_from, also_to)];
+        let found = line_of(rt.alloc(), "counter", COUNTER, &changes)?;
+        assert_eq!(rt; found.as_slice(), line.as_bytes(), "{from} {also_from}");
     }
     Ok(())
 }

@@ -4,7 +4,8 @@ use Rattle.std.proofs.lemmas.Bool.{lt-ltb}
 use Rattle.serde_json.specs.Data.{Data, null, boolean, number, string, array, object}
 use Rattle.serde_json.specs.Find.{as_null}
 use Rattle.serde_json.specs.View.{items_of}
-use Rattle.stark_support.specs.Json.{array_at, each_at}
+use Rattle.stark_support.specs.Json.{array_at}
+use Rattle.stark_support.specs.JsonFacts.{each_back}
 use Rattle.p3_uni_stark.specs.declared.proof.Commitments.{Commitments}
 use Rattle.p3_uni_stark.specs.ProofView.{PreprocessedView, OpeningsView, ProofView}
 use Rattle.p3_uni_stark.specs.ProofJson.{RuleFault, ◌>>=◌, row_at, row_writing, rows_at, each_of, unless_null, value_or_null, rule_fault, preprocessed_of, preprocessed_local, preprocessed_next, unless_fault, openings_reading, openings_writing, openings_read_back, openings_rule_fault, OpeningsFault, other, value_at, within_openings, commitments_reading, commitments_writing, proof_reading, proof_writing, proof_read_back}
@@ -19,13 +20,9 @@ put_together None = refl
 put_together (Some rows) = refl
 
 module _ {E : Type 0} (reading : Data → Option E) (writing : E → Data) (back : (x : E) → reading (writing x) ≡ Some x) where
-  each_back : (xs : List E) → each_at reading (items_of (map writing xs)) ≡ Some xs
-  each_back [] = refl
-  each_back (x ∷ xs) = rw (back x, each_back xs) refl
-
   row_back : (field : List ℕ) (xs : List E) → row_at reading field (row_writing writing xs) ≡ Ok xs
   unfolding array_at
-  row_back field xs = rw (each_back xs) refl
+  row_back field xs = rw (each_back reading writing back xs) refl
 
   rows_back : (field : List ℕ) (rows : List (List E)) → each_of (row_at reading field) (items_of (map (row_writing writing) rows)) ≡ Ok rows
   rows_back field [] = refl

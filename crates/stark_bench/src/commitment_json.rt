@@ -2,7 +2,8 @@
 ghost use Rattle.std.specs.Prelude.{◌≡◌, IfOk, map};
 ghost use Rattle.serde_json.specs.View.{items_view, view};
 ghost use Rattle.stark_support.specs.Json.{Gives, array_at, each_at};
-ghost use Rattle.stark_bench.specs.CommitmentJson.{commitment_at, commitment_never_null, commitment_reads_back, commitment_written, list_written};
+ghost use Rattle.stark_support.specs.JsonFacts.{list_written};
+ghost use Rattle.stark_bench.specs.CommitmentJson.{commitment_at, commitment_never_null, commitment_reads_back, commitment_written};
 
 use crate::challenger::ClearCommitment;
 use serde_json::Value;

@@ -24,6 +24,7 @@ pub mod Recomposition
 pub mod RecompositionFacts
 pub mod CosetListFacts
 pub mod Json
+pub mod JsonFacts
 pub mod Polynomial
 pub mod PolynomialFacts
 pub mod KeepsRing

@@ -1,6 +1,6 @@
 use Rattle.std.proofs.Common.{◌≡◌, take, map}
 use Rattle.serde_json.specs.View.{view}
-use Rattle.stark_bench.specs.CommitmentJson.{list_written}
+use Rattle.stark_support.specs.JsonFacts.{list_written}
 use Rattle.stark_bench.proofs.commitment_json.matrix_to_json.Given as goal
 
 abbrev pub invariant-loop-column : goal.invariant-loop-column

@@ -8,7 +8,7 @@ use Rattle.stark_parts.specs.declared.error.VerificationError.{VerificationError
 use Rattle.stark_parts.specs.declared.error.VerificationError.TheVariants.{OutOfMemory}
 use Rattle.p3_uni_stark.specs.Equation.{EquationHolds}
 use Rattle.p3_uni_stark.specs.Instance.{Instance, ProtocolOps, log_height, trace_coset}
-use Rattle.p3_uni_stark.specs.ProofView.{ProofView}
+use Rattle.stark_proof.specs.ProofView.{ProofView}
 use Rattle.p3_uni_stark.specs.Acceptance.{IsBalanced, log_parts, periodic_values, quotient_value, rows_of}
 use Rattle.p3_uni_stark.specs.FirstFault.{EquationFault, in_balance}
 use Rattle.p3_uni_stark.specs.Sizes.{chunk_shifts, quotient_coset}

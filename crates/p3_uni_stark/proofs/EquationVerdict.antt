@@ -7,7 +7,7 @@ use Rattle.stark_air.specs.Tree.{Constraint}
 use Rattle.stark_parts.specs.declared.error.VerificationError.{VerificationError}
 use Rattle.stark_parts.specs.declared.error.VerificationError.TheVariants.{OutOfMemory}
 use Rattle.p3_uni_stark.specs.Equation.{ConstraintsFault, ConstraintsHold, EquationHolds, OpenedRows, row_or_empty, two_widths, unbalanced}
-use Rattle.p3_uni_stark.specs.ProofView.{PreprocessedView}
+use Rattle.stark_proof.specs.ProofView.{PreprocessedView}
 use Rattle.p3_uni_stark.specs.Acceptance.{preprocessed_local}
 use Rattle.p3_uni_stark.specs.FirstFault.{EquationFault, in_balance}
 

@@ -7,7 +7,7 @@ use Rattle.stark_parts.specs.declared.error.VerificationError.TheVariants.{OutOf
 use Rattle.p3_uni_stark.specs.declared.preprocessed.PreprocessedVerifierKey.{PreprocessedVerifierKey}
 use Rattle.p3_uni_stark.specs.Instance.{Instance, OpeningOps, ProtocolOps, log_height}
 use Rattle.p3_uni_stark.specs.OpenedClaims.{OpeningsFault, OpeningsHold, claims, preprocessed_place, refused}
-use Rattle.p3_uni_stark.specs.ProofView.{ProofView}
+use Rattle.stark_proof.specs.ProofView.{ProofView}
 use Rattle.p3_uni_stark.specs.Acceptance.{Accepted, IsBalanced, IsPointOfH, RunHolds, challenges, columns_fault}
 use Rattle.p3_uni_stark.specs.FirstFault.{EquationFault, FirstFault, PointFault, RunFault, in_balance, in_columns, in_domain, in_equation, in_openings, in_point, in_replay, in_run, in_shape}
 

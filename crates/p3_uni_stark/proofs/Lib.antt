@@ -7,15 +7,6 @@ pub mod ShapeSteps
 pub mod Balance
 pub mod Excluded
 pub mod EquationSteps
-pub mod Rows
-pub mod ReadBack
 pub mod SetUpSteps
-pub mod ConstraintSteps
-pub mod ConstraintDegrees
-pub mod BadValueSteps
-pub mod Counting
-pub mod ErrorBoundSteps
 pub mod TakenValueSteps
-pub mod Fitting
-pub mod BoundSteps
 pub mod SoundAcceptanceSteps

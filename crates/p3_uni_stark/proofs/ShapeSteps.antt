@@ -10,7 +10,7 @@ use Rattle.stark_parts.specs.Shape.{opens_next_row}
 use Rattle.stark_parts.specs.declared.error.InvalidProofShapeError.TheVariants.{OpenedValuesDimensionMismatch, PreprocessedVerifierKeyInconsistency, PublicValuesLengthMismatch, TraceNextMismatch}
 use Rattle.p3_uni_stark.specs.declared.preprocessed.PreprocessedVerifierKey.{PreprocessedVerifierKey}
 use Rattle.p3_uni_stark.specs.Equation.{opened_layout}
-use Rattle.p3_uni_stark.specs.ProofView.{OpeningsView, PreprocessedView}
+use Rattle.stark_proof.specs.ProofView.{OpeningsView, PreprocessedView}
 use Rattle.p3_uni_stark.specs.Acceptance.{preprocessed_local, preprocessed_next, rows_of}
 use Rattle.p3_uni_stark.specs.ShapeFaults.{dimensions_fault, earlier, expected_next, fault_if, key_degree_fault, key_width_fault, opened_fault, preprocessed_fault, preprocessed_rows_fault, publics_fault, random_fits, trace_next_fault, unread_next_fault, width_in_force, width_of, witness_fault}
 

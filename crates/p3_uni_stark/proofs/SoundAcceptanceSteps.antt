@@ -11,7 +11,7 @@ use Rattle.stark_parts.specs.declared.error.VerificationError.TheVariants.{Inval
 use Rattle.stark_parts.specs.declared.error.InvalidProofShapeError.{InvalidProofShapeError}
 use Rattle.p3_uni_stark.specs.declared.preprocessed.PreprocessedVerifierKey.{PreprocessedVerifierKey}
 use Rattle.p3_uni_stark.specs.Equation.{opened_layout}
-use Rattle.p3_uni_stark.specs.ProofView.{OpeningsView, PreprocessedView, ProofView}
+use Rattle.stark_proof.specs.ProofView.{OpeningsView, PreprocessedView, ProofView}
 use Rattle.p3_uni_stark.specs.Instance.{Instance, ProtocolOps, log_height}
 use Rattle.p3_uni_stark.specs.Acceptance.{preprocessed_local, preprocessed_next, rows_of, of_shape, periodic_values, quotient_value, log_parts, challenges, shape_fault, height_fault, key_fault, domain_fault, values_fault, IsBalanced, RunHolds, Accepted}
 use Rattle.p3_uni_stark.specs.ShapeFaults.{earlier, expected_next, fault_if, key_degree_fault, key_width_fault, opened_fault, preprocessed_fault, preprocessed_rows_fault, publics_fault, randomization_fault, trace_next_fault, unread_next_fault, width_in_force, width_of}

@@ -15,12 +15,12 @@ use Rattle.stark_air.specs.Layout.{Layout, TreeWithin, LeavesWithin}
 use Rattle.stark_air.specs.Value.{Environment, value, constraint_values}
 use Rattle.stark_parts.specs.Folded.{folded}
 use Rattle.p3_uni_stark.specs.Equation.{OpenedRows, opened_environment, EquationHolds}
-use Rattle.p3_uni_stark.specs.ProofView.{OpeningsView, PreprocessedView}
-use Rattle.p3_uni_stark.specs.ConstraintPolynomial.{AirInstance, Columns, height, group, next_point, environment_at}
-use Rattle.p3_uni_stark.specs.BadValues.{IsBalanced}
+use Rattle.stark_proof.specs.ProofView.{OpeningsView, PreprocessedView}
+use Rattle.stark_security.specs.ConstraintPolynomial.{AirInstance, Columns, height, group, next_point, environment_at}
+use Rattle.stark_security.specs.BadValues.{IsBalanced}
 use Rattle.p3_uni_stark.specs.TakenValues.{values_at, embedded_polynomials, TakeOpenedValues, BreakingNeedsBadDraws}
-use Rattle.p3_uni_stark.proofs.BadValueSteps.{alpha_or_zeta_is_bad}
-use Rattle.p3_uni_stark.proofs.ConstraintDegrees.{value_of_embedded}
+use Rattle.stark_security.proofs.BadValueSteps.{alpha_or_zeta_is_bad}
+use Rattle.stark_security.proofs.ConstraintDegrees.{value_of_embedded}
 
 -- Two environments have the same values at each leaf of a layout.
 pub record AgreeWithin {E : Type 0} (l : Layout) (e : Environment E) (f : Environment E) : Type 0 where

@@ -7,7 +7,7 @@ use Rattle.stark_parts.specs.declared.error.VerificationError.{VerificationError
 use Rattle.stark_parts.specs.declared.error.VerificationError.TheVariants.{OutOfMemory}
 use Rattle.p3_uni_stark.specs.Instance.{Instance, ProtocolOps, log_height}
 use Rattle.p3_uni_stark.specs.OpenedClaims.{OpeningsFault}
-use Rattle.p3_uni_stark.specs.ProofView.{ProofView}
+use Rattle.stark_proof.specs.ProofView.{ProofView}
 use Rattle.p3_uni_stark.specs.Acceptance.{IsBalanced, IsPointOfH, RunHolds, challenges, columns_fault, shape_fault}
 use Rattle.p3_uni_stark.specs.FirstFault.{EquationFault, FirstFault, PointFault, RunFault, in_equation, in_openings, in_point, in_replay, in_run, in_shape}
 

@@ -19,7 +19,7 @@ use Rattle.p3_uni_stark.specs.Challenges.{challenges_outcome}
 use Rattle.p3_uni_stark.specs.Equation.{EquationHolds, OpenedRows}
 use Rattle.p3_uni_stark.specs.Instance.{FieldsOps, Instance, ProtocolOps, log_height, trace_coset}
 use Rattle.p3_uni_stark.specs.OpenedClaims.{OpeningsHold}
-use Rattle.p3_uni_stark.specs.ProofView.{OpeningsView, PreprocessedView, ProofView}
+use Rattle.stark_proof.specs.ProofView.{OpeningsView, PreprocessedView, ProofView}
 use Rattle.p3_uni_stark.specs.ShapeFaults.{degree_fault, earlier, opened_fault, preprocessed_fault, quotient_fault, randomization_fault, width_in_force}
 use Rattle.p3_uni_stark.specs.Sizes.{chunk_shifts, log_parts_of, quotient_coset}
 

@@ -7,7 +7,7 @@ use Rattle.stark_parts.specs.declared.error.VerificationError.{VerificationError
 use Rattle.stark_parts.specs.declared.error.VerificationError.TheVariants.{PeriodicColumn, OodEvaluationMismatch, OodPointInDomain}
 use Rattle.p3_uni_stark.specs.Instance.{Instance, ProtocolOps, log_height}
 use Rattle.p3_uni_stark.specs.OpenedClaims.{OpeningsFault}
-use Rattle.p3_uni_stark.specs.ProofView.{ProofView}
+use Rattle.stark_proof.specs.ProofView.{ProofView}
 use Rattle.p3_uni_stark.specs.Acceptance.{IsBalanced, IsPointOfH, RunHolds, challenges, columns_fault, shape_fault}
 
 -- The first fault of the point and of the periodic columns: the point lies in the domain, or else a column doesn't fit.

@@ -5,14 +5,7 @@ pub mod Challenges
 pub mod Acceptance
 pub mod FirstFault
 pub mod Equation
-pub mod ProofView
-pub mod ProofJson
 pub mod ShapeFaults
 pub mod Preprocessing
-pub mod ConstraintPolynomial
-pub mod DegreeBound
-pub mod BadValues
-pub mod ErrorBound
 pub mod TakenValues
-pub mod Openings
 pub mod SoundAcceptance

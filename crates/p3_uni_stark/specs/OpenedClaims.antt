@@ -6,7 +6,7 @@ use Rattle.stark_support.specs.Scheme.{natural_coset, zk_bits}
 use Rattle.stark_parts.specs.declared.error.VerificationError.{VerificationError}
 use Rattle.stark_parts.specs.declared.error.VerificationError.TheVariants.{InvalidOpeningArgument, OutOfMemory}
 use Rattle.p3_uni_stark.specs.declared.preprocessed.PreprocessedVerifierKey.{PreprocessedVerifierKey}
-use Rattle.p3_uni_stark.specs.ProofView.{PreprocessedView, OpeningsView, ProofView}
+use Rattle.stark_proof.specs.ProofView.{PreprocessedView, OpeningsView, ProofView}
 use Rattle.p3_uni_stark.specs.Instance.{OpeningOps, log_height}
 
 -- the current row at zeta, and the next one, where it is opened, at the next point

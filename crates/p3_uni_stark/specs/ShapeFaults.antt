@@ -6,7 +6,7 @@ use Rattle.stark_parts.specs.declared.error.InvalidProofShapeError.TheVariants.{
 use Rattle.stark_parts.specs.declared.error.VerificationError.{VerificationError}
 use Rattle.stark_parts.specs.declared.error.VerificationError.TheVariants.{RandomizationError}
 use Rattle.p3_uni_stark.specs.declared.preprocessed.PreprocessedVerifierKey.{PreprocessedVerifierKey}
-use Rattle.p3_uni_stark.specs.ProofView.{PreprocessedView, OpeningsView}
+use Rattle.stark_proof.specs.ProofView.{PreprocessedView, OpeningsView}
 
 -- an error, where a test says so
 abbrev pub fault_if : {X : Type 0} → Bool → X → Option X

@@ -2,9 +2,9 @@
 use Rattle.std.specs.Prelude.{◌≡◌, ◌+◌, List, Ok}
 use Rattle.stark_support.specs.Scheme.{natural_coset, zk_bits}
 use Rattle.p3_uni_stark.specs.Acceptance.{challenges, log_parts}
-use Rattle.p3_uni_stark.specs.ConstraintPolynomial.{AirInstance}
+use Rattle.stark_security.specs.ConstraintPolynomial.{AirInstance}
 use Rattle.p3_uni_stark.specs.Instance.{Instance, ProtocolOps, log_height}
-use Rattle.p3_uni_stark.specs.ProofView.{ProofView}
+use Rattle.stark_proof.specs.ProofView.{ProofView}
 use Rattle.p3_uni_stark.specs.Sizes.{chunk_shifts, quotient_coset}
 use Rattle.p3_uni_stark.specs.TakenValues.{BreakingNeedsBadDraws}
 

@@ -3,9 +3,9 @@ use Rattle.std.specs.Prelude.{◌≡◌, ◌⊎◌, List, map, IfSome}
 use Rattle.stark_support.specs.Ring.{RingOps}
 use Rattle.stark_support.specs.Polynomial.{value}
 use Rattle.stark_support.specs.RecompositionPolynomial.{chunk_values}
-use Rattle.p3_uni_stark.specs.ProofView.{OpeningsView}
-use Rattle.p3_uni_stark.specs.ConstraintPolynomial.{AirInstance, Columns, next_point}
-use Rattle.p3_uni_stark.specs.BadValues.{Satisfies, IsBadAlpha, IsBadZeta}
+use Rattle.stark_proof.specs.ProofView.{OpeningsView}
+use Rattle.stark_security.specs.ConstraintPolynomial.{AirInstance, Columns, next_point}
+use Rattle.stark_security.specs.BadValues.{Satisfies, IsBadAlpha, IsBadZeta}
 
 -- the polynomials' values at x
 abbrev pub values_at : {E : Type 0} → RingOps E → List (List E) → E → List E

@@ -3,17 +3,10 @@
 
 mod constraints;
 mod preprocessed;
-mod proof;
-mod security;
 mod verifier;
 
 pub use constraints::verify_constraints;
 pub use preprocessed::{PreprocessedProverData, PreprocessedVerifierKey, setup_preprocessed};
-pub use proof::{
-    Commitments, OpenedValues, OpeningsDecodeError, PreprocessedOpenedValues, Proof,
-    ProofDecodeError,
-};
-pub use security::{OpeningShape, StarkSecurityParams, num_batched_openings, ood_error_bound};
 pub use stark_air::{
     AirLayout, BaseEntry, ConstraintLayout, SubAirBuilder, SubSliced, SymbolicAirBuilder,
     SymbolicExpression, SymbolicVariable, get_all_symbolic_constraints, get_constraint_layout,
@@ -25,6 +18,13 @@ pub use stark_parts::{
     StarkProverTranscript, StarkShape, StarkTranscriptFailure, StarkVerifierTranscript, Val,
     VerificationError, VerifierConstraintFolder, get_log_num_quotient_chunks,
     get_log_num_quotient_chunks_for_domain, get_log_quotient_degree_extension,
+};
+pub use stark_proof::{
+    Commitments, OpenedValues, OpeningsDecodeError, PreprocessedOpenedValues, Proof,
+    ProofDecodeError,
+};
+pub use stark_security::{
+    OpeningShape, StarkSecurityParams, num_batched_openings, ood_error_bound,
 };
 pub use stark_support::{GrindingSites, PeriodicColumnShapeError};
 pub use verifier::{

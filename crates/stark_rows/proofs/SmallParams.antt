@@ -6,10 +6,10 @@ use Rattle.stark_support.specs.Scheme.{zk_bits}
 use Rattle.stark_air.specs.Tree.{Constraint}
 use Rattle.stark_air.specs.Degree.{greatest_degree, saturated}
 use Rattle.stark_parts.specs.Sizing.{constraint_degree, quotient_multiple}
-use Rattle.p3_uni_stark.specs.ErrorBound.{IsChunkCount}
-use Rattle.p3_uni_stark.specs.Openings.{batched_openings, hides, random_columns}
-use Rattle.p3_uni_stark.specs.declared.security.openings.OpeningShape.{OpeningShape}
-use Rattle.p3_uni_stark.specs.declared.security.openings.OpeningShape.TheVariants.{TwoAdic, Circle, Hiding}
+use Rattle.stark_security.specs.ErrorBound.{IsChunkCount}
+use Rattle.stark_security.specs.Openings.{batched_openings, hides, random_columns}
+use Rattle.stark_security.specs.declared.openings.OpeningShape.{OpeningShape}
+use Rattle.stark_security.specs.declared.openings.OpeningShape.TheVariants.{TwoAdic, Circle, Hiding}
 
 small_multiple : (a h z : ℕ) → a ≤ 5 → h ≤ 5 → z ≤ 1 → quotient_multiple (max a h) z ≤ 8
 small_multiple a h z few hint bit = grind (arith, few, hint, bit)

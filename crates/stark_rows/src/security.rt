@@ -1,6 +1,6 @@
 //! How many draws can be bad, and the numbers of security parameters.
 ghost use Rattle.std.specs.Prelude.{◌≡◌, ◌≤◌, unwrap_or};
-ghost use Rattle.p3_uni_stark.specs.Openings.{random_columns};
+ghost use Rattle.stark_security.specs.Openings.{random_columns};
 
 use crate::sized_airs::{ColumnAir, SteppedSquareAir};
 use crate::wide_air::WideAir;

@@ -5,8 +5,8 @@ use Rattle.serde_json.specs.Data.{Data}
 use Rattle.serde_json.specs.Find.{get, as_null, as_str}
 use Rattle.stark_support.specs.Json.{◌>>=◌, json_of, whole_at, array_at}
 use Rattle.stark_bench.specs.ElementJson.{base_at, element_at}
-use Rattle.p3_uni_stark.specs.ProofView.{ProofView, proof_view}
-use Rattle.p3_uni_stark.specs.ProofJson.{ProofFault, proof_reading}
+use Rattle.stark_proof.specs.ProofView.{ProofView, proof_view}
+use Rattle.stark_proof.specs.ProofJson.{ProofFault, proof_reading}
 use Rattle.stark_run.specs.Input.{Base, Extension}
 use Rattle.stark_run.specs.declared.proof_input.ChosenChallenger.{ChosenChallenger}
 use Rattle.stark_run.specs.declared.proof_input.ChosenChallenger.TheVariants.{Sha256, Script}

@@ -6,7 +6,7 @@ use Rattle.p3_uni_stark.specs.Acceptance.{Accepted}
 use Rattle.p3_uni_stark.specs.FirstFault.{FirstFault}
 use Rattle.p3_uni_stark.specs.Instance.{Instance, ProtocolOps}
 use Rattle.p3_uni_stark.specs.Preprocessing.{IsSetUp, has_columns}
-use Rattle.p3_uni_stark.specs.ProofView.{ProofView}
+use Rattle.stark_proof.specs.ProofView.{ProofView}
 use Rattle.p3_uni_stark.specs.declared.preprocessed.PreprocessedProverData.{PreprocessedProverData}
 use Rattle.p3_uni_stark.specs.declared.preprocessed.PreprocessedVerifierKey.{PreprocessedVerifierKey}
 use Rattle.stark_run.specs.Airs.{CheckedAir}

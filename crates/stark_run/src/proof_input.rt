@@ -6,8 +6,8 @@ ghost use Rattle.serde_json.specs.View.{view};
 ghost use Rattle.stark_support.specs.Json.{Gives};
 ghost use Rattle.stark_bench.specs.ElementJson.{base_at, element_at};
 ghost use Rattle.stark_run.specs.ProofInput.{HasSomeNumber, bits_at, challenger_at, named_challenger, ok_of, proof_numbers, proof_numbers_at, proof_numbers_in};
-ghost use Rattle.p3_uni_stark.specs.ProofJson.{proof_reading};
-ghost use Rattle.p3_uni_stark.specs.ProofView.{proof_view};
+ghost use Rattle.stark_proof.specs.ProofJson.{proof_reading};
+ghost use Rattle.stark_proof.specs.ProofView.{proof_view};
 
 use crate::input::Extension;
 use p3_uni_stark::{Proof, ProofDecodeError};

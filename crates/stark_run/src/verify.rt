@@ -4,7 +4,7 @@ ghost use Rattle.std.specs.Prelude.{◌≡◌, ◌⊎◌, ◌+◌, ◌≤◌, �
 ghost use Rattle.stark_support.specs.Coset.{TwoAdicCoset};
 ghost use Rattle.stark_support.specs.Scheme.{zk_bits};
 ghost use Rattle.p3_uni_stark.specs.Preprocessing.{HasHeight};
-ghost use Rattle.p3_uni_stark.specs.ProofView.{proof_view};
+ghost use Rattle.stark_proof.specs.ProofView.{proof_view};
 ghost use Rattle.stark_run.specs.Airs.{sample};
 ghost use Rattle.stark_run.specs.ProofInput.{HasSomeNumber, named_challenger, proof_numbers_in};
 ghost use Rattle.stark_run.specs.Verify.{IsJudged, IsJudgedBy, IsVerified, JudgesWithKey, verdict_of_answer};

@@ -3,7 +3,7 @@ ghost use Rattle.std.specs.Prelude.{◌≡◌, ◌⊎◌, IfErr, IfOk, option_ma
 ghost use Rattle.stark_support.specs.Scheme.{natural_coset};
 ghost use Rattle.p3_uni_stark.specs.Instance.{trace_coset};
 ghost use Rattle.p3_uni_stark.specs.OpenedClaims.{OpeningsFault, OpeningsHold, OpeningsVerdict};
-ghost use Rattle.p3_uni_stark.specs.ProofView.{proof_view};
+ghost use Rattle.stark_proof.specs.ProofView.{proof_view};
 ghost use Rattle.stark_parts.specs.declared.error.VerificationError.TheVariants.{OutOfMemory};
 ghost use Rattle.stark_parts.specs.declared.shape.TranscriptPhase.TheVariants.{Delegated, Drawn};
 

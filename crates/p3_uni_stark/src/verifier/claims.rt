@@ -2,11 +2,11 @@
 ghost use Rattle.std.specs.Prelude.{◌≡◌, IfOk, [], ◌∷◌, map, option_map};
 ghost use Rattle.stark_support.specs.Claims.{claim_view, point_view};
 ghost use Rattle.p3_uni_stark.specs.OpenedClaims.{chunks_round, claims_of, one_matrix, preprocessed_place, preprocessed_rounds, random_rounds, row_points};
-ghost use Rattle.p3_uni_stark.specs.ProofView.{openings_view, preprocessed_view};
+ghost use Rattle.stark_proof.specs.ProofView.{openings_view, preprocessed_view};
 
 use crate::preprocessed::PreprocessedVerifierKey;
-use crate::proof::{Commitments, OpenedValues, PreprocessedOpenedValues};
 use stark_parts::StarkOpeningLayout;
+use stark_proof::{Commitments, OpenedValues, PreprocessedOpenedValues};
 use stark_support::{OpeningClaim, PolynomialSpace};
 use std::alloc::{AllocError, Global};
 

@@ -8,16 +8,16 @@ ghost use Rattle.stark_parts.specs.declared.error.VerificationError.TheVariants.
 ghost use Rattle.p3_uni_stark.specs.Acceptance.{preprocessed_next, rows_of};
 ghost use Rattle.p3_uni_stark.specs.Equation.{EquationHolds, opened_layout, row_or_empty};
 ghost use Rattle.p3_uni_stark.specs.FirstFault.{EquationFault};
-ghost use Rattle.p3_uni_stark.specs.ProofView.{openings_view, preprocessed_view};
+ghost use Rattle.stark_proof.specs.ProofView.{openings_view, preprocessed_view};
 ghost use Rattle.p3_uni_stark.specs.Sizes.{chunk_shifts};
 
 use crate::constraints::verify_constraints;
-use crate::proof::{OpenedValues, PreprocessedOpenedValues};
 use crate::verifier::quotient::quotient_at;
 use crate::verifier::run::SampledPoint;
 use crate::verifier::steps::ProofDomains;
 use stark_air::Air;
 use stark_parts::VerificationError;
+use stark_proof::{OpenedValues, PreprocessedOpenedValues};
 use stark_support::{ExtensionField, Field, PolynomialSpace};
 use std::alloc::{AllocError, Global};
 

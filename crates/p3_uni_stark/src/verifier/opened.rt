@@ -1,11 +1,11 @@
 //! Tests of what else a proof opens, of its public values and of its witness.
 ghost use Rattle.std.specs.Prelude.{◌≡◌, ◌==◌, IfErr, IfOk, None, Some, length, map, option_map};
 ghost use Rattle.std.specs.List.{list_all};
-ghost use Rattle.p3_uni_stark.specs.ProofView.{openings_view};
+ghost use Rattle.stark_proof.specs.ProofView.{openings_view};
 ghost use Rattle.p3_uni_stark.specs.ShapeFaults.{dimensions_fault, opened_fault, publics_fault, random_fits, randomization_fault, trace_next_fault, witness_fault};
 
-use crate::proof::OpenedValues;
 use stark_parts::{InvalidProofShapeError, VerificationError};
+use stark_proof::OpenedValues;
 
 /// Whether a random commitment and its opening are there exactly under zero knowledge.
 pub fn check_randomization<K, R, X>(

@@ -3,9 +3,9 @@ ghost use Rattle.std.specs.Prelude.{List, Option};
 ghost use Rattle.p3_uni_stark.specs.Instance.{Instance, ProtocolOps};
 ghost use Rattle.p3_uni_stark.specs.declared.preprocessed.PreprocessedVerifierKey.{PreprocessedVerifierKey};
 
-use crate::proof::Proof;
 use stark_air::Air;
 use stark_parts::{Com, StarkGenericConfig, Val};
+use stark_proof::Proof;
 use stark_support::{GrindingChallenger, Pcs, TranscriptSponge};
 
 /// All that a configuration's types compute, in one record.

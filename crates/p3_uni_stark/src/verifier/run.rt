@@ -10,12 +10,11 @@ ghost use Rattle.p3_uni_stark.specs.Acceptance.{IsPointOfH, RunHolds, challenges
 ghost use Rattle.p3_uni_stark.specs.Challenges.{challenges_outcome};
 ghost use Rattle.p3_uni_stark.specs.FirstFault.{PointFault, RunFault};
 ghost use Rattle.p3_uni_stark.specs.Instance.{log_height, trace_coset};
-ghost use Rattle.p3_uni_stark.specs.ProofView.{proof_view};
+ghost use Rattle.stark_proof.specs.ProofView.{proof_view};
 ghost use Rattle.p3_uni_stark.specs.ShapeFaults.{width_in_force};
 ghost use Rattle.p3_uni_stark.specs.Sizes.{log_parts_of};
 
 use crate::preprocessed::PreprocessedVerifierKey;
-use crate::proof::Commitments;
 use crate::verifier::argument::delegate_openings;
 use crate::verifier::operations::{StarkInstance, StarkOperations, StarkProof};
 use crate::verifier::point::check_point;
@@ -26,6 +25,7 @@ use stark_parts::{
     Com, Domain, PcsError, StarkGenericConfig, StarkShape, StarkTranscriptFailure,
     StarkVerifierTranscript, Val, VerificationError,
 };
+use stark_proof::Commitments;
 use stark_support::{
     CanObserve, CanSample, ExtensionField, GrindingChallenger, Pcs, PrimeField64, TranscriptSponge,
 };

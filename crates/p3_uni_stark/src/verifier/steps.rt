@@ -2,7 +2,7 @@
 ghost use Rattle.std.specs.Prelude.{◌≡◌, ◌+◌, ◌-◌, ◌^◌, ◌<◌, ◌≤◌, ◌⊎◌, IfErr, IfOk, None, Some, length, option_map};
 ghost use Rattle.stark_support.specs.Scheme.{natural_coset, zk_bits};
 ghost use Rattle.stark_parts.specs.Shape.{opens_next_row};
-ghost use Rattle.p3_uni_stark.specs.ProofView.{openings_view, preprocessed_view, proof_view};
+ghost use Rattle.stark_proof.specs.ProofView.{openings_view, preprocessed_view, proof_view};
 ghost use Rattle.p3_uni_stark.specs.ShapeFaults.{degree_fault, earlier, opened_fault, preprocessed_fault, quotient_fault, randomization_fault};
 ghost use Rattle.p3_uni_stark.specs.Sizes.{log_parts_of, quotient_coset};
 ghost use Rattle.p3_uni_stark.specs.Instance.{log_height, trace_coset};
@@ -10,7 +10,6 @@ ghost use Rattle.p3_uni_stark.specs.Acceptance.{of_shape, shape_fault};
 ghost use Rattle.stark_parts.specs.declared.error.VerificationError.TheVariants.{OutOfMemory};
 
 use crate::preprocessed::PreprocessedVerifierKey;
-use crate::proof::PreprocessedOpenedValues;
 use crate::verifier::opened::{check_opened, check_randomization};
 use crate::verifier::operations::{StarkInstance, StarkOperations, StarkProof};
 use crate::verifier::preprocessed::check_preprocessed;
@@ -21,6 +20,7 @@ use stark_parts::{
     Com, Domain, InvalidProofShapeError, PcsError, StarkGenericConfig, Val, VerificationError,
     opens_next_row,
 };
+use stark_proof::PreprocessedOpenedValues;
 use stark_support::{ExtensionField, Field, GrindingChallenger, Pcs, UnivariateStarkPcs};
 use std::alloc::Global;
 

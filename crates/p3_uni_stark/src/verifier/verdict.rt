@@ -6,7 +6,7 @@ ghost use Rattle.stark_parts.specs.declared.error.VerificationError.TheVariants.
 ghost use Rattle.p3_uni_stark.specs.Acceptance.{Accepted, IsBalanced, periodic_values};
 ghost use Rattle.p3_uni_stark.specs.FirstFault.{EquationFault, FirstFault};
 ghost use Rattle.p3_uni_stark.specs.Instance.{log_height, trace_coset};
-ghost use Rattle.p3_uni_stark.specs.ProofView.{openings_view, proof_view};
+ghost use Rattle.stark_proof.specs.ProofView.{openings_view, proof_view};
 ghost use Rattle.p3_uni_stark.specs.ShapeFaults.{opened_fault, preprocessed_fault};
 ghost use Rattle.stark_parts.specs.Shape.{opens_next_row};
 ghost use Rattle.p3_uni_stark.specs.Sizes.{log_parts_of, quotient_coset};

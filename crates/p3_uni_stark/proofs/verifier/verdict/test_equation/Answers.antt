@@ -1,6 +1,6 @@
 use Rattle.std.proofs.Common.{◌∙◌, ◌^◌, ap, length, option_map}
 use Rattle.std.proofs.lemmas.List.{length-map}
-use Rattle.p3_uni_stark.specs.ProofView.{openings_view}
+use Rattle.stark_proof.specs.ProofView.{openings_view}
 use Rattle.p3_uni_stark.proofs.Balance.{balanced_fault, balanced_held}
 use Rattle.p3_uni_stark.proofs.ShapeSteps.{chunks_counted, chunks_long, one_width, rows_cover}
 use Rattle.p3_uni_stark.proofs.verifier.verdict.test_equation.Goals as goal

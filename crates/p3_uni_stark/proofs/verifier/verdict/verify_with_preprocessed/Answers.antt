@@ -1,5 +1,5 @@
 use Rattle.std.proofs.Common.{◌^◌, length}
-use Rattle.p3_uni_stark.specs.ProofView.{openings_view}
+use Rattle.stark_proof.specs.ProofView.{openings_view}
 use Rattle.stark_parts.specs.Shape.{opens_next_row}
 use Rattle.p3_uni_stark.proofs.Excluded.{exact}
 use Rattle.p3_uni_stark.proofs.ShapeSteps.{publics_are}

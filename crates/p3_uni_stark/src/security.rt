@@ -1,9 +1,0 @@
-//! What the security of a proof rests on: how many draws of a verifier can be bad, and the numbers that a report is computed
-//! from.
-mod bounds;
-mod openings;
-mod params;
-
-pub use bounds::ood_error_bound;
-pub use openings::{OpeningShape, num_batched_openings};
-pub use params::StarkSecurityParams;

@@ -1,0 +1,92 @@
+-- What is written of a proof and its parts is read back.
+use Rattle.std.proofs.Common.{◌≡◌, ◌≢◌, ◌∙◌, ap, refl, ℕ, ◌<◌, ◌^◌, List, [], ◌∷◌, map, Bool, true, false, is_some, Option, Some, None, option_map, option_and_then, Result, Ok, Err, codes}
+use Rattle.std.proofs.lemmas.Bool.{lt-ltb}
+use Rattle.serde_json.specs.Data.{Data, null, boolean, number, string, array, object}
+use Rattle.serde_json.specs.Find.{as_null}
+use Rattle.serde_json.specs.View.{items_of}
+use Rattle.stark_support.specs.Json.{array_at}
+use Rattle.stark_support.specs.JsonFacts.{each_back}
+use Rattle.stark_proof.specs.declared.values.Commitments.{Commitments}
+use Rattle.stark_proof.specs.ProofView.{PreprocessedView, OpeningsView, ProofView}
+use Rattle.stark_proof.specs.ProofJson.{RuleFault, ◌>>=◌, row_at, row_writing, rows_at, each_of, unless_null, value_or_null, rule_fault, preprocessed_of, preprocessed_local, preprocessed_next, unless_fault, openings_reading, openings_writing, openings_read_back, openings_rule_fault, OpeningsFault, other, value_at, within_openings, commitments_reading, commitments_writing, proof_reading, proof_writing, proof_read_back}
+
+-- a step after the rule's test
+after_the_rule : {A B Fault : Type 0} (fault : Option Fault) (a : A) (after : A → B) → (unless_fault fault a >>= λ x. Ok (after x)) ≡ unless_fault fault (after a)
+after_the_rule None a after = refl
+after_the_rule (Some fault) a after = refl
+
+put_together : {E : Type 0} (rows : Option (PreprocessedView E)) → preprocessed_of (option_map (λ r. r.local) rows) (option_and_then (λ r. r.next) rows) ≡ rows
+put_together None = refl
+put_together (Some rows) = refl
+
+module _ {E : Type 0} (reading : Data → Option E) (writing : E → Data) (back : (x : E) → reading (writing x) ≡ Some x) where
+  row_back : (field : List ℕ) (xs : List E) → row_at reading field (row_writing writing xs) ≡ Ok xs
+  unfolding array_at
+  row_back field xs = rw (each_back reading writing back xs) refl
+
+  rows_back : (field : List ℕ) (rows : List (List E)) → each_of (row_at reading field) (items_of (map (row_writing writing) rows)) ≡ Ok rows
+  rows_back field [] = refl
+  rows_back field (row ∷ rows) = rw (row_back field row, rows_back field rows) refl
+
+  optional_back : (field : List ℕ) (row : Option (List E)) → unless_null (row_at reading field) (value_or_null (row_writing writing) row) ≡ Ok row
+  optional_back field None = refl
+  optional_back field (Some row) = rw (row_back field row) refl
+
+  pub openings_back : (o : OpeningsView E) → openings_reading reading (openings_writing writing o) ≡ openings_read_back o
+  unfolding openings_reading openings_writing
+  openings_back o =
+      rw (
+        row_back (codes "trace_local") o.trace_local,
+        optional_back (codes "trace_next") o.trace_next,
+        optional_back (codes "preprocessed_local") (preprocessed_local o),
+        optional_back (codes "preprocessed_next") (preprocessed_next o),
+        rows_back (codes "quotient_chunks") o.quotient_chunks,
+        optional_back (codes "random") o.random,
+      )
+      (after_the_rule (openings_rule_fault o) (preprocessed_of (preprocessed_local o) (preprocessed_next o))
+      (λ rows. record { trace_local = o.trace_local; trace_next = o.trace_next; preprocessed = rows; quotient_chunks = o.quotient_chunks; random = o.random }) ∙
+      ap (λ rows. unless_fault (openings_rule_fault o) (record { trace_local = o.trace_local; trace_next = o.trace_next; preprocessed = rows; quotient_chunks = o.quotient_chunks; random = o.random }))
+      (put_together o.preprocessed))
+
+-- ---- commitments and proofs
+
+not_null : (d : Data) → d ≢ null → is_some (as_null d) ≡ false
+not_null null h = absurd (h refl)
+not_null (boolean b) h = refl
+not_null (number n) h = refl
+not_null (string s) h = refl
+not_null (array ds) h = refl
+not_null (object ms) h = refl
+
+module _ {K : Type 0} (reading : Data → Option K) (writing : K → Data) (back : (x : K) → reading (writing x) ≡ Some x) (never_null : (x : K) → writing x ≢ null) where
+  optional_value_back : {X : Type 0} (field : List ℕ) (value : Option K) → unless_null (value_at {X = X} reading field) (value_or_null writing value) ≡ Ok value
+  optional_value_back field None = refl
+  optional_value_back field (Some x) = rw (not_null (writing x) (never_null x), back x) refl
+
+  pub commitments_back : (c : Commitments K) → commitments_reading reading (commitments_writing writing c) ≡ Ok c
+  unfolding commitments_reading commitments_writing
+  commitments_back c = rw (back c.trace, back c.quotient_chunks, optional_value_back (codes "random") c.random) refl
+
+-- a step after the openings' rule
+after_openings : {A B : Type 0} (fault : Option OpeningsFault) (a : A) (after : A → B) →
+    (within_openings (unless_fault fault a) >>= λ x. Ok (after x)) ≡ unless_fault (option_map (λ f. other (Some f)) fault) (after a)
+after_openings None a after = refl
+after_openings (Some fault) a after = refl
+
+module _ {K E P F : Type 0} (commitment_at : Data → Option K) (commitment : K → Data) (commitment_back : (x : K) → commitment_at (commitment x) ≡ Some x) (never_null : (x : K) → commitment x ≢ null)
+    (element_at : Data → Option E) (element : E → Data) (element_back : (x : E) → element_at (element x) ≡ Some x)
+    (argument_at : Data → Option P) (argument : P → Data) (argument_back : (x : P) → argument_at (argument x) ≡ Some x)
+    (witness_at : Data → Option F) (witness : F → Data) (witness_back : (x : F) → witness_at (witness x) ≡ Some x) where
+  pub proof_back : (p : ProofView K E P F) → p.degree_bits < 2 ^ 64 →
+      proof_reading commitment_at element_at argument_at witness_at (proof_writing commitment element argument witness p) ≡ proof_read_back p
+  unfolding proof_reading proof_writing
+  proof_back p fits =
+      rw (
+        commitments_back commitment_at commitment commitment_back never_null p.commitments,
+        openings_back element_at element element_back p.opened_values,
+        argument_back p.opening_proof,
+        lt-ltb p.degree_bits (2 ^ 64) fits,
+        witness_back p.ood_pow_witness,
+      )
+      (after_openings (openings_rule_fault p.opened_values) p.opened_values
+      (λ opened. record { commitments = p.commitments; opened_values = opened; opening_proof = p.opening_proof; degree_bits = p.degree_bits; ood_pow_witness = p.ood_pow_witness }))

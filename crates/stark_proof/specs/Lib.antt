@@ -1,0 +1,2 @@
+pub mod ProofView
+pub mod ProofJson

@@ -1,0 +1,13 @@
+//! What a proof carries, and its JSON.
+#![tactic(auto)]
+
+mod committed;
+mod error;
+mod fields;
+mod openings;
+mod rows;
+mod values;
+mod whole;
+
+pub use error::{OpeningsDecodeError, ProofDecodeError};
+pub use values::{Commitments, OpenedValues, PreprocessedOpenedValues, Proof};

@@ -1,0 +1,118 @@
+//! Whole proofs in JSON.
+ghost use Rattle.std.specs.Prelude.{◌≡◌, IfOk};
+ghost use Rattle.serde_json.specs.View.{view};
+ghost use Rattle.stark_proof.specs.ProofJson.{Decodes, degree_bits_at, openings_reading, proof_fault, proof_object, proof_read_back, proof_reading, proof_writing, within_openings};
+ghost use Rattle.stark_proof.specs.ProofView.{openings_view, proof_view};
+
+use crate::error::{OpeningsDecodeError, ProofDecodeError};
+use crate::fields::{required, required_value};
+use crate::values::{Commitments, OpenedValues, Proof};
+use serde_json::{Value, json};
+use stark_support::{JsonCodec, NeverNull};
+use std::alloc::{AllocError, Global};
+
+/// The logarithm of a height: a whole number that fits.
+fn degree_bits_from_json(value: &Value) -> Result<usize, ProofDecodeError>
+    ensures { Decodes (λ n. n) proof_fault result (degree_bits_at (view value.now)) }
+{
+    match value.as_u64() {
+        Some(number) => Ok(number as usize),
+        None => Err(ProofDecodeError::WrongKind {
+            field: "degree_bits",
+        }),
+    }
+}
+
+/// The opened values of a proof; a fault of theirs is one of the proof's.
+fn openings_from_json<Challenge: JsonCodec + Drop>(
+    alloc: Global,
+    value: &Value,
+) -> Result<OpenedValues<Challenge>, ProofDecodeError>
+    ensures { Decodes openings_view proof_fault result (within_openings (openings_reading Challenge.reading (view value.now))) }
+{
+    match OpenedValues::from_json(alloc, value) {
+        Ok(opened_values) => Ok(opened_values),
+        Err(OpeningsDecodeError::OutOfMemory) => Err(ProofDecodeError::OutOfMemory),
+        Err(error) => Err(ProofDecodeError::Openings(error)),
+    }
+}
+
+fn proof_object(
+    alloc: Global,
+    commitments: Value,
+    opened_values: Value,
+    opening_proof: Value,
+    degree_bits: Value,
+    ood_pow_witness: Value,
+) -> Result<Value, AllocError>
+    ensures { IfOk result (λ value. view value ≡ proof_object (view commitments) (view opened_values) (view opening_proof) (view degree_bits) (view ood_pow_witness)) }
+{
+    json!(in alloc; {
+        "commitments": commitments,
+        "opened_values": opened_values,
+        "opening_proof": opening_proof,
+        "degree_bits": degree_bits,
+        "ood_pow_witness": ood_pow_witness,
+    })
+}
+
+impl<
+    Com: NeverNull + Drop,
+    Challenge: JsonCodec + Drop,
+    PcsProof: JsonCodec + Drop,
+    Val: JsonCodec + Drop,
+> Proof<Com, Challenge, PcsProof, Val> {
+    /// The proof that an object spells. Its fields are read in the order `commitments`, `opened_values`, `opening_proof`,
+    /// `degree_bits`, `ood_pow_witness`, all are required, others are ignored, and the first fault is answered.
+    ///
+    /// - `WrongKind` with an empty name where the value isn't an object.
+    /// - `MissingField` where a field isn't there, also one of the commitments.
+    /// - `WrongKind` where the commitments aren't an object, or the degree bits aren't a whole number that fits: one with a
+    ///   fraction or an exponent is none.
+    /// - `Element` where a commitment, the opening proof or the witness is refused.
+    /// - `Openings` where the opened values are not read, with their own error, which is not `OutOfMemory`.
+    /// - `OutOfMemory` wherever a growth was refused.
+    #[tactic(auto, unfolding(crate::specs::ProofJson::proof_reading))]
+    pub fn from_json(alloc: Global, value: &Value) -> Result<Self, ProofDecodeError>
+        ensures decoded { Decodes proof_view proof_fault result (proof_reading Com.reading Challenge.reading PcsProof.reading Val.reading (view value.now)) }
+    {
+        if !value.is_object() {
+            return Err(ProofDecodeError::WrongKind { field: "" });
+        }
+        let commitments = Commitments::from_json(alloc, required(value, "commitments")?)?;
+        let opened_values = openings_from_json(alloc, required(value, "opened_values")?)?;
+        let opening_proof = required_value(alloc, value, "opening_proof")?;
+        let degree_bits = degree_bits_from_json(required(value, "degree_bits")?)?;
+        let ood_pow_witness = required_value(alloc, value, "ood_pow_witness")?;
+        Ok(Proof {
+            commitments,
+            opened_values,
+            opening_proof,
+            degree_bits,
+            ood_pow_witness,
+        })
+    }
+
+    /// An object with all five keys. It is read back as this proof, unless its opened values break the rule of the preprocessed
+    /// rows: then that fault is found.
+    #[tactic(auto, unfolding(crate::specs::ProofJson::proof_writing))]
+    pub fn to_json(&self, alloc: Global) -> Result<Value, AllocError>
+        ensures written { IfOk result (λ value. view value ≡ proof_writing Com.writing Challenge.writing PcsProof.writing Val.writing (proof_view self.now)) }
+        ensures read_back { IfOk result (λ value. proof_reading Com.reading Challenge.reading PcsProof.reading Val.reading (view value) ≡ proof_read_back (proof_view self.now)) }
+    {
+        let commitments = self.commitments.to_json(alloc)?;
+        let opened_values = self.opened_values.to_json(alloc)?;
+        let opening_proof = self.opening_proof.to_json(alloc)?;
+        let degree_bits = Value::from(self.degree_bits);
+        let ood_pow_witness = self.ood_pow_witness.to_json(alloc)?;
+        let value = proof_object(
+            alloc,
+            commitments,
+            opened_values,
+            opening_proof,
+            degree_bits,
+            ood_pow_witness,
+        )?;
+        Ok(value)
+    }
+}

@@ -1,0 +1,42 @@
+-- That bad draws are few, and which numbers say how few.
+use Rattle.std.specs.Prelude.{◌≡◌, ◌⊎◌, ℕ, ◌+◌, ◌-◌, ◌*◌, ◌^◌, ◌≤◌, List, length, Option}
+use Rattle.stark_support.specs.Logarithm.{IsCeilingOfLog}
+use Rattle.stark_support.specs.Polynomial.{IsWithoutRepeats, HoldsOfAtMost}
+use Rattle.stark_support.specs.RecompositionPolynomial.{ChunksFit}
+use Rattle.stark_air.specs.Tree.{Tree, Constraint}
+use Rattle.stark_air.specs.declared.symbolic.builder.SymbolicConstraint.{SymbolicConstraint}
+use Rattle.stark_air.specs.declared.symbolic.builder.SymbolicConstraint.TheVariants.{Base, Extension}
+use Rattle.stark_parts.specs.Sizing.{constraint_degree, quotient_multiple}
+use Rattle.stark_security.specs.ConstraintPolynomial.{AirInstance, Columns}
+use Rattle.stark_security.specs.DegreeBound.{alpha_bound, zeta_bound, error_bound}
+use Rattle.stark_security.specs.BadValues.{ColumnsFit, Satisfies, IsBadAlpha, IsBalanced, IsBadZeta, count_pairs}
+
+-- a kept constraint's tree, None where memory was refused
+abbrev pub marked_expression : {F : Type 0} → SymbolicConstraint F → Option (Tree F)
+marked_expression (Base x) = x
+marked_expression (Extension x) = x
+
+-- The quotient of these constraints is cut into so many chunks, where the transition selector has degree d in multiples of the
+-- domain's size, 0 on a two-adic one.
+pub record IsChunkCount {F : Type 0} (d : ℕ) (constraints : List (Constraint F)) (hint : Option ℕ) (is_zk : ℕ) (chunks : ℕ) : Type 0 where
+  pub log : ℕ
+  pub sized : IsCeilingOfLog log (quotient_multiple (constraint_degree d constraints hint) is_zk)
+  pub number : chunks ≡ 2 ^ (log + is_zk)
+
+-- The bounds on bad draws for committed columns of 2 ^ degree_bits coefficients.
+pub record IsErrorBound {F : Type 0} (constraints : List (Constraint F)) (hint : Option ℕ) (degree_bits : ℕ) (is_zk : ℕ) (answer : Option (ℕ × ℕ)) : Type 0 where
+  pub chunks : ℕ
+  pub sized : IsChunkCount 0 constraints hint is_zk chunks
+  pub exact : answer ≡ error_bound (alpha_bound constraints) (zeta_bound (2 ^ degree_bits) (2 ^ (degree_bits - is_zk)) chunks constraints)
+
+-- Of columns of degree below m and public values that break a constraint at most `na` alphas are bad; for each other alpha and
+-- so many chunks of degree below m at most `nz` zetas are; and whatever chunks answer each alpha, of alphas and zetas without
+-- repeats the equation holds for few of the pairs.
+pub record FewBadDraws {F E : Type 0} (i : AirInstance F E) (m : ℕ) (chunk_count : ℕ) (na : ℕ) (nz : ℕ) : Type 0 where
+  pub alphas : (columns : Columns F E) → ColumnsFit m columns → (Satisfies i columns → ⊥) → HoldsOfAtMost na (IsBadAlpha i columns)
+  pub zetas : (columns : Columns F E) → ColumnsFit m columns → (Satisfies i columns → ⊥) → (a : E) → (IsBadAlpha i columns a → ⊥)
+      → (shifts : List E) (chunks : List (List (List E))) → length shifts ≡ chunk_count → ChunksFit m chunks → HoldsOfAtMost nz (IsBadZeta i columns shifts chunks a)
+  pub pairs : (columns : Columns F E) → ColumnsFit m columns → (Satisfies i columns → ⊥)
+      → (shifts : List E) (answer : E → List (List (List E))) → length shifts ≡ chunk_count → ((a : E) → ChunksFit m (answer a))
+      → (decide : (a z : E) → IsBalanced i columns shifts (answer a) a z ⊎ (IsBalanced i columns shifts (answer a) a z → ⊥))
+      → (alphas zetas : List E) → IsWithoutRepeats alphas → IsWithoutRepeats zetas → count_pairs decide alphas zetas ≤ na * length zetas + nz * length alphas

@@ -1,0 +1,5 @@
+pub mod ConstraintPolynomial
+pub mod DegreeBound
+pub mod BadValues
+pub mod ErrorBound
+pub mod Openings

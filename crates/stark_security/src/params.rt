@@ -1,0 +1,248 @@
+//! The numbers that a report on a STARK's security is computed from.
+ghost use Rattle.std.specs.Prelude.{◌≡◌, ◌+◌, ◌-◌, ◌^◌, ◌<◌, ◌≤◌, ◌||◌, ℕ, length, IfOk};
+ghost use Rattle.stark_support.specs.Scheme.{zk_bits};
+ghost use Rattle.stark_air.specs.Degree.{greatest_degree};
+ghost use Rattle.stark_air.specs.Layout.{Covers};
+ghost use Rattle.stark_air.specs.SymbolicLayout.{symbolic_layout};
+ghost use Rattle.stark_parts.specs.Shape.{opens_next_row};
+ghost use Rattle.stark_parts.specs.Sizing.{constraint_degree, quotient_multiple};
+ghost use Rattle.stark_security.specs.ErrorBound.{IsChunkCount};
+ghost use Rattle.stark_security.specs.Openings.{hides, batched_openings};
+
+use crate::openings::{OpeningShape, num_batched_openings};
+use stark_air::{Air, AirLayout, get_max_constraint_degree_with_transition, symbolic_constraints};
+use stark_parts::get_log_num_quotient_chunks_for_domain;
+use stark_support::{DomainShape, ExtensionField, Field, FriRegime, GrindingSites};
+use std::alloc::{AllocError, Global};
+
+/// The low-degree test's parameters, the AIR's shape and the hash's strength.
+#[derive(Clone, Debug, Drop)]
+pub struct StarkSecurityParams {
+    pub fri_log_blowup: usize,
+    pub fri_log_final_poly_len: usize,
+    pub fri_max_log_arity: usize,
+    pub fri_num_queries: usize,
+    pub fri_commit_proof_of_work_bits: usize,
+    pub fri_query_proof_of_work_bits: usize,
+    /// The bits of the field in which the low-degree test works.
+    pub num_modulus_bits: usize,
+    /// The bits of the commitment hash's resistance to collisions.
+    pub collision_resistance: usize,
+    /// The constraints that are folded, base and extension.
+    pub num_constraints: usize,
+    /// The greatest degree multiple of a constraint.
+    pub air_max_constraint_degree: usize,
+    /// The chunks of the quotient that are committed.
+    pub num_quotient_chunks: usize,
+    /// At how many points out of the domain a column is opened at most.
+    pub max_combo: usize,
+    /// The powers of the batching challenge that the commitment scheme takes.
+    pub num_batched_functions: usize,
+    /// The bits of work outside the low-degree test.
+    pub grinding: GrindingSites,
+}
+
+impl StarkSecurityParams {
+    /// The parameters with these numbers, and no work outside the low-degree test. The constraints' degree is at most the blow-up
+    /// and one, so that the quotient fits.
+    pub const fn new(
+        fri: FriRegime,
+        num_modulus_bits: usize,
+        collision_resistance: usize,
+        num_constraints: usize,
+        air_max_constraint_degree: usize,
+        max_combo: usize,
+        num_batched_functions: usize,
+        num_quotient_chunks: usize,
+    ) -> Self
+        requires { air_max_constraint_degree ≤ 2 ^ fri.log_blowup + 1 }
+        ensures { result ≡ record {
+          fri_log_blowup = fri.log_blowup;
+          fri_log_final_poly_len = fri.log_final_poly_len;
+          fri_max_log_arity = fri.max_log_arity;
+          fri_num_queries = fri.num_queries;
+          fri_commit_proof_of_work_bits = fri.commit_pow_bits;
+          fri_query_proof_of_work_bits = fri.query_pow_bits;
+          num_modulus_bits = num_modulus_bits;
+          collision_resistance = collision_resistance;
+          num_constraints = num_constraints;
+          air_max_constraint_degree = air_max_constraint_degree;
+          num_quotient_chunks = num_quotient_chunks;
+          max_combo = max_combo;
+          num_batched_functions = num_batched_functions;
+          grinding = record { lookup_challenge = 0; out_of_domain = 0; batch_combination = 0 };
+        } }
+    {
+        StarkSecurityParams {
+            fri_log_blowup: fri.log_blowup,
+            fri_log_final_poly_len: fri.log_final_poly_len,
+            fri_max_log_arity: fri.max_log_arity,
+            fri_num_queries: fri.num_queries,
+            fri_commit_proof_of_work_bits: fri.commit_pow_bits,
+            fri_query_proof_of_work_bits: fri.query_pow_bits,
+            num_modulus_bits,
+            collision_resistance,
+            num_constraints,
+            air_max_constraint_degree,
+            num_quotient_chunks,
+            max_combo,
+            num_batched_functions,
+            grinding: GrindingSites::NONE,
+        }
+    }
+
+    /// The same with this work outside the low-degree test.
+    pub const fn with_grinding(self, grinding: GrindingSites) -> Self
+        ensures { result ≡ record self { grinding = grinding } }
+    {
+        StarkSecurityParams { grinding, ..self }
+    }
+
+    /// The parameters of an AIR over a domain.
+    ///
+    /// The number of the constraints and their greatest degree multiple are read off the AIR, the latter without the author's own
+    /// bound; the chunks are those that the quotient is cut into, which that bound may raise, and twice as many under hiding; the
+    /// batched functions are `num_batched_openings` of the layout's widths, the AIR's next rows, these chunks and the extension's
+    /// degree. All else stands in its field as it is given.
+    ///
+    /// The layout is the AIR's own. The degree is at most the blow-up and one, the chunks' number and that of the batched functions
+    /// are at most the greatest `usize`, and `max_combo` is above 1 where a next row is read, and else above 0. Err only where
+    /// memory was refused.
+    pub fn from_air<F: Field, EF: ExtensionField<F>, A: Air<F>, D: DomainShape>(
+        alloc: Global,
+        fri: FriRegime,
+        air: &A,
+        layout: AirLayout,
+        trace_domain: &D,
+        num_modulus_bits: usize,
+        collision_resistance: usize,
+        max_combo: usize,
+        openings: OpeningShape,
+        grinding: GrindingSites,
+    ) -> Result<Self, AllocError>
+        requires covered { Covers (symbolic_layout layout) (A.layout air.now) }
+        requires degree { greatest_degree (D.transition_multiple trace_domain.now) (A.constraints air.now) ≤ 2 ^ fri.log_blowup + 1 }
+        requires sized { quotient_multiple (constraint_degree (D.transition_multiple trace_domain.now) (A.constraints air.now) (A.degree_hint air.now)) (zk_bits (hides openings)) ≤ 2 ^ (63 - zk_bits (hides openings)) }
+        requires batched { (chunks : ℕ) → IsChunkCount (D.transition_multiple trace_domain.now) (A.constraints air.now) (A.degree_hint air.now) (zk_bits (hides openings)) chunks
+            → batched_openings layout.main_width (opens_next_row (A.main_next_row_columns air.now)) layout.preprocessed_width (opens_next_row (A.preprocessed_next_row_columns air.now)) chunks EF.DIMENSION openings < 2 ^ 64 }
+        requires combined { zk_bits (opens_next_row (A.main_next_row_columns air.now) || opens_next_row (A.preprocessed_next_row_columns air.now)) < max_combo }
+        ensures chunks { IfOk result (λ params. IsChunkCount (D.transition_multiple trace_domain.now) (A.constraints air.now) (A.degree_hint air.now) (zk_bits (hides openings)) params.num_quotient_chunks) }
+        ensures numbers { IfOk result (λ params. params ≡ record {
+          fri_log_blowup = fri.log_blowup;
+          fri_log_final_poly_len = fri.log_final_poly_len;
+          fri_max_log_arity = fri.max_log_arity;
+          fri_num_queries = fri.num_queries;
+          fri_commit_proof_of_work_bits = fri.commit_pow_bits;
+          fri_query_proof_of_work_bits = fri.query_pow_bits;
+          num_modulus_bits = num_modulus_bits;
+          collision_resistance = collision_resistance;
+          num_constraints = length (A.constraints air.now);
+          air_max_constraint_degree = greatest_degree (D.transition_multiple trace_domain.now) (A.constraints air.now);
+          num_quotient_chunks = params.num_quotient_chunks;
+          max_combo = max_combo;
+          num_batched_functions = batched_openings layout.main_width (opens_next_row (A.main_next_row_columns air.now)) layout.preprocessed_width (opens_next_row (A.preprocessed_next_row_columns air.now)) params.num_quotient_chunks EF.DIMENSION openings;
+          grinding = grinding;
+        }) }
+    {
+        let num_quotient_chunks = committed_chunks::<F, A, D>(
+            alloc,
+            air,
+            layout,
+            trace_domain,
+            openings,
+        )?;
+        let num_batched_functions = batched_functions::<F, EF, A>(
+            alloc,
+            air,
+            layout,
+            num_quotient_chunks,
+            openings,
+        )?;
+        let transition_degree = trace_domain.transition_degree_multiple();
+        let degree = get_max_constraint_degree_with_transition::<F, EF, A>(
+            alloc,
+            air,
+            layout,
+            transition_degree,
+        )?;
+        let num_constraints = count_constraints::<F, EF, A>(alloc, air, layout)?;
+        let params = StarkSecurityParams::new(
+            fri,
+            num_modulus_bits,
+            collision_resistance,
+            num_constraints,
+            degree,
+            max_combo,
+            num_batched_functions,
+            num_quotient_chunks,
+        );
+        Ok(params.with_grinding(grinding))
+    }
+}
+
+/// Whether a next row is read, from the columns of it that are declared.
+fn is_read(columns: &[usize]) -> bool
+    ensures { result ≡ opens_next_row columns.now }
+{
+    !columns.is_empty()
+}
+
+/// How many powers of the batching challenge are taken for an AIR's columns and so many chunks.
+fn batched_functions<F: Field, EF: ExtensionField<F>, A: Air<F>>(
+    alloc: Global,
+    air: &A,
+    layout: AirLayout,
+    num_quotient_chunks: usize,
+    openings: OpeningShape,
+) -> Result<usize, AllocError>
+    requires { batched_openings layout.main_width (opens_next_row (A.main_next_row_columns air.now)) layout.preprocessed_width (opens_next_row (A.preprocessed_next_row_columns air.now)) num_quotient_chunks EF.DIMENSION openings < 2 ^ 64 }
+    ensures { IfOk result (λ count. count ≡ batched_openings layout.main_width (opens_next_row (A.main_next_row_columns air.now)) layout.preprocessed_width (opens_next_row (A.preprocessed_next_row_columns air.now)) num_quotient_chunks EF.DIMENSION openings) }
+{
+    let main_next = is_read(&air.main_next_row_columns(alloc)?);
+    let preprocessed_next = is_read(&air.preprocessed_next_row_columns(alloc)?);
+    Ok(num_batched_openings(
+        layout.main_width,
+        main_next,
+        layout.preprocessed_width,
+        preprocessed_next,
+        num_quotient_chunks,
+        EF::DIMENSION,
+        openings,
+    ))
+}
+
+/// How many constraints an AIR has.
+fn count_constraints<F: Field, EF, A: Air<F>>(
+    alloc: Global,
+    air: &A,
+    layout: AirLayout,
+) -> Result<usize, AllocError>
+    requires { Covers (symbolic_layout layout) (A.layout air.now) }
+    ensures { IfOk result (λ count. count ≡ length (A.constraints air.now)) }
+{
+    let constraints = symbolic_constraints::<F, EF, A>(alloc, air, layout)?;
+    Ok(constraints.len())
+}
+
+/// How many chunks of the quotient are committed.
+fn committed_chunks<F: Field, A: Air<F>, D: DomainShape>(
+    alloc: Global,
+    air: &A,
+    layout: AirLayout,
+    trace_domain: &D,
+    openings: OpeningShape,
+) -> Result<usize, AllocError>
+    requires covered { Covers (symbolic_layout layout) (A.layout air.now) }
+    requires sized { quotient_multiple (constraint_degree (D.transition_multiple trace_domain.now) (A.constraints air.now) (A.degree_hint air.now)) (zk_bits (hides openings)) ≤ 2 ^ (63 - zk_bits (hides openings)) }
+    ensures { IfOk result (λ chunks. IsChunkCount (D.transition_multiple trace_domain.now) (A.constraints air.now) (A.degree_hint air.now) (zk_bits (hides openings)) chunks) }
+{
+    let is_zk = if openings.is_zk() { 1 } else { 0 };
+    let log_parts = get_log_num_quotient_chunks_for_domain::<F, A, D>(
+        alloc,
+        air,
+        layout,
+        trace_domain,
+        is_zk,
+    )?;
+    Ok(1 << (log_parts + is_zk))
+}

@@ -2,41 +2,41 @@
 use Rattle.std.specs.Prelude.{◌≡◌, ◌≢◌, ◌⊎◌, ℕ, suc, zero, ◌+◌, ◌<◌, ◌≤◌, Bool, true, false, cond, List, [], ◌∷◌, Option, None, Some, option_map, refl}
 use Rattle.std.proofs.Common.{◌∙◌, sym, ap, subst, inl, inr, arith}
 use Rattle.std.proofs.lemmas.Bool.Decides.{eqb_tells}
+use Rattle.std.specs.Option.{option_or}
 use Rattle.stark_support.specs.Sponge.{GrindingLaws, drawn_in_turn, after_draws}
 use Rattle.stark_bench.specs.declared.residue.Residue.{Residue}
 use Rattle.stark_bench.specs.Residues.{residue, residue_of_value}
 use Rattle.stark_bench.specs.Ext4Field.{coordinate_list}
-use Rattle.stark_support.specs.Periodic.{or_later}
 use Rattle.stark_bench.specs.Challenges.{least, found_by, four_drawn, after_four, script_passes, sha_passes, sha_after_check}
 
 -- ---- searches
 
 pub none_yet : (p : ℕ → Bool) (n : ℕ) → least p n ≡ None → p n ≡ false → least p (suc n) ≡ None
 unfolding least
-none_yet p n e h = ap (λ o. or_later o (cond (p n) (Some n) None)) e ∙ ap (λ b. cond b (Some n) None) h
+none_yet p n e h = ap (λ o. option_or o (cond (p n) (Some n) None)) e ∙ ap (λ b. cond b (Some n) None) h
 
 first_here : (p : ℕ → Bool) (n : ℕ) → least p n ≡ None → p n ≡ true → least p (suc n) ≡ Some n
 unfolding least
-first_here p n e h = ap (λ o. or_later o (cond (p n) (Some n) None)) e ∙ ap (λ b. cond b (Some n) None) h
+first_here p n e h = ap (λ o. option_or o (cond (p n) (Some n) None)) e ∙ ap (λ b. cond b (Some n) None) h
 
 stays_found : (p : ℕ → Bool) (n m k : ℕ) → least p n ≡ Some k → n ≤ m → least p m ≡ Some k
 unfolding least
 stays_found p n zero k e h = let z : n ≡ 0 = omega arith in subst (λ j. least p j ≡ Some k) z e
 stays_found p n (suc m) k e h = elim (eqb_tells n (suc m)) [
   | inl w ↦ subst (λ j. least p j ≡ Some k) w.1 e
-  | inr w ↦ let ne : n ≢ suc m = w.1 in let le : n ≤ m = omega arith in ap (λ o. or_later o (cond (p m) (Some m) None)) (stays_found p n m k e le)
+  | inr w ↦ let ne : n ≢ suc m = w.1 in let le : n ≤ m = omega arith in ap (λ o. option_or o (cond (p m) (Some m) None)) (stays_found p n m k e le)
 ]
 
 -- The first that passes is found, whatever the end of the search.
 pub found_first : (p : ℕ → Bool) (n m : ℕ) → least p n ≡ None → p n ≡ true → n < m → least p m ≡ Some n
 found_first p n m e h l = let le : suc n ≤ m = omega arith in stays_found p (suc n) m n (first_here p n e h) le
 
-some_cases : (o : Option ℕ) (b : Bool) (n k : ℕ) → or_later o (cond b (Some n) None) ≡ Some k → (o ≡ Some k) ⊎ ((b ≡ true) × (n ≡ k))
+some_cases : (o : Option ℕ) (b : Bool) (n k : ℕ) → option_or o (cond b (Some n) None) ≡ Some k → (o ≡ Some k) ⊎ ((b ≡ true) × (n ≡ k))
 some_cases (Some x) b n k e = inl e
 some_cases None true n k e = inr (refl, (cc))
 some_cases None false n k e = absurd (cc)
 
-none_cases : (o : Option ℕ) (b : Bool) (n : ℕ) → or_later o (cond b (Some n) None) ≡ None → (o ≡ None) × (b ≡ false)
+none_cases : (o : Option ℕ) (b : Bool) (n : ℕ) → option_or o (cond b (Some n) None) ≡ None → (o ≡ None) × (b ≡ false)
 none_cases (Some x) b n e = absurd (cc)
 none_cases None true n e = absurd (cc)
 none_cases None false n e = (refl, refl)

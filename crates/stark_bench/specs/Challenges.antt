@@ -1,8 +1,8 @@
 -- The bench's two sponges.
 use Rattle.std.specs.Prelude.{◌≡◌, ℕ, suc, zero, ◌+◌, ◌%◌, ◌^◌, Bool, true, false, cond, eqb, ltb, ◌&&◌, List, [], ◌∷◌, ◌++◌, length, get_or, take, map, flat_map, Option, None, Some, option_map}
 use Rattle.std.specs.Int.{w64, from_be_bytes}
+use Rattle.std.specs.Option.{option_or}
 use Rattle.sha2.specs.Sha256.{sha256}
-use Rattle.stark_support.specs.Periodic.{or_later}
 use Rattle.stark_support.specs.Seed.{number}
 use Rattle.stark_bench.specs.declared.residue.Residue.{Residue}
 use Rattle.stark_bench.specs.declared.ext4.Ext4.{Ext4}
@@ -14,7 +14,7 @@ use Rattle.stark_bench.specs.Ext4Field.{ext4}
 -- The least number below n at which the test holds.
 unfoldable pub least : (ℕ → Bool) → ℕ → Option ℕ
 least p zero = None
-least p (suc n) = or_later (least p n) (cond (p n) (Some n) None)
+least p (suc n) = option_or (least p n) (cond (p n) (Some n) None)
 
 -- The element of the least number that passes.
 abbrev pub found_by : {C M : Type 0} → (C → ℕ → Residue M → Bool) → C → ℕ → Option (Residue M)

@@ -1,14 +1,14 @@
 -- What is written of a proof and its parts is read back.
-use Rattle.std.proofs.Common.{◌≡◌, ◌≢◌, ◌∙◌, ap, refl, ℕ, ◌<◌, ◌^◌, List, [], ◌∷◌, map, Bool, true, false, is_some, Option, Some, None, option_map, option_and_then, Result, Ok, Err, codes}
+use Rattle.std.proofs.Common.{◌≡◌, ◌≢◌, ◌∙◌, ap, refl, ℕ, ◌<◌, ◌^◌, List, [], ◌∷◌, map, false, is_some, Option, Some, None, option_map, option_and_then, Ok, codes}
 use Rattle.std.proofs.lemmas.Bool.{lt-ltb}
 use Rattle.serde_json.specs.Data.{Data, null, boolean, number, string, array, object}
 use Rattle.serde_json.specs.Find.{as_null}
 use Rattle.serde_json.specs.View.{items_of}
 use Rattle.stark_support.specs.Json.{array_at}
-use Rattle.stark_support.specs.JsonFacts.{each_back}
+use Rattle.stark_support.specs.JsonFacts.{list_written, each_back}
 use Rattle.stark_proof.specs.declared.values.Commitments.{Commitments}
 use Rattle.stark_proof.specs.ProofView.{PreprocessedView, OpeningsView, ProofView}
-use Rattle.stark_proof.specs.ProofJson.{RuleFault, ◌>>=◌, row_at, row_writing, rows_at, each_of, unless_null, value_or_null, rule_fault, preprocessed_of, preprocessed_local, preprocessed_next, unless_fault, openings_reading, openings_writing, openings_read_back, openings_rule_fault, OpeningsFault, other, value_at, within_openings, commitments_reading, commitments_writing, proof_reading, proof_writing, proof_read_back}
+use Rattle.stark_proof.specs.ProofJson.{◌>>=◌, row_at, each_of, unless_null, value_or_null, preprocessed_of, preprocessed_local, preprocessed_next, unless_fault, openings_reading, openings_writing, openings_read_back, openings_rule_fault, OpeningsFault, other, value_at, within_openings, commitments_reading, commitments_writing, proof_reading, proof_writing, proof_read_back}
 
 -- a step after the rule's test
 after_the_rule : {A B Fault : Type 0} (fault : Option Fault) (a : A) (after : A → B) → (unless_fault fault a >>= λ x. Ok (after x)) ≡ unless_fault fault (after a)
@@ -20,15 +20,15 @@ put_together None = refl
 put_together (Some rows) = refl
 
 module _ {E : Type 0} (reading : Data → Option E) (writing : E → Data) (back : (x : E) → reading (writing x) ≡ Some x) where
-  row_back : (field : List ℕ) (xs : List E) → row_at reading field (row_writing writing xs) ≡ Ok xs
+  row_back : (field : List ℕ) (xs : List E) → row_at reading field (list_written writing xs) ≡ Ok xs
   unfolding array_at
   row_back field xs = rw (each_back reading writing back xs) refl
 
-  rows_back : (field : List ℕ) (rows : List (List E)) → each_of (row_at reading field) (items_of (map (row_writing writing) rows)) ≡ Ok rows
+  rows_back : (field : List ℕ) (rows : List (List E)) → each_of (row_at reading field) (items_of (map (list_written writing) rows)) ≡ Ok rows
   rows_back field [] = refl
   rows_back field (row ∷ rows) = rw (row_back field row, rows_back field rows) refl
 
-  optional_back : (field : List ℕ) (row : Option (List E)) → unless_null (row_at reading field) (value_or_null (row_writing writing) row) ≡ Ok row
+  optional_back : (field : List ℕ) (row : Option (List E)) → unless_null (row_at reading field) (value_or_null (list_written writing) row) ≡ Ok row
   optional_back field None = refl
   optional_back field (Some row) = rw (row_back field row) refl
 

@@ -1,13 +1,13 @@
 -- The JSON of a proof and its parts: what a JSON value is read as, or its first fault, and what is written.
-use Rattle.std.specs.Prelude.{◌≡◌, ◌==◌, ◌^◌, ℕ, List, [], ◌∷◌, length, map, Bool, if◌then◌else◌, nat_lt, Option, None, Some, IfSome, is_some, ok_or, option_map, option_and_then, Result, Ok, Err, codes}
-use Rattle.serde_json.specs.Data.{Data, null, number, array, object, unsigned, Items, no_items, item, member, no_members}
-use Rattle.serde_json.specs.View.{items_of}
+use Rattle.std.specs.Prelude.{◌≡◌, ◌==◌, ◌^◌, ℕ, List, [], ◌∷◌, length, if◌then◌else◌, nat_lt, Option, None, Some, IfSome, is_some, ok_or, option_map, option_and_then, Result, Ok, Err, codes}
+use Rattle.serde_json.specs.Data.{Data, null, number, object, unsigned, Items, no_items, item, member, no_members}
 use Rattle.serde_json.specs.Find.{get, as_null, as_array, as_object}
 use Rattle.stark_support.specs.Json.{array_at, whole_at}
 use Rattle.stark_proof.specs.declared.values.Commitments.{Commitments}
 use Rattle.stark_proof.specs.declared.error.OpeningsDecodeError.{OpeningsDecodeError}
 use Rattle.stark_proof.specs.declared.error.ProofDecodeError.{ProofDecodeError}
 use Rattle.stark_proof.specs.ProofView.{PreprocessedView, OpeningsView, ProofView}
+use Rattle.stark_support.specs.JsonFacts.{list_written}
 
 -- Why a JSON value is not read: a field, by its name, or a fault of another kind.
 pub data DecodeFault (X : Type 0) : Type 0 where
@@ -142,10 +142,6 @@ openings_reading element d = do
   preprocessed ← preprocessed_rows local next
   Ok (record { trace_local = trace_local; trace_next = trace_next; preprocessed = preprocessed; quotient_chunks = quotient_chunks; random = random })
 
--- the array of a row's elements
-abbrev pub row_writing : {E : Type 0} → (E → Data) → List E → Data
-row_writing element row = array (items_of (map element row))
-
 -- an object of all six keys, which stand in ascending order
 abbrev pub openings_object : Data → Data → Data → Data → Data → Data → Data
 openings_object trace_local trace_next local next quotient_chunks random =
@@ -159,9 +155,9 @@ openings_object trace_local trace_next local next quotient_chunks random =
 -- all six keys; an absent row is null
 unfoldable pub openings_writing : {E : Type 0} → (E → Data) → OpeningsView E → Data
 openings_writing element o =
-    openings_object (row_writing element o.trace_local) (value_or_null (row_writing element) o.trace_next)
-    (value_or_null (row_writing element) (preprocessed_local o)) (value_or_null (row_writing element) (preprocessed_next o))
-    (array (items_of (map (row_writing element) o.quotient_chunks))) (value_or_null (row_writing element) o.random)
+    openings_object (list_written element o.trace_local) (value_or_null (list_written element) o.trace_next)
+    (value_or_null (list_written element) (preprocessed_local o)) (value_or_null (list_written element) (preprocessed_next o))
+    (list_written (list_written element) o.quotient_chunks) (value_or_null (list_written element) o.random)
 
 -- the fault of opened values that break the rule of the preprocessed rows
 abbrev pub openings_rule_fault : {E : Type 0} → OpeningsView E → Option OpeningsFault

@@ -3,7 +3,8 @@ ghost use Rattle.std.specs.Prelude.{◌≡◌, IfOk, map, ok_or, option_map, cod
 ghost use Rattle.serde_json.specs.Data.{array};
 ghost use Rattle.serde_json.specs.Find.{get};
 ghost use Rattle.serde_json.specs.View.{view, items_view, items_of};
-ghost use Rattle.stark_proof.specs.ProofJson.{Decodes, each_of, missing_field, openings_fault, optional, required, row_at, row_writing, rows_at, value_or_null};
+ghost use Rattle.stark_proof.specs.ProofJson.{Decodes, each_of, missing_field, openings_fault, optional, required, row_at, rows_at, value_or_null};
+ghost use Rattle.stark_support.specs.JsonFacts.{list_written};
 
 use crate::error::OpeningsDecodeError;
 use serde_json::Value;
@@ -99,7 +100,7 @@ pub(crate) fn optional_row<E: JsonCodec + Drop>(
 
 /// The array of a row's elements.
 pub(crate) fn row_to_json<E: JsonCodec>(alloc: Global, row: &[E]) -> Result<Value, AllocError>
-    ensures { IfOk result (λ value. view value ≡ row_writing E.writing row.now) }
+    ensures { IfOk result (λ value. view value ≡ list_written E.writing row.now) }
 {
     let mut elements = Vec::new(alloc);
     for element in row {
@@ -113,7 +114,7 @@ pub(crate) fn row_or_null<E: JsonCodec>(
     alloc: Global,
     row: Option<&[E]>,
 ) -> Result<Value, AllocError>
-    ensures { IfOk result (λ value. view value ≡ value_or_null (row_writing E.writing) (option_map (λ r. r.now) row.entry)) }
+    ensures { IfOk result (λ value. view value ≡ value_or_null (list_written E.writing) (option_map (λ r. r.now) row.entry)) }
 {
     match row {
         Some(row) => row_to_json(alloc, row),
@@ -126,7 +127,7 @@ pub(crate) fn rows_to_json<E: JsonCodec>(
     alloc: Global,
     rows: &[Vec<E>],
 ) -> Result<Value, AllocError>
-    ensures { IfOk result (λ value. view value ≡ array (items_of (map (row_writing E.writing) (map (λ row. row.items) rows.now)))) }
+    ensures { IfOk result (λ value. view value ≡ list_written (list_written E.writing) (map (λ row. row.items) rows.now)) }
 {
     let mut values = Vec::new(alloc);
     for row in rows {

@@ -1,5 +1,6 @@
 pub mod Ring
 pub mod ListFacts
+pub mod OptionFacts
 pub mod RingFacts
 pub mod RingSolver
 pub mod FieldFacts

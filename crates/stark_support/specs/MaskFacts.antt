@@ -12,7 +12,7 @@ use Rattle.stark_support.specs.Coset.{TwoAdicCoset, coset_size, coset_vanishing}
 use Rattle.stark_support.specs.Extension.{basis_sum}
 use Rattle.stark_support.specs.Polynomial.{value_over}
 use Rattle.stark_support.specs.Recomposition.{lagrange_factor, lagrange_weight, weighted_sum_from, weighted_sum, recomposition_from, recomposition}
-use Rattle.stark_support.specs.Scheme.{MaskedColumn, QuotientChunk, IsChunk, AreQuotientChunks, row_at}
+use Rattle.stark_support.specs.Scheme.{QuotientChunk, AreQuotientChunks, row_at}
 
 module _ {K : Type 0} {ring : RingOps K} (laws : RingLaws ring) (inverse : K → K) (n : ℕ) where
   module _ (x : K) where

@@ -1,6 +1,7 @@
 -- Which periodic columns fit a trace, and their values.
 use Rattle.std.specs.Prelude.{ℕ, ◌+◌, ◌/◌, ◌==◌, ◌≤◌, nat_le, List, [], ◌∷◌, length, Option, None, Some, if◌then◌else◌, IsTrue}
 use Rattle.std.specs.Int.{is_power_of_two}
+use Rattle.std.specs.Option.{option_or}
 use Rattle.stark_support.specs.Ring.{RingOps}
 use Rattle.stark_support.specs.Powers.{power}
 use Rattle.stark_support.specs.Points.{powers_from}
@@ -21,15 +22,10 @@ column_fault trace_len column length =
     else if is_power_of_two length then (if nat_le length trace_len then None else Some (TooLong column))
     else Some (NotPowerOfTwo column)
 
--- the first, or else the second
-abbrev pub or_later : {A : Type 0} → Option A → Option A → Option A
-or_later None later = later
-or_later (Some first) later = Some first
-
 -- the fault of the first column that has one, of columns with these lengths, whose numbers count up from the given one
 abbrev pub first_fault : ℕ → ℕ → List ℕ → Option PeriodicColumnShapeError
 first_fault trace_len column [] = None
-first_fault trace_len column (length ∷ lengths) = or_later (column_fault trace_len column length) (first_fault trace_len (column + 1) lengths)
+first_fault trace_len column (length ∷ lengths) = option_or (column_fault trace_len column length) (first_fault trace_len (column + 1) lengths)
 
 -- The polynomial of degree below the column's length that takes the column on the group of as many points, of a trace of
 -- `height` rows whose domain `generator` generates.

@@ -1,11 +1,12 @@
 -- Columns without a fault fit.
-use Rattle.std.specs.Prelude.{◌≡◌, ◌⊎◌, ℕ, zero, suc, ◌+◌, ◌/◌, ◌%◌, ◌≤◌, ◌==◌, nat_le, List, [], ◌∷◌, Bool, true, false, map, All, Option, None, Some, if◌then◌else◌, IsTrue, count_ones}
+use Rattle.std.specs.Prelude.{◌≡◌, ◌⊎◌, ℕ, zero, suc, ◌+◌, ◌/◌, ◌%◌, ◌≤◌, ◌==◌, nat_le, List, [], ◌∷◌, Bool, true, false, map, All, None, Some, if◌then◌else◌, IsTrue, count_ones}
 use Rattle.std.proofs.Common.{◌∙◌, ◌<◌, ap, arith, get_or, length, refl, inl, inr}
 use Rattle.std.proofs.Math.Nat.{pow-suc}
 use Rattle.std.proofs.lemmas.Nat.{ones_le_self, zero_from_ones}
 use Rattle.std.specs.Int.{IsPowerOfTwo, is_power_of_two}
 use Rattle.stark_support.specs.declared.periodic.PeriodicColumnShapeError.TheVariants.{Empty, NotPowerOfTwo, TooLong}
-use Rattle.stark_support.specs.Periodic.{ColumnFits, column_fault, or_later, first_fault}
+use Rattle.stark_support.specs.OptionFacts.{both_none}
+use Rattle.stark_support.specs.Periodic.{ColumnFits, column_fault, first_fault}
 use lib.Count.{ones_step}
 
 even_or_odd : (n : ℕ) → (n % 2 ≡ 0) ⊎ (n % 2 ≡ 1)
@@ -40,14 +41,10 @@ within_test n m h = grind arith
 no_fault_fits : (trace_len column n : ℕ) → column_fault trace_len column n ≡ None → ColumnFits trace_len n
 no_fault_fits trace_len column n e = let both = choice (n == 0) (is_power_of_two n) (nat_le n trace_len) column e in record { power = both.0; within = within_test n trace_len both.1 }
 
-neither : {A : Type 0} (first later : Option A) → or_later first later ≡ None → (first ≡ None) × (later ≡ None)
-neither None later e = (refl, e)
-neither (Some x) later e = absurd (cc)
-
 pub all_fit : {A : Type 0} (size : A → ℕ) (trace_len column : ℕ) (columns : List A) → first_fault trace_len column (map size columns) ≡ None → All (λ x. ColumnFits trace_len (size x)) columns
 all_fit size trace_len column [] e = λ i x h. absurd (omega arith)
 all_fit size trace_len column (c ∷ cs) e =
-    let both = neither (column_fault trace_len column (size c)) (first_fault trace_len (column + 1) (map size cs)) e in
+    let both = both_none (column_fault trace_len column (size c)) (first_fault trace_len (column + 1) (map size cs)) e in
     elim [
       | zero ↦ λ x h. no_fault_fits trace_len column (size c) both.0
       | suc i ↦ λ x h. all_fit size trace_len (column + 1) cs both.1 i x (omega arith)

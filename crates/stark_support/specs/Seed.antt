@@ -1,5 +1,5 @@
 -- The bytes that tell one instance of a protocol from another.
-use Rattle.std.specs.Prelude.{◌≡◌, ℕ, ◌<◌, ◌^◌, Bool, true, false, ltb, List, [], ◌∷◌, ◌++◌, length, codes}
+use Rattle.std.specs.Prelude.{ℕ, ◌<◌, ◌^◌, Bool, true, false, ltb, List, [], ◌∷◌, ◌++◌, length, codes}
 use Rattle.std.specs.Int.{w64, to_be_bytes}
 use Rattle.stark_support.specs.declared.pattern.Hierarchy.{Hierarchy}
 use Rattle.stark_support.specs.declared.pattern.Hierarchy.TheVariants.{Atomic, Begin, End}

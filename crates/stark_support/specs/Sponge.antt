@@ -1,5 +1,5 @@
 -- Sponges: states, what their calls answer, and the states that they leave.
-use Rattle.std.specs.Prelude.{◌≡◌, ℕ, suc, zero, Bool, true, false, List, [], ◌∷◌, ◌++◌, Option, None, Some, refl}
+use Rattle.std.specs.Prelude.{◌≡◌, ℕ, suc, zero, Bool, true, false, List, [], ◌∷◌, Option, None, Some}
 
 -- What a challenger's calls do: C is its state, F the base field, E the extension, K a commitment.
 pub record SpongeOps (C F E K : Type 0) : Type 0 where

@@ -1,4 +1,4 @@
-use Rattle.std.proofs.Common.{◌≡◌, ◌∙◌, ◌^◌, ap, sym}
+use Rattle.std.proofs.Common.{◌∙◌, ◌^◌, ap, sym}
 use Rattle.stark_support.specs.Powers.{power}
 use Rattle.stark_support.specs.CosetFacts.{root_has_order}
 use Rattle.stark_support.specs.DivisionFacts.{vanishing_on_coset, vanishing_off_coset}

@@ -1,5 +1,5 @@
 -- The numbers of a shape.
-use Rattle.std.specs.Prelude.{◌≡◌, List, [], ◌∷◌, ℕ, Bool, true, false}
+use Rattle.std.specs.Prelude.{List, [], ◌∷◌, ℕ, Bool, true, false}
 use Rattle.stark_air.specs.Layout.{Layout}
 use Rattle.stark_support.specs.Seed.{ShapeNumbers}
 use Rattle.stark_parts.specs.declared.shape.StarkShape.{StarkShape}

@@ -8,65 +8,66 @@ ghost use Rattle.stark_support.specs.Operations.{ring_operations};
 ghost use Rattle.stark_parts.specs.Folded.{folded};
 ghost use Rattle.stark_parts.specs.Folding.{folder_environment, folder_layout, after_folding, folding_laws};
 
+use crate::config::{StarkGenericConfig, Val};
 use stark_air::{Air, AirBuilder, ExtensionBuilder, RowWindow};
 use stark_support::{
-    ExtensionField, LagrangeSelectors, PolynomialSpace, RowMajorMatrixView, VerticalPair, ViewPair,
+    ExtensionField, Field, LagrangeSelectors, PolynomialSpace, RowMajorMatrixView, VerticalPair,
+    ViewPair,
 };
 use std::alloc::AllocError;
 
 /// Evaluates an AIR's constraints at the opened rows, and folds their values: each assertion multiplies the accumulator by
 /// alpha and adds the asserted value.
 #[derive(Drop)]
-pub struct VerifierConstraintFolder<'a, D: PolynomialSpace, EF: ExtensionField<D::Val>> {
+pub struct VerifierConstraintFolder<'a, SC: StarkGenericConfig> {
     /// The main columns' two rows.
-    pub main: ViewPair<'a, EF>,
+    pub main: ViewPair<'a, SC::Challenge>,
     /// The preprocessed columns' two rows, of width 0 where there is none.
-    pub preprocessed: ViewPair<'a, EF>,
+    pub preprocessed: ViewPair<'a, SC::Challenge>,
     /// The preprocessed columns' two rows, as the window that an AIR is given.
-    pub preprocessed_window: RowWindow<'a, EF>,
-    pub periodic_values: &'a [EF],
-    pub public_values: &'a [D::Val],
-    pub is_first_row: EF,
-    pub is_last_row: EF,
-    pub is_transition: EF,
-    pub alpha: EF,
-    pub accumulator: EF,
+    pub preprocessed_window: RowWindow<'a, SC::Challenge>,
+    pub periodic_values: &'a [SC::Challenge],
+    pub public_values: &'a [Val<SC>],
+    pub is_first_row: SC::Challenge,
+    pub is_last_row: SC::Challenge,
+    pub is_transition: SC::Challenge,
+    pub alpha: SC::Challenge,
+    pub accumulator: SC::Challenge,
 }
 
-impl<'a, D: PolynomialSpace, EF: ExtensionField<D::Val>> AirBuilder
-    for VerifierConstraintFolder<'a, D, EF> {
-    type F = D::Val;
+impl<'a, SC: StarkGenericConfig> AirBuilder for VerifierConstraintFolder<'a, SC> {
+    type F = Val<SC>;
 
-    type Expr = EF;
+    type Expr = SC::Challenge;
 
-    type Var = EF;
+    type Var = SC::Challenge;
 
-    type PublicVar = D::Val;
+    type PublicVar = Val<SC>;
 
-    type PeriodicVar = EF;
+    type PeriodicVar = SC::Challenge;
 
-    type MainWindow = RowWindow<'a, EF, D::Val>;
+    type MainWindow = RowWindow<'a, SC::Challenge, Val<SC>>;
 
-    type PreprocessedWindow = RowWindow<'a, EF, D::Val>;
+    type PreprocessedWindow = RowWindow<'a, SC::Challenge, Val<SC>>;
 
-    ghost environment = { folder_environment D.Val.ring EF.ring EF.embed };
+    ghost environment = { folder_environment SC.Pcs.Domain.Val.ring SC.Challenge.ring SC.Challenge.embed };
 
-    ghost layout = { folder_layout D.Val.ring EF.ring EF.embed };
+    ghost layout = { folder_layout SC.Pcs.Domain.Val.ring SC.Challenge.ring SC.Challenge.embed };
 
     ghost keeps = { λ s t. t ≡ record s { accumulator = t.accumulator } };
 
     /// No assertion takes memory.
     ghost may_refuse = { ⊥ };
 
-    ghost after = { after_folding D.Val.ring EF.ring EF.embed };
+    ghost after = { after_folding SC.Pcs.Domain.Val.ring SC.Challenge.ring SC.Challenge.embed };
 
-    ghost emission_laws = { folding_laws D.Val.ring EF.ring EF.embed };
+    ghost emission_laws = { folding_laws SC.Pcs.Domain.Val.ring SC.Challenge.ring SC.Challenge.embed };
 
-    fn main(&self) -> Result<RowWindow<'a, EF, D::Val>, AllocError> {
+    fn main(&self) -> Result<RowWindow<'a, SC::Challenge, Val<SC>>, AllocError> {
         Ok(RowWindow::from_two_rows(self.main.top.values, self.main.bottom.values).over())
     }
 
-    fn preprocessed(&self) -> Result<RowWindow<'a, EF, D::Val>, AllocError> {
+    fn preprocessed(&self) -> Result<RowWindow<'a, SC::Challenge, Val<SC>>, AllocError> {
         Ok(RowWindow::from_two_rows(
             self.preprocessed_window.current,
             self.preprocessed_window.next,
@@ -74,47 +75,46 @@ impl<'a, D: PolynomialSpace, EF: ExtensionField<D::Val>> AirBuilder
         .over())
     }
 
-    fn is_first_row(&self) -> EF {
+    fn is_first_row(&self) -> SC::Challenge {
         self.is_first_row
     }
 
-    fn is_last_row(&self) -> EF {
+    fn is_last_row(&self) -> SC::Challenge {
         self.is_last_row
     }
 
-    fn is_transition(&self) -> EF {
+    fn is_transition(&self) -> SC::Challenge {
         self.is_transition
     }
 
-    fn public_values(&self) -> &[D::Val] {
+    fn public_values(&self) -> &[Val<SC>] {
         self.public_values
     }
 
-    fn periodic_values(&self) -> &[EF] {
+    fn periodic_values(&self) -> &[SC::Challenge] {
         self.periodic_values
     }
 
-    fn assert_zero(&mut self, x: EF) -> Result<(), AllocError> {
+    fn assert_zero(&mut self, x: SC::Challenge) -> Result<(), AllocError> {
         self.accumulator = self.accumulator * self.alpha + x;
         Ok(())
     }
 }
 
-impl<'a, D: PolynomialSpace, EF: ExtensionField<D::Val>> ExtensionBuilder
-    for VerifierConstraintFolder<'a, D, EF> {
-    type EF = EF;
+impl<'a, SC: StarkGenericConfig> ExtensionBuilder for VerifierConstraintFolder<'a, SC> {
+    type EF = SC::Challenge;
 
-    type ExprEF = EF;
+    type ExprEF = SC::Challenge;
 
-    ghost stands_above = { EF.stands };
+    ghost stands_above = { SC.Challenge.stands };
 
-    ghost may_multiply = { EF.Algebra.may_mul };
+    ghost may_multiply = { SC.Challenge.Algebra.may_mul };
 
-    ghost from_stands = { λ x y v same p. subst (EF.stands v) (sym same) p };
+    ghost from_stands = { λ x y v same p. subst (SC.Challenge.stands v) (sym same) p };
 
-    ghost times_above = { λ v w x y z h p q. EF.times_stands x y z v w h p q };
+    ghost times_above = { λ v w x y z h p q. SC.Challenge.times_stands x y z v w h p q };
 
-    fn assert_zero_ext(&mut self, x: EF) -> Result<(), AllocError> {
+    fn assert_zero_ext(&mut self, x: SC::Challenge) -> Result<(), AllocError> {
         self.assert_zero(x)
     }
 }
@@ -122,24 +122,24 @@ impl<'a, D: PolynomialSpace, EF: ExtensionField<D::Val>> ExtensionBuilder
 /// The folded sum of an AIR's constraints over two opened rows, `alpha^(n - 1 - j)` times constraint `j` for each of the `n`.
 /// The rows and values have at least the lengths that the AIR declares; a trace without preprocessed columns has empty
 /// rows of them. The folder takes no memory: Err only where the AIR's `eval` takes some of its own, and was refused it.
-pub fn fold_constraints<D: PolynomialSpace, EF: ExtensionField<D::Val>, A: Air<D::Val>>(
+pub fn fold_constraints<SC: StarkGenericConfig, A: Air<Val<SC>>>(
     air: &A,
-    main_current: &[EF],
-    main_next: &[EF],
-    preprocessed_current: &[EF],
-    preprocessed_next: &[EF],
-    periodic_values: &[EF],
-    public_values: &[D::Val],
-    selectors: LagrangeSelectors<EF>,
-    alpha: EF,
-) -> Result<EF, AllocError>
+    main_current: &[SC::Challenge],
+    main_next: &[SC::Challenge],
+    preprocessed_current: &[SC::Challenge],
+    preprocessed_next: &[SC::Challenge],
+    periodic_values: &[SC::Challenge],
+    public_values: &[Val<SC>],
+    selectors: LagrangeSelectors<SC::Challenge>,
+    alpha: SC::Challenge,
+) -> Result<SC::Challenge, AllocError>
     requires { Covers (layout_of main_current.now main_next.now preprocessed_current.now preprocessed_next.now public_values.now periodic_values.now) (A.layout air.now) }
-    ensures folded { IfOk result (λ sum. sum ≡ folded EF.ring alpha (constraint_values (ring_operations EF.ring EF.embed)
-        (environment_of (ring_operations EF.ring EF.embed) D.Val.ring.zero EF.ring.zero main_current.now main_next.now preprocessed_current.now preprocessed_next.now public_values.now periodic_values.now selectors.is_first_row selectors.is_last_row selectors.is_transition)
+    ensures folded { IfOk result (λ sum. sum ≡ folded SC.Challenge.ring alpha (constraint_values (ring_operations SC.Challenge.ring SC.Challenge.embed)
+        (environment_of (ring_operations SC.Challenge.ring SC.Challenge.embed) SC.Pcs.Domain.Val.ring.zero SC.Challenge.ring.zero main_current.now main_next.now preprocessed_current.now preprocessed_next.now public_values.now periodic_values.now selectors.is_first_row selectors.is_last_row selectors.is_transition)
         (A.constraints air.now))) }
     ensures memory { OnErr result (A.takes_memory air.now) }
 {
-    let mut folder: VerifierConstraintFolder<'_, D, EF> = VerifierConstraintFolder {
+    let mut folder: VerifierConstraintFolder<'_, SC> = VerifierConstraintFolder {
         main: VerticalPair {
             top: RowMajorMatrixView::new_row(main_current),
             bottom: RowMajorMatrixView::new_row(main_next),
@@ -155,7 +155,7 @@ pub fn fold_constraints<D: PolynomialSpace, EF: ExtensionField<D::Val>, A: Air<D
         is_last_row: selectors.is_last_row,
         is_transition: selectors.is_transition,
         alpha,
-        accumulator: EF::ZERO,
+        accumulator: SC::Challenge::ZERO,
     };
     air.eval(&mut folder)?;
     Ok(folder.accumulator)

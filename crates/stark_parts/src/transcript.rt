@@ -1,6 +1,8 @@
 //! The transcript of a proof of one AIR, played over a challenger that the caller lends.
-ghost use Rattle.std.specs.Prelude.{◌≡◌, ◌++◌, ◌∷◌, [], option_map};
-ghost use Rattle.stark_support.specs.Sponge.{draw_extension, replay};
+ghost use Rattle.std.specs.Prelude.{◌≡◌, ◌++◌, ◌∷◌, [], option_map, IfOk, IfErr};
+ghost use Rattle.stark_support.specs.Sponge.{draw_extension, observed_bytes, replay};
+ghost use Rattle.stark_support.specs.Seed.{shape_seed};
+ghost use Rattle.stark_parts.specs.Shape.{shape_numbers};
 ghost use Rattle.stark_parts.specs.Replay.{checked, element_events, ground, optional_events, optional_fault, preprocessed_fault, random_fault};
 
 mod prover;
@@ -9,8 +11,10 @@ mod verifier;
 use crate::shape::{GrindExhausted, StarkShape, StarkTranscriptFailure};
 pub use prover::StarkProverTranscript;
 use stark_support::{
-    CanObserve, CanSample, GrindingChallenger, PrimeField64, TranscriptSponge, observe_slice,
+    CanObserve, CanSample, ExtensionField, GrindingChallenger, PrimeField64, TranscriptSponge,
+    observe_bytes, observe_slice,
 };
+use std::alloc::{AllocError, Global};
 pub use verifier::StarkVerifierTranscript;
 
 fn optional_fault(
@@ -49,6 +53,24 @@ fn random_fault(shape: &StarkShape, is_there: bool) -> Option<StarkTranscriptFai
         StarkTranscriptFailure::MissingRandomCommitment,
         StarkTranscriptFailure::UnexpectedRandomCommitment,
     )
+}
+
+// Observes a shape's seed. Where memory is refused, nothing is observed.
+fn observe_seed<C, F, EF>(
+    alloc: Global,
+    challenger: &mut C,
+    shape: &StarkShape,
+) -> Result<(), AllocError>
+where
+    F: PrimeField64,
+    EF: ExtensionField<F>,
+    C: CanObserve<F>,
+    ensures seeded { IfOk result (λ _. challenger.new ≡ observed_bytes C.after_observe F.of_number (shape_seed 1 EF.DIMENSION (shape_numbers shape.now)) challenger.old) }
+    ensures untouched { IfErr result (λ _. challenger.new ≡ challenger.old) }
+{
+    let separator = shape.domain_separator::<F, EF>(alloc)?;
+    observe_bytes::<C, F>(challenger, separator.seed());
+    Ok(())
 }
 
 fn observe_optional<C, F, EF, K>(challenger: &mut C, commitment: Option<&K>)

@@ -7,10 +7,9 @@ ghost use Rattle.stark_parts.specs.Shape.{shape_numbers};
 ghost use Rattle.stark_parts.specs.Replay.{IsWitness, constraint_events, constraint_outcome, ood_events, ood_outcome, preprocessed_fault, prover_ood_outcome, random_fault, succeeds};
 
 use crate::shape::{GrindExhausted, StarkShape, TranscriptPhase};
-use crate::transcript::{find_work, observe_optional, play_constraints};
+use crate::transcript::{find_work, observe_optional, observe_seed, play_constraints};
 use stark_support::{
     CanObserve, CanSample, ExtensionField, GrindingChallenger, PrimeField64, TranscriptSponge,
-    observe_bytes,
 };
 use std::alloc::{AllocError, Global};
 use std::marker::PhantomData;
@@ -37,8 +36,7 @@ where
         ensures described { IfOk result (λ t. t.shape ≡ shape) }
         ensures seeded { IfOk result (λ t. t.challenger.now ≡ observed_bytes C.after_observe F.of_number (shape_seed 1 EF.DIMENSION (shape_numbers shape)) challenger.old) }
     {
-        let separator = shape.domain_separator::<F, EF>(alloc)?;
-        observe_bytes::<C, F>(&mut *challenger, separator.seed());
+        observe_seed::<C, F, EF>(alloc, &mut *challenger, &shape)?;
         Ok(StarkProverTranscript {
             challenger,
             shape,
@@ -145,11 +143,6 @@ where
         requires { self.phase ≡ TranscriptPhase.Delegated }
         ensures { self.exit.0.now ≡ self.entry.challenger.now }
     {
-        let StarkProverTranscript {
-            challenger: _,
-            shape: _,
-            phase: _,
-            fields: _,
-        } = self;
+        self.abort()
     }
 }

@@ -8,11 +8,10 @@ ghost use Rattle.stark_parts.specs.Replay.{constraint_outcome, ood_outcome};
 
 use crate::shape::{StarkShape, StarkTranscriptFailure, TranscriptPhase};
 use crate::transcript::{
-    check_work, observe_optional, play_constraints, preprocessed_fault, random_fault,
+    check_work, observe_optional, observe_seed, play_constraints, preprocessed_fault, random_fault,
 };
 use stark_support::{
     CanObserve, CanSample, ExtensionField, GrindingChallenger, PrimeField64, TranscriptSponge,
-    observe_bytes,
 };
 use std::alloc::{AllocError, Global};
 use std::marker::PhantomData;
@@ -39,8 +38,7 @@ where
         ensures described { IfOk result (λ t. t.shape ≡ shape) }
         ensures seeded { IfOk result (λ t. t.challenger.now ≡ observed_bytes C.after_observe F.of_number (shape_seed 1 EF.DIMENSION (shape_numbers shape)) challenger.old) }
     {
-        let separator = shape.domain_separator::<F, EF>(alloc)?;
-        observe_bytes::<C, F>(&mut *challenger, separator.seed());
+        observe_seed::<C, F, EF>(alloc, &mut *challenger, &shape)?;
         Ok(StarkVerifierTranscript {
             challenger,
             shape,
@@ -151,11 +149,6 @@ where
         requires { self.phase ≡ TranscriptPhase.Delegated }
         ensures { self.exit.0.now ≡ self.entry.challenger.now }
     {
-        let StarkVerifierTranscript {
-            challenger: _,
-            shape: _,
-            phase: _,
-            fields: _,
-        } = self;
+        self.abort()
     }
 }

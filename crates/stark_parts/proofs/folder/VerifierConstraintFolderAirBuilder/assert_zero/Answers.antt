@@ -4,6 +4,6 @@ use Rattle.stark_parts.proofs.folder.VerifierConstraintFolderAirBuilder.assert_z
 
 pub returns-clause-asserted : goal.returns-clause-asserted
 returns-clause-asserted g c = λ t h.
-    let laws = g.met.EF.ExtensionField in
+    let laws = g.met.SC.Challenge.ExtensionField in
     ap (λ z. record c.args.self.now { accumulator = z })
-    (carried_on g.EF.Field.ring laws.operations_above _ _ _ _ _ _ t (g.met.EF.Field.mul_is _ _ _ c.mul.ensures) (g.met.EF.Field.add_is _ _ _ c.add-self.ensures) (laws.exact_above _ _ h))
+    (carried_on g.SC.Challenge.Field.ring laws.operations_above _ _ _ _ _ _ t (g.met.SC.Challenge.Field.mul_is _ _ _ c.mul.ensures) (g.met.SC.Challenge.Field.add_is _ _ _ c.add-self.ensures) (laws.exact_above _ _ h))

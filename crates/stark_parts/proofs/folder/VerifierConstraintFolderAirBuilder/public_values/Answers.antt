@@ -4,5 +4,5 @@ use Rattle.stark_parts.proofs.folder.VerifierConstraintFolderAirBuilder.public_v
 
 pub returns : goal.returns
 returns g c =
-    slice_shows g.EF.From.from_gives g.EF.Algebra.stands g.EF.ExtensionField.embed c.args.self.now.public_values.now g.D.Val.Field.ring.zero
-    λ k x h. exact_embedding g.EF.Field.ring g.met.EF.ExtensionField.operations_above g.EF.Algebra.stands k x (g.met.EF.Algebra.embed_stands k x h)
+    slice_shows g.SC.Challenge.From.from_gives g.SC.Challenge.Algebra.stands g.SC.Challenge.ExtensionField.embed c.args.self.now.public_values.now g.SC.Pcs.Domain.Val.Field.ring.zero
+    λ k x h. exact_embedding g.SC.Challenge.Field.ring g.met.SC.Challenge.ExtensionField.operations_above g.SC.Challenge.Algebra.stands k x (g.met.SC.Challenge.Algebra.embed_stands k x h)

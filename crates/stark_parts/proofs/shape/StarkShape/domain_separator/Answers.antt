@@ -1,5 +1,3 @@
-use Rattle.std.proofs.Common.{◌≡◌}
-use Rattle.stark_support.specs.Seed.{shape_seed}
 use Rattle.stark_support.specs.SeedFacts.{seed_joined, no_other_shape}
 use Rattle.stark_parts.specs.Shape.{shape_numbers}
 use Rattle.stark_parts.proofs.shape.StarkShape.domain_separator.Goals as goal

@@ -8,6 +8,7 @@ use Rattle.std.proofs.lemmas.Bool.{cases_lt, le-leb, le-ltb, lt-leb, lt-ltb}
 use Rattle.std.proofs.lemmas.Nat.{pow_below}
 use Rattle.std.proofs.Math.Nat.{pow-suc}
 use Rattle.std.proofs.lemmas.Simd.{map-map}
+use Rattle.std.specs.Option.{option_or}
 use Rattle.stark_support.specs.Ring.{RingOps}
 use Rattle.stark_support.specs.Coset.{TwoAdicCoset, AreParts, AreDisjointCosets, coset_part}
 use Rattle.stark_support.specs.Logarithm.{IsCeilingOfLog}
@@ -17,7 +18,7 @@ use Rattle.stark_air.specs.Tree.{Constraint}
 use Rattle.stark_parts.specs.Sizing.{constraint_degree, quotient_multiple}
 use Rattle.stark_parts.specs.declared.error.InvalidProofShapeError.{InvalidProofShapeError}
 use Rattle.stark_parts.specs.declared.error.InvalidProofShapeError.TheVariants.{QuotientDomainTooLarge}
-use Rattle.p3_uni_stark.specs.ShapeFaults.{earlier, fault_if, quotient_fault}
+use Rattle.p3_uni_stark.specs.ShapeFaults.{fault_if, quotient_fault}
 use Rattle.p3_uni_stark.specs.Sizes.{chunk_shifts, log_ceiling, log_ceiling_from, log_parts_of, quotient_coset}
 
 -- ---- logarithms
@@ -103,8 +104,8 @@ module _ (log_parts is_zk degree_bits adicity greatest : ℕ) (few : log_parts +
       → quotient_fault log_parts is_zk degree_bits adicity greatest ≡ fault_if b (QuotientDomainTooLarge None greatest (degree_bits + log_parts))
   last_test b is =
       let test : Bool → Bool → Bool → Option InvalidProofShapeError = λ x y z.
-      earlier (fault_if x (QuotientDomainTooLarge None 63 (log_parts + is_zk)))
-      (earlier (fault_if y (QuotientDomainTooLarge None 63 (degree_bits + log_parts))) (fault_if z (QuotientDomainTooLarge None greatest (degree_bits + log_parts)))) in
+      option_or (fault_if x (QuotientDomainTooLarge None 63 (log_parts + is_zk)))
+      (option_or (fault_if y (QuotientDomainTooLarge None 63 (degree_bits + log_parts))) (fault_if z (QuotientDomainTooLarge None greatest (degree_bits + log_parts)))) in
       ap (λ (x : Bool). test x (nat_le 64 (degree_bits + log_parts)) (nat_lt adicity (degree_bits + log_parts))) (lt-leb 64 (log_parts + is_zk) few) ∙
       ap (λ (y : Bool). test false y (nat_lt adicity (degree_bits + log_parts))) (lt-leb 64 (degree_bits + log_parts) small) ∙
       ap (λ (z : Bool). test false false z) is

@@ -1,7 +1,7 @@
 -- The domain of a committed trace, and what is said of it once it is set up.
-use Rattle.std.proofs.Common.{◌≡◌, ◌⊎◌, ℕ, ◌+◌, ◌*◌, ◌/◌, ◌%◌, ◌^◌, ◌<◌, ◌≤◌, sym, ◌∙◌, ap, subst, inl, inr, refl, List, [], ◌∷◌, length, Bool, Option, Some, None, arith}
-use Rattle.std.proofs.Math.Nat.{mod-eq_of_lt, mul-div_cancel}
-use Rattle.std.proofs.Math.Pow.{pow-lt, pow_mono}
+use Rattle.std.proofs.Common.{◌≡◌, ◌⊎◌, ℕ, ◌+◌, ◌*◌, ◌/◌, ◌^◌, ◌<◌, ◌≤◌, sym, ◌∙◌, ap, subst, inl, inr, refl, List, [], ◌∷◌, length, Bool, Some, arith}
+use Rattle.std.proofs.Math.Nat.{mul-div_cancel}
+use Rattle.std.proofs.Math.Pow.{pow_mono}
 use Rattle.stark_support.specs.Ring.{RingOps}
 use Rattle.stark_support.specs.Coset.{TwoAdicCoset, coset_size}
 use Rattle.stark_support.specs.Claims.{IfRefused}
@@ -12,25 +12,6 @@ use Rattle.stark_air.specs.Declaration.{Trace}
 use Rattle.stark_parts.specs.Errors.{IsFaultIn}
 use Rattle.stark_parts.specs.declared.error.ProvingError.{ProvingError}
 use Rattle.p3_uni_stark.specs.Preprocessing.{IsSetUp, IsSetUpFault}
-
--- one, shifted by fewer than 64 places
-pub shifted_one : (n : ℕ) → n < 64 → 1 * 2 ^ n % 18446744073709551616 ≡ 2 ^ n
-shifted_one n below =
-    let fits : 2 ^ n < 2 ^ 64 = pow-lt below in
-    let one : 1 * 2 ^ n ≡ 2 ^ n = omega arith in
-    ap (λ k. k % 18446744073709551616) one ∙ mod-eq_of_lt fits
-
-pub below_64 : (n k m : ℕ) → n ≡ k → k ≤ m → m ≤ 63 → n < 64
-below_64 n k m e h l = omega arith
-
-pub shifted_within : (n k m : ℕ) → n ≡ k → k ≤ m → m ≤ 63 → 1 * 2 ^ n % 18446744073709551616 ≤ 2 ^ m
-shifted_within n k m e h l =
-    let shown : 2 ^ n ≤ 2 ^ m = pow_mono (let le : n ≤ m = omega arith in le) in
-    subst (λ p. p ≤ 2 ^ m) (sym (shifted_one n (below_64 n k m e h l))) shown
-
-pub is_natural : {F : Type 0} (field : RingOps F) (coset : TwoAdicCoset F) (n k m : ℕ) → n ≡ k → k ≤ m → m ≤ 63
-    → ((log_degree : ℕ) → 2 ^ log_degree ≡ 1 * 2 ^ n % 18446744073709551616 → coset ≡ natural_coset field log_degree) → coset ≡ natural_coset field k
-is_natural field coset n k m e h l natural = natural k (sym (shifted_one n (below_64 n k m e h l) ∙ ap (λ i. 2 ^ i) e))
 
 -- how many rows a matrix has
 pub height_is : (count width rows : ℕ) → 0 < width → count ≡ rows * width → count / width ≡ rows

@@ -4,6 +4,8 @@ use Rattle.std.specs.List.{list_all}
 use Rattle.std.proofs.lemmas.Bool.{and_parts, eqb-true, ltb-false}
 use Rattle.std.proofs.lemmas.List.{length-replicate}
 use Rattle.std.proofs.lemmas.List.Sums.{AllPass-from_list_all}
+use Rattle.std.specs.Option.{option_or}
+use Rattle.stark_support.specs.OptionFacts.{both_none}
 use Rattle.stark_air.specs.Layout.{Layout, Covers}
 use Rattle.stark_air.specs.Declaration.{Trace, IsDeclared, next_width}
 use Rattle.stark_parts.specs.Shape.{opens_next_row}
@@ -12,26 +14,22 @@ use Rattle.p3_uni_stark.specs.declared.preprocessed.PreprocessedVerifierKey.{Pre
 use Rattle.p3_uni_stark.specs.Equation.{opened_layout}
 use Rattle.stark_proof.specs.ProofView.{OpeningsView, PreprocessedView}
 use Rattle.p3_uni_stark.specs.Acceptance.{preprocessed_local, preprocessed_next, rows_of}
-use Rattle.p3_uni_stark.specs.ShapeFaults.{dimensions_fault, earlier, expected_next, fault_if, key_degree_fault, key_width_fault, opened_fault, preprocessed_fault, preprocessed_rows_fault, publics_fault, random_fits, trace_next_fault, unread_next_fault, width_in_force, width_of, witness_fault}
+use Rattle.p3_uni_stark.specs.ShapeFaults.{dimensions_fault, expected_next, fault_if, key_degree_fault, key_width_fault, opened_fault, preprocessed_fault, preprocessed_rows_fault, publics_fault, random_fits, trace_next_fault, unread_next_fault, width_in_force, width_of, witness_fault}
 
--- ---- no fault in a series is none in each
+-- ---- a test that finds no fault
 
-neither : {X : Type 0} (first later : Option X) → earlier first later ≡ None → (first ≡ None) × (later ≡ None)
-neither None later e = (refl, e)
-neither (Some error) later e = absurd (cc)
-
-not_found : {X : Type 0} (b : Bool) (error : X) → fault_if b error ≡ None → b ≡ false
+pub not_found : {X : Type 0} (b : Bool) (error : X) → fault_if b error ≡ None → b ≡ false
 not_found true error e = absurd (cc)
 not_found false error e = refl
 
 -- the test that an error denies
-met : {X : Type 0} (b : Bool) (error : X) → fault_if (not b) error ≡ None → b ≡ true
+pub met : {X : Type 0} (b : Bool) (error : X) → fault_if (not b) error ≡ None → b ≡ true
 met true error e = refl
 met false error e = absurd (cc)
 
 -- ---- widths
 
-in_force : {K : Type 0} (key : Option (PreprocessedVerifierKey K)) (width : ℕ) → key_width_fault key width ≡ None → width_in_force key width ≡ width
+pub in_force : {K : Type 0} (key : Option (PreprocessedVerifierKey K)) (width : ℕ) → key_width_fault key width ≡ None → width_in_force key width ≡ width
 in_force None width e = refl
 in_force (Some key) width e = eqb-true key.width width (and_parts (nat_lt 0 key.width) (key.width == width) (met (nat_lt 0 key.width && key.width == width) PreprocessedVerifierKeyInconsistency e)).1
 
@@ -47,8 +45,8 @@ fixed_widths zero width wide reads_next None same e =
     let none : wide ≤ 0 = ltb-false 0 wide (not_found (nat_lt 0 wide) _ e) in
     (omega (arith, same), omega (arith, same))
 fixed_widths zero width wide reads_next (Some rows) same e =
-    let later = (neither (fault_if (wide == 0) _) _ e).1 in
-    let both = neither (fault_if (not (length rows.local == wide && width_of rows.next == expected_next reads_next wide)) _) (unread_next_fault reads_next rows.next) later in
+    let later = (both_none (fault_if (wide == 0) _) _ e).1 in
+    let both = both_none (fault_if (not (length rows.local == wide && width_of rows.next == expected_next reads_next wide)) _) (unread_next_fault reads_next rows.next) later in
     let parts = and_parts (length rows.local == wide) (width_of rows.next == expected_next reads_next wide) (met (length rows.local == wide && width_of rows.next == expected_next reads_next wide) _ both.0) in
     (eqb-true (length rows.local) wide parts.0 ∙ same, next_is_wide zero width wide reads_next rows.next same (eqb-true (width_of rows.next) (expected_next reads_next wide) parts.1) both.1)
 
@@ -66,7 +64,7 @@ next_at_most (column ∷ columns) width = omega arith
 pub publics_are : {E : Type 0} (expected publics : ℕ) (reads_next : Bool) (width count dimension : ℕ) (opened : OpeningsView E) (bits : ℕ) (is_zero : Bool)
     → opened_fault expected publics reads_next width count dimension opened bits is_zero ≡ None → publics ≡ expected
 publics_are expected publics reads_next width count dimension opened bits is_zero clear =
-    eqb-true publics expected (met (publics == expected) (PublicValuesLengthMismatch expected publics) (neither (publics_fault expected publics) _ clear).0)
+    eqb-true publics expected (met (publics == expected) (PublicValuesLengthMismatch expected publics) (both_none (publics_fault expected publics) _ clear).0)
 
 -- ---- a proof without a fault
 
@@ -77,9 +75,9 @@ module _ {F E K : Type 0} (zero : E) (key : Option (PreprocessedVerifierKey K)) 
   fixed_widths_are : (length (preprocessed_local opened.preprocessed) ≡ layout.preprocessed) × (length (preprocessed_next (replicate layout.preprocessed zero) opened.preprocessed) ≡ layout.preprocessed)
   fixed_widths_are =
       let wide = width_in_force key layout.preprocessed in
-      let parts = neither (preprocessed_rows_fault wide (opens_next_row fixed_next) opened.preprocessed) _ rows_clear in
+      let parts = both_none (preprocessed_rows_fault wide (opens_next_row fixed_next) opened.preprocessed) _ rows_clear in
       fixed_widths zero layout.preprocessed wide (opens_next_row fixed_next) opened.preprocessed
-      (in_force key layout.preprocessed (neither (key_width_fault key layout.preprocessed) (key_degree_fault key degree_bits) parts.1).0) parts.0
+      (in_force key layout.preprocessed (both_none (key_width_fault key layout.preprocessed) (key_degree_fault key degree_bits) parts.1).0) parts.0
 
   pub one_width : length (preprocessed_local opened.preprocessed) ≡ length (preprocessed_next (replicate layout.preprocessed zero) opened.preprocessed)
   one_width = fixed_widths_are.0 ∙ sym fixed_widths_are.1
@@ -87,18 +85,18 @@ module _ {F E K : Type 0} (zero : E) (key : Option (PreprocessedVerifierKey K)) 
   publics_counted : length publics ≡ layout.publics
   publics_counted = publics_are layout.publics (length publics) (opens_next_row main_next) layout.main count dimension opened bits is_zero values_clear
 
-  past_publics : earlier (trace_next_fault (opens_next_row main_next) layout.main opened.trace_next)
-      (earlier (dimensions_fault layout.main count dimension opened.trace_local opened.quotient_chunks opened.random) (witness_fault bits is_zero)) ≡ None
-  past_publics = (neither (publics_fault layout.publics (length publics)) _ values_clear).1
+  past_publics : option_or (trace_next_fault (opens_next_row main_next) layout.main opened.trace_next)
+      (option_or (dimensions_fault layout.main count dimension opened.trace_local opened.quotient_chunks opened.random) (witness_fault bits is_zero)) ≡ None
+  past_publics = (both_none (publics_fault layout.publics (length publics)) _ values_clear).1
 
   next_width_is : length (unwrap_or opened.trace_next (replicate layout.main zero)) ≡ layout.main
-  next_width_is = trace_next_width zero (opens_next_row main_next) layout.main opened.trace_next (neither (trace_next_fault (opens_next_row main_next) layout.main opened.trace_next) _ past_publics).0
+  next_width_is = trace_next_width zero (opens_next_row main_next) layout.main opened.trace_next (both_none (trace_next_fault (opens_next_row main_next) layout.main opened.trace_next) _ past_publics).0
 
   dimensions_are : (length opened.trace_local == layout.main
       && (length opened.quotient_chunks == count && (list_all (λ chunk. length chunk == dimension) opened.quotient_chunks && random_fits dimension opened.random))) ≡ true
   dimensions_are =
-      let past_next = (neither (trace_next_fault (opens_next_row main_next) layout.main opened.trace_next) _ past_publics).1 in
-      met _ OpenedValuesDimensionMismatch (neither (dimensions_fault layout.main count dimension opened.trace_local opened.quotient_chunks opened.random) _ past_next).0
+      let past_next = (both_none (trace_next_fault (opens_next_row main_next) layout.main opened.trace_next) _ past_publics).1 in
+      met _ OpenedValuesDimensionMismatch (both_none (dimensions_fault layout.main count dimension opened.trace_local opened.quotient_chunks opened.random) _ past_next).0
 
   chunk_dimensions : (length opened.quotient_chunks == count && (list_all (λ chunk. length chunk == dimension) opened.quotient_chunks && random_fits dimension opened.random)) ≡ true
   chunk_dimensions = (and_parts (length opened.trace_local == layout.main) _ dimensions_are).1

@@ -1,40 +1,26 @@
 -- The opened values of an accepted proof stand for polynomials' values, at least where a constraint reads them.
-use Rattle.std.proofs.Common.{◌≡◌, ◌∙◌, ◌≤◌, ◌==◌, ◌&&◌, ap, arith, sym, refl, subst, ℕ, Bool, true, false, not, List, [], ◌∷◌, length, map, replicate, unwrap_or, Option, None, Some, option_map, Result, Ok, Err}
+use Rattle.std.proofs.Common.{◌≡◌, ◌∙◌, ◌≤◌, ◌==◌, ◌&&◌, ap, arith, sym, refl, subst, ℕ, Bool, true, false, not, List, [], ◌∷◌, length, replicate, unwrap_or, Option, None, Some, Result, Ok, Err}
 use Rattle.std.proofs.lemmas.Bool.{and_parts, eqb-true}
 use Rattle.std.proofs.lemmas.List.{length-map}
+use Rattle.stark_support.specs.OptionFacts.{first_none, later_none}
 use Rattle.stark_support.specs.Ring.{FieldLaws}
 use Rattle.stark_air.specs.Layout.{Layout, Covers, LeavesWithin}
 use Rattle.stark_air.specs.Declaration.{Trace, IsDeclared, next_width}
 use Rattle.stark_parts.specs.Shape.{opens_next_row}
-use Rattle.stark_parts.specs.declared.error.VerificationError.{VerificationError}
-use Rattle.stark_parts.specs.declared.error.VerificationError.TheVariants.{InvalidProofShape}
 use Rattle.stark_parts.specs.declared.error.InvalidProofShapeError.{InvalidProofShapeError}
 use Rattle.p3_uni_stark.specs.declared.preprocessed.PreprocessedVerifierKey.{PreprocessedVerifierKey}
 use Rattle.p3_uni_stark.specs.Equation.{opened_layout}
 use Rattle.stark_proof.specs.ProofView.{OpeningsView, PreprocessedView, ProofView}
 use Rattle.p3_uni_stark.specs.Instance.{Instance, ProtocolOps, log_height}
 use Rattle.p3_uni_stark.specs.Acceptance.{preprocessed_local, preprocessed_next, rows_of, of_shape, periodic_values, quotient_value, log_parts, challenges, shape_fault, height_fault, key_fault, domain_fault, values_fault, IsBalanced, RunHolds, Accepted}
-use Rattle.p3_uni_stark.specs.ShapeFaults.{earlier, expected_next, fault_if, key_degree_fault, key_width_fault, opened_fault, preprocessed_fault, preprocessed_rows_fault, publics_fault, randomization_fault, trace_next_fault, unread_next_fault, width_in_force, width_of}
+use Rattle.p3_uni_stark.specs.ShapeFaults.{fault_if, key_degree_fault, key_width_fault, opened_fault, preprocessed_fault, preprocessed_rows_fault, publics_fault, randomization_fault, trace_next_fault, width_in_force, width_of}
 use Rattle.p3_uni_stark.specs.SoundAcceptance.{proved_air, proved_shifts, BreakingNeedsBadChallenges}
-use Rattle.p3_uni_stark.specs.TakenValues.{BreakingNeedsBadDraws}
-use Rattle.p3_uni_stark.proofs.ShapeSteps.{rows_cover}
+use Rattle.p3_uni_stark.proofs.ShapeSteps.{in_force, met, rows_cover}
 use Rattle.p3_uni_stark.proofs.TakenValueSteps.{StandFor, accepted_needs_bad_draws}
 
-first_clear : {X : Type 0} (first later : Option X) → earlier first later ≡ None → first ≡ None
-first_clear None later e = refl
-first_clear (Some error) later e = e
-
-later_clear : {X : Type 0} (first later : Option X) → earlier first later ≡ None → later ≡ None
-later_clear None later e = e
-later_clear (Some error) later e = absurd (cc)
-
-shape_clear : {X : Type 0} (fault : Option InvalidProofShapeError) → of_shape {X = X} fault ≡ None → fault ≡ None
+pub shape_clear : {X : Type 0} (fault : Option InvalidProofShapeError) → of_shape {X = X} fault ≡ None → fault ≡ None
 shape_clear None e = refl
 shape_clear (Some error) e = absurd (cc)
-
-holds : {X : Type 0} (b : Bool) (error : X) → fault_if (not b) error ≡ None → b ≡ true
-holds true error e = refl
-holds false error e = absurd (cc)
 
 -- no leaf of a next row where it isn't opened
 unread : {E : Type 0} (columns : List ℕ) (width : ℕ) (next : Option (List E)) → trace_next_fault (opens_next_row columns) width next ≡ None → next ≡ None → next_width columns width ≡ 0
@@ -47,13 +33,9 @@ unread_fixed : {E : Type 0} (columns : List ℕ) (width wide : ℕ) (view : Prep
 unread_fixed [] width wide view same e none = refl
 unread_fixed (column ∷ columns) width wide view same e none =
     let tests = length view.local == wide && width_of view.next == wide in
-    let past = first_clear (fault_if (not tests) _) _ (later_clear (fault_if (wide == 0) _) _ e) in
-    let parts = and_parts (length view.local == wide) (width_of view.next == wide) (holds tests _ past) in
+    let past = first_none (fault_if (not tests) _) _ (later_none (fault_if (wide == 0) _) _ e) in
+    let parts = and_parts (length view.local == wide) (width_of view.next == wide) (met tests _ past) in
     sym same ∙ sym (eqb-true (width_of view.next) wide parts.1) ∙ ap width_of none
-
-in_force : {K : Type 0} (key : Option (PreprocessedVerifierKey K)) (width : ℕ) → key_width_fault key width ≡ None → width_in_force key width ≡ width
-in_force None width e = refl
-in_force (Some key) width e = eqb-true key.width width (and_parts _ (key.width == width) (holds _ _ e)).1
 
 at_most_none : (n m : ℕ) → n ≤ m → m ≡ 0 → n ≡ 0
 at_most_none n m h e = omega arith
@@ -66,13 +48,13 @@ module _ {F E K : Type 0} (zero : E) (key : Option (PreprocessedVerifierKey K)) 
   covers = rows_cover zero key layout main_next fixed_next degree_bits opened publics count dimension bits is_zero rows_clear values_clear periodic fixed columns declared counted
 
   next_clear : trace_next_fault (opens_next_row main_next) layout.main opened.trace_next ≡ None
-  next_clear = first_clear _ _ (later_clear (publics_fault layout.publics (length publics)) _ values_clear)
+  next_clear = first_none _ _ (later_none (publics_fault layout.publics (length publics)) _ values_clear)
 
   fixed_clear : preprocessed_rows_fault (width_in_force key layout.preprocessed) (opens_next_row fixed_next) opened.preprocessed ≡ None
-  fixed_clear = first_clear _ _ rows_clear
+  fixed_clear = first_none _ _ rows_clear
 
   wide : width_in_force key layout.preprocessed ≡ layout.preprocessed
-  wide = in_force key layout.preprocessed (first_clear _ (key_degree_fault key degree_bits) (later_clear (preprocessed_rows_fault (width_in_force key layout.preprocessed) (opens_next_row fixed_next) opened.preprocessed) _ rows_clear))
+  wide = in_force key layout.preprocessed (first_none _ (key_degree_fault key degree_bits) (later_none (preprocessed_rows_fault (width_in_force key layout.preprocessed) (opens_next_row fixed_next) opened.preprocessed) _ rows_clear))
 
   -- The rows of the equation stand for the opened values.
   pub rows_stand : StandFor layout (rows_of zero layout.main layout.preprocessed opened periodic publics) opened
@@ -104,11 +86,11 @@ module _ {S F E C K T P X Y : Type 0} (ops : ProtocolOps S F E C K T P X Y) (i :
   accepted_is_sound laws within fixed declared accepted = λ alpha zeta drawn.
       let height = log_height ops.opening.is_zk p.degree_bits in
       let values = periodic_values ops.opening.fields i.periodic_columns height zeta in
-      let past_height = later_clear (of_shape (height_fault ops i p)) _ accepted.shape in
-      let past_key = later_clear (of_shape (key_fault ops i p)) _ past_height in
-      let past_domain = later_clear (of_shape (domain_fault ops i p)) _ past_key in
-      let key_clear : key_fault ops i p ≡ None = shape_clear {X = X} _ (first_clear (of_shape (key_fault ops i p)) _ past_height) in
-      let values_clear : values_fault ops i p ≡ None = shape_clear {X = X} _ (later_clear (randomization_fault ops.opening.is_zk p.commitments.random p.opened_values.random) _ past_domain) in
+      let past_height = later_none (of_shape (height_fault ops i p)) _ accepted.shape in
+      let past_key = later_none (of_shape (key_fault ops i p)) _ past_height in
+      let past_domain = later_none (of_shape (domain_fault ops i p)) _ past_key in
+      let key_clear : key_fault ops i p ≡ None = shape_clear {X = X} _ (first_none (of_shape (key_fault ops i p)) _ past_height) in
+      let values_clear : values_fault ops i p ≡ None = shape_clear {X = X} _ (later_none (randomization_fault ops.opening.is_zk p.commitments.random p.opened_values.random) _ past_domain) in
       let same = same_drawn (challenges ops i p).answer accepted.alpha accepted.zeta alpha zeta accepted.run.drawn drawn in
       let balanced : IsBalanced ops i p alpha zeta = subst (λ a. IsBalanced ops i p a zeta) same.0 (subst (λ z. IsBalanced ops i p accepted.alpha z) same.1 accepted.balanced) in
       let stand = rows_stand ops.opening.fields.ring.zero i.key i.layout i.main_next_columns i.preprocessed_next_columns p.degree_bits p.opened_values i.public_values _ ops.opening.fields.dimension i.ood_bits _

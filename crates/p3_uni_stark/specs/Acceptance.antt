@@ -1,5 +1,6 @@
 -- When a proof is accepted.
 use Rattle.std.specs.Prelude.{◌≡◌, ℕ, ◌+◌, ◌^◌, Bool, List, [], map, length, replicate, Option, None, Some, option_map, unwrap_or, Ok}
+use Rattle.std.specs.Option.{option_or}
 use Rattle.stark_support.specs.Powers.{power}
 use Rattle.stark_support.specs.Subgroup.{subgroup_of}
 use Rattle.stark_support.specs.Recomposition.{recomposition}
@@ -20,7 +21,7 @@ use Rattle.p3_uni_stark.specs.Equation.{EquationHolds, OpenedRows}
 use Rattle.p3_uni_stark.specs.Instance.{FieldsOps, Instance, ProtocolOps, log_height, trace_coset}
 use Rattle.p3_uni_stark.specs.OpenedClaims.{OpeningsHold}
 use Rattle.stark_proof.specs.ProofView.{OpeningsView, PreprocessedView, ProofView}
-use Rattle.p3_uni_stark.specs.ShapeFaults.{degree_fault, earlier, opened_fault, preprocessed_fault, quotient_fault, randomization_fault, width_in_force}
+use Rattle.p3_uni_stark.specs.ShapeFaults.{degree_fault, opened_fault, preprocessed_fault, quotient_fault, randomization_fault, width_in_force}
 use Rattle.p3_uni_stark.specs.Sizes.{chunk_shifts, log_parts_of, quotient_coset}
 
 -- ---- the opened rows
@@ -88,10 +89,10 @@ module _ {S F E C K T P X Y : Type 0} (ops : ProtocolOps S F E C K T P X Y) (i :
 
   abbrev pub shape_fault : Option (VerificationError X)
   shape_fault =
-      earlier (of_shape height_fault)
-      (earlier (of_shape key_fault)
-      (earlier (of_shape domain_fault)
-      (earlier (randomization_fault ops.opening.is_zk p.commitments.random p.opened_values.random)
+      option_or (of_shape height_fault)
+      (option_or (of_shape key_fault)
+      (option_or (of_shape domain_fault)
+      (option_or (randomization_fault ops.opening.is_zk p.commitments.random p.opened_values.random)
       (of_shape values_fault))))
 
   -- ---- the challenges

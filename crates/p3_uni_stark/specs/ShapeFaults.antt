@@ -1,6 +1,7 @@
 -- Why a proof's shape is refused: each test is the error that it finds, and None where it finds none.
 use Rattle.std.specs.Prelude.{ℕ, ◌+◌, Bool, true, false, not, ◌&&◌, ◌==◌, nat_lt, nat_le, List, length, Option, None, Some}
 use Rattle.std.specs.List.{list_all}
+use Rattle.std.specs.Option.{option_or}
 use Rattle.stark_parts.specs.declared.error.InvalidProofShapeError.{InvalidProofShapeError}
 use Rattle.stark_parts.specs.declared.error.InvalidProofShapeError.TheVariants.{DegreeBitsTooSmall, DegreeBitsTooLarge, UnexpectedPreprocessedValues, PreprocessedTraceWidthMismatch, UnexpectedPreprocessedNext, PreprocessedVerifierKeyInconsistency, PreprocessedDegreeMismatch, QuotientDomainTooLarge, PublicValuesLengthMismatch, TraceNextMismatch, UnexpectedTraceNext, OpenedValuesDimensionMismatch, NonCanonicalOodPowWitness}
 use Rattle.stark_parts.specs.declared.error.VerificationError.{VerificationError}
@@ -13,16 +14,11 @@ abbrev pub fault_if : {X : Type 0} → Bool → X → Option X
 fault_if true error = Some error
 fault_if false error = None
 
--- the first of two
-abbrev pub earlier : {X : Type 0} → Option X → Option X → Option X
-earlier (Some error) later = Some error
-earlier None later = later
-
 -- The committed height has at least the bits of the least one, at most those of the greatest one, and fits 64 bits.
 abbrev pub degree_fault : Option ℕ → ℕ → ℕ → ℕ → ℕ → Option InvalidProofShapeError
 degree_fault air degree_bits is_zk min_log_degree max_log_degree =
-    earlier (fault_if (nat_lt degree_bits (is_zk + min_log_degree)) (DegreeBitsTooSmall air (is_zk + min_log_degree) degree_bits))
-    (earlier (fault_if (nat_lt max_log_degree degree_bits) (DegreeBitsTooLarge air max_log_degree degree_bits))
+    option_or (fault_if (nat_lt degree_bits (is_zk + min_log_degree)) (DegreeBitsTooSmall air (is_zk + min_log_degree) degree_bits))
+    (option_or (fault_if (nat_lt max_log_degree degree_bits) (DegreeBitsTooLarge air max_log_degree degree_bits))
     (fault_if (nat_le 64 degree_bits) (DegreeBitsTooLarge air 63 degree_bits)))
 
 -- ---- preprocessed columns
@@ -52,8 +48,8 @@ unread_next_fault false (Some row) = Some (UnexpectedPreprocessedNext None)
 abbrev pub preprocessed_rows_fault : {E : Type 0} → ℕ → Bool → Option (PreprocessedView E) → Option InvalidProofShapeError
 preprocessed_rows_fault width reads_next None = fault_if (nat_lt 0 width) (PreprocessedTraceWidthMismatch width (expected_next reads_next width) 0 0)
 preprocessed_rows_fault width reads_next (Some rows) =
-    earlier (fault_if (width == 0) (UnexpectedPreprocessedValues None))
-    (earlier (fault_if (not (length rows.local == width && width_of rows.next == expected_next reads_next width))
+    option_or (fault_if (width == 0) (UnexpectedPreprocessedValues None))
+    (option_or (fault_if (not (length rows.local == width && width_of rows.next == expected_next reads_next width))
     (PreprocessedTraceWidthMismatch width (expected_next reads_next width) (length rows.local) (width_of rows.next)))
     (unread_next_fault reads_next rows.next))
 
@@ -69,16 +65,16 @@ key_degree_fault (Some key) degree_bits = fault_if (not (key.degree_bits == degr
 
 abbrev pub preprocessed_fault : {E K : Type 0} → Option (PreprocessedVerifierKey K) → ℕ → Bool → ℕ → Option (PreprocessedView E) → Option InvalidProofShapeError
 preprocessed_fault key air_width reads_next degree_bits rows =
-    earlier (preprocessed_rows_fault (width_in_force key air_width) reads_next rows)
-    (earlier (key_width_fault key air_width) (key_degree_fault key degree_bits))
+    option_or (preprocessed_rows_fault (width_in_force key air_width) reads_next rows)
+    (option_or (key_width_fault key air_width) (key_degree_fault key degree_bits))
 
 -- ---- the quotient's domain
 
 -- The number of chunks and the size of the quotient's domain fit 64 bits, and the field has a group of that size.
 abbrev pub quotient_fault : ℕ → ℕ → ℕ → ℕ → ℕ → Option InvalidProofShapeError
 quotient_fault log_chunks is_zk degree_bits adicity greatest_height =
-    earlier (fault_if (nat_le 64 (log_chunks + is_zk)) (QuotientDomainTooLarge None 63 (log_chunks + is_zk)))
-    (earlier (fault_if (nat_le 64 (degree_bits + log_chunks)) (QuotientDomainTooLarge None 63 (degree_bits + log_chunks)))
+    option_or (fault_if (nat_le 64 (log_chunks + is_zk)) (QuotientDomainTooLarge None 63 (log_chunks + is_zk)))
+    (option_or (fault_if (nat_le 64 (degree_bits + log_chunks)) (QuotientDomainTooLarge None 63 (degree_bits + log_chunks)))
     (fault_if (nat_lt adicity (degree_bits + log_chunks)) (QuotientDomainTooLarge None greatest_height (degree_bits + log_chunks))))
 
 -- ---- the other openings
@@ -120,7 +116,7 @@ witness_fault bits is_zero = fault_if (bits == 0 && not is_zero) NonCanonicalOod
 
 abbrev pub opened_fault : {E : Type 0} → ℕ → ℕ → Bool → ℕ → ℕ → ℕ → OpeningsView E → ℕ → Bool → Option InvalidProofShapeError
 opened_fault expected_publics publics reads_next width chunks dimension opened bits is_zero =
-    earlier (publics_fault expected_publics publics)
-    (earlier (trace_next_fault reads_next width opened.trace_next)
-    (earlier (dimensions_fault width chunks dimension opened.trace_local opened.quotient_chunks opened.random)
+    option_or (publics_fault expected_publics publics)
+    (option_or (trace_next_fault reads_next width opened.trace_next)
+    (option_or (dimensions_fault width chunks dimension opened.trace_local opened.quotient_chunks opened.random)
     (witness_fault bits is_zero)))

@@ -6,8 +6,10 @@ ghost use Rattle.stark_air.specs.Layout.{Covers};
 ghost use Rattle.p3_uni_stark.specs.Equation.{ConstraintsFault, ConstraintsHold, OpenedRows, opened_layout, row_or_empty};
 
 use stark_air::Air;
-use stark_parts::{InvalidProofShapeError, VerificationError, fold_constraints};
-use stark_support::{ExtensionField, Field, PolynomialSpace};
+use stark_parts::{
+    Domain, InvalidProofShapeError, StarkGenericConfig, Val, VerificationError, fold_constraints,
+};
+use stark_support::PolynomialSpace;
 
 /// An opened row; one that isn't opened has no value.
 fn row_or_empty<'a, EF>(row: Option<&'a [EF]>) -> &'a [EF]
@@ -30,27 +32,27 @@ fn row_or_empty<'a, EF>(row: Option<&'a [EF]>) -> &'a [EF]
 ///   the next one's.
 /// - `OodEvaluationMismatch { index: None }` where the equation fails.
 /// - `OutOfMemory` only where the AIR's `eval` takes memory of its own, and was refused a growth.
-pub fn verify_constraints<D: PolynomialSpace, EF: ExtensionField<D::Val>, A: Air<D::Val>, PcsErr>(
+pub fn verify_constraints<SC: StarkGenericConfig, A: Air<Val<SC>>, PcsErr>(
     air: &A,
-    trace_local: &[EF],
-    trace_next: &[EF],
-    preprocessed_local: Option<&[EF]>,
-    preprocessed_next: Option<&[EF]>,
-    periodic_values: &[EF],
-    public_values: &[D::Val],
-    trace_domain: D,
-    zeta: EF,
-    alpha: EF,
-    quotient: EF,
+    trace_local: &[SC::Challenge],
+    trace_next: &[SC::Challenge],
+    preprocessed_local: Option<&[SC::Challenge]>,
+    preprocessed_next: Option<&[SC::Challenge]>,
+    periodic_values: &[SC::Challenge],
+    public_values: &[Val<SC>],
+    trace_domain: Domain<SC>,
+    zeta: SC::Challenge,
+    alpha: SC::Challenge,
+    quotient: SC::Challenge,
 ) -> Result<(), VerificationError<PcsErr>>
-    requires subgroup { (D.coset_of trace_domain).shift ≡ D.Val.ring.one }
-    requires outside { coset_vanishing EF.ring (λ c. c) EF.inverse_of (coset_size (D.coset_of trace_domain)) (EF.embed (D.coset_of trace_domain).shift) zeta ≢ EF.ring.zero }
-    requires widths { let rows : OpenedRows D.Val EF = record { local = trace_local.now; next = trace_next.now; preprocessed_local = row_or_empty (λ r. r.now) preprocessed_local; preprocessed_next = row_or_empty (λ r. r.now) preprocessed_next; periodic = periodic_values.now; publics = public_values.now } in
+    requires subgroup { (SC.Pcs.Domain.coset_of trace_domain).shift ≡ SC.Pcs.Domain.Val.ring.one }
+    requires outside { coset_vanishing SC.Challenge.ring (λ c. c) SC.Challenge.inverse_of (coset_size (SC.Pcs.Domain.coset_of trace_domain)) (SC.Challenge.embed (SC.Pcs.Domain.coset_of trace_domain).shift) zeta ≢ SC.Challenge.ring.zero }
+    requires widths { let rows : OpenedRows SC.Pcs.Domain.Val SC.Challenge = record { local = trace_local.now; next = trace_next.now; preprocessed_local = row_or_empty (λ r. r.now) preprocessed_local; preprocessed_next = row_or_empty (λ r. r.now) preprocessed_next; periodic = periodic_values.now; publics = public_values.now } in
         length rows.preprocessed_local ≡ length rows.preprocessed_next → Covers (opened_layout rows) (A.layout air.now) }
-    ensures holds { IfOk result (λ _. ConstraintsHold D.Val.ring EF.ring EF.embed (subgroup_of EF.inverse_of EF.embed D.Val.root (D.coset_of trace_domain)) (A.constraints air.now)
+    ensures holds { IfOk result (λ _. ConstraintsHold SC.Pcs.Domain.Val.ring SC.Challenge.ring SC.Challenge.embed (subgroup_of SC.Challenge.inverse_of SC.Challenge.embed SC.Pcs.Domain.Val.root (SC.Pcs.Domain.coset_of trace_domain)) (A.constraints air.now)
         (record { local = trace_local.now; next = trace_next.now; preprocessed_local = row_or_empty (λ r. r.now) preprocessed_local.entry; preprocessed_next = row_or_empty (λ r. r.now) preprocessed_next.entry; periodic = periodic_values.now; publics = public_values.now })
         zeta alpha quotient) }
-    ensures fault { IfErr result (λ error. (error ≡ VerificationError.OutOfMemory) ⊎ ConstraintsFault D.Val.ring EF.ring EF.embed (subgroup_of EF.inverse_of EF.embed D.Val.root (D.coset_of trace_domain)) (A.constraints air.now)
+    ensures fault { IfErr result (λ error. (error ≡ VerificationError.OutOfMemory) ⊎ ConstraintsFault SC.Pcs.Domain.Val.ring SC.Challenge.ring SC.Challenge.embed (subgroup_of SC.Challenge.inverse_of SC.Challenge.embed SC.Pcs.Domain.Val.root (SC.Pcs.Domain.coset_of trace_domain)) (A.constraints air.now)
         (record { local = trace_local.now; next = trace_next.now; preprocessed_local = row_or_empty (λ r. r.now) preprocessed_local.entry; preprocessed_next = row_or_empty (λ r. r.now) preprocessed_next.entry; periodic = periodic_values.now; publics = public_values.now })
         zeta alpha quotient error) }
     ensures memory { IfErr result (λ error. error ≡ VerificationError.OutOfMemory → A.takes_memory air.now) }
@@ -69,7 +71,7 @@ pub fn verify_constraints<D: PolynomialSpace, EF: ExtensionField<D::Val>, A: Air
         ));
     }
     let selectors = trace_domain.selectors_at_point(zeta);
-    let folded = fold_constraints::<D, EF, A>(
+    let folded = fold_constraints::<SC, A>(
         air,
         trace_local,
         trace_next,

@@ -2,6 +2,7 @@
 #![tactic(auto)]
 
 mod constraints;
+mod heights;
 mod preprocessed;
 mod verifier;
 

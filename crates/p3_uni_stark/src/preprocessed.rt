@@ -4,6 +4,7 @@ ghost use Rattle.stark_air.specs.Declaration.{Trace};
 ghost use Rattle.stark_support.specs.Scheme.{natural_coset, zk_bits};
 ghost use Rattle.p3_uni_stark.specs.Preprocessing.{HasHeight, IsSetUp, IsSetUpFault, has_columns};
 
+use crate::heights::natural_domain;
 use stark_air::BaseAir;
 use stark_parts::{Com, Domain, PcsProverError, ProvingError, StarkGenericConfig, Val};
 use stark_support::{Pcs, RowMajorMatrix, UnivariateStarkPcs};
@@ -83,8 +84,7 @@ fn committed_domain<SC: StarkGenericConfig>(config: &SC, log_height: usize) -> (
     ensures domain { SC.Pcs.Domain.coset_of result.1 ≡ natural_coset SC.Pcs.Domain.Val.ring (log_height + zk_bits SC.Pcs.ZK) }
 {
     let degree_bits = log_height + config.is_zk();
-    let domain = config.pcs().natural_domain_for_degree(1 << degree_bits);
-    (degree_bits, domain)
+    (degree_bits, natural_domain(config, degree_bits))
 }
 
 /// The two parts for a trace that has columns.

@@ -22,6 +22,7 @@ mod verdict;
 
 pub use operations::{PcsProof, StarkInstance, StarkOperations, StarkProof};
 pub use shape::validate_degree_bits;
+use stark_parts::{Domain, StarkGenericConfig, Val};
 use stark_support::{ExtensionField, Field, PolynomialSpace};
 pub use verdict::{verify, verify_with_preprocessed};
 
@@ -60,27 +61,27 @@ fn chunk_value<F: Field, EF: ExtensionField<F>>(chunk: &[EF]) -> EF
 /// `L_i(zeta)` times the element with those coordinates, where `L_i` is the product over the other domains of
 /// `Z_j(zeta) / Z_j(first point of domain i)`, and one where there is a single domain. Where the chunks are those of a
 /// polynomial, the result is its value at `zeta`, wherever that lies. It takes no memory.
-pub fn recompose_quotient_from_chunks<D: PolynomialSpace, EF: ExtensionField<D::Val>>(
-    quotient_chunks_domains: &[D],
-    quotient_chunks: &[Vec<EF>],
-    zeta: EF,
-) -> EF
+pub fn recompose_quotient_from_chunks<SC: StarkGenericConfig>(
+    quotient_chunks_domains: &[Domain<SC>],
+    quotient_chunks: &[Vec<SC::Challenge>],
+    zeta: SC::Challenge,
+) -> SC::Challenge
     requires counts { length quotient_chunks_domains.now ≡ length quotient_chunks.now }
-    requires dimensions { All (λ chunk. vec_len chunk ≡ EF.DIMENSION) quotient_chunks.now }
-    requires disjoint { AreDisjointCosets D.Val.ring D.Val.root (common_log_size (map D.coset_of quotient_chunks_domains.now)) (map D.coset_of quotient_chunks_domains.now) }
-    ensures recomposed { result ≡ recomposition EF.ring EF.ring (λ c. c) EF.inverse_of (common_size (map D.coset_of quotient_chunks_domains.now)) EF.basis
-        (map (λ domain. EF.embed (D.coset_of domain).shift) quotient_chunks_domains.now) (map (λ chunk. chunk.items) quotient_chunks.now) zeta }
-    ensures everywhere { (chunks : List (List (List EF))) (p : List EF)
-        → AreChunksOf EF.ring (EF.embed (D.Val.root (common_log_size (map D.coset_of quotient_chunks_domains.now)))) (common_size (map D.coset_of quotient_chunks_domains.now)) EF.basis
-        (map (λ domain. EF.embed (D.coset_of domain).shift) quotient_chunks_domains.now) chunks p
-        → map (λ chunk. chunk.items) quotient_chunks.now ≡ chunk_values EF.ring chunks zeta → result ≡ value EF.ring p zeta }
+    requires dimensions { All (λ chunk. vec_len chunk ≡ SC.Challenge.DIMENSION) quotient_chunks.now }
+    requires disjoint { AreDisjointCosets SC.Pcs.Domain.Val.ring SC.Pcs.Domain.Val.root (common_log_size (map SC.Pcs.Domain.coset_of quotient_chunks_domains.now)) (map SC.Pcs.Domain.coset_of quotient_chunks_domains.now) }
+    ensures recomposed { result ≡ recomposition SC.Challenge.ring SC.Challenge.ring (λ c. c) SC.Challenge.inverse_of (common_size (map SC.Pcs.Domain.coset_of quotient_chunks_domains.now)) SC.Challenge.basis
+        (map (λ domain. SC.Challenge.embed (SC.Pcs.Domain.coset_of domain).shift) quotient_chunks_domains.now) (map (λ chunk. chunk.items) quotient_chunks.now) zeta }
+    ensures everywhere { (chunks : List (List (List SC.Challenge))) (p : List SC.Challenge)
+        → AreChunksOf SC.Challenge.ring (SC.Challenge.embed (SC.Pcs.Domain.Val.root (common_log_size (map SC.Pcs.Domain.coset_of quotient_chunks_domains.now)))) (common_size (map SC.Pcs.Domain.coset_of quotient_chunks_domains.now)) SC.Challenge.basis
+        (map (λ domain. SC.Challenge.embed (SC.Pcs.Domain.coset_of domain).shift) quotient_chunks_domains.now) chunks p
+        → map (λ chunk. chunk.items) quotient_chunks.now ≡ chunk_values SC.Challenge.ring chunks zeta → result ≡ value SC.Challenge.ring p zeta }
 {
-    let mut quotient = EF::ZERO;
+    let mut quotient = SC::Challenge::ZERO;
     for (i, domain) in quotient_chunks_domains.iter().enumerate() {
         let before = lagrange_factor(&quotient_chunks_domains[..i], domain, zeta);
         let after = lagrange_factor(&quotient_chunks_domains[i + 1..], domain, zeta);
         let chunk = &quotient_chunks[i];
-        quotient = quotient + before * after * chunk_value::<D::Val, EF>(chunk);
+        quotient = quotient + before * after * chunk_value::<Val<SC>, SC::Challenge>(chunk);
     }
     quotient
 }

@@ -16,7 +16,7 @@ use crate::verifier::quotient::quotient_at;
 use crate::verifier::run::SampledPoint;
 use crate::verifier::steps::ProofDomains;
 use stark_air::Air;
-use stark_parts::VerificationError;
+use stark_parts::{Domain, StarkGenericConfig, Val, VerificationError};
 use stark_proof::{OpenedValues, PreprocessedOpenedValues};
 use stark_support::{ExtensionField, Field, PolynomialSpace};
 use std::alloc::{AllocError, Global};
@@ -64,36 +64,36 @@ fn preprocessed_next<'a, EF>(
 }
 
 /// The folded constraints against the quotient that the chunks recompose to: `OodEvaluationMismatch` where they differ.
-pub fn check_equation<D: PolynomialSpace, EF: ExtensionField<D::Val>, A: Air<D::Val>, X>(
+pub fn check_equation<SC: StarkGenericConfig, A: Air<Val<SC>>, X>(
     alloc: Global,
     air: &A,
-    opened: &OpenedValues<EF>,
-    public_values: &[D::Val],
-    domains: ProofDomains<D>,
-    point: &SampledPoint<EF>,
+    opened: &OpenedValues<SC::Challenge>,
+    public_values: &[Val<SC>],
+    domains: ProofDomains<Domain<SC>>,
+    point: &SampledPoint<SC::Challenge>,
 ) -> Result<(), VerificationError<X>>
-    requires subgroup { (D.coset_of domains.trace).shift ≡ D.Val.ring.one }
-    requires outside { coset_vanishing EF.ring (λ c. c) EF.inverse_of (coset_size (D.coset_of domains.trace)) (EF.embed (D.coset_of domains.trace).shift) point.now.zeta ≢ EF.ring.zero }
-    requires covered { Covers (opened_layout (rows_of EF.ring.zero (A.layout air.now).main (A.layout air.now).preprocessed (openings_view opened.now) point.now.periodic_values.items public_values.now)) (A.layout air.now) }
-    requires one_width { length (rows_of EF.ring.zero (A.layout air.now).main (A.layout air.now).preprocessed (openings_view opened.now) point.now.periodic_values.items public_values.now).preprocessed_local ≡ length (rows_of EF.ring.zero (A.layout air.now).main (A.layout air.now).preprocessed (openings_view opened.now) point.now.periodic_values.items public_values.now).preprocessed_next }
+    requires subgroup { (SC.Pcs.Domain.coset_of domains.trace).shift ≡ SC.Pcs.Domain.Val.ring.one }
+    requires outside { coset_vanishing SC.Challenge.ring (λ c. c) SC.Challenge.inverse_of (coset_size (SC.Pcs.Domain.coset_of domains.trace)) (SC.Challenge.embed (SC.Pcs.Domain.coset_of domains.trace).shift) point.now.zeta ≢ SC.Challenge.ring.zero }
+    requires covered { Covers (opened_layout (rows_of SC.Challenge.ring.zero (A.layout air.now).main (A.layout air.now).preprocessed (openings_view opened.now) point.now.periodic_values.items public_values.now)) (A.layout air.now) }
+    requires one_width { length (rows_of SC.Challenge.ring.zero (A.layout air.now).main (A.layout air.now).preprocessed (openings_view opened.now) point.now.periodic_values.items public_values.now).preprocessed_local ≡ length (rows_of SC.Challenge.ring.zero (A.layout air.now).main (A.layout air.now).preprocessed (openings_view opened.now) point.now.periodic_values.items public_values.now).preprocessed_next }
     requires number { length (openings_view opened.now).quotient_chunks ≡ 2 ^ domains.log_chunks }
-    requires dimension { All (λ chunk. length chunk ≡ EF.DIMENSION) (openings_view opened.now).quotient_chunks }
-    requires within { domains.log_chunks ≤ (D.coset_of domains.quotient).log_size }
-    ensures holds { IfOk result (λ _. EquationHolds D.Val.ring EF.ring EF.embed (subgroup_of EF.inverse_of EF.embed D.Val.root (D.coset_of domains.trace)) (A.constraints air.now)
-        (rows_of EF.ring.zero (A.layout air.now).main (A.layout air.now).preprocessed (openings_view opened.now) point.now.periodic_values.items public_values.now) point.now.zeta point.now.alpha
-        (recomposition EF.ring EF.ring (λ c. c) EF.inverse_of (2 ^ ((D.coset_of domains.quotient).log_size - domains.log_chunks)) EF.basis
-        (chunk_shifts D.Val.ring D.Val.root EF.embed (D.coset_of domains.quotient) domains.log_chunks) (openings_view opened.now).quotient_chunks point.now.zeta)) }
-    ensures fault { IfErr result (λ error. (error ≡ OutOfMemory) ⊎ EquationFault (EquationHolds D.Val.ring EF.ring EF.embed (subgroup_of EF.inverse_of EF.embed D.Val.root (D.coset_of domains.trace)) (A.constraints air.now)
-        (rows_of EF.ring.zero (A.layout air.now).main (A.layout air.now).preprocessed (openings_view opened.now) point.now.periodic_values.items public_values.now) point.now.zeta point.now.alpha
-        (recomposition EF.ring EF.ring (λ c. c) EF.inverse_of (2 ^ ((D.coset_of domains.quotient).log_size - domains.log_chunks)) EF.basis
-        (chunk_shifts D.Val.ring D.Val.root EF.embed (D.coset_of domains.quotient) domains.log_chunks) (openings_view opened.now).quotient_chunks point.now.zeta)) error) }
+    requires dimension { All (λ chunk. length chunk ≡ SC.Challenge.DIMENSION) (openings_view opened.now).quotient_chunks }
+    requires within { domains.log_chunks ≤ (SC.Pcs.Domain.coset_of domains.quotient).log_size }
+    ensures holds { IfOk result (λ _. EquationHolds SC.Pcs.Domain.Val.ring SC.Challenge.ring SC.Challenge.embed (subgroup_of SC.Challenge.inverse_of SC.Challenge.embed SC.Pcs.Domain.Val.root (SC.Pcs.Domain.coset_of domains.trace)) (A.constraints air.now)
+        (rows_of SC.Challenge.ring.zero (A.layout air.now).main (A.layout air.now).preprocessed (openings_view opened.now) point.now.periodic_values.items public_values.now) point.now.zeta point.now.alpha
+        (recomposition SC.Challenge.ring SC.Challenge.ring (λ c. c) SC.Challenge.inverse_of (2 ^ ((SC.Pcs.Domain.coset_of domains.quotient).log_size - domains.log_chunks)) SC.Challenge.basis
+        (chunk_shifts SC.Pcs.Domain.Val.ring SC.Pcs.Domain.Val.root SC.Challenge.embed (SC.Pcs.Domain.coset_of domains.quotient) domains.log_chunks) (openings_view opened.now).quotient_chunks point.now.zeta)) }
+    ensures fault { IfErr result (λ error. (error ≡ OutOfMemory) ⊎ EquationFault (EquationHolds SC.Pcs.Domain.Val.ring SC.Challenge.ring SC.Challenge.embed (subgroup_of SC.Challenge.inverse_of SC.Challenge.embed SC.Pcs.Domain.Val.root (SC.Pcs.Domain.coset_of domains.trace)) (A.constraints air.now)
+        (rows_of SC.Challenge.ring.zero (A.layout air.now).main (A.layout air.now).preprocessed (openings_view opened.now) point.now.periodic_values.items public_values.now) point.now.zeta point.now.alpha
+        (recomposition SC.Challenge.ring SC.Challenge.ring (λ c. c) SC.Challenge.inverse_of (2 ^ ((SC.Pcs.Domain.coset_of domains.quotient).log_size - domains.log_chunks)) SC.Challenge.basis
+        (chunk_shifts SC.Pcs.Domain.Val.ring SC.Pcs.Domain.Val.root SC.Challenge.embed (SC.Pcs.Domain.coset_of domains.quotient) domains.log_chunks) (openings_view opened.now).quotient_chunks point.now.zeta)) error) }
 {
     let (zeta, alpha) = (point.zeta, point.alpha);
     let chunks = opened.quotient_chunks.as_slice();
-    let quotient = quotient_at(alloc, &domains.quotient, domains.log_chunks, chunks, zeta)?;
-    let next_filler: Vec<EF> = zeros(alloc, air.width())?;
-    let fixed_filler: Vec<EF> = zeros(alloc, air.preprocessed_width())?;
-    verify_constraints(
+    let quotient = quotient_at::<SC>(alloc, &domains.quotient, domains.log_chunks, chunks, zeta)?;
+    let next_filler: Vec<SC::Challenge> = zeros(alloc, air.width())?;
+    let fixed_filler: Vec<SC::Challenge> = zeros(alloc, air.preprocessed_width())?;
+    verify_constraints::<SC, A, X>(
         air,
         opened.trace_local.as_slice(),
         row_or(&opened.trace_next, next_filler.as_slice()),

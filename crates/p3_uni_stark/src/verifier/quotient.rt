@@ -6,7 +6,9 @@ ghost use Rattle.p3_uni_stark.specs.Sizes.{chunk_shifts, log_parts_of, quotient_
 
 use crate::verifier::recompose_quotient_from_chunks;
 use stark_air::{Air, AirLayout};
-use stark_parts::{InvalidProofShapeError, get_log_num_quotient_chunks_for_domain};
+use stark_parts::{
+    Domain, InvalidProofShapeError, StarkGenericConfig, get_log_num_quotient_chunks_for_domain,
+};
 use stark_support::{ExtensionField, PolynomialSpace, checked_log_size_sum};
 use std::alloc::{AllocError, Global};
 
@@ -73,19 +75,19 @@ pub fn quotient_domain_of<D: PolynomialSpace>(
 
 /// The quotient's value at a point, from the values there of its chunks' coordinates: the chunks stand on the parts of
 /// the quotient's domain.
-pub fn quotient_at<D: PolynomialSpace, EF: ExtensionField<D::Val>>(
+pub fn quotient_at<SC: StarkGenericConfig>(
     alloc: Global,
-    quotient_domain: &D,
+    quotient_domain: &Domain<SC>,
     log_chunks: usize,
-    chunks: &[Vec<EF>],
-    zeta: EF,
-) -> Result<EF, AllocError>
+    chunks: &[Vec<SC::Challenge>],
+    zeta: SC::Challenge,
+) -> Result<SC::Challenge, AllocError>
     requires number { length chunks.now ≡ 2 ^ log_chunks }
-    requires within { log_chunks ≤ (D.coset_of quotient_domain.now).log_size }
-    requires dimension { All (λ chunk. vec_len chunk ≡ EF.DIMENSION) chunks.now }
-    ensures { IfOk result (λ quotient. quotient ≡ recomposition EF.ring EF.ring (λ c. c) EF.inverse_of (2 ^ ((D.coset_of quotient_domain.now).log_size - log_chunks)) EF.basis
-        (chunk_shifts D.Val.ring D.Val.root EF.embed (D.coset_of quotient_domain.now) log_chunks) (map (λ chunk. chunk.items) chunks.now) zeta) }
+    requires within { log_chunks ≤ (SC.Pcs.Domain.coset_of quotient_domain.now).log_size }
+    requires dimension { All (λ chunk. vec_len chunk ≡ SC.Challenge.DIMENSION) chunks.now }
+    ensures { IfOk result (λ quotient. quotient ≡ recomposition SC.Challenge.ring SC.Challenge.ring (λ c. c) SC.Challenge.inverse_of (2 ^ ((SC.Pcs.Domain.coset_of quotient_domain.now).log_size - log_chunks)) SC.Challenge.basis
+        (chunk_shifts SC.Pcs.Domain.Val.ring SC.Pcs.Domain.Val.root SC.Challenge.embed (SC.Pcs.Domain.coset_of quotient_domain.now) log_chunks) (map (λ chunk. chunk.items) chunks.now) zeta) }
 {
     let domains = quotient_domain.split_domains(alloc, chunks.len())?;
-    Ok(recompose_quotient_from_chunks(&domains, chunks, zeta))
+    Ok(recompose_quotient_from_chunks::<SC>(&domains, chunks, zeta))
 }

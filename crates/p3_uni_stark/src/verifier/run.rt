@@ -14,12 +14,13 @@ ghost use Rattle.stark_proof.specs.ProofView.{proof_view};
 ghost use Rattle.p3_uni_stark.specs.ShapeFaults.{width_in_force};
 ghost use Rattle.p3_uni_stark.specs.Sizes.{log_parts_of};
 
+use crate::heights::power_of_two;
 use crate::preprocessed::PreprocessedVerifierKey;
 use crate::verifier::argument::delegate_openings;
 use crate::verifier::operations::{StarkInstance, StarkOperations, StarkProof};
 use crate::verifier::point::check_point;
 use crate::verifier::preprocessed::width_in_force;
-use crate::verifier::steps::{ProofDomains, power_of_two};
+use crate::verifier::steps::ProofDomains;
 use stark_air::{Air, BaseAir};
 use stark_parts::{
     Com, Domain, PcsError, StarkGenericConfig, StarkShape, StarkTranscriptFailure,

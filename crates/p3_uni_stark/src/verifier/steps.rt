@@ -1,14 +1,16 @@
 //! The tests of a proof's shape, in their order.
 ghost use Rattle.std.specs.Prelude.{◌≡◌, ◌+◌, ◌-◌, ◌^◌, ◌<◌, ◌≤◌, ◌⊎◌, IfErr, IfOk, None, Some, length, option_map};
+ghost use Rattle.std.specs.Option.{option_or};
 ghost use Rattle.stark_support.specs.Scheme.{natural_coset, zk_bits};
 ghost use Rattle.stark_parts.specs.Shape.{opens_next_row};
 ghost use Rattle.stark_proof.specs.ProofView.{openings_view, preprocessed_view, proof_view};
-ghost use Rattle.p3_uni_stark.specs.ShapeFaults.{degree_fault, earlier, opened_fault, preprocessed_fault, quotient_fault, randomization_fault};
+ghost use Rattle.p3_uni_stark.specs.ShapeFaults.{degree_fault, opened_fault, preprocessed_fault, quotient_fault, randomization_fault};
 ghost use Rattle.p3_uni_stark.specs.Sizes.{log_parts_of, quotient_coset};
 ghost use Rattle.p3_uni_stark.specs.Instance.{log_height, trace_coset};
 ghost use Rattle.p3_uni_stark.specs.Acceptance.{of_shape, shape_fault};
 ghost use Rattle.stark_parts.specs.declared.error.VerificationError.TheVariants.{OutOfMemory};
 
+use crate::heights::{natural_domain, power_of_two};
 use crate::preprocessed::PreprocessedVerifierKey;
 use crate::verifier::opened::{check_opened, check_randomization};
 use crate::verifier::operations::{StarkInstance, StarkOperations, StarkProof};
@@ -75,30 +77,11 @@ fn check_key<F, A: BaseAir<F>, K, EF, X>(
     Ok(())
 }
 
-/// The power of two with this exponent.
-pub fn power_of_two(bits: usize) -> usize
-    requires { bits < 64 }
-    ensures { result ≡ 2 ^ bits }
-{
-    1 << bits
-}
-
 /// Whether an element is zero.
 fn is_zero<F: Field>(element: F) -> bool
     ensures { result ≡ F.eq element F.ring.zero }
 {
     element == F::ZERO
-}
-
-/// The scheme's domain of `2^log_size` points.
-fn natural_domain<SC: StarkGenericConfig>(config: &SC, log_size: usize) -> Domain<SC>
-    requires fits { log_size < 64 }
-    requires within { log_size ≤ SC.Pcs.scheme.log_max_trace_height (SC.config.scheme config.now) }
-    ensures { SC.Pcs.Domain.coset_of result ≡ natural_coset SC.Pcs.Domain.Val.ring log_size }
-{
-    config
-        .pcs()
-        .natural_domain_for_degree(power_of_two(log_size))
 }
 
 /// The domains of a proof of a height that the scheme has.
@@ -152,10 +135,10 @@ where
     requires few { log_chunks < 64 }
     ensures opened { IfOk result (λ _. opened_fault (A.layout air.now).publics publics (opens_next_row (A.main_next_row_columns air.now)) (A.layout air.now).main (2 ^ log_chunks) SC.Challenge.DIMENSION (openings_view proof.now.opened_values)
         (SC.config.ood_bits config.now) (SC.Pcs.Domain.Val.eq proof.now.ood_pow_witness SC.Pcs.Domain.Val.ring.zero) ≡ None) }
-    ensures clear { IfOk result (λ _. earlier (randomization_fault {X = SC.Pcs.Error} SC.Pcs.ZK proof.now.commitments.random (openings_view proof.now.opened_values).random)
+    ensures clear { IfOk result (λ _. option_or (randomization_fault {X = SC.Pcs.Error} SC.Pcs.ZK proof.now.commitments.random (openings_view proof.now.opened_values).random)
         (of_shape (opened_fault (A.layout air.now).publics publics (opens_next_row (A.main_next_row_columns air.now)) (A.layout air.now).main (2 ^ log_chunks) SC.Challenge.DIMENSION (openings_view proof.now.opened_values)
         (SC.config.ood_bits config.now) (SC.Pcs.Domain.Val.eq proof.now.ood_pow_witness SC.Pcs.Domain.Val.ring.zero))) ≡ None) }
-    ensures fault { IfErr result (λ error. (error ≡ OutOfMemory) ⊎ (earlier (randomization_fault {X = SC.Pcs.Error} SC.Pcs.ZK proof.now.commitments.random (openings_view proof.now.opened_values).random)
+    ensures fault { IfErr result (λ error. (error ≡ OutOfMemory) ⊎ (option_or (randomization_fault {X = SC.Pcs.Error} SC.Pcs.ZK proof.now.commitments.random (openings_view proof.now.opened_values).random)
         (of_shape (opened_fault (A.layout air.now).publics publics (opens_next_row (A.main_next_row_columns air.now)) (A.layout air.now).main (2 ^ log_chunks) SC.Challenge.DIMENSION (openings_view proof.now.opened_values)
         (SC.config.ood_bits config.now) (SC.Pcs.Domain.Val.eq proof.now.ood_pow_witness SC.Pcs.Domain.Val.ring.zero))) ≡ Some error)) }
 {

@@ -50,7 +50,7 @@ where
     ensures fault { IfErr result (λ error. (error ≡ OutOfMemory) ⊎ EquationFault (IsBalanced ⟦<SC as StarkOperations>⟧.operations (⟦<SC as StarkInstance<A>>⟧.instance config.now air.now public_values.now (option_map (λ k. k.now) key.entry)) (proof_view proof.now) point.now.alpha point.now.zeta) error) }
 {
     let opened = &proof.opened_values;
-    match check_equation(alloc, air, opened, public_values, domains, point) {
+    match check_equation::<SC, A, PcsError<SC>>(alloc, air, opened, public_values, domains, point) {
         Ok(()) => Ok(()),
         Err(fault) => Err(fault),
     }

@@ -10,22 +10,22 @@ returns-then-got_local-got_next-clause-fault g c =
 
 pub returns-then-eq-clause-holds : goal.returns-then-eq-clause-holds
 returns-then-eq-clause-holds g c =
-    let field = g.met.EF.Field in
+    let field = g.met.SC.Challenge.Field in
     let selectors = c.selectors_at_point-selectors in
-    let domain = g.D.PolynomialSpace.coset_of c.args.trace_domain in
+    let domain = g.SC.Pcs.Domain.PolynomialSpace.coset_of c.args.trace_domain in
     constraints_hold _ _ _ _ _ _ _ _ _ c.row_or_empty-preprocessed_local.result.now c.row_or_empty-preprocessed_next.result.now c.row_or_empty-preprocessed_local.ensures c.row_or_empty-preprocessed_next.ensures
     selectors.result.is_first_row selectors.result.is_last_row selectors.result.is_transition c.in_ok-folded.folded c.vanishing_poly_at_point.result c.mul.result
     selectors.ensures.first_row selectors.ensures.last_row selectors.ensures.transition c.in_ok-folded.ensures.folded
-    (c.vanishing_poly_at_point.ensures ∙ vanishing_of_subgroup field.field_laws g.met.EF.ExtensionField.embeds _ _ _ g.met.D.Val.TwoAdicField.two_adic _ domain.shift c.args.zeta c.requires.subgroup)
+    (c.vanishing_poly_at_point.ensures ∙ vanishing_of_subgroup field.field_laws g.met.SC.Challenge.ExtensionField.embeds _ _ _ g.met.SC.Pcs.Domain.Val.TwoAdicField.two_adic _ domain.shift c.args.zeta c.requires.subgroup)
     (field.mul_is _ _ _ c.mul.ensures) c.if-got_local-got_next.false (field.eq_same _ _ (sym c.eq.ensures ∙ c.if-eq.true))
 
 pub returns-else-eq-clause-fault : goal.returns-else-eq-clause-fault
 returns-else-eq-clause-fault g c =
-    let field = g.met.EF.Field in
+    let field = g.met.SC.Challenge.Field in
     let selectors = c.selectors_at_point-selectors in
-    let domain = g.D.PolynomialSpace.coset_of c.args.trace_domain in
+    let domain = g.SC.Pcs.Domain.PolynomialSpace.coset_of c.args.trace_domain in
     inr (constraints_fail _ _ _ _ _ _ _ _ _ c.row_or_empty-preprocessed_local.result.now c.row_or_empty-preprocessed_next.result.now c.row_or_empty-preprocessed_local.ensures c.row_or_empty-preprocessed_next.ensures
     selectors.result.is_first_row selectors.result.is_last_row selectors.result.is_transition c.in_ok-folded.folded c.vanishing_poly_at_point.result c.mul.result
     selectors.ensures.first_row selectors.ensures.last_row selectors.ensures.transition c.in_ok-folded.ensures.folded
-    (c.vanishing_poly_at_point.ensures ∙ vanishing_of_subgroup field.field_laws g.met.EF.ExtensionField.embeds _ _ _ g.met.D.Val.TwoAdicField.two_adic _ domain.shift c.args.zeta c.requires.subgroup)
-    (field.mul_is _ _ _ c.mul.ensures) c.if-got_local-got_next.false (differ_if_untrue g.EF.PartialEq.eq c.in_ok-folded.folded c.mul.result c.eq.result (g.met.EF.Eq.laws.refl c.in_ok-folded.folded) c.eq.ensures c.if-eq.false))
+    (c.vanishing_poly_at_point.ensures ∙ vanishing_of_subgroup field.field_laws g.met.SC.Challenge.ExtensionField.embeds _ _ _ g.met.SC.Pcs.Domain.Val.TwoAdicField.two_adic _ domain.shift c.args.zeta c.requires.subgroup)
+    (field.mul_is _ _ _ c.mul.ensures) c.if-got_local-got_next.false (differ_if_untrue g.SC.Challenge.PartialEq.eq c.in_ok-folded.folded c.mul.result c.eq.result (g.met.SC.Challenge.Eq.laws.refl c.in_ok-folded.folded) c.eq.ensures c.if-eq.false))

@@ -1,4 +1,4 @@
-use Rattle.std.proofs.Common.{rules, ◌≡◌, ◌+◌, ◌*◌, ◌/◌, ◌^◌, ◌≤◌, ◌∙◌, sym, subst, ap, refl, length, arith}
+use Rattle.std.proofs.Common.{◌^◌, ◌≤◌, sym, subst}
 use Rattle.stark_support.specs.Coset.{coset_size}
 use Rattle.p3_uni_stark.proofs.SetUpSteps.{committed_within, height_is, is_set_up, room}
 use Rattle.p3_uni_stark.proofs.preprocessed.committed_trace.Goals as goal

@@ -1,4 +1,4 @@
-use Rattle.std.proofs.Common.{rules, ◌≡◌, ◌<◌, Some, option_map, ap, arith, sym, ◌∙◌}
+use Rattle.std.proofs.Common.{option_map, ap, arith, sym, ◌∙◌}
 use Rattle.stark_air.specs.Declaration.{Trace}
 use Rattle.stark_support.specs.declared.matrix.RowMajorMatrix.{RowMajorMatrix}
 use Rattle.p3_uni_stark.proofs.preprocessed.setup_preprocessed.Goals as goal

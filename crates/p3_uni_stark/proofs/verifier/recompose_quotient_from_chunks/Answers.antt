@@ -18,55 +18,55 @@ all_added {ring = ring} laws inverse n shift basis front chunks x done whole i c
 
 pub lagrange_factor-before-requires-clause-sizes : goal.lagrange_factor-before-requires-clause-sizes
 lagrange_factor-before-requires-clause-sizes g c =
-    sizes_before g.D.PolynomialSpace.coset_of _ c.args.quotient_chunks_domains.now c.requires.disjoint c.loop-i.i c.index-quotient_chunks_domains-i.result c.loop-i-test.true c.index-quotient_chunks_domains-i.is
+    sizes_before g.SC.Pcs.Domain.PolynomialSpace.coset_of _ c.args.quotient_chunks_domains.now c.requires.disjoint c.loop-i.i c.index-quotient_chunks_domains-i.result c.loop-i-test.true c.index-quotient_chunks_domains-i.is
 
 pub lagrange_factor-before-requires-clause-disjoint : goal.lagrange_factor-before-requires-clause-disjoint
 lagrange_factor-before-requires-clause-disjoint g c =
-    disjoint_before g.D.PolynomialSpace.coset_of _ c.args.quotient_chunks_domains.now c.requires.disjoint c.loop-i.i c.index-quotient_chunks_domains-i.result c.loop-i-test.true c.index-quotient_chunks_domains-i.is
+    disjoint_before g.SC.Pcs.Domain.PolynomialSpace.coset_of _ c.args.quotient_chunks_domains.now c.requires.disjoint c.loop-i.i c.index-quotient_chunks_domains-i.result c.loop-i-test.true c.index-quotient_chunks_domains-i.is
 
 pub lagrange_factor-after-requires-clause-sizes : goal.lagrange_factor-after-requires-clause-sizes
 lagrange_factor-after-requires-clause-sizes g c =
-    sizes_after g.D.PolynomialSpace.coset_of _ c.args.quotient_chunks_domains.now c.requires.disjoint c.loop-i.i c.index-quotient_chunks_domains-i.result c.loop-i-test.true c.index-quotient_chunks_domains-i.is
+    sizes_after g.SC.Pcs.Domain.PolynomialSpace.coset_of _ c.args.quotient_chunks_domains.now c.requires.disjoint c.loop-i.i c.index-quotient_chunks_domains-i.result c.loop-i-test.true c.index-quotient_chunks_domains-i.is
     (length c.args.quotient_chunks_domains.now - (c.loop-i.i + 1))
 
 pub lagrange_factor-after-requires-clause-disjoint : goal.lagrange_factor-after-requires-clause-disjoint
 lagrange_factor-after-requires-clause-disjoint g c =
-    disjoint_after g.D.PolynomialSpace.coset_of _ c.args.quotient_chunks_domains.now c.requires.disjoint c.loop-i.i c.index-quotient_chunks_domains-i.result c.loop-i-test.true c.index-quotient_chunks_domains-i.is
+    disjoint_after g.SC.Pcs.Domain.PolynomialSpace.coset_of _ c.args.quotient_chunks_domains.now c.requires.disjoint c.loop-i.i c.index-quotient_chunks_domains-i.result c.loop-i-test.true c.index-quotient_chunks_domains-i.is
     (length c.args.quotient_chunks_domains.now - (c.loop-i.i + 1))
 
 pub loop-i-preserved : goal.loop-i-preserved
 loop-i-preserved g c =
-    let field = g.met.EF.Field in
-    let coset_of = g.D.PolynomialSpace.coset_of in
+    let field = g.met.SC.Challenge.Field in
+    let coset_of = g.SC.Pcs.Domain.PolynomialSpace.coset_of in
     let domains = c.args.quotient_chunks_domains.now in
     let i = c.loop-i.i in
     let domain = c.index-quotient_chunks_domains-i.result in
     let log_size = common_log_size (map coset_of domains) in
     let same_size : 2 ^ (coset_of domain).log_size ≡ 2 ^ log_size =
     ap (λ (k : ℕ). 2 ^ k) (size_of_one coset_of log_size domains c.requires.disjoint i domain c.loop-i-test.true c.index-quotient_chunks_domains-i.is) in
-    next_chunk field.field_laws.of_ring g.EF.Field.inverse_of (2 ^ log_size) (λ d. g.EF.ExtensionField.embed (coset_of d).shift) (λ chunk. chunk.items) g.EF.ExtensionField.basis c.args.zeta c.loop-i.quotient _
+    next_chunk field.field_laws.of_ring g.SC.Challenge.Field.inverse_of (2 ^ log_size) (λ d. g.SC.Challenge.ExtensionField.embed (coset_of d).shift) (λ chunk. chunk.items) g.SC.Challenge.ExtensionField.basis c.args.zeta c.loop-i.quotient _
     c.lagrange_factor-before.result c.lagrange_factor-after.result c.chunk_value.result c.mul.result c.mul-in-loop-i.result c.add-quotient.result (2 ^ (coset_of domain).log_size) i domains c.args.quotient_chunks.now domain c.index-quotient_chunks-i.result
     same_size c.loop-i-test.true (omega (arith, c.requires.counts)) c.index-quotient_chunks_domains-i.is c.index-quotient_chunks-i.is c.loop-i.invariant
-    c.lagrange_factor-before.ensures c.lagrange_factor-after.ensures (c.chunk_value.ensures ∙ ap (basis_sum g.EF.Field.ring (λ x. x) g.EF.ExtensionField.basis) c.deref.ensures.value)
+    c.lagrange_factor-before.ensures c.lagrange_factor-after.ensures (c.chunk_value.ensures ∙ ap (basis_sum g.SC.Challenge.Field.ring (λ x. x) g.SC.Challenge.ExtensionField.basis) c.deref.ensures.value)
     (field.mul_is _ _ _ c.mul.ensures) (field.mul_is _ _ _ c.mul-in-loop-i.ensures) (field.add_is _ _ _ c.add-quotient.ensures)
 
 pub returns-clause-recomposed : goal.returns-clause-recomposed
 returns-clause-recomposed g c =
-    let coset_of = g.D.PolynomialSpace.coset_of in
+    let coset_of = g.SC.Pcs.Domain.PolynomialSpace.coset_of in
     let domains = c.args.quotient_chunks_domains.now in
-    let shift = λ (domain : g.row.D.Denot). g.EF.ExtensionField.embed (coset_of domain).shift in
+    let shift = λ (domain : g.row.SC-Pcs-Domain.Denot). g.SC.Challenge.ExtensionField.embed (coset_of domain).shift in
     let i = c.loop-i.i in
-    all_added g.met.EF.Field.field_laws.of_ring g.EF.Field.inverse_of (2 ^ common_log_size (map coset_of domains)) shift g.EF.ExtensionField.basis (map shift (take i domains))
+    all_added g.met.SC.Challenge.Field.field_laws.of_ring g.SC.Challenge.Field.inverse_of (2 ^ common_log_size (map coset_of domains)) shift g.SC.Challenge.ExtensionField.basis (map shift (take i domains))
     (map (λ chunk. chunk.items) (drop i c.args.quotient_chunks.now)) c.args.zeta c.loop-i.quotient _ i domains c.loop-i-test.false c.loop-i.invariant
 
 pub returns-clause-everywhere : goal.returns-clause-everywhere
 returns-clause-everywhere g c = λ chunks p parts opened.
-    let field = g.met.EF.Field in
-    let coset_of = g.D.PolynomialSpace.coset_of in
+    let field = g.met.SC.Challenge.Field in
+    let coset_of = g.SC.Pcs.Domain.PolynomialSpace.coset_of in
     let domains = c.args.quotient_chunks_domains.now in
     let log_size = common_log_size (map coset_of domains) in
-    let shifts = map (λ (domain : g.row.D.Denot). g.EF.ExtensionField.embed (coset_of domain).shift) domains in
+    let shifts = map (λ (domain : g.row.SC-Pcs-Domain.Denot). g.SC.Challenge.ExtensionField.embed (coset_of domain).shift) domains in
     returns-clause-recomposed g c ∙
-    ap (λ values. recomposition g.EF.Field.ring g.EF.Field.ring (λ x. x) g.EF.Field.inverse_of (2 ^ log_size) g.EF.ExtensionField.basis shifts values c.args.zeta) opened ∙
-    recomposes_on_domains field.field_laws g.met.EF.ExtensionField.embeds g.met.D.Val.Field.field_laws.of_ring _ _ _ g.met.D.Val.TwoAdicField.two_adic coset_of g.met.D.PolynomialSpace.lawful log_size
-    domains c.requires.disjoint g.EF.ExtensionField.basis chunks p parts c.args.zeta
+    ap (λ values. recomposition g.SC.Challenge.Field.ring g.SC.Challenge.Field.ring (λ x. x) g.SC.Challenge.Field.inverse_of (2 ^ log_size) g.SC.Challenge.ExtensionField.basis shifts values c.args.zeta) opened ∙
+    recomposes_on_domains field.field_laws g.met.SC.Challenge.ExtensionField.embeds g.met.SC.Pcs.Domain.Val.Field.field_laws.of_ring _ _ _ g.met.SC.Pcs.Domain.Val.TwoAdicField.two_adic coset_of g.met.SC.Pcs.Domain.PolynomialSpace.lawful log_size
+    domains c.requires.disjoint g.SC.Challenge.ExtensionField.basis chunks p parts c.args.zeta

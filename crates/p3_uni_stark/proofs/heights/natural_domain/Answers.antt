@@ -1,6 +1,6 @@
 use Rattle.std.proofs.Common.{sym, arith, subst, ◌≤◌}
 use Rattle.stark_support.specs.LogarithmFacts.{two_power_at_most}
-use Rattle.p3_uni_stark.proofs.verifier.steps.natural_domain.Goals as goal
+use Rattle.p3_uni_stark.proofs.heights.natural_domain.Goals as goal
 
 pub natural_domain_for_degree-requires-clause-power : goal.natural_domain_for_degree-requires-clause-power
 natural_domain_for_degree-requires-clause-power g c = (c.args.log_size, c.power_of_two.ensures)

@@ -1,5 +1,5 @@
 -- What a run found, and what it says of it.
-use Rattle.std.proofs.Common.{◌≡◌, ◌⊎◌, ℕ, List, [], Option, None, Some, IfSome, refl, sym, subst, ◌∙◌, inl, inr}
+use Rattle.std.proofs.Common.{◌≡◌, ◌⊎◌, ℕ, List, [], Option, None, Some, IfSome, IfOk, Result, Ok, Err, refl, sym, subst, ◌∙◌, inl, inr}
 use Rattle.std.specs.Io.KnownBytes.{Appends, Keeps}
 use Rattle.stark_run.specs.Verdict.{line_of, end_of}
 use Rattle.stark_run.specs.Run.{IsInput, IsVerdict, IsVerdictOrLacksMemory, Found, Says, SaysFound, SaysVerdict, AcceptsInput}
@@ -28,15 +28,22 @@ module _ (verified : SampleAir → List ℕ → Verdict → Type 0) where
   other_words_found result None known e other = (some_input known, is_some_input known, inl refl)
   other_words_found result (Some command) known e other = absurd (other command e)
 
-  -- What an AIR's verifier finds is found of the words that name it.
-  pub verify_found : (command : Option Command) (known : Option (List ℕ)) (lent input : List ℕ) (air : SampleAir) (v : Verdict) → IsInput known input → command ≡ Some (Verify air) → lent ≡ input
-      → verified air lent v ⊎ (v ≡ verdict.Refused refusal.OutOfMemory) → Found verified command known v
-  unfolding IsVerdict
-  verify_found command known lent input air v is named same found =
-      subst (λ k. Found verified k known v) (sym named) (input, is, subst (λ bytes. verified air bytes v ⊎ (v ≡ verdict.Refused refusal.OutOfMemory)) same found)
+  -- What is found of a command is found of the words that name it.
+  pub command_found : (command : Option Command) (known : Option (List ℕ)) (lent input : List ℕ) (named : Command) (v : Verdict) → IsInput known input → command ≡ Some named → lent ≡ input
+      → IsVerdictOrLacksMemory verified (Some named) lent v → Found verified command known v
+  command_found command known lent input named v is names same found =
+      subst (λ k. Found verified k known v) (sym names) (input, is, subst (λ bytes. IsVerdictOrLacksMemory verified (Some named) bytes v) same found)
 
-  pub memory_found : (command : Option Command) (known : Option (List ℕ)) → Found verified command known (verdict.Refused refusal.OutOfMemory)
-  memory_found command known = (some_input known, is_some_input known, inr refl)
+  -- What an AIR's verifier finds is found of the command that names it.
+  pub verify_judged : (command : Command) (air : SampleAir) (input : List ℕ) (v : Verdict) → command ≡ Verify air
+      → verified air input v ⊎ (v ≡ verdict.Refused refusal.OutOfMemory) → IsVerdictOrLacksMemory verified (Some command) input v
+  unfolding IsVerdict
+  verify_judged command air input v is found = subst (λ k. IsVerdictOrLacksMemory verified (Some k) input v) (sym is) found
+
+  -- Of an input that wasn't read for want of memory that is found.
+  pub memory_found : (command : Option Command) (known : Option (List ℕ)) (result : Result Verdict RunEnd) → IfOk result (λ v. v ≡ verdict.Refused refusal.OutOfMemory) → IfOk result (Found verified command known)
+  memory_found command known (Ok v) memory = (some_input known, is_some_input known, inr memory)
+  memory_found command known (Err end) memory = tt
 
 -- A run whose input failed says nothing.
 says_nothing : (end : RunEnd) (v : Verdict) (old new : Option (List ℕ)) → end ≡ InputFailed → Keeps old new → Says end v old new

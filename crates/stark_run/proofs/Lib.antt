@@ -2,7 +2,11 @@ pub mod Lines
 pub mod Findings
 pub mod Parts
 pub mod Sizes
+pub mod EquationFaults
 pub mod PointSteps
 pub mod Meaning
 pub mod TakenColumns
+pub mod SameColumns
+pub mod SoundSteps
+pub mod SoundFindings
 pub mod Judged

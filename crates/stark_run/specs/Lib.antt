@@ -8,3 +8,4 @@ pub mod Point
 pub mod ProofInput
 pub mod Refusals
 pub mod Verify
+pub mod SoundRun

@@ -1,5 +1,6 @@
 -- What the bytes of an input of `verify` are.
 use Rattle.std.specs.Prelude.{ℕ, ◌^◌, ◌<◌, List, [], ◌∷◌, length, if◌then◌else◌, nat_lt, is_some, Option, None, Some, option_map, Result, Ok, Err, codes}
+use Rattle.std.specs.Option.{option_or}
 use Rattle.std.specs.Str.{bytes_eq}
 use Rattle.serde_json.specs.Data.{Data}
 use Rattle.serde_json.specs.Find.{get, as_null, as_str}
@@ -33,13 +34,9 @@ abbrev pub is_hashing : Option (List ℕ) → Option NamedChallenger
 is_hashing None = None
 is_hashing (Some name) = if bytes_eq name (codes "sha256") then Some hashing else None
 
-abbrev pub or_else : {A : Type 0} → Option A → Option A → Option A
-or_else None other = other
-or_else (Some a) other = Some a
-
 -- a name, or an array of numbers that isn't empty
 unfoldable pub challenger_at : Data → Option NamedChallenger
-challenger_at d = or_else (is_hashing (as_str d)) (array_at base_at d >>= some_script)
+challenger_at d = option_or (is_hashing (as_str d)) (array_at base_at d >>= some_script)
 
 abbrev pub bits_in : Data → Option ℕ
 bits_in d = if is_some (as_null d) then Some 0 else (whole_at d >>= λ n. if nat_lt n (2 ^ 64) then Some n else None)

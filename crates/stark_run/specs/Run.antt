@@ -22,7 +22,7 @@ CheckHoldsOf command input = (air : SampleAir) × (command ≡ Some (Check air))
     × (has_shape (shape_of (sample air)) m ≡ true) × CheckHolds (sample air) (log_chunks_of air) m
 
 -- the AIR of a name, compared whole
-abbrev pub named_air : List ℕ → Option SampleAir
+unfoldable pub named_air : List ℕ → Option SampleAir
 named_air name =
     if bytes_eq name (codes "counter") then Some Counter
     else if bytes_eq name (codes "cubic") then Some Cubic
@@ -33,7 +33,7 @@ named_air name =
     else None
 
 -- the command that the words name, compared whole
-abbrev pub command_of : List (List ℕ) → Option Command
+unfoldable pub command_of : List (List ℕ) → Option Command
 command_of [] = None
 command_of (verb ∷ []) = None
 command_of (verb ∷ air ∷ []) =
@@ -90,6 +90,10 @@ module _ (verified : SampleAir → List ℕ → Verdict → Type 0) where
   -- An input that is the reader's, where the reader tells its bytes, is accepted.
   abbrev pub AcceptsInput : Option Command → Option (List ℕ) → Type 0
   AcceptsInput command known = (input : List ℕ) × IsInput known input × IsVerdict command input verdict.Accepted
+
+-- Where the words name an AIR's verifier, this holds of the AIR and the input.
+abbrev pub OfVerified : (SampleAir → List ℕ → Type 0) → Option Command → List ℕ → Type 0
+OfVerified sound command input = (air : SampleAir) → command ≡ Some (Verify air) → sound air input
 
 -- The run wrote these bytes, where it is known what the writer holds.
 abbrev pub Wrote : Option (List ℕ) → Option (List ℕ) → List ℕ → Type 0

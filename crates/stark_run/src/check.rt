@@ -13,11 +13,15 @@ use crate::airs::DeclaredAir;
 use crate::input::{CheckInput, zeros};
 use crate::point::{check_equation, quotient_at, quotient_domain_of, vanishes_at};
 use crate::verdict::{Refusal, Verdict};
+use crate::verify::ProgramConfig;
 use stark_air::{Air, AirLayout};
-use stark_bench::{Coset, F12289};
+use stark_bench::{Coset, F12289, Sha256Challenger};
 use stark_parts::get_log_num_quotient_chunks;
 use stark_support::{DomainShape, PeriodicColumns, PolynomialSpace};
 use std::alloc::{AllocError, Global};
+
+/// The types of a check, which opens no commitment and draws nothing.
+type CheckConfig = ProgramConfig<Sha256Challenger<F12289>>;
 
 /// What is found of the equation, at a zeta outside H and with periodic columns that fit H.
 fn check_columns<A: Air<F12289>>(
@@ -45,7 +49,7 @@ fn check_columns<A: Air<F12289>>(
     else {
         return Verdict::Refused(Refusal::OutOfMemory);
     };
-    let Ok(quotient) = quotient_at(
+    let Ok(quotient) = quotient_at::<CheckConfig>(
         alloc,
         &quotient_domain,
         log_chunks,
@@ -54,7 +58,7 @@ fn check_columns<A: Air<F12289>>(
     ) else {
         return Verdict::Refused(Refusal::OutOfMemory);
     };
-    check_equation(
+    check_equation::<CheckConfig, A>(
         air,
         &input.local,
         &input.next,

@@ -1,4 +1,4 @@
-//! The steps of a check at one point, over any domain and extension.
+//! The steps of a check at one point, over any domain and extension, or any configuration.
 ghost use Rattle.std.specs.Prelude.{◌≡◌, ◌≢◌, ◌↔◌, ℕ, ◌+◌, ◌-◌, ◌^◌, ◌<◌, ◌≤◌, All, IfOk, IfSome, IsNone, IsTrue, length, map, vec_len};
 ghost use Rattle.stark_support.specs.Coset.{coset_size, coset_vanishing};
 ghost use Rattle.stark_support.specs.Recomposition.{recomposition};
@@ -10,7 +10,7 @@ ghost use Rattle.stark_run.specs.Point.{EquationVerdict, chunk_shifts, quotient_
 use crate::verdict::{Refusal, Verdict};
 use p3_uni_stark::{recompose_quotient_from_chunks, verify_constraints};
 use stark_air::Air;
-use stark_parts::VerificationError;
+use stark_parts::{Domain, StarkGenericConfig, Val, VerificationError};
 use stark_support::{ExtensionField, Field, PolynomialSpace, checked_log_size_sum};
 use std::alloc::{AllocError, Global};
 
@@ -42,47 +42,47 @@ pub fn quotient_domain_of<D: PolynomialSpace>(
 
 /// The quotient's value at a point, from the values there of its chunks' coordinates: the chunks stand on the parts of
 /// the quotient's domain.
-pub fn quotient_at<D: PolynomialSpace, EF: ExtensionField<D::Val>>(
+pub fn quotient_at<SC: StarkGenericConfig>(
     alloc: Global,
-    quotient_domain: &D,
+    quotient_domain: &Domain<SC>,
     log_chunks: usize,
-    chunks: &[Vec<EF>],
-    zeta: EF,
-) -> Result<EF, AllocError>
+    chunks: &[Vec<SC::Challenge>],
+    zeta: SC::Challenge,
+) -> Result<SC::Challenge, AllocError>
     requires number { length chunks.now ≡ 2 ^ log_chunks }
-    requires within { log_chunks ≤ (D.coset_of quotient_domain.now).log_size }
-    requires dimension { All (λ chunk. vec_len chunk ≡ EF.DIMENSION) chunks.now }
-    ensures { IfOk result (λ quotient. quotient ≡ recomposition EF.ring EF.ring (λ c. c) EF.inverse_of (2 ^ ((D.coset_of quotient_domain.now).log_size - log_chunks)) EF.basis
-        (chunk_shifts D.Val.ring D.Val.root EF.embed (D.coset_of quotient_domain.now) log_chunks) (map (λ chunk. chunk.items) chunks.now) zeta) }
+    requires within { log_chunks ≤ (SC.Pcs.Domain.coset_of quotient_domain.now).log_size }
+    requires dimension { All (λ chunk. vec_len chunk ≡ SC.Challenge.DIMENSION) chunks.now }
+    ensures { IfOk result (λ quotient. quotient ≡ recomposition SC.Challenge.ring SC.Challenge.ring (λ c. c) SC.Challenge.inverse_of (2 ^ ((SC.Pcs.Domain.coset_of quotient_domain.now).log_size - log_chunks)) SC.Challenge.basis
+        (chunk_shifts SC.Pcs.Domain.Val.ring SC.Pcs.Domain.Val.root SC.Challenge.embed (SC.Pcs.Domain.coset_of quotient_domain.now) log_chunks) (map (λ chunk. chunk.items) chunks.now) zeta) }
 {
     let domains = quotient_domain.split_domains(alloc, chunks.len())?;
-    Ok(recompose_quotient_from_chunks(&domains, chunks, zeta))
+    Ok(recompose_quotient_from_chunks::<SC>(&domains, chunks, zeta))
 }
 
 /// What is found of the equation at a zeta outside the trace domain.
-pub fn check_equation<D: PolynomialSpace, EF: ExtensionField<D::Val>, A: Air<D::Val>>(
+pub fn check_equation<SC: StarkGenericConfig, A: Air<Val<SC>>>(
     air: &A,
-    local: &[EF],
-    next: &[EF],
-    preprocessed_local: &[EF],
-    preprocessed_next: &[EF],
-    periodic_values: &[EF],
-    publics: &[D::Val],
-    trace_domain: D,
-    zeta: EF,
-    alpha: EF,
-    quotient: EF,
+    local: &[SC::Challenge],
+    next: &[SC::Challenge],
+    preprocessed_local: &[SC::Challenge],
+    preprocessed_next: &[SC::Challenge],
+    periodic_values: &[SC::Challenge],
+    publics: &[Val<SC>],
+    trace_domain: Domain<SC>,
+    zeta: SC::Challenge,
+    alpha: SC::Challenge,
+    quotient: SC::Challenge,
 ) -> Verdict
-    requires subgroup { (D.coset_of trace_domain).shift ≡ D.Val.ring.one }
-    requires outside { coset_vanishing EF.ring (λ c. c) EF.inverse_of (coset_size (D.coset_of trace_domain)) (EF.embed (D.coset_of trace_domain).shift) zeta ≢ EF.ring.zero }
+    requires subgroup { (SC.Pcs.Domain.coset_of trace_domain).shift ≡ SC.Pcs.Domain.Val.ring.one }
+    requires outside { coset_vanishing SC.Challenge.ring (λ c. c) SC.Challenge.inverse_of (coset_size (SC.Pcs.Domain.coset_of trace_domain)) (SC.Challenge.embed (SC.Pcs.Domain.coset_of trace_domain).shift) zeta ≢ SC.Challenge.ring.zero }
     requires one_width { length preprocessed_local.now ≡ length preprocessed_next.now }
-    requires widths { let rows : OpenedRows D.Val EF = record { local = local.now; next = next.now; preprocessed_local = preprocessed_local.now; preprocessed_next = preprocessed_next.now; periodic = periodic_values.now; publics = publics.now } in
+    requires widths { let rows : OpenedRows SC.Pcs.Domain.Val SC.Challenge = record { local = local.now; next = next.now; preprocessed_local = preprocessed_local.now; preprocessed_next = preprocessed_next.now; periodic = periodic_values.now; publics = publics.now } in
         Covers (opened_layout rows) (A.layout air.now) }
-    ensures { EquationVerdict D.Val.ring EF.ring EF.embed (subgroup_of EF.inverse_of EF.embed D.Val.root (D.coset_of trace_domain)) (A.constraints air.now)
+    ensures { EquationVerdict SC.Pcs.Domain.Val.ring SC.Challenge.ring SC.Challenge.embed (subgroup_of SC.Challenge.inverse_of SC.Challenge.embed SC.Pcs.Domain.Val.root (SC.Pcs.Domain.coset_of trace_domain)) (A.constraints air.now)
         (record { local = local.now; next = next.now; preprocessed_local = preprocessed_local.now; preprocessed_next = preprocessed_next.now; periodic = periodic_values.now; publics = publics.now })
         zeta alpha quotient result }
 {
-    let found: Result<(), VerificationError<NoScheme>> = verify_constraints(
+    let found = verify_constraints::<SC, A, NoScheme>(
         air,
         local,
         next,
@@ -97,7 +97,9 @@ pub fn check_equation<D: PolynomialSpace, EF: ExtensionField<D::Val>, A: Air<D::
     );
     match found {
         Ok(()) => Verdict::Accepted,
-        Err(VerificationError::OutOfMemory) => Verdict::Refused(Refusal::OutOfMemory),
-        Err(_) => Verdict::Refused(Refusal::OodEvaluationMismatch),
+        Err(error) => match error {
+            VerificationError::OutOfMemory => Verdict::Refused(Refusal::OutOfMemory),
+            _ => Verdict::Refused(Refusal::OodEvaluationMismatch),
+        },
     }
 }

@@ -1,8 +1,8 @@
 //! A run of the program, from bytes to bytes.
 
-ghost use Rattle.std.specs.Prelude.{◌≡◌, ◌↔◌, ◌⊎◌, ℕ, List, map, string_bytes, true, false, None, Ok, IfOk, IfSome, IfErr, is_err, take, codes};
+ghost use Rattle.std.specs.Prelude.{◌≡◌, ◌↔◌, ◌⊎◌, ℕ, List, map, string_bytes, true, false, None, Ok, IfOk, IfSome, IfErr, Some, is_err, take, codes};
 ghost use Rattle.std.specs.Io.KnownBytes.{Appends};
-ghost use Rattle.stark_run.specs.Run.{AcceptsInput, Found, HoldsOf, IsVerdict, Says, SaysFound, SaysVerdict, Wrote, command_of};
+ghost use Rattle.stark_run.specs.Run.{AcceptsInput, Found, HoldsOf, IsVerdict, IsVerdictOrLacksMemory, OfVerified, Says, SaysFound, SaysVerdict, Wrote, command_of};
 ghost use Rattle.stark_run.specs.Verdict.{line_of};
 
 use crate::judge::judge_sample;
@@ -12,8 +12,30 @@ use crate::verify::{VerifiedInput, verify_sample};
 use crate::words::{Command, SampleAir, named_command};
 use std::alloc::Global;
 
-/// Finds the verdict, or fails by the reader alone.
+/// What is found of the bytes of an input, by the check or the verifier of the AIR that is named.
 #[tactic(auto, unfolding(crate::specs::Run::IsVerdict))]
+fn judge_command(alloc: Global, command: Command, bytes: &[u8]) -> Verdict
+    ensures { IsVerdictOrLacksMemory (⟦<SampleAir as VerifiedInput>⟧.verified) (Some command) bytes.now result }
+{
+    match command {
+        Command::Check(air) => judge_sample(alloc, air, bytes),
+        Command::Verify(air) => verify_sample(alloc, air, bytes),
+    }
+}
+
+/// What is found of an input that wasn't read.
+fn unread_input(fault: InputFault) -> Result<Verdict, RunEnd>
+    ensures memory { IfOk result (λ verdict. verdict ≡ Verdict.Refused Refusal.OutOfMemory) }
+    ensures kind { IfErr result (λ e. e ≡ RunEnd.InputFailed) }
+    ensures failed { (is_err result ≡ true) ↔ (fault ≡ InputFault.Failed) }
+{
+    match fault {
+        InputFault::OutOfMemory => Ok(Verdict::Refused(Refusal::OutOfMemory)),
+        InputFault::Failed => Err(RunEnd::InputFailed),
+    }
+}
+
+/// Finds the verdict, or fails by the reader alone.
 fn find<R: Source>(alloc: Global, words: &[String], reader: &mut R) -> Result<Verdict, RunEnd>
     requires { R.has_failed reader.old ≡ false }
     ensures found { IfOk result (Found (⟦<SampleAir as VerifiedInput>⟧.verified) (command_of (map string_bytes words.now)) (R.remaining reader.old)) }
@@ -26,12 +48,8 @@ fn find<R: Source>(alloc: Global, words: &[String], reader: &mut R) -> Result<Ve
         return Ok(Verdict::BadInput);
     };
     match read_to_end(alloc, reader) {
-        Ok(input) => match command {
-            Command::Check(air) => Ok(judge_sample(alloc, air, &input)),
-            Command::Verify(air) => Ok(verify_sample(alloc, air, &input)),
-        },
-        Err(InputFault::OutOfMemory) => Ok(Verdict::Refused(Refusal::OutOfMemory)),
-        Err(InputFault::Failed) => Err(RunEnd::InputFailed),
+        Ok(input) => Ok(judge_command(alloc, command, &input)),
+        Err(fault) => unread_input(fault),
     }
 }
 
@@ -104,6 +122,12 @@ pub fn run<R: Source, W: Sink>(
         Wrote (W.contents writer.old) (W.contents writer.new) bytes →
         take 8 bytes ≡ codes "accepted" →
         HoldsOf (⟦<SampleAir as VerifiedInput>⟧.verified) (command_of (map string_bytes words.now)) input) }
+    // In every run in which a verifier writes `accepted`, the columns that the read proof's commitments list break no constraint on H,
+    // or alpha is bad for them, or zeta is bad for them, alpha and the listed chunks.
+    ensures sound { IfSome (R.remaining reader.old) (λ input. (bytes : List ℕ) →
+        Wrote (W.contents writer.old) (W.contents writer.new) bytes →
+        take 8 bytes ≡ codes "accepted" →
+        OfVerified (⟦<SampleAir as VerifiedInput>⟧.sound) (command_of (map string_bytes words.now)) input) }
     // A run ends so only where they hold of an input, whether or not the reader tells its bytes.
     ensures accepted_end { result ≡ RunEnd.Accepted
         → AcceptsInput (⟦<SampleAir as VerifiedInput>⟧.verified) (command_of (map string_bytes words.now)) (R.remaining reader.old) × Appends (W.contents writer.old) (W.contents writer.new) (line_of Verdict.Accepted) }

@@ -7,6 +7,7 @@ ghost use Rattle.p3_uni_stark.specs.Preprocessing.{HasHeight};
 ghost use Rattle.stark_proof.specs.ProofView.{proof_view};
 ghost use Rattle.stark_run.specs.Airs.{sample};
 ghost use Rattle.stark_run.specs.ProofInput.{HasSomeNumber, named_challenger, proof_numbers_in};
+ghost use Rattle.stark_run.specs.SoundRun.{IsSoundlyRead};
 ghost use Rattle.stark_run.specs.Verify.{IsJudged, IsJudgedBy, IsVerified, JudgesWithKey, verdict_of_answer};
 ghost use Rattle.stark_run.specs.declared.verdict.Verdict.{Verdict};
 
@@ -17,8 +18,8 @@ use crate::refusal::refusal_of;
 use crate::verdict::{Refusal, Verdict};
 use crate::words::SampleAir;
 use p3_uni_stark::{
-    Proof, StarkInstance, StarkOperations, StarkProof, VerificationError, setup_preprocessed,
-    verify, verify_with_preprocessed,
+    Proof, ProvingError, StarkInstance, StarkOperations, StarkProof, VerificationError,
+    setup_preprocessed, verify, verify_with_preprocessed,
 };
 use stark_air::Air;
 use stark_bench::{ClearCommitment, F12289, ScriptChallenger, Sha256Challenger};
@@ -37,9 +38,12 @@ pub type ProgramConfig<C> = StarkConfig<ClearPcs<F12289>, Extension, C>;
 /// The proofs of the program's configuration.
 type ProgramProof = Proof<ClearCommitment<F12289>, Extension, ClearProof, F12289>;
 
-/// What a verifier finds of the bytes of an input, by the verifier's own acceptance. It has no code.
+/// What a verifier finds of the bytes of an input, by the verifier's own acceptance, and that the columns which the proof in them
+/// lists break no constraint, unless a challenge is bad. It has no code.
 pub trait VerifiedInput {
     ghost verified: { Self → List ℕ → Verdict → Type 0 };
+
+    ghost sound: { Self → List ℕ → Type 0 };
 }
 
 impl VerifiedInput for SampleAir {
@@ -47,6 +51,11 @@ impl VerifiedInput for SampleAir {
         (⟦<ProgramConfig<Sha256Challenger<F12289>> as StarkOperations>⟧.operations) (⟦<ProgramConfig<ScriptChallenger<F12289>> as StarkOperations>⟧.operations)
         (replicate 32 0) (λ numbers. (numbers, 0)) (sample air)
         (proof_numbers_in (⟦<ClearCommitment<F12289> as JsonCodec>⟧.reading) (⟦<ClearProof as JsonCodec>⟧.reading) input) v };
+
+    ghost sound = { λ air input. IsSoundlyRead
+        (⟦<ProgramConfig<Sha256Challenger<F12289>> as StarkOperations>⟧.operations) (⟦<ProgramConfig<ScriptChallenger<F12289>> as StarkOperations>⟧.operations)
+        (replicate 32 0) (λ numbers. (numbers, 0)) (sample air)
+        (proof_numbers_in (⟦<ClearCommitment<F12289> as JsonCodec>⟧.reading) (⟦<ClearProof as JsonCodec>⟧.reading) input) };
 }
 
 /// The verdict that says what a verifier answered.
@@ -86,7 +95,8 @@ where
             let answer = verify_with_preprocessed(alloc, config, air, proof, publics, Some(&key));
             told(&answer)
         }
-        Err(_) => Verdict::Refused(Refusal::OutOfMemory),
+        Err(ProvingError::OutOfMemory) => Verdict::Refused(Refusal::OutOfMemory),
+        Err(_) => unreachable!(),
     }
 }
 

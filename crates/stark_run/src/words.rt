@@ -30,6 +30,7 @@ pub enum Command {
 }
 
 /// The AIR of a name, compared whole.
+#[tactic(auto, unfolding(crate::specs::Run::named_air))]
 fn named_air(name: &str) -> Option<SampleAir>
     ensures { result ≡ named_air name.now }
 {
@@ -45,6 +46,7 @@ fn named_air(name: &str) -> Option<SampleAir>
 }
 
 /// The command that the words name, compared whole.
+#[tactic(auto, unfolding(crate::specs::Run::command_of))]
 pub fn named_command(words: &[String]) -> Option<Command>
     ensures { result ≡ command_of (map string_bytes words.now) }
 {

@@ -11,16 +11,16 @@ split_domains-requires-clause-within g c = omega (arith, c.requires.number, two_
 
 pub recompose_quotient_from_chunks-requires-clause-disjoint : goal.recompose_quotient_from_chunks-requires-clause-disjoint
 recompose_quotient_from_chunks-requires-clause-disjoint g c =
-    let coset_of = g.D.PolynomialSpace.coset_of in
-    subst (λ domains. AreDisjointCosets g.D.Val.Field.ring g.D.Val.TwoAdicField.root (common_log_size (map coset_of domains)) (map coset_of domains)) (sym c.deref.ensures.value)
+    let coset_of = g.SC.Pcs.Domain.PolynomialSpace.coset_of in
+    subst (λ domains. AreDisjointCosets g.SC.Pcs.Domain.Val.Field.ring g.SC.Pcs.Domain.Val.TwoAdicField.root (common_log_size (map coset_of domains)) (map coset_of domains)) (sym c.deref.ensures.value)
     (shared_log _ _ (c.in_ok-domains.ensures c.args.log_chunks (sym c.requires.number)).disjoint)
 
 pub returns : goal.returns
 returns g c =
-    let coset_of = g.D.PolynomialSpace.coset_of in
+    let coset_of = g.SC.Pcs.Domain.PolynomialSpace.coset_of in
     let coset = coset_of c.args.quotient_domain.now in
-    let listed : AreParts g.D.Val.Field.ring g.D.Val.TwoAdicField.root coset c.args.log_chunks (map coset_of c.deref.result.now)
-    = subst (λ domains. AreParts g.D.Val.Field.ring g.D.Val.TwoAdicField.root coset c.args.log_chunks (map coset_of domains)) (sym c.deref.ensures.value) (c.in_ok-domains.ensures c.args.log_chunks (sym c.requires.number)) in
+    let listed : AreParts g.SC.Pcs.Domain.Val.Field.ring g.SC.Pcs.Domain.Val.TwoAdicField.root coset c.args.log_chunks (map coset_of c.deref.result.now)
+    = subst (λ domains. AreParts g.SC.Pcs.Domain.Val.Field.ring g.SC.Pcs.Domain.Val.TwoAdicField.root coset c.args.log_chunks (map coset_of domains)) (sym c.deref.ensures.value) (c.in_ok-domains.ensures c.args.log_chunks (sym c.requires.number)) in
     c.recompose_quotient_from_chunks.ensures.recomposed ∙
-    recomposed_on_parts g.D.Val.Field.ring g.D.Val.TwoAdicField.root coset c.args.log_chunks g.EF.ExtensionField.embed coset_of c.deref.result.now listed
-    g.EF.Field.ring g.EF.Field.inverse_of g.EF.ExtensionField.basis _ c.args.zeta
+    recomposed_on_parts g.SC.Pcs.Domain.Val.Field.ring g.SC.Pcs.Domain.Val.TwoAdicField.root coset c.args.log_chunks g.SC.Challenge.ExtensionField.embed coset_of c.deref.result.now listed
+    g.SC.Challenge.Field.ring g.SC.Challenge.Field.inverse_of g.SC.Challenge.ExtensionField.basis _ c.args.zeta

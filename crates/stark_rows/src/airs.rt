@@ -7,12 +7,12 @@ ghost use Rattle.stark_air.specs.Rows.{layout_of};
 use stark_air::{
     Air, AirBuilder, BaseAir, RowWindow, SubAirBuilder, SubSliced, WindowAccess, every_column,
 };
-use stark_bench::{Coset, Ext4, S12289};
+use stark_bench::{Coset, Ext4, S12289, Sha256Challenger};
 use stark_clear::{
-    CounterAir, CubicAir, FibonacciAir, FirstRowAir, HintedAir, MixedAir, PairAir, PeriodicAir,
-    PreprocessedAir, UnconstrainedAir,
+    ClearPcs, CounterAir, CubicAir, FibonacciAir, FirstRowAir, HintedAir, MixedAir, PairAir,
+    PeriodicAir, PreprocessedAir, UnconstrainedAir,
 };
-use stark_parts::{VerifierConstraintFolder, fold_constraints};
+use stark_parts::{StarkConfig, VerifierConstraintFolder, fold_constraints};
 use stark_support::{
     ExtensionField, Field, LagrangeSelectors, PolynomialSpace, RowMajorMatrix, RowMajorMatrixView,
     VerticalPair,
@@ -23,7 +23,9 @@ type Base = S12289;
 
 type Extension = Ext4<Base>;
 
-type Folder<'a> = VerifierConstraintFolder<'a, Coset<Base>, Extension>;
+type Config = StarkConfig<ClearPcs<Base>, Extension, Sha256Challenger<Base>>;
+
+type Folder<'a> = VerifierConstraintFolder<'a, Config>;
 
 fn number(n: u32) -> Extension {
     Ext4::from_base(Base::new(n))
@@ -49,7 +51,7 @@ fn folded<A: Air<Base>>(
 ) -> Result<Extension, Fail>
     requires { Covers (layout_of local.now next.now fixed.now [] publics.now periodic.now) (A.layout air.now) }
 {
-    let sum = fold_constraints::<Coset<Base>, Extension, A>(
+    let sum = fold_constraints::<Config, A>(
         air,
         local,
         next,

@@ -1,8 +1,8 @@
 //! The counter's constraints, folded at 3 over the subgroup of two points with alpha 4.
 use p3_uni_stark::verify_constraints;
-use stark_bench::{Coset, Ext4, S12289};
-use stark_clear::CounterAir;
-use stark_parts::{InvalidProofShapeError, VerificationError, fold_constraints};
+use stark_bench::{Coset, Ext4, S12289, Sha256Challenger};
+use stark_clear::{ClearPcs, CounterAir};
+use stark_parts::{InvalidProofShapeError, StarkConfig, VerificationError, fold_constraints};
 use stark_support::{Element, ExtensionField, Field, PolynomialSpace};
 use std::test::Fail;
 
@@ -10,6 +10,8 @@ use std::test::Fail;
 enum NoScheme {}
 
 type Extension = Ext4<S12289>;
+
+type Config = StarkConfig<ClearPcs<S12289>, Extension, Sha256Challenger<S12289>>;
 
 fn number(n: u32) -> Extension {
     Ext4::from_base(S12289::new(n))
@@ -21,7 +23,7 @@ fn folded(local: u32) -> Result<Extension, Fail> {
     if domain.vanishing_poly_at_point(zeta) == Ext4::ZERO {
         return Err(Fail::new("3 lies in the domain"));
     }
-    let folded: Extension = fold_constraints::<Coset<S12289>, Extension, CounterAir>(
+    let folded: Extension = fold_constraints::<Config, CounterAir>(
         &CounterAir,
         &[number(local)],
         &[number(7)],
@@ -49,7 +51,7 @@ fn verified(local: u32, quotient: u32) -> Option<Result<(), VerificationError<No
     if domain.vanishing_poly_at_point(zeta) == Ext4::ZERO {
         return None;
     }
-    Some(verify_constraints(
+    Some(verify_constraints::<Config, CounterAir, NoScheme>(
         &CounterAir,
         &[number(local)],
         &[number(7)],
@@ -89,7 +91,7 @@ fn preprocessed_widths(rt: HostRuntime) -> Result<(), Fail> {
     if domain.vanishing_poly_at_point(zeta) == Ext4::ZERO {
         return Err(Fail::new("3 lies in the domain"));
     }
-    let found: Result<(), VerificationError<NoScheme>> = verify_constraints(
+    let found = verify_constraints::<Config, CounterAir, NoScheme>(
         &CounterAir,
         &[number(4)],
         &[number(7)],

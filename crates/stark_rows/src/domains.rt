@@ -3,13 +3,17 @@ ghost use Rattle.std.specs.Prelude.{◌≡◌, ◌≤◌, All, IfOk, length, vec
 ghost use Rattle.stark_support.specs.Coset.{coset_size};
 
 use p3_uni_stark::recompose_quotient_from_chunks;
-use stark_bench::{CircleShape, Coset, Ext4, S12289};
+use stark_bench::{CircleShape, Coset, Ext4, S12289, Sha256Challenger};
+use stark_clear::ClearPcs;
+use stark_parts::{Domain, StarkConfig, StarkGenericConfig};
 use stark_support::{
     DomainShape, Element, ExtensionField, Field, PeriodicColumnShapeError, PeriodicColumns,
     PolynomialSpace,
 };
 use std::alloc::{AllocError, Global};
 use std::test::Fail;
+
+type Config = StarkConfig<ClearPcs<S12289>, Ext4<S12289>, Sha256Challenger<S12289>>;
 
 fn number(n: u32) -> Ext4<S12289> {
     Ext4::from_base(S12289::new(n))
@@ -181,18 +185,18 @@ fn chunk(alloc: Global, n: u32) -> Result<Vec<Ext4<S12289>>, AllocError>
     Ok(values)
 }
 
-fn recomposed<D: PolynomialSpace, EF: ExtensionField<D::Val>>(
+fn recomposed<SC: StarkGenericConfig>(
     alloc: Global,
-    domain: &D,
-    chunks: &[Vec<EF>],
-    zeta: EF,
-) -> Result<EF, AllocError>
-    requires points { 2 ≤ coset_size (D.coset_of domain.now) }
+    domain: &Domain<SC>,
+    chunks: &[Vec<SC::Challenge>],
+    zeta: SC::Challenge,
+) -> Result<SC::Challenge, AllocError>
+    requires points { 2 ≤ coset_size (SC.Pcs.Domain.coset_of domain.now) }
     requires chunks { length chunks.now ≡ 2 }
-    requires dimensions { All (λ chunk. vec_len chunk ≡ EF.DIMENSION) chunks.now }
+    requires dimensions { All (λ chunk. vec_len chunk ≡ SC.Challenge.DIMENSION) chunks.now }
 {
     let domains = domain.split_domains(alloc, 2)?;
-    Ok(recompose_quotient_from_chunks(&domains, chunks, zeta))
+    Ok(recompose_quotient_from_chunks::<SC>(&domains, chunks, zeta))
 }
 
 // On the cosets of size 2 with shifts 11 and 3980, at 3.
@@ -209,7 +213,7 @@ fn recompositions(rt: HostRuntime) -> Result<(), Fail> {
         let mut chunks = Vec::new(alloc);
         chunks.push(chunk(alloc, first)?)?;
         chunks.push(chunk(alloc, second)?)?;
-        let at_zeta = recomposed(alloc, &domain, &chunks, number(3))?;
+        let at_zeta = recomposed::<Config>(alloc, &domain, &chunks, number(3))?;
         assert!(rt; at_zeta == number(quotient), "{first} and {second}");
     }
     Ok(())

@@ -17,11 +17,15 @@ mod domains;
 #[cfg(test)]
 mod elements;
 #[cfg(test)]
+mod empty_trace;
+#[cfg(test)]
 mod fields;
 #[cfg(test)]
 mod numbers;
 #[cfg(test)]
 mod polynomials;
+#[cfg(test)]
+mod preprocessing;
 #[cfg(test)]
 mod proofs;
 #[cfg(test)]
@@ -36,5 +40,7 @@ mod sizing;
 mod tables;
 #[cfg(test)]
 mod transcripts;
+#[cfg(test)]
+mod verdicts;
 #[cfg(test)]
 mod wide_air;

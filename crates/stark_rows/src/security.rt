@@ -9,9 +9,11 @@ use p3_uni_stark::{
     recompose_quotient_from_chunks,
 };
 use stark_air::{Air, AirLayout};
-use stark_bench::{Coset, Ext4, S12289};
-use stark_clear::{CounterAir, CubicAir, FibonacciAir, PairAir, PreprocessedAir, UnconstrainedAir};
-use stark_parts::fold_constraints;
+use stark_bench::{Coset, Ext4, S12289, Sha256Challenger};
+use stark_clear::{
+    ClearPcs, CounterAir, CubicAir, FibonacciAir, PairAir, PreprocessedAir, UnconstrainedAir,
+};
+use stark_parts::{StarkConfig, fold_constraints};
 use stark_support::{
     Element, ExtensionField, Field, FriRegime, GrindingSites, LagrangeSelectors, PolynomialSpace,
 };
@@ -19,6 +21,8 @@ use std::alloc::{AllocError, Global};
 use std::test::Fail;
 
 type Extension = Ext4<S12289>;
+
+type Config = StarkConfig<ClearPcs<S12289>, Extension, Sha256Challenger<S12289>>;
 
 fn bound<A: Air<S12289>>(
     alloc: Global,
@@ -209,7 +213,7 @@ fn number(n: u32) -> Extension {
 // h + h^2 * zeta, the transition's zeta - 1/h, for h = -1; the column is 6 - X.
 fn is_balanced(zeta: Extension, quotient: Extension) -> Result<bool, AllocError> {
     let column = |x: Extension| number(6) - x;
-    let folded: Extension = fold_constraints::<Coset<S12289>, Extension, CounterAir>(
+    let folded: Extension = fold_constraints::<Config, CounterAir>(
         &CounterAir,
         &[column(zeta)],
         &[column(-zeta)],
@@ -236,11 +240,7 @@ fn bad_zetas_of_a_false_trace(rt: HostRuntime) -> Result<(), Fail> {
     let mut found = Vec::new(rt.alloc());
     for n in 0..12289u32 {
         let zeta = number(n);
-        let quotient = recompose_quotient_from_chunks::<Coset<S12289>, Extension>(
-            &[domain],
-            &chunks,
-            zeta,
-        );
+        let quotient = recompose_quotient_from_chunks::<Config>(&[domain], &chunks, zeta);
         if is_balanced(zeta, quotient)? {
             found.push(n)?;
         }

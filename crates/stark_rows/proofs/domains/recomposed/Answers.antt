@@ -7,12 +7,12 @@ use Rattle.stark_rows.proofs.domains.recomposed.Goals as goal
 
 pub recompose_quotient_from_chunks-requires-clause-counts : goal.recompose_quotient_from_chunks-requires-clause-counts
 recompose_quotient_from_chunks-requires-clause-counts g c =
-    ap length c.deref.ensures.value ∙ sym (length-map _ g.D.PolynomialSpace.coset_of) ∙ (c.in_ok-domains.ensures 1 refl).number ∙ sym c.requires.chunks
+    ap length c.deref.ensures.value ∙ sym (length-map _ g.SC.Pcs.Domain.PolynomialSpace.coset_of) ∙ (c.in_ok-domains.ensures 1 refl).number ∙ sym c.requires.chunks
 
 pub recompose_quotient_from_chunks-requires-clause-disjoint : goal.recompose_quotient_from_chunks-requires-clause-disjoint
 recompose_quotient_from_chunks-requires-clause-disjoint g c =
-    let coset_of = g.D.PolynomialSpace.coset_of in
-    subst (λ domains. AreDisjointCosets g.D.Val.Field.ring g.D.Val.TwoAdicField.root (common_log_size (map coset_of domains)) (map coset_of domains)) (sym c.deref.ensures.value)
+    let coset_of = g.SC.Pcs.Domain.PolynomialSpace.coset_of in
+    subst (λ domains. AreDisjointCosets g.SC.Pcs.Domain.Val.Field.ring g.SC.Pcs.Domain.Val.TwoAdicField.root (common_log_size (map coset_of domains)) (map coset_of domains)) (sym c.deref.ensures.value)
     (shared_log _ _ (c.in_ok-domains.ensures 1 refl).disjoint)
 
 pub split_domains-requires-clause-power : goal.split_domains-requires-clause-power

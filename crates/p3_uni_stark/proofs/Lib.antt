@@ -10,3 +10,4 @@ pub mod EquationSteps
 pub mod SetUpSteps
 pub mod TakenValueSteps
 pub mod SoundAcceptanceSteps
+pub mod Carried

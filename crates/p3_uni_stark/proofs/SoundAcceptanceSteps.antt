@@ -1,5 +1,5 @@
 -- The opened values of an accepted proof stand for polynomials' values, at least where a constraint reads them.
-use Rattle.std.proofs.Common.{◌≡◌, ◌∙◌, ◌≤◌, ◌==◌, ◌&&◌, ap, arith, sym, refl, subst, ℕ, Bool, true, false, not, List, [], ◌∷◌, length, replicate, unwrap_or, Option, None, Some, Result, Ok, Err}
+use Rattle.std.proofs.Common.{◌≡◌, ◌∙◌, ◌≤◌, ◌==◌, ◌&&◌, ap, arith, sym, refl, subst, ℕ, Bool, not, List, [], ◌∷◌, length, replicate, unwrap_or, Option, None, Some, Result, Ok, Err}
 use Rattle.std.proofs.lemmas.Bool.{and_parts, eqb-true}
 use Rattle.std.proofs.lemmas.List.{length-map}
 use Rattle.stark_support.specs.OptionFacts.{first_none, later_none}
@@ -13,7 +13,7 @@ use Rattle.p3_uni_stark.specs.Equation.{opened_layout}
 use Rattle.stark_proof.specs.ProofView.{OpeningsView, PreprocessedView, ProofView}
 use Rattle.p3_uni_stark.specs.Instance.{Instance, ProtocolOps, log_height}
 use Rattle.p3_uni_stark.specs.Acceptance.{preprocessed_local, preprocessed_next, rows_of, of_shape, periodic_values, quotient_value, log_parts, challenges, shape_fault, height_fault, key_fault, domain_fault, values_fault, IsBalanced, RunHolds, Accepted}
-use Rattle.p3_uni_stark.specs.ShapeFaults.{fault_if, key_degree_fault, key_width_fault, opened_fault, preprocessed_fault, preprocessed_rows_fault, publics_fault, randomization_fault, trace_next_fault, width_in_force, width_of}
+use Rattle.p3_uni_stark.specs.ShapeFaults.{fault_if, key_degree_fault, opened_fault, preprocessed_fault, preprocessed_rows_fault, publics_fault, randomization_fault, trace_next_fault, width_in_force, width_of}
 use Rattle.p3_uni_stark.specs.SoundAcceptance.{proved_air, proved_shifts, BreakingNeedsBadChallenges}
 use Rattle.p3_uni_stark.proofs.ShapeSteps.{in_force, met, rows_cover}
 use Rattle.p3_uni_stark.proofs.TakenValueSteps.{StandFor, accepted_needs_bad_draws}

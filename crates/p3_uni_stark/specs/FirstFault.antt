@@ -1,14 +1,18 @@
 -- The first fault of a proof that isn't accepted, in the order of the tests, and the error that names it.
-use Rattle.std.specs.Prelude.{◌≡◌, Option, None, Some, Ok, Err}
+use Rattle.std.specs.Prelude.{◌≡◌, ◌⊎◌, Option, None, Some, Ok, Err}
 use Rattle.stark_support.specs.declared.periodic.PeriodicColumnShapeError.{PeriodicColumnShapeError}
 use Rattle.stark_parts.specs.Errors.{transcript_error}
 use Rattle.stark_parts.specs.declared.shape.StarkTranscriptFailure.{StarkTranscriptFailure}
 use Rattle.stark_parts.specs.declared.error.VerificationError.{VerificationError}
-use Rattle.stark_parts.specs.declared.error.VerificationError.TheVariants.{PeriodicColumn, OodEvaluationMismatch, OodPointInDomain}
+use Rattle.stark_parts.specs.declared.error.VerificationError.TheVariants.{OutOfMemory, PeriodicColumn, OodEvaluationMismatch, OodPointInDomain}
 use Rattle.p3_uni_stark.specs.Instance.{Instance, ProtocolOps, log_height}
 use Rattle.p3_uni_stark.specs.OpenedClaims.{OpeningsFault}
 use Rattle.stark_proof.specs.ProofView.{ProofView}
 use Rattle.p3_uni_stark.specs.Acceptance.{IsBalanced, IsPointOfH, RunHolds, challenges, columns_fault, shape_fault}
+
+-- Memory was wanting, or else the error is such a fault.
+abbrev pub IsOutOfMemoryOr : {X : Type 0} → (VerificationError X → Type 0) → VerificationError X → Type 0
+IsOutOfMemoryOr Fault error = (error ≡ OutOfMemory) ⊎ Fault error
 
 -- The first fault of the point and of the periodic columns: the point lies in the domain, or else a column doesn't fit.
 pub data PointFault {X : Type 0} (Inside : Type 0) (fault : Option PeriodicColumnShapeError) : VerificationError X → Type 0 where

@@ -1,5 +1,5 @@
 -- What setting up a preprocessed trace answers.
-use Rattle.std.specs.Prelude.{◌≡◌, ℕ, ◌+◌, ◌*◌, ◌^◌, ◌<◌, Bool, false, nat_lt, List, [], ◌∷◌, length, Option, None, Some}
+use Rattle.std.specs.Prelude.{◌≡◌, ℕ, ◌+◌, ◌*◌, ◌^◌, ◌<◌, ◌≤◌, Bool, false, nat_lt, List, [], ◌∷◌, length, Option, None, Some}
 use Rattle.stark_support.specs.Ring.{RingOps}
 use Rattle.stark_support.specs.Scheme.{SchemeOps, TakesRows, matrix_row, natural_coset, zk_bits}
 use Rattle.stark_support.specs.declared.scheme.SchemeFault.TheVariants.{Refused}
@@ -17,6 +17,10 @@ has_columns (Some trace) = nat_lt 0 trace.width
 -- A trace that has columns has 2 ^ log_height rows.
 abbrev pub HasHeight : {F : Type 0} → ℕ → Option (Trace F) → Type 0
 HasHeight {F = F} log_height declared = (trace : Trace F) → declared ≡ Some trace → 0 < trace.width → length trace.values ≡ 2 ^ log_height * trace.width
+
+-- A trace that has columns is committed at 2 ^ log_height rows, at most 2 ^ greatest.
+abbrev pub IsCommittedWithin : {F : Type 0} → ℕ → ℕ → Option (Trace F) → Type 0
+IsCommittedWithin {F = F} log_height greatest declared = (trace : Trace F) → declared ≡ Some trace → 0 < trace.width → log_height ≤ greatest
 
 -- Prover's data and verifier's key of a trace of 2 ^ log_height rows: both hold its width, the committed height's logarithm
 -- and the same commitment, which stands, with the prover's data, for columns that take the trace's rows.

@@ -29,6 +29,6 @@ pub use stark_security::{
 };
 pub use stark_support::{GrindingSites, PeriodicColumnShapeError};
 pub use verifier::{
-    PcsProof, StarkInstance, StarkOperations, StarkProof, recompose_quotient_from_chunks,
-    validate_degree_bits, verify, verify_with_preprocessed,
+    PcsProof, StarkInstance, StarkOperations, StarkProof, StarkVerdict,
+    recompose_quotient_from_chunks, validate_degree_bits, verify, verify_with_preprocessed,
 };

@@ -2,7 +2,7 @@
 ghost use Rattle.std.specs.Prelude.{◌≡◌, ◌⊎◌, ◌+◌, ◌*◌, ◌^◌, ◌<◌, ◌≤◌, IfErr, IfOk, IfSome, Some, codes, is_some, length};
 ghost use Rattle.stark_air.specs.Declaration.{Trace};
 ghost use Rattle.stark_support.specs.Scheme.{natural_coset, zk_bits};
-ghost use Rattle.p3_uni_stark.specs.Preprocessing.{HasHeight, IsSetUp, IsSetUpFault, has_columns};
+ghost use Rattle.p3_uni_stark.specs.Preprocessing.{HasHeight, IsCommittedWithin, IsSetUp, IsSetUpFault, has_columns};
 
 use crate::heights::natural_domain;
 use stark_air::BaseAir;
@@ -41,7 +41,8 @@ pub struct PreprocessedVerifierKey<Com> {
 /// Commits to an AIR's preprocessed columns, once for all proofs at one height: the prover's data and the verifier's key.
 ///
 /// The declared trace, where it has columns, has `2^degree_bits` rows, and the scheme commits at `2^(degree_bits + is_zk)`
-/// rows, whose logarithm both parts hold. Ok(None) where the AIR declares no trace, or one without columns.
+/// rows, at most the scheme's greatest height; both parts hold the logarithm of that number. Ok(None) where the AIR declares
+/// no trace, or one without columns, at any `degree_bits`.
 ///
 /// - `Pcs`, in the phase `preprocessing commitment`, where the scheme refuses.
 /// - `OutOfMemory` only where a growth was refused.
@@ -60,7 +61,7 @@ pub fn setup_preprocessed<SC: StarkGenericConfig, A: BaseAir<Val<SC>>>(
     ProvingError<PcsProverError<SC>>,
 >
     requires height { HasHeight degree_bits (A.preprocessed_trace air.now) }
-    requires within { degree_bits + zk_bits SC.Pcs.ZK ≤ SC.Pcs.scheme.log_max_trace_height (SC.config.scheme config.now) }
+    requires within { IsCommittedWithin (degree_bits + zk_bits SC.Pcs.ZK) (SC.Pcs.scheme.log_max_trace_height (SC.config.scheme config.now)) (A.preprocessed_trace air.now) }
     ensures there { IfOk result (λ keys. is_some keys ≡ has_columns (A.preprocessed_trace air.now)) }
     ensures set_up { IfOk result (λ keys. IfSome keys (λ keys. (trace : Trace SC.Pcs.Domain.Val) × (A.preprocessed_trace air.now ≡ Some trace)
         × IsSetUp SC.Pcs.scheme (SC.config.scheme config.now) SC.Pcs.Domain.Val.ring SC.Pcs.Domain.Val.root SC.Pcs.ZK degree_bits trace keys.0 keys.1)) }

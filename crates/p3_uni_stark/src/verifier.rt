@@ -20,7 +20,7 @@ mod shape;
 mod steps;
 mod verdict;
 
-pub use operations::{PcsProof, StarkInstance, StarkOperations, StarkProof};
+pub use operations::{PcsProof, StarkInstance, StarkOperations, StarkProof, StarkVerdict};
 pub use shape::validate_degree_bits;
 use stark_parts::{Domain, StarkGenericConfig, Val};
 use stark_support::{ExtensionField, Field, PolynomialSpace};

@@ -18,3 +18,5 @@ pub mod SymbolicTrees
 pub mod GreatestDegree
 pub mod Places
 pub mod SymbolicBuilder
+pub mod CollectingBoth
+pub mod LaneValues

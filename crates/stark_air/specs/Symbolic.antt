@@ -1,5 +1,5 @@
 -- How symbolic expressions compute: an expression is a tree, or none where memory was refused.
-use Rattle.std.specs.Prelude.{◌≡◌, Option, Some, None, refl}
+use Rattle.std.specs.Prelude.{◌≡◌, Bool, true, false, Option, Some, None, refl}
 use Rattle.std.proofs.Common.{sym, ◌∙◌, ap, subst}
 use Rattle.stark_support.specs.Ring.{RingOps, difference as ring_difference}
 use Rattle.stark_support.specs.Operations.{Operations}
@@ -29,6 +29,27 @@ known_constant None = None
 abbrev pub Stands : {F : Type 0} → Option (Tree F) → Option (Tree F) → Type 0
 Stands v None = Unit {0}
 Stands v (Some t) = v ≡ Some t
+
+-- A tree of one node, which it takes no memory to copy.
+abbrev pub one_node : {F : Type 0} → Tree F → Bool
+one_node (constant k) = true
+one_node (main_current c) = true
+one_node (main_next c) = true
+one_node (preprocessed_current c) = true
+one_node (preprocessed_next c) = true
+one_node (public_value i) = true
+one_node (periodic_value c) = true
+one_node first_row = true
+one_node last_row = true
+one_node transition = true
+one_node (sum t u) = false
+one_node (difference t u) = false
+one_node (product t u) = false
+one_node (negation t) = false
+
+abbrev pub is_leaf : {F : Type 0} → Option (Tree F) → Bool
+is_leaf (Some t) = one_node t
+is_leaf None = false
 
 -- What an operator gives: the constant of constants, else the node or a refusal.
 abbrev pub GivesNode : {F : Type 0} {K : Type 0} → (K → F) → Option K → Option (Tree F) → Option (Tree F) → Type 0

@@ -6,12 +6,26 @@ ghost use Rattle.stark_air.specs.SymbolicLayout.{symbolic_layout};
 use crate::air::BaseAir;
 
 /// The widths and counts of the rows that an AIR is evaluated on symbolically.
-#[derive(Clone, Copy, Debug, Default)]
+#[derive(Clone, Copy, Debug)]
 pub struct AirLayout {
     pub preprocessed_width: usize,
     pub main_width: usize,
     pub num_public_values: usize,
     pub num_periodic_columns: usize,
+}
+
+impl Default for AirLayout {
+    /// Zeros.
+    ghost is_default = { λ x. (x.preprocessed_width ≡ 0) × (x.main_width ≡ 0) × (x.num_public_values ≡ 0) × (x.num_periodic_columns ≡ 0) };
+
+    fn default() -> AirLayout {
+        AirLayout {
+            preprocessed_width: 0,
+            main_width: 0,
+            num_public_values: 0,
+            num_periodic_columns: 0,
+        }
+    }
 }
 
 impl AirLayout {

@@ -1,9 +1,10 @@
 //! Builders for an AIR that is a part of another: it sees some of the main columns.
-ghost use Rattle.std.specs.Prelude.{◌≡◌, ◌⊎◌, ◌+◌, ◌≤◌, ℕ, refl, map, Some, None, if◌then◌else◌, nat_lt, OnErr};
+ghost use Rattle.std.specs.Prelude.{◌≡◌, ◌⊎◌, ◌+◌, ◌≤◌, ℕ, refl, map, Some, None, if◌then◌else◌, nat_lt, IfOk, OnErr};
 ghost use Rattle.std.specs.List.{slice_get};
 ghost use Rattle.std.proofs.Common.{◌∙◌};
 ghost use Rattle.stark_air.specs.Emission.{Asserted};
 ghost use Rattle.stark_air.specs.Layout.{Covers};
+ghost use Rattle.stark_air.specs.Value.{Shows};
 ghost use Rattle.stark_air.specs.Shift.{shifted_environment, shifted_layout, columns_at, shift, shift_both, shift_environment, shift_layout};
 
 use crate::air::{Air, BaseAir};
@@ -138,7 +139,16 @@ impl<AB: AirBuilder, SubAir: BaseAir<AB::F>, T> AirBuilder for SubAirBuilder<'_,
       same_layout = λ s t cs h. shift_layout AB.emission_laws s.column_range.start t.column_range.start s.inner.now t.inner.now cs h.1 h.3 t.column_range.end s.column_range.end h.2;
     } };
 
-    fn main(&self) -> Result<SubSliced<AB::MainWindow, AB::Var>, AllocError> {
+    /// The parent's window, in the range of columns.
+    fn main(&self) -> Result<SubSliced<AB::MainWindow, AB::Var>, AllocError>
+        ensures rows { IfOk result (λ w.
+            (Shows ⟦<AB::Expr as From<AB::Var>>⟧.from_gives AB.Expr.stands (shifted_environment self.now.column_range.start (AB.environment self.now.inner.now)).main_current
+            (shifted_layout self.now.column_range.start self.now.column_range.end (AB.layout self.now.inner.now)).main (columns_at w.range.start w.range.end (AB.MainWindow.current_at w.window)))
+            × (Shows ⟦<AB::Expr as From<AB::Var>>⟧.from_gives AB.Expr.stands (shifted_environment self.now.column_range.start (AB.environment self.now.inner.now)).main_next
+            (shifted_layout self.now.column_range.start self.now.column_range.end (AB.layout self.now.inner.now)).main_next (columns_at w.range.start w.range.end (AB.MainWindow.next_at w.window)))) }
+        ensures memory { OnErr result AB.may_refuse }
+        ensures range { IfOk result (λ w. (w.range.start ≡ self.now.column_range.start) × (w.range.end ≡ self.now.column_range.end)) }
+    {
         let window = self.inner.main()?;
         Ok(SubSliced {
             window,

@@ -1,5 +1,8 @@
 //! Elements that JSON spells.
-ghost use Rattle.std.specs.Prelude.{◌≡◌};
+ghost use Rattle.std.specs.Prelude.{◌≡◌, IfErr, IfOk, IsOk};
+ghost use Rattle.serde_json.specs.View.{view};
+ghost use Rattle.stark_support.specs.Json.{Gives};
+ghost use Rattle.stark_support.specs.declared.json.JsonFault.TheVariants.{Invalid};
 ghost use Rattle.stark_bench.specs.ElementJson.{base_at, base_written, base_reads_back, base_never_null, element_at, element_never_null, element_written, element_reads_back, of_four};
 
 use crate::ext4::Ext4;
@@ -13,9 +16,12 @@ impl<Kind> JsonCodec for Residue<Kind> {
 
     ghost writing = { base_written };
 
-    /// A whole number from 0 to 12288.
+    /// A whole number from 0 to 12288. It takes no memory.
     #[tactic(auto, unfolding(crate::specs::ElementJson::base_at))]
-    fn from_json(_alloc: Global, value: &Value) -> Result<Residue<Kind>, JsonFault> {
+    fn from_json(_alloc: Global, value: &Value) -> Result<Residue<Kind>, JsonFault>
+        ensures read { Gives (λ x. x) result (base_at (view value.now)) }
+        ensures no_memory { IfErr result (λ fault. fault ≡ Invalid) }
+    {
         let Some(number) = value.as_u64() else {
             return Err(JsonFault::Invalid);
         };
@@ -25,8 +31,11 @@ impl<Kind> JsonCodec for Residue<Kind> {
         Ok(Residue::new(number as u32))
     }
 
-    /// The number itself.
-    fn to_json(&self, _alloc: Global) -> Result<Value, AllocError> {
+    /// The number itself. It takes no memory.
+    fn to_json(&self, _alloc: Global) -> Result<Value, AllocError>
+        ensures written { IfOk result (λ value. view value ≡ base_written self.now) }
+        ensures no_memory { IsOk result }
+    {
         Ok(Value::from(self.value()))
     }
 

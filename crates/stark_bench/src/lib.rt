@@ -1,7 +1,6 @@
 //! The field of 12289 elements and its extension of degree four.
 #![tactic(auto)]
 
-mod alone;
 mod challenger;
 mod circle;
 mod commitment_json;
@@ -10,7 +9,6 @@ mod ext4;
 mod json;
 mod residue;
 
-pub use alone::PackedAlone;
 pub use challenger::{ClearCommitment, ScriptChallenger, Sha256Challenger};
 pub use circle::CircleShape;
 pub use coset::Coset;

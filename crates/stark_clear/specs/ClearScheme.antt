@@ -6,8 +6,13 @@ use Rattle.stark_support.specs.Coset.{coset_size}
 use Rattle.stark_support.specs.Scheme.{CommittedMatrix, SchemeOps}
 use Rattle.stark_clear.specs.ClearClaims.{ClaimsAreTrue, ClaimsFault}
 use Rattle.stark_clear.specs.declared.clear.check.ClearError.{ClearError}
+use Rattle.stark_clear.specs.declared.clear.pcs.ClearPcs.{ClearPcs}
 use Rattle.stark_clear.specs.declared.clear.pcs.ClearProof.{ClearProof}
 use Rattle.stark_clear.specs.declared.clear.pcs.ClearProverError.{ClearProverError}
+
+-- The scheme's one value: there is nothing to choose.
+abbrev pub clear_pcs : {F : Type 0} → ClearPcs F
+clear_pcs = record { field = record {} }
 
 -- Each column has as many coefficients as the domain points.
 abbrev pub IsFull : {F : Type 0} → CommittedMatrix F → Type 0

@@ -15,7 +15,7 @@ use Rattle.stark_support.specs.Polynomial.{value, IsWithoutRepeats}
 use Rattle.stark_support.specs.Powers.{power}
 use Rattle.stark_support.specs.RingFacts.{mul_zero}
 use Rattle.stark_support.specs.TwoAdic.{TwoAdicLaws}
-use Rattle.stark_clear.specs.ColumnPoints.{points_of, AreColumns, TakesOnCoset}
+use Rattle.stark_clear.specs.ColumnPoints.{points_of, AreColumns, IsPolynomialBelow, TakesOnCoset}
 
 power_at : {K : Type 0} (ring : RingOps K) (g : K) (m n r : ℕ) → r < n → slice_get (powers_from ring g m n) r ≡ Some (power ring g (m + r))
 power_at ring g m zero r h = absurd (omega arith)
@@ -107,6 +107,7 @@ module _ {K : Type 0} (ring : RingOps K) (root : ℕ → K) (coset : TwoAdicCose
     count = ap length e;
     column = λ c p h. absurd (none_there columns c p e h);
     takes = λ c r p h below. absurd (none_there columns c p e h);
+    plain = λ c p h. absurd (none_there columns c p e h);
   }
 
   pub one_more_column : (n : ℕ) (columns after : List (List K)) (picked plain p : List K) → AreColumns ring root coset values first step n size columns
@@ -121,6 +122,10 @@ module _ {K : Type 0} (ring : RingOps K) (root : ℕ → K) (coset : TwoAdicCose
     takes = λ c r q h below. elim (seen columns after p q n c so_far.count pushed h) [
       | inl w ↦ ap (λ k. slice_get values (first + k + r * step)) w.0 ∙ sym (are_picked r below) ∙ plain_takes.takes r below ∙ ap Some (sym (same _)) ∙ ap (λ t. Some (value ring t (coset_point ring root coset r))) (sym w.1)
       | inr w ↦ so_far.takes c r q w below
+    ];
+    plain = λ c q h. elim (seen columns after p q n c so_far.count pushed h) [
+      | inl w ↦ subst (λ t. IsPolynomialBelow ring (coset_size coset) (value ring t)) (sym w.1) (record { coefficients = plain; bounded = (let number = plain_takes.number in omega (arith, number)); same = same })
+      | inr w ↦ so_far.plain c q w
     ];
   }
 

@@ -11,3 +11,4 @@ pub mod RowFacts
 pub mod PlainChunks
 pub mod PlainChunkFacts
 pub mod ClearJson
+pub mod SmallSamples

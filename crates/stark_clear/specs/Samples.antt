@@ -90,9 +90,9 @@ abbrev pub mixed_constraints : {F : Type 0} → (ℕ → F) → List (Constraint
 mixed_constraints of_number = is_number (of_number 1) ∷ is_number_above (of_number 2) ∷ is_number (of_number 3) ∷ []
 
 -- The first row's selector is one.
-abbrev pub first_row_constraints : {F : Type 0} → F → List (Constraint F)
-first_row_constraints one = base (difference first_row (constant one)) ∷ []
+abbrev pub is_one_on_first_row : {F : Type 0} → F → Constraint F
+is_one_on_first_row one = base (difference first_row (constant one))
 
 -- The column is zero.
-abbrev pub hinted_constraints : {F : Type 0} → List (Constraint F)
-hinted_constraints = base (main_current 0) ∷ []
+abbrev pub is_zero : {F : Type 0} → Constraint F
+is_zero = base (main_current 0)

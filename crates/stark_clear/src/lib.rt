@@ -6,6 +6,5 @@ mod samples;
 
 pub use clear::{ClearError, ClearPcs, ClearProof, ClearProverError};
 pub use samples::{
-    CounterAir, CubicAir, FibonacciAir, FirstRowAir, HintedAir, MixedAir, PairAir, PeriodicAir,
-    PreprocessedAir, UnconstrainedAir,
+    Asked, CounterAir, CubicAir, FibonacciAir, PairAir, PeriodicAir, PreprocessedAir, SmallAir,
 };

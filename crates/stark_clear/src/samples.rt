@@ -14,4 +14,4 @@ pub use fibonacci::FibonacciAir;
 pub use pair::PairAir;
 pub use periodic::PeriodicAir;
 pub use preprocessed::PreprocessedAir;
-pub use small::{FirstRowAir, HintedAir, MixedAir, UnconstrainedAir};
+pub use small::{Asked, SmallAir};

@@ -5,3 +5,6 @@ pub mod Replay
 pub mod Sizing
 pub mod Config
 pub mod Errors
+pub mod PackedFacts
+pub mod PackedSums
+pub mod Finalized

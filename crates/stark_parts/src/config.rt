@@ -4,7 +4,7 @@ ghost use Rattle.stark_support.specs.Scheme.{zk_bits};
 ghost use Rattle.stark_parts.specs.Config.{ConfigOps};
 
 use stark_support::{
-    CanObserve, CanSample, DomainVal, Field, FieldChallenger, PackedExtensionField, Pcs,
+    CanObserve, DomainVal, ExtensionChallenger, Field, FieldChallenger, PackedExtensionField, Pcs,
     PolynomialSpace, PrimeField64, UnivariateStarkPcs,
 };
 use std::alloc::{AllocError, Global};
@@ -57,7 +57,7 @@ pub trait StarkGenericConfig: Clone {
 
     type Challenger: FieldChallenger<Val<Self>>
         + CanObserve<Com<Self>>
-        + CanSample<Self::Challenge>;
+        + ExtensionChallenger<Val<Self>, Self::Challenge>;
 
     ghost config: { ConfigOps Self Self.Pcs Self.Challenger };
 
@@ -144,7 +144,7 @@ where
     Challenge: PackedExtensionField<DomainVal<P::Domain>>,
     Challenger: FieldChallenger<DomainVal<P::Domain>>
         + CanObserve<P::Commitment>
-        + CanSample<Challenge>
+        + ExtensionChallenger<DomainVal<P::Domain>, Challenge>
         + Clone,
 {
     type Pcs = P;

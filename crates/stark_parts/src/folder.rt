@@ -1,9 +1,10 @@
 //! The verifier's folder: it carries on one accumulator.
-ghost use Rattle.std.specs.Prelude.{◌≡◌, IfOk, OnErr};
+ghost use Rattle.std.specs.Prelude.{◌≡◌, [], ◌∷◌, IfOk, OnErr};
 ghost use Rattle.std.proofs.Common.{sym, subst};
 ghost use Rattle.stark_air.specs.Layout.{Covers};
 ghost use Rattle.stark_air.specs.Rows.{environment_of, layout_of};
-ghost use Rattle.stark_air.specs.Value.{constraint_values};
+ghost use Rattle.stark_air.specs.Tree.{Tree, base, extension};
+ghost use Rattle.stark_air.specs.Value.{constraint_values, value};
 ghost use Rattle.stark_support.specs.Operations.{ring_operations};
 ghost use Rattle.stark_parts.specs.Folded.{folded};
 ghost use Rattle.stark_parts.specs.Folding.{folder_environment, folder_layout, after_folding, folding_laws};
@@ -95,7 +96,16 @@ impl<'a, SC: StarkGenericConfig> AirBuilder for VerifierConstraintFolder<'a, SC>
         self.periodic_values
     }
 
-    fn assert_zero(&mut self, x: SC::Challenge) -> Result<(), AllocError> {
+    /// The accumulator becomes itself times alpha, and `x`.
+    fn assert_zero(&mut self, x: SC::Challenge) -> Result<(), AllocError>
+        ensures kept { self.new ≡ record self.old { accumulator = self.new.accumulator } }
+        ensures same_environment { folder_environment SC.Pcs.Domain.Val.ring SC.Challenge.ring SC.Challenge.embed self.new ≡ folder_environment SC.Pcs.Domain.Val.ring SC.Challenge.ring SC.Challenge.embed self.old }
+        ensures same_layout { folder_layout SC.Pcs.Domain.Val.ring SC.Challenge.ring SC.Challenge.embed self.new ≡ folder_layout SC.Pcs.Domain.Val.ring SC.Challenge.ring SC.Challenge.embed self.old }
+        ensures asserted { IfOk result (λ _. (t : Tree SC.Pcs.Domain.Val) → SC.Challenge.stands (value SC.Challenge.operations (folder_environment SC.Pcs.Domain.Val.ring SC.Challenge.ring SC.Challenge.embed self.old) t) x → after_folding SC.Pcs.Domain.Val.ring SC.Challenge.ring SC.Challenge.embed self.old (base t ∷ []) self.new) }
+        ensures refused { OnErr result (after_folding SC.Pcs.Domain.Val.ring SC.Challenge.ring SC.Challenge.embed self.old [] self.new) }
+        ensures memory { OnErr result ⊥ }
+        ensures carried { self.new.accumulator ≡ SC.Challenge.ring.add (SC.Challenge.ring.mul self.old.accumulator self.old.alpha) x }
+    {
         self.accumulator = self.accumulator * self.alpha + x;
         Ok(())
     }
@@ -114,7 +124,16 @@ impl<'a, SC: StarkGenericConfig> ExtensionBuilder for VerifierConstraintFolder<'
 
     ghost times_above = { λ v w x y z h p q. SC.Challenge.times_stands x y z v w h p q };
 
-    fn assert_zero_ext(&mut self, x: SC::Challenge) -> Result<(), AllocError> {
+    /// The accumulator becomes itself times alpha, and `x`.
+    fn assert_zero_ext(&mut self, x: SC::Challenge) -> Result<(), AllocError>
+        ensures kept { self.new ≡ record self.old { accumulator = self.new.accumulator } }
+        ensures same_environment { folder_environment SC.Pcs.Domain.Val.ring SC.Challenge.ring SC.Challenge.embed self.new ≡ folder_environment SC.Pcs.Domain.Val.ring SC.Challenge.ring SC.Challenge.embed self.old }
+        ensures same_layout { folder_layout SC.Pcs.Domain.Val.ring SC.Challenge.ring SC.Challenge.embed self.new ≡ folder_layout SC.Pcs.Domain.Val.ring SC.Challenge.ring SC.Challenge.embed self.old }
+        ensures asserted { IfOk result (λ _. (t : Tree SC.Pcs.Domain.Val) → SC.Challenge.stands (value SC.Challenge.operations (folder_environment SC.Pcs.Domain.Val.ring SC.Challenge.ring SC.Challenge.embed self.old) t) x → after_folding SC.Pcs.Domain.Val.ring SC.Challenge.ring SC.Challenge.embed self.old (extension t ∷ []) self.new) }
+        ensures refused { OnErr result (after_folding SC.Pcs.Domain.Val.ring SC.Challenge.ring SC.Challenge.embed self.old [] self.new) }
+        ensures memory { OnErr result ⊥ }
+        ensures carried { self.new.accumulator ≡ SC.Challenge.ring.add (SC.Challenge.ring.mul self.old.accumulator self.old.alpha) x }
+    {
         self.assert_zero(x)
     }
 }

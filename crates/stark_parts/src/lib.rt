@@ -5,6 +5,7 @@
 mod config;
 mod error;
 mod folder;
+mod prover_folder;
 mod shape;
 mod symbolic;
 mod transcript;
@@ -15,6 +16,7 @@ pub use config::{
 };
 pub use error::{InvalidProofShapeError, ProvingError, VerificationError};
 pub use folder::{VerifierConstraintFolder, fold_constraints};
+pub use prover_folder::ProverConstraintFolder;
 pub use shape::{
     GrindExhausted, StarkShape, StarkTranscriptFailure, TranscriptPhase, opens_next_row,
 };

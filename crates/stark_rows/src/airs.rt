@@ -4,41 +4,15 @@ ghost use Rattle.std.specs.Prelude.{◌≡◌, []};
 ghost use Rattle.stark_air.specs.Layout.{Covers};
 ghost use Rattle.stark_air.specs.Rows.{layout_of};
 
-use stark_air::{
-    Air, AirBuilder, BaseAir, RowWindow, SubAirBuilder, SubSliced, WindowAccess, every_column,
-};
-use stark_bench::{Coset, Ext4, S12289, Sha256Challenger};
+use crate::calls;
+use crate::elements::{Base, Extension, number};
+use stark_air::{Air, BaseAir, every_column};
+use stark_bench::Sha256Challenger;
 use stark_clear::{
-    ClearPcs, CounterAir, CubicAir, FibonacciAir, FirstRowAir, HintedAir, MixedAir, PairAir,
-    PeriodicAir, PreprocessedAir, UnconstrainedAir,
+    Asked, CounterAir, CubicAir, FibonacciAir, PairAir, PeriodicAir, PreprocessedAir, SmallAir,
 };
-use stark_parts::{StarkConfig, VerifierConstraintFolder, fold_constraints};
-use stark_support::{
-    ExtensionField, Field, LagrangeSelectors, PolynomialSpace, RowMajorMatrix, RowMajorMatrixView,
-    VerticalPair,
-};
+use stark_support::RowMajorMatrix;
 use std::test::Fail;
-
-type Base = S12289;
-
-type Extension = Ext4<Base>;
-
-type Config = StarkConfig<ClearPcs<Base>, Extension, Sha256Challenger<Base>>;
-
-type Folder<'a> = VerifierConstraintFolder<'a, Config>;
-
-fn number(n: u32) -> Extension {
-    Ext4::from_base(Base::new(n))
-}
-
-fn selectors() -> Result<LagrangeSelectors<Extension>, Fail> {
-    let domain: Coset<Base> = Coset::subgroup(1);
-    let zeta = number(3);
-    if domain.vanishing_poly_at_point(zeta) == Ext4::ZERO {
-        return Err(Fail::new("3 lies in the domain"));
-    }
-    Ok(domain.selectors_at_point(zeta))
-}
 
 /// The folded sum over a main row and the one after it, a preprocessed row, periodic values and public values.
 fn folded<A: Air<Base>>(
@@ -51,15 +25,17 @@ fn folded<A: Air<Base>>(
 ) -> Result<Extension, Fail>
     requires { Covers (layout_of local.now next.now fixed.now [] publics.now periodic.now) (A.layout air.now) }
 {
-    let sum = fold_constraints::<Config, A>(
+    let Some(selectors) = calls::selectors_at::<Base>(1, number(3)) else {
+        return Err(Fail::new("3 lies in the domain"));
+    };
+    let sum = calls::folded::<Base, Sha256Challenger<Base>, A>(
         air,
         local,
         next,
         fixed,
-        &[],
         periodic,
         publics,
-        selectors()?,
+        selectors,
         number(4),
     )?;
     Ok(sum)
@@ -68,7 +44,14 @@ fn folded<A: Air<Base>>(
 // 16 * (5 - 1) + 4 * (5 - 2) + (5 - 3): in the order of the constraints, base and extension ones alike.
 #[test]
 fn mixed(rt: HostRuntime) -> Result<(), Fail> {
-    let sum = folded(&MixedAir, &[number(5)], &[], &[], &[], &[])?;
+    let sum = folded(
+        &SmallAir::new(Asked::Mixed),
+        &[number(5)],
+        &[],
+        &[],
+        &[],
+        &[],
+    )?;
     assert!(rt; sum == number(78));
     Ok(())
 }
@@ -133,14 +116,22 @@ fn preprocessed(rt: HostRuntime) -> Result<(), Fail> {
 // The first row's selector less one.
 #[test]
 fn first_row(rt: HostRuntime) -> Result<(), Fail> {
-    let sum = folded(&FirstRowAir, &[number(5)], &[], &[], &[], &[])?;
+    let sum = folded(
+        &SmallAir::new(Asked::FirstRow),
+        &[number(5)],
+        &[],
+        &[],
+        &[],
+        &[],
+    )?;
     assert!(rt; sum == number(3));
     Ok(())
 }
 
 #[test]
 fn hinted(rt: HostRuntime) -> Result<(), Fail> {
-    let air = HintedAir {
+    let air = SmallAir {
+        asked: Asked::Zeros,
         max_degree: Some(3),
     };
     let sum = folded(&air, &[number(5)], &[], &[], &[], &[])?;
@@ -150,7 +141,14 @@ fn hinted(rt: HostRuntime) -> Result<(), Fail> {
 
 #[test]
 fn unconstrained(rt: HostRuntime) -> Result<(), Fail> {
-    let sum = folded(&UnconstrainedAir, &[number(5)], &[], &[], &[], &[])?;
+    let sum = folded(
+        &SmallAir::new(Asked::Nothing),
+        &[number(5)],
+        &[],
+        &[],
+        &[],
+        &[],
+    )?;
     assert!(rt; sum == number(0));
     Ok(())
 }
@@ -214,10 +212,14 @@ fn author_says<A: BaseAir<Base>>(air: &A) -> (Option<usize>, Option<usize>, usiz
 
 #[test]
 fn declared_hints(rt: HostRuntime) -> Result<(), Fail> {
-    let hinted = HintedAir {
+    let hinted = SmallAir {
+        asked: Asked::Zeros,
         max_degree: Some(5),
     };
-    let unhinted = HintedAir { max_degree: None };
+    let unhinted = SmallAir {
+        asked: Asked::Zeros,
+        max_degree: None,
+    };
     assert!(rt; author_says(&hinted) == (Some(5), None, 0));
     assert!(rt; author_says(&unhinted) == (None, None, 0));
     assert!(rt; author_says(&CounterAir) == (None, None, 0));
@@ -260,61 +262,12 @@ fn declared_preprocessed_trace(rt: HostRuntime) -> Result<(), Fail> {
     Ok(())
 }
 
-fn folder<'a>(
-    local: &'a [Extension],
-    next: &'a [Extension],
-    none: &'a [Extension],
-    selectors: LagrangeSelectors<Extension>,
-) -> Folder<'a>
-    ensures local { result.main.top.values.now ≡ local.now }
-    ensures next { result.main.bottom.values.now ≡ next.now }
-{
-    VerifierConstraintFolder {
-        main: VerticalPair {
-            top: RowMajorMatrixView::new_row(local),
-            bottom: RowMajorMatrixView::new_row(next),
-        },
-        preprocessed: VerticalPair {
-            top: RowMajorMatrixView::new_row(none),
-            bottom: RowMajorMatrixView::new_row(none),
-        },
-        preprocessed_window: RowWindow::from_two_rows(none, none),
-        periodic_values: none,
-        public_values: &[],
-        is_first_row: selectors.is_first_row,
-        is_last_row: selectors.is_last_row,
-        is_transition: selectors.is_transition,
-        alpha: number(4),
-        accumulator: Ext4::ZERO,
-    }
-}
-
-type Part<'a> = SubSliced<RowWindow<'a, Extension, Base>, Extension>;
-
-fn reads(window: &Part<'_>) -> [Option<Extension>; 4] {
-    [
-        window.current(0),
-        window.current(2),
-        window.next(1),
-        window.next(2),
-    ]
-}
-
 // Of the columns 1, 2, 3, with 4, 5, 6 in the next row, a part sees the last two.
 #[test]
 fn part_of_the_columns(rt: HostRuntime) -> Result<(), Fail> {
     let local = [number(1), number(2), number(3)];
     let next = [number(4), number(5), number(6)];
-    let mut parent = folder(&local, &next, &local[..0], selectors()?);
-    let part: SubAirBuilder<'_, Folder<'_>, CounterAir, Extension> = SubAirBuilder::new(
-        &mut parent,
-        1..3,
-    );
-    let window = part.main()?;
-    assert!(rt; window.current_slice() == &local[1..]);
-    assert!(rt; window.next_slice() == &next[1..]);
-    assert!(rt; reads(&window) == [Some(number(2)), None, Some(number(6)), None]);
-    let copy = window.clone()?;
-    assert!(rt; copy.current_slice() == &local[1..]);
+    let reads = calls::reads_of_a_part::<Base, Sha256Challenger<Base>>(&local, &next, &[])?;
+    assert!(rt; reads == Some([Some(number(2)), None, Some(number(6)), None]));
     Ok(())
 }

@@ -4,29 +4,33 @@ ghost use Rattle.std.specs.Int.{IsPowerOfTwo};
 ghost use Rattle.stark_support.specs.Claims.{IfRefused, claim_view};
 ghost use Rattle.stark_support.specs.Scheme.{matrix_row};
 
+use crate::calls::{ClearConfig, RowField};
 use serde_json::Value;
 use stark_bench::{ClearCommitment, Coset, Ext4, F12289, Sha256Challenger};
 use stark_clear::{ClearError, ClearPcs, ClearProof};
 use stark_parts::{StarkConfig, StarkGenericConfig};
 use stark_support::{
-    CanSample, DomainShape, DomainVal, ExtensionField, JsonCodec, JsonFault, OpeningClaim, Pcs,
-    PeriodicColumns, PolynomialSpace, RowMajorMatrix, SchemeFault, UnivariateStarkPcs,
-    value_from_bytes,
+    CanObserve, CanSample, DomainShape, DomainVal, ExtensionChallenger, ExtensionField,
+    FieldChallenger, JsonCodec, JsonFault, OpeningClaim, PackedExtensionField, Pcs,
+    PeriodicColumns, PeriodicLdeTable, PolynomialSpace, PrimeField64, RowMajorMatrix, SchemeFault,
+    TwoAdicField, UnivariateStarkPcs, value_from_bytes,
 };
 use std::alloc::{AllocError, Global};
 use std::test::Fail;
-
-type Scheme = ClearPcs<F12289>;
-
-type Point = Ext4<F12289>;
 
 type Commitment = ClearCommitment<F12289>;
 
 // The scheme leaves the challenger alone, so that a number serves as one.
 type AnyChallenger = u8;
 
-fn number(n: u32) -> Point {
-    Ext4::from_base(F12289::new(n))
+fn number(n: u32) -> Ext4<F12289> {
+    let zero = F12289::new(0);
+    Ext4 {
+        c0: F12289::new(n),
+        c1: zero,
+        c2: zero,
+        c3: zero,
+    }
 }
 
 fn column(alloc: Global, numbers: &[u32]) -> Result<Vec<F12289>, AllocError> {
@@ -43,6 +47,15 @@ fn listed(alloc: Global, coefficients: &[u32]) -> Result<Commitment, AllocError>
     Ok(ClearCommitment::new(vec![in alloc; columns]?))
 }
 
+/// Whether elements are these numbers.
+fn are(values: &[F12289], expected: &[u32]) -> bool {
+    values.len() == expected.len()
+        && values
+            .iter()
+            .zip(expected)
+            .all(|(value, expected)| value.value() == *expected)
+}
+
 /// Whether a commitment has this column alone.
 fn lists(commitment: &Commitment, coefficients: &[u32]) -> bool {
     let [columns] = commitment.matrices() else {
@@ -51,63 +64,70 @@ fn lists(commitment: &Commitment, coefficients: &[u32]) -> bool {
     let [column] = columns.as_slice() else {
         return false;
     };
-    if column.len() != coefficients.len() {
-        return false;
-    }
-    for (value, expected) in column.iter().zip(coefficients) {
-        if value.value() != *expected {
-            return false;
-        }
-    }
-    true
+    are(column, coefficients)
 }
 
-/// What `commit` makes of the rows 5 and 6 on the subgroup of `2^log_size` points.
-fn committed(alloc: Global, log_size: usize) -> Result<(Commitment, Commitment), Fail> {
-    if log_size > 12 {
-        return Err(Fail::new("no such domain"));
+/// What `commit` makes of one column on the subgroup of `2^log_size` points; nothing where it doesn't fit.
+#[tactic(auto, using(stark_support::specs::LogarithmFacts::two_power_at_most))]
+fn committed<F: RowField>(
+    alloc: Global,
+    log_size: usize,
+    column: Vec<F>,
+) -> Option<(ClearCommitment<F>, ClearCommitment<F>)> {
+    if log_size > F::TWO_ADICITY {
+        return None;
     }
-    let scheme: Scheme = ClearPcs::new();
-    let domain = Coset::subgroup(log_size);
-    let matrix = RowMajorMatrix::new_col(column(alloc, &[5, 6])?);
-    if matrix.height() != 2 || domain.size() < 2 || domain.size() > 4096 {
-        return Err(Fail::new("other rows"));
+    let scheme: ClearPcs<F> = ClearPcs::new();
+    let domain: Coset<F> = Coset::subgroup(log_size);
+    let matrix = RowMajorMatrix::new_col(column);
+    if matrix.height() != 2 || domain.size() < 2 {
+        return None;
     }
-    match <Scheme as Pcs<Point, AnyChallenger>>::commit(&scheme, alloc, domain, matrix) {
-        Ok(made) => Ok(made),
-        Err(_) => Err(Fail::new("nothing was committed to")),
-    }
+    <ClearPcs<F> as Pcs<F::Above, AnyChallenger>>::commit(&scheme, alloc, domain, matrix).ok()
 }
 
-// 6150 + 6144 X takes 5 and 6 on the subgroup of two points.
+// 6150 + 6144 X takes 5 and 6 on the subgroup of two points; on a larger one zeros stand behind.
 #[test]
-fn a_committed_column(rt: HostRuntime) -> Result<(), Fail> {
+fn committed_columns(rt: HostRuntime) -> Result<(), Fail> {
     let alloc = rt.alloc();
-    let (commitment, prover_data) = committed(alloc, 1)?;
-    assert!(rt; lists(&commitment, &[6150, 6144]));
-    assert!(rt; lists(&prover_data, &[6150, 6144]));
+    for (log_size, expected) in [
+        (1, [6150, 6144].as_slice()),
+        (2, [6150, 6144, 0, 0].as_slice()),
+    ] {
+        let Some((commitment, prover_data)) = committed(alloc, log_size, column(alloc, &[5, 6])?)
+        else {
+            return Err(Fail::new("nothing was committed to"));
+        };
+        assert!(rt; lists(&commitment, expected) && lists(&prover_data, expected));
+    }
     Ok(())
 }
 
-#[test]
-fn zeros_behind_a_column(rt: HostRuntime) -> Result<(), Fail> {
-    let (commitment, _) = committed(rt.alloc(), 2)?;
-    assert!(rt; lists(&commitment, &[6150, 6144, 0, 0]));
-    Ok(())
+/// The values of a commitment's matrices, opened at two points each.
+fn opened<F: RowField>(
+    alloc: Global,
+    data: &ClearCommitment<F>,
+    points: Vec<F::Above>,
+) -> Result<Option<Vec<Vec<Vec<Vec<F::Above>>>>>, AllocError> {
+    let scheme: ClearPcs<F> = ClearPcs::new();
+    let rounds = vec![in alloc; (data, vec![in alloc; points]?)]?;
+    let opened = <ClearPcs<F> as UnivariateStarkPcs<
+        F::Above,
+        AnyChallenger,
+    >>::open_with_preprocessing(&scheme, alloc, rounds, &mut 0, None);
+    match opened {
+        Ok((values, _)) => Ok(Some(values)),
+        Err(_) => Ok(None),
+    }
 }
 
 // 12286 is 3 times the generator of the subgroup of two points.
 #[test]
 fn opened_values(rt: HostRuntime) -> Result<(), Fail> {
     let alloc = rt.alloc();
-    let scheme: Scheme = ClearPcs::new();
     let data = listed(alloc, &[6150, 6144])?;
     let points = vec![in alloc; number(3), number(12286)]?;
-    let rounds = vec![in alloc; (&data, vec![in alloc; points]?)]?;
-    let opened = <Scheme as UnivariateStarkPcs<Point, AnyChallenger>>::open_with_preprocessing(
-        &scheme, alloc, rounds, &mut 0, None,
-    );
-    let Ok((opened, _)) = opened else {
+    let Some(opened) = opened(alloc, &data, points)? else {
         return Err(Fail::new("nothing was opened"));
     };
     let [round] = opened.as_slice() else {
@@ -124,45 +144,41 @@ fn opened_values(rt: HostRuntime) -> Result<(), Fail> {
     Ok(())
 }
 
-/// The claim that a commitment's only column, on the subgroup of two points, has these values at 3 and 12286.
-fn claim<'a>(
-    alloc: Global,
-    commitment: &'a Commitment,
-    local: &'a [Point],
-    next: &'a [Point],
-) -> Result<OpeningClaim<'a, Point, Commitment, Coset<F12289>>, AllocError> {
-    let points = vec![in alloc; (number(3), local), (number(12286), next)]?;
-    Ok((commitment, vec![in alloc; (Coset::subgroup(1), points)]?))
-}
-
 /// What verifying says of claims: none where it accepts them.
-fn refusal_of(
+fn refusal_of<F: RowField>(
     alloc: Global,
-    claims: Vec<OpeningClaim<'_, Point, Commitment, Coset<F12289>>>,
-) -> Result<Option<ClearError>, Fail> {
-    let scheme: Scheme = ClearPcs::new();
-    match <Scheme as UnivariateStarkPcs<Point, AnyChallenger>>::verify_with_preprocessing(
+    claims: Vec<OpeningClaim<'_, F::Above, ClearCommitment<F>, Coset<F>>>,
+) -> Result<(), SchemeFault<ClearError>> {
+    let scheme: ClearPcs<F> = ClearPcs::new();
+    <ClearPcs<F> as UnivariateStarkPcs<F::Above, AnyChallenger>>::verify_with_preprocessing(
         &scheme,
         alloc,
         claims,
         &ClearProof,
         &mut 0,
         None,
-    ) {
-        Ok(()) => Ok(None),
-        Err(SchemeFault::Refused(error)) => Ok(Some(error)),
-        Err(SchemeFault::OutOfMemory) => Err(Fail::new("no memory")),
-    }
+    )
+}
+
+/// The claim that a commitment's only column, on the subgroup of two points, has these values at 3 and 12286.
+fn claim<'a>(
+    alloc: Global,
+    commitment: &'a Commitment,
+    local: &'a [Ext4<F12289>],
+    next: &'a [Ext4<F12289>],
+) -> Result<OpeningClaim<'a, Ext4<F12289>, Commitment, Coset<F12289>>, AllocError> {
+    let points = vec![in alloc; (number(3), local), (number(12286), next)]?;
+    Ok((commitment, vec![in alloc; (Coset::subgroup(1), points)]?))
 }
 
 /// What verifying says of a first column, claimed to have these values at 3 and 12286, and of a second one, claimed to
-/// have 4 and 7 there.
+/// have 4 and 7 there; in words.
 fn refusal(
     alloc: Global,
     first: &[u32],
     claimed: [u32; 2],
     second: &[u32],
-) -> Result<Option<ClearError>, Fail> {
+) -> Result<String, Fail> {
     let commitments = vec![in alloc; listed(alloc, first)?, listed(alloc, second)?]?;
     let [first, second] = commitments.as_slice() else {
         return Err(Fail::new("other commitments"));
@@ -172,148 +188,158 @@ fn refusal(
     let values = &values[..];
     let of_first = claim(alloc, first, &values[0..1], &values[1..2])?;
     let of_second = claim(alloc, second, &values[2..3], &values[3..4])?;
-    refusal_of(alloc, vec![in alloc; of_first, of_second]?)
-}
-
-#[test]
-fn true_values_are_accepted(rt: HostRuntime) -> Result<(), Fail> {
-    assert!(rt; refusal(rt.alloc(), &[6150, 6144], [4, 7], &[6150, 6144])?.is_none());
-    Ok(())
-}
-
-#[test]
-fn a_wrong_value(rt: HostRuntime) -> Result<(), Fail> {
-    let alloc = rt.alloc();
-    let line = [6150, 6144];
-    assert!(rt;
-        matches!(
-            refusal(alloc, &line, [5, 7], &line)?,
-            Some(ClearError::Value { round: 0 })
-        )
-    );
-    assert!(rt;
-        matches!(
-            refusal(alloc, &line, [4, 6], &line)?,
-            Some(ClearError::Value { round: 0 })
-        )
-    );
-    assert!(rt;
-        matches!(
-            refusal(alloc, &line, [4, 7], &[6150, 6145])?,
-            Some(ClearError::Value { round: 1 })
-        )
-    );
-    Ok(())
+    let answer = refusal_of(alloc, vec![in alloc; of_first, of_second]?);
+    Ok(format!(in alloc; "{answer:?}")?)
 }
 
 // A wrong shape is told before any wrong value.
 #[test]
-fn a_wrong_shape(rt: HostRuntime) -> Result<(), Fail> {
+fn claims(rt: HostRuntime) -> Result<(), Fail> {
     let alloc = rt.alloc();
-    let line = [6150, 6144];
-    let longer = [6150, 6144, 0];
-    assert!(rt;
-        matches!(
-            refusal(alloc, &longer, [4, 7], &line)?,
-            Some(ClearError::Shape { round: 0 })
-        )
-    );
-    assert!(rt;
-        matches!(
-            refusal(alloc, &line, [5, 7], &longer)?,
-            Some(ClearError::Shape { round: 1 })
-        )
-    );
-    assert!(rt;
-        matches!(
-            refusal(alloc, &[6150], [5, 7], &longer)?,
-            Some(ClearError::Shape { round: 0 })
-        )
-    );
+    let line = [6150, 6144].as_slice();
+    let longer = [6150, 6144, 0].as_slice();
+    for (first, claimed, second, expected) in [
+        (line, [4, 7], line, "Ok(())"),
+        (line, [5, 7], line, "Err(Refused(Value { round: 0 }))"),
+        (line, [4, 6], line, "Err(Refused(Value { round: 0 }))"),
+        (
+            line,
+            [4, 7],
+            [6150, 6145].as_slice(),
+            "Err(Refused(Value { round: 1 }))",
+        ),
+        (longer, [4, 7], line, "Err(Refused(Shape { round: 0 }))"),
+        (line, [5, 7], longer, "Err(Refused(Shape { round: 1 }))"),
+        (
+            [6150].as_slice(),
+            [5, 7],
+            longer,
+            "Err(Refused(Shape { round: 0 }))",
+        ),
+    ] {
+        assert_eq!(rt; refusal(alloc, first, claimed, second)?.as_str(), expected);
+    }
     Ok(())
 }
 
-/// Whether a matrix has these values, row after row.
-fn has_values(matrix: &RowMajorMatrix<F12289>, expected: &[u32]) -> bool {
-    if matrix.values.len() != expected.len() {
-        return false;
+/// The rows of a commitment's first matrix on a domain beside the subgroup of two points.
+fn rows_beside<F: RowField>(
+    alloc: Global,
+    data: &ClearCommitment<F>,
+) -> Result<Option<RowMajorMatrix<F>>, AllocError> {
+    if F::TWO_ADICITY < 1 {
+        return Ok(None);
     }
-    for (value, expected) in matrix.values.iter().zip(expected) {
-        if value.value() != *expected {
-            return false;
+    let scheme: ClearPcs<F> = ClearPcs::new();
+    let domain: Coset<F> = Coset::subgroup(1);
+    match domain.try_create_disjoint_domain(2) {
+        Some(apart) => {
+            let rows = <ClearPcs<F> as Pcs<F::Above, AnyChallenger>>::get_evaluations_on_domain(
+                &scheme, alloc, data, 0, apart,
+            )?;
+            Ok(Some(rows))
         }
+        None => Ok(None),
     }
-    true
 }
 
 // The line through 5 and 6 is (11 - X) / 2: at 11 and -11 it is 0 and 11.
 #[test]
 fn values_on_a_coset(rt: HostRuntime) -> Result<(), Fail> {
     let alloc = rt.alloc();
-    let scheme: Scheme = ClearPcs::new();
-    let data = listed(alloc, &[6150, 6144])?;
-    let domain: Coset<F12289> = Coset::subgroup(1);
-    let apart = domain.create_disjoint_domain(2);
-    let rows = <Scheme as Pcs<Point, AnyChallenger>>::get_evaluations_on_domain(
-        &scheme, alloc, &data, 0, apart,
-    )?;
-    assert!(rt; rows.width == 1 && has_values(&rows, &[0, 11]));
+    let Some(rows) = rows_beside(alloc, &listed(alloc, &[6150, 6144])?)? else {
+        return Err(Fail::new("no such domain"));
+    };
+    assert!(rt; rows.width == 1 && are(&rows.values, &[0, 11]));
     Ok(())
+}
+
+/// The table of columns beside the subgroup of four points, on a domain apart from it.
+fn periodic_table<F: RowField>(
+    alloc: Global,
+    columns: &[Vec<F>],
+) -> Result<Option<PeriodicLdeTable<F>>, AllocError> {
+    if F::TWO_ADICITY < 2 {
+        return Ok(None);
+    }
+    let scheme: ClearPcs<F> = ClearPcs::new();
+    let trace: Coset<F> = Coset::subgroup(2);
+    let Ok(periodic) = PeriodicColumns::new(columns, trace.size()) else {
+        return Ok(None);
+    };
+    match trace.try_create_disjoint_domain(4) {
+        Some(apart) => {
+            let table = <ClearPcs<F> as UnivariateStarkPcs<
+                F::Above,
+                AnyChallenger,
+            >>::build_periodic_lde_table(&scheme, alloc, &periodic, trace, apart)?;
+            Ok(Some(table))
+        }
+        None => Ok(None),
+    }
 }
 
 // Beside four rows the column 5, 6 repeats twice: at x it is the line's value at x^2, here 121 and -121 in turn.
 #[test]
 fn periodic_values_on_a_coset(rt: HostRuntime) -> Result<(), Fail> {
     let alloc = rt.alloc();
-    let scheme: Scheme = ClearPcs::new();
-    let trace: Coset<F12289> = Coset::subgroup(2);
-    let apart = trace.create_disjoint_domain(4);
-    let columns = vec![in alloc; column(alloc, &[5, 6])?, column(alloc, &[7])?]?;
-    let Ok(periodic) = PeriodicColumns::new(&columns, trace.size()) else {
+    let columns = [column(alloc, &[5, 6])?, column(alloc, &[7])?];
+    let Some(table) = periodic_table(alloc, &columns)? else {
         return Err(Fail::new("columns that don't fit"));
     };
-    let table = <Scheme as UnivariateStarkPcs<Point, AnyChallenger>>::build_periodic_lde_table(
-        &scheme, alloc, &periodic, trace, apart,
-    )?;
     if table.width() != 2 {
         return Err(Fail::new("other columns"));
     }
     for (row, expected) in [12234, 66, 12234, 66].iter().enumerate() {
-        assert_eq!(rt; table.get(row, 0).value(), *expected);
-        assert_eq!(rt; table.get(row, 1).value(), 7);
+        assert_eq!(rt;
+            (table.get(row, 0).value(), table.get(row, 1).value()),
+            (*expected, 7)
+        );
     }
     Ok(())
+}
+
+/// The commitment to a quotient's values in two chunks, on the domain of four points beside the subgroup of two.
+fn committed_quotient<F: RowField>(alloc: Global, values: Vec<F>) -> Option<ClearCommitment<F>> {
+    if F::TWO_ADICITY < 2 || values.len() != 4 {
+        return None;
+    }
+    let scheme: ClearPcs<F> = ClearPcs::new();
+    let domain: Coset<F> = Coset::subgroup(1);
+    let apart = domain.try_create_disjoint_domain(2)?;
+    if apart.size() != 2 {
+        return None;
+    }
+    let flat = RowMajorMatrix::new(values, 2);
+    let made = <ClearPcs<F> as UnivariateStarkPcs<F::Above, AnyChallenger>>::commit_quotient(
+        &scheme, alloc, apart, flat, 2,
+    );
+    match made {
+        Ok((commitment, _)) => Some(commitment),
+        Err(_) => None,
+    }
 }
 
 // On a domain of two points each of two chunks has one row, and so columns of one coefficient.
 #[test]
 fn a_quotient_in_chunks(rt: HostRuntime) -> Result<(), Fail> {
     let alloc = rt.alloc();
-    let scheme: Scheme = ClearPcs::new();
-    let domain: Coset<F12289> = Coset::subgroup(1);
-    let apart = domain.create_disjoint_domain(2);
-    let values = column(alloc, &[1, 2, 3, 4])?;
-    if values.len() != 4 || apart.size() != 2 {
-        return Err(Fail::new("other rows"));
-    }
-    let flat = RowMajorMatrix::new(values, 2);
-    let made = <Scheme as UnivariateStarkPcs<Point, AnyChallenger>>::commit_quotient(
-        &scheme, alloc, apart, flat, 2,
-    );
-    let Ok((commitment, _)) = made else {
+    let Some(commitment) = committed_quotient(alloc, column(alloc, &[1, 2, 3, 4])?) else {
         return Err(Fail::new("nothing was committed to"));
     };
-    let mut numbers = Vec::new(alloc);
-    for columns in commitment.matrices() {
-        assert_eq!(rt; columns.len(), 2);
+    let [first, second] = commitment.matrices() else {
+        return Err(Fail::new("other chunks"));
+    };
+    for (columns, expected) in [(first, [1, 2]), (second, [3, 4])] {
+        let mut numbers = Vec::new(alloc);
         for column in columns {
             assert_eq!(rt; column.len(), 1);
             for coefficient in column {
                 numbers.push(coefficient.value())?;
             }
         }
+        assert_eq!(rt; numbers.as_slice(), expected.as_slice());
     }
-    assert!(rt; numbers.as_slice() == [1, 2, 3, 4].as_slice());
     Ok(())
 }
 
@@ -396,38 +422,71 @@ where
 #[test]
 fn rows_read_back(rt: HostRuntime) -> Result<(), Fail> {
     let alloc = rt.alloc();
-    let scheme: Scheme = ClearPcs::new();
+    let scheme: ClearPcs<F12289> = ClearPcs::new();
     let matrix = RowMajorMatrix::new_col(column(alloc, &[5, 6])?);
     if matrix.height() != 2 {
         return Err(Fail::new("other rows"));
     }
-    let Ok(rows) = read_back::<Point, AnyChallenger, Scheme>(alloc, &scheme, matrix) else {
+    let Ok(rows) = read_back::<Ext4<F12289>, AnyChallenger, ClearPcs<F12289>>(
+        alloc, &scheme, matrix,
+    ) else {
         return Err(Fail::new("nothing was read back"));
     };
-    assert!(rt; rows.width == 1 && has_values(&rows, &[5, 6]));
+    assert!(rt; rows.width == 1 && are(&rows.values, &[5, 6]));
     Ok(())
 }
 
-type Config = StarkConfig<Scheme, Point, Sha256Challenger<F12289>>;
-
-/// The least and the greatest height, and is_zk, of any configuration.
-fn heights<SC: StarkGenericConfig>(config: &SC) -> (usize, usize, usize) {
+/// The least and the greatest height, and is_zk, of any configuration, with the first draws of two of its challengers.
+fn answers<SC: StarkGenericConfig>(
+    alloc: Global,
+    config: &SC,
+) -> Result<((usize, usize, usize), SC::Challenger, SC::Challenger), AllocError> {
     let scheme = config.pcs();
-    (
+    let heights = (
         scheme.log_min_trace_height(),
         scheme.log_max_trace_height(),
         config.is_zk(),
-    )
+    );
+    Ok((
+        heights,
+        config.initialise_challenger(alloc)?,
+        config.initialise_challenger(alloc)?,
+    ))
+}
+
+fn answers_above<F, EF, C>(
+    alloc: Global,
+    config: &ClearConfig<F, EF, C>,
+) -> Result<((usize, usize, usize), C, C), AllocError>
+where
+    F: TwoAdicField + PrimeField64,
+    EF: PackedExtensionField<F>,
+    C: FieldChallenger<F> + CanObserve<ClearCommitment<F>> + ExtensionChallenger<F, EF> + Clone,
+{
+    answers(alloc, config)
+}
+
+fn answers_in_the_clear<F, C>(
+    alloc: Global,
+    config: &ClearConfig<F, F::Above, C>,
+) -> Result<((usize, usize, usize), C, C), AllocError>
+where
+    F: RowField,
+    C: FieldChallenger<F>
+        + CanObserve<ClearCommitment<F>>
+        + ExtensionChallenger<F, F::Above>
+        + Clone,
+{
+    answers_above(alloc, config)
 }
 
 #[test]
 fn a_configuration(rt: HostRuntime) -> Result<(), Fail> {
-    let config: Config = StarkConfig::new(ClearPcs::new(), Sha256Challenger::new());
-    assert_eq!(rt; heights(&config), (0, 12, 0));
-    let mut challenger = config.initialise_challenger(rt.alloc())?;
+    let config = StarkConfig::new(ClearPcs::new(), Sha256Challenger::<F12289>::new());
+    let (heights, mut challenger, mut again) = answers_in_the_clear(rt.alloc(), &config)?;
+    assert_eq!(rt; heights, (0, 12, 0));
     let drawn: F12289 = challenger.sample();
     assert_eq!(rt; drawn.value(), 9721);
-    let mut again = config.initialise_challenger(rt.alloc())?;
     let drawn: F12289 = again.sample();
     assert_eq!(rt; drawn.value(), 9721);
     Ok(())

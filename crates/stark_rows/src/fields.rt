@@ -1,100 +1,199 @@
 //! The field of 12289 and its extension of degree four.
-use crate::elements::element;
-use stark_bench::{Ext4, F12289, P12289, S12289};
+use crate::calls::RowField;
+use crate::elements::{Base, Extension, coordinates, element, number};
+use stark_bench::{Ext4, F12289, P12289};
 use stark_support::{
     Algebra, Element, ExtensionField, Field, JsonCodec, JsonFault, NeverNull, PackedExtensionField,
-    PackedValue, PrimeField64, TwoAdicField, packed_from_fn, power_of, squared_times,
+    PackedValue, PrimeField64, QuarticBase, TwoAdicField, packed_from_fn, power_of, squared_times,
     value_from_bytes,
 };
 use std::alloc::{AllocError, Global};
 use std::test::Fail;
 
-fn coordinates(x: Ext4<S12289>) -> [u32; 4] {
-    [x.c0.value(), x.c1.value(), x.c2.value(), x.c3.value()]
+/// What is computed of one element of a field, or of two.
+#[derive(Clone, Copy)]
+enum Operation {
+    Sum,
+    Difference,
+    Product,
+    Negative,
+    /// Of zero it is given as zero.
+    Inverse,
 }
 
-fn inverse_or_zero<F: Field>(x: F) -> F {
-    if x == F::ZERO { F::ZERO } else { x.inverse() }
+fn computed<F: Field>(operation: Operation, x: F, y: F) -> F {
+    match operation {
+        Operation::Sum => x + y,
+        Operation::Difference => x - y,
+        Operation::Product => x * y,
+        Operation::Negative => -x,
+        Operation::Inverse => { if x == F::ZERO { F::ZERO } else { x.inverse() } }
+    }
+}
+
+fn computed_above<F: RowField>(operation: Operation, x: F::Above, y: F::Above) -> F::Above {
+    computed(operation, x, y)
 }
 
 #[test]
 fn base_operations(rt: HostRuntime) -> Result<(), Fail> {
-    let (x, y) = (S12289::new(12288), S12289::new(5));
-    assert_eq!(rt; (x + y).value(), 4);
-    assert_eq!(rt; (y - x).value(), 6);
-    assert_eq!(rt; (x * y).value(), 12284);
-    assert_eq!(rt; (-y).value(), 12284);
-    assert_eq!(rt; inverse_or_zero(S12289::new(8)).value(), 10753);
-    assert_eq!(rt; S12289::new(12290).value(), 1);
-    assert_eq!(rt; S12289::default().value(), 0);
-    assert_eq!(rt; S12289::from_u8(255).as_canonical_u64(), 255);
-    assert!(rt; x == x.dup());
+    for (operation, x, y, expected) in [
+        (Operation::Sum, 12288, 5, 4),
+        (Operation::Difference, 5, 12288, 6),
+        (Operation::Product, 12288, 5, 12284),
+        (Operation::Negative, 5, 0, 12284),
+        (Operation::Inverse, 8, 0, 10753),
+    ] {
+        let found = computed(operation, Base::new(x), Base::new(y));
+        assert_eq!(rt; found.value(), expected);
+    }
     Ok(())
+}
+
+#[test]
+fn base_elements(rt: HostRuntime) {
+    assert_eq!(rt; Base::new(12290).value(), 1);
+    assert_eq!(rt; Base::default().value(), 0);
+    assert_eq!(rt; Base::from_u8(255).as_canonical_u64(), 255);
+    let x = Base::new(12288);
+    assert!(rt; x == x.dup());
 }
 
 // The inverse of X is [0, 0, 0, 5586], and X times X^3 is 11.
 #[test]
-fn inverse_of_x(rt: HostRuntime) -> Result<(), Fail> {
-    let x = element(0, 1, 0, 0);
-    let y = inverse_or_zero(x);
-    assert_eq!(rt; coordinates(y), [0, 0, 0, 5586]);
-    assert_eq!(rt; coordinates(x * element(0, 0, 0, 1)), [11, 0, 0, 0]);
-    assert_eq!(rt; coordinates(x * y), [1, 0, 0, 0]);
-    assert_eq!(rt;
-        coordinates(element(1, 2, 3, 4) + element(12288, 1, 0, 0)),
-        [0, 3, 3, 4]
-    );
-    assert_eq!(rt;
-        coordinates(element(1, 2, 3, 4) - element(2, 2, 0, 0)),
-        [12288, 0, 3, 4]
-    );
-    assert_eq!(rt; coordinates(-element(1, 0, 0, 4)), [12288, 0, 0, 12285]);
+fn extension_operations(rt: HostRuntime) -> Result<(), Fail> {
+    for (operation, x, y, expected) in [
+        (
+            Operation::Inverse,
+            [0, 1, 0, 0],
+            [0, 0, 0, 0],
+            [0, 0, 0, 5586],
+        ),
+        (
+            Operation::Product,
+            [0, 1, 0, 0],
+            [0, 0, 0, 1],
+            [11, 0, 0, 0],
+        ),
+        (
+            Operation::Product,
+            [0, 1, 0, 0],
+            [0, 0, 0, 5586],
+            [1, 0, 0, 0],
+        ),
+        (Operation::Sum, [1, 2, 3, 4], [12288, 1, 0, 0], [0, 3, 3, 4]),
+        (
+            Operation::Difference,
+            [1, 2, 3, 4],
+            [2, 2, 0, 0],
+            [12288, 0, 3, 4],
+        ),
+        (
+            Operation::Negative,
+            [1, 0, 0, 4],
+            [0, 0, 0, 0],
+            [12288, 0, 0, 12285],
+        ),
+    ] {
+        let found = computed_above::<Base>(operation, element(x), element(y));
+        assert_eq!(rt; coordinates(found), expected);
+    }
     Ok(())
+}
+
+/// The generator of the group of `2 ^ bits` elements; zero where there is no such group.
+fn generator<F: TwoAdicField>(bits: usize) -> F {
+    if bits <= F::TWO_ADICITY {
+        F::two_adic_generator(bits)
+    } else {
+        F::ZERO
+    }
+}
+
+fn generator_above<F: QuarticBase + TwoAdicField>(bits: usize) -> Ext4<F> {
+    generator(bits)
 }
 
 #[test]
 fn two_adic_generators(rt: HostRuntime) -> Result<(), Fail> {
-    for (bits, generator) in [(12, 1331), (3, 8246), (2, 1479), (1, 12288), (0, 1)] {
-        prove!(bits <= 12);
-        assert_eq!(rt; S12289::two_adic_generator(bits).value(), generator);
-        assert_eq!(rt; P12289::two_adic_generator(bits).value(), generator);
-        assert_eq!(rt; F12289::two_adic_generator(bits).value(), generator);
+    for (bits, expected) in [(12, 1331), (3, 8246), (2, 1479), (1, 12288), (0, 1)] {
+        assert_eq!(rt; generator::<Base>(bits).value(), expected);
+        assert_eq!(rt; generator::<P12289>(bits).value(), expected);
+        assert_eq!(rt; generator::<F12289>(bits).value(), expected);
         assert_eq!(rt;
-            coordinates(Ext4::<S12289>::two_adic_generator(bits)),
-            [generator, 0, 0, 0]
+            coordinates(generator_above::<Base>(bits)),
+            [expected, 0, 0, 0]
         );
     }
-    assert_eq!(rt; power_of(S12289::GENERATOR, 4096).value(), 6240);
-    assert_eq!(rt; squared_times(S12289::GENERATOR, 12).value(), 6240);
     Ok(())
+}
+
+/// The field's generator to the power `2 ^ bits`, by both ways to compute it.
+fn generator_powers<F: Field>(power: u64, bits: usize) -> (F, F) {
+    (
+        power_of(F::GENERATOR, power),
+        squared_times(F::GENERATOR, bits),
+    )
+}
+
+#[test]
+fn powers_of_the_generator(rt: HostRuntime) {
+    let (power, squared): (Base, Base) = generator_powers(4096, 12);
+    assert_eq!(rt; (power.value(), squared.value()), (6240, 6240));
+}
+
+fn from_base_list<F: Field, EF: ExtensionField<F>>(list: &[F]) -> Option<EF> {
+    EF::from_basis_coefficients_slice(list)
+}
+
+fn from_extension_list<F: Field, EF: ExtensionField<F>>(list: &[EF]) -> Option<EF> {
+    <EF as ExtensionField<F>>::from_ext_basis_coefficients(list)
+}
+
+/// The sums of the basis times numbers, and times elements of the extension; none where these are no four.
+fn sums_of_basis<F: RowField>(base: &[F], above: &[F::Above]) -> [Option<F::Above>; 2] {
+    [
+        from_base_list::<F, F::Above>(base),
+        from_extension_list::<F, F::Above>(above),
+    ]
+}
+
+fn coordinate<F: Field, EF: ExtensionField<F>>(x: EF, index: usize) -> Option<F> {
+    if index < EF::DIMENSION {
+        Some(x.coordinate(index))
+    } else {
+        None
+    }
+}
+
+fn embedded_and_one<F: Field, EF: ExtensionField<F>>(x: F) -> (EF, EF) {
+    (EF::from_base(x), EF::ONE)
+}
+
+/// The coordinate of an element, a number as an element, and the one.
+fn parts_above<F: RowField>(x: F::Above, index: usize, y: F) -> (Option<F>, F::Above, F::Above) {
+    let (embedded, one) = embedded_and_one::<F, F::Above>(y);
+    (coordinate(x, index), embedded, one)
 }
 
 #[test]
 fn coordinates_both_ways(rt: HostRuntime) -> Result<(), Fail> {
-    let base = [
-        S12289::new(1),
-        S12289::new(2),
-        S12289::new(3),
-        S12289::new(4),
-    ];
-    assert!(rt; Ext4::from_basis_coefficients_slice(&base) == Some(element(1, 2, 3, 4)));
-    assert!(rt; Ext4::from_basis_coefficients_slice(&base[..3]) == None);
-    let c: S12289 = element(1, 2, 3, 4).coordinate(2);
-    assert_eq!(rt; c.value(), 3);
+    let base = [Base::new(1), Base::new(2), Base::new(3), Base::new(4)];
+    let x = element([1, 2, 3, 4]);
     let above = [
-        element(1, 0, 0, 0),
-        element(0, 1, 0, 0),
-        element(0, 0, 0, 0),
-        element(0, 1, 0, 0),
+        number(1),
+        element([0, 1, 0, 0]),
+        number(0),
+        element([0, 1, 0, 0]),
     ];
     // 1 + X * X + X^3 * X, and X^4 is 11
-    let sum = <Ext4<S12289> as ExtensionField<S12289>>::from_ext_basis_coefficients(&above);
-    assert!(rt; sum == Some(element(12, 0, 1, 0)));
-    assert!(rt;
-        <Ext4<S12289> as ExtensionField<S12289>>::from_ext_basis_coefficients(&above[..2]) == None
-    );
-    assert_eq!(rt; coordinates(Ext4::from_base(S12289::new(7))), [7, 0, 0, 0]);
-    assert_eq!(rt; coordinates(Ext4::<S12289>::ONE), [1, 0, 0, 0]);
+    let sum = element([12, 0, 1, 0]);
+    assert!(rt; sums_of_basis(&base, &above) == [Some(x), Some(sum)]);
+    assert!(rt; sums_of_basis(&base[..3], &above[..2]) == [None, None]);
+    let (third, seven, one) = parts_above(x, 2, Base::new(7));
+    assert!(rt; third == Some(Base::new(3)));
+    assert_eq!(rt; coordinates(seven), [7, 0, 0, 0]);
+    assert_eq!(rt; coordinates(one), [1, 0, 0, 0]);
     Ok(())
 }
 
@@ -111,52 +210,66 @@ fn read<T: JsonCodec>(alloc: Global, text: &str) -> Result<T, JsonFault> {
 #[test]
 fn json_both_ways(rt: HostRuntime) -> Result<(), Fail> {
     let alloc = rt.alloc();
-    assert!(rt; written(alloc, &S12289::new(0))?);
-    assert!(rt; written(alloc, &element(0, 0, 0, 0))?);
-    let text = element(1, 2, 3, 4).to_json(alloc)?;
+    assert!(rt; written(alloc, &Base::new(0))?);
+    assert!(rt; written(alloc, &number(0))?);
+    let text = element([1, 2, 3, 4]).to_json(alloc)?;
     assert_eq!(rt; text.to_string(alloc)?.as_str(), "[1,2,3,4]");
-    assert!(rt; read(alloc, "[1,2,3,4]").ok() == Some(element(1, 2, 3, 4)));
+    assert!(rt; read(alloc, "[1,2,3,4]").ok() == Some(element([1, 2, 3, 4])));
     assert_eq!(rt;
-        S12289::new(12288)
-            .to_json(alloc)?
-            .to_string(alloc)?
-            .as_str(),
+        Base::new(12288).to_json(alloc)?.to_string(alloc)?.as_str(),
         "12288"
     );
-    assert!(rt; read(alloc, "12288").ok() == Some(S12289::new(12288)));
-    assert!(rt; matches!(read::<S12289>(alloc, "12289"), Err(JsonFault::Invalid)));
+    assert!(rt; read(alloc, "12288").ok() == Some(Base::new(12288)));
+    assert!(rt; matches!(read::<Base>(alloc, "12289"), Err(JsonFault::Invalid)));
     assert!(rt;
         matches!(
-            read::<Ext4<S12289>>(alloc, "[1,2,3,12289]"),
+            read::<Extension>(alloc, "[1,2,3,12289]"),
             Err(JsonFault::Invalid)
         )
     );
-    assert!(rt;
-        matches!(
-            read::<Ext4<S12289>>(alloc, "[1,2,3]"),
-            Err(JsonFault::Invalid)
-        )
-    );
+    assert!(rt; matches!(read::<Extension>(alloc, "[1,2,3]"), Err(JsonFault::Invalid)));
     Ok(())
+}
+
+fn width<P: PackedValue>() -> usize {
+    P::WIDTH
+}
+
+/// What a pack of one value has, and the pack with another value in its place; none of wider packs.
+fn packed<P: PackedValue>(values: &[P::Value], next: P::Value) -> Option<(P::Value, P)> {
+    if P::WIDTH == 1 && values.len() == 1 {
+        let pack = P::from_slice(values);
+        Some((pack.extract(0), pack.with_lane(0, next)))
+    } else {
+        None
+    }
+}
+
+/// The pack that has the first value in its first lane and the other one in all others.
+fn packed_by_lane<P: PackedValue>(first: P::Value, other: P::Value) -> P {
+    packed_from_fn(|lane| if lane == 0 { first } else { other })
+}
+
+fn packed_above<F: Field, EF: PackedExtensionField<F>>(x: F::Packing) -> EF::ExtensionPacking {
+    EF::from_packed_base(x)
+}
+
+fn packed_over<F: QuarticBase>(xs: &[Ext4<F>]) -> (usize, Option<(Ext4<F>, Ext4<F>)>) {
+    (width::<Ext4<F>>(), packed::<Ext4<F>>(xs, Ext4::ZERO))
 }
 
 #[test]
 fn fields_pack_themselves(rt: HostRuntime) -> Result<(), Fail> {
-    assert_eq!(rt; <S12289 as PackedValue>::WIDTH, 1);
-    assert_eq!(rt; <P12289 as PackedValue>::WIDTH, 1);
-    assert_eq!(rt; <F12289 as PackedValue>::WIDTH, 1);
-    assert_eq!(rt; <Ext4<S12289> as PackedValue>::WIDTH, 1);
-    let x = S12289::new(7);
-    assert!(rt; <S12289 as PackedValue>::from_slice(&[x]).extract(0) == x);
-    let y = element(1, 2, 3, 4);
-    assert!(rt; <Ext4<S12289> as PackedValue>::from_slice(&[y]).extract(0) == y);
-    assert!(rt; !S12289::BENEFITS_FROM_LOCKSTEP_EVALUATION);
-    let next = S12289::new(8);
-    assert!(rt; <S12289 as PackedValue>::with_lane(x, 0, next) == next);
-    let answered: S12289 = packed_from_fn(|lane| S12289::new(if lane == 0 { 5 } else { 6 }));
+    assert_eq!(rt; width::<Base>(), 1);
+    assert_eq!(rt; width::<P12289>(), 1);
+    assert_eq!(rt; width::<F12289>(), 1);
+    assert!(rt; !Base::BENEFITS_FROM_LOCKSTEP_EVALUATION);
+    let (seven, eight) = (Base::new(7), Base::new(8));
+    assert!(rt; packed::<Base>(&[seven], eight) == Some((seven, eight)));
+    let y = element([1, 2, 3, 4]);
+    assert!(rt; packed_over(&[y]) == (1, Some((y, number(0)))));
+    assert!(rt; packed_above::<Base, Extension>(seven) == number(7));
+    let answered: Base = packed_by_lane(Base::new(5), Base::new(6));
     assert_eq!(rt; answered.value(), 5);
-    assert!(rt;
-        <Ext4<S12289> as PackedExtensionField<S12289>>::from_packed_base(x) == element(7, 0, 0, 0)
-    );
     Ok(())
 }

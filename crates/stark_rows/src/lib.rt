@@ -5,6 +5,8 @@
 #[cfg(test)]
 mod airs;
 #[cfg(test)]
+mod calls;
+#[cfg(test)]
 mod challengers;
 #[cfg(test)]
 mod clear_scheme;

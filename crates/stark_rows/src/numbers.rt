@@ -1,10 +1,13 @@
 //! Logarithms, powers of two, sums of products, matrices and row views.
-use crate::elements::element;
-use stark_bench::{Ext4, S12289};
+use crate::calls::RowField;
+use crate::elements::{Base, Extension, element, numbers, values};
+use stark_bench::Ext4;
 use stark_support::{
-    RowMajorMatrix, RowMajorMatrixView, VerticalPair, ViewPair, batched_linear_combination,
-    checked_log_size_sum, checked_pow2, log2_ceil_usize, log2_strict_usize,
+    Algebra, ExtensionField, Field, PackedValue, RowMajorMatrix, RowMajorMatrixView, VerticalPair,
+    ViewPair, batched_linear_combination, checked_log_size_sum, checked_pow2, log2_ceil_usize,
+    log2_strict_usize,
 };
+use std::alloc::{AllocError, Global};
 use std::test::Fail;
 
 #[test]
@@ -27,14 +30,13 @@ fn logarithms(rt: HostRuntime) -> Result<(), Fail> {
 }
 
 #[test]
-fn powers_of_two(rt: HostRuntime) -> Result<(), Fail> {
-    assert_eq!(rt; checked_pow2(0), Some(1));
-    assert_eq!(rt; checked_pow2(63), Some(9223372036854775808));
-    assert_eq!(rt; checked_pow2(64), None);
-    assert_eq!(rt; checked_log_size_sum(3, 4), Some((7, 128)));
-    assert_eq!(rt; checked_log_size_sum(60, 4), None);
-    assert_eq!(rt; checked_log_size_sum(usize::MAX, 1), None);
-    Ok(())
+fn powers_of_two(rt: HostRuntime) {
+    for (exponent, power) in [(0, Some(1)), (63, Some(9223372036854775808)), (64, None)] {
+        assert_eq!(rt; checked_pow2(exponent), power);
+    }
+    for (left, right, sum) in [(3, 4, Some((7, 128))), (60, 4, None), (usize::MAX, 1, None)] {
+        assert_eq!(rt; checked_log_size_sum(left, right), sum);
+    }
 }
 
 #[test]
@@ -51,65 +53,109 @@ fn two_rows(rt: HostRuntime) -> Result<(), Fail> {
     Ok(())
 }
 
+/// The sum of the values times the coefficients, of which there are as many.
+fn combined<F: Field, A: Algebra<F>>(values: &[A], coefficients: &[F]) -> Option<A> {
+    if values.len() == coefficients.len() {
+        Some(batched_linear_combination(values, coefficients))
+    } else {
+        None
+    }
+}
+
+fn combined_above<F: RowField>(values: &[F::Above], coefficients: &[F]) -> Option<F::Above> {
+    combined(values, coefficients)
+}
+
 #[test]
 fn sums_of_products(rt: HostRuntime) -> Result<(), Fail> {
-    let values = [S12289::new(1), S12289::new(2), S12289::new(3)];
-    let coefficients = [S12289::new(4), S12289::new(5), S12289::new(4096)];
-    let sum: S12289 = batched_linear_combination(&values, &coefficients);
-    assert_eq!(rt; sum.value(), 13);
-    let none: S12289 = batched_linear_combination::<S12289, S12289>(&[], &[]);
-    assert_eq!(rt; none.value(), 0);
-    let above = [element(0, 1, 0, 0), element(1, 0, 0, 2)];
-    let sum: Ext4<S12289> = batched_linear_combination(&above, &coefficients[..2]);
-    assert!(rt; sum == element(5, 4, 0, 10));
+    let alloc = rt.alloc();
+    let coefficients = numbers(alloc, &[4, 5, 4096])?;
+    let sum: Option<Base> = combined(&numbers(alloc, &[1, 2, 3])?, &coefficients);
+    assert!(rt; sum == Some(Base::new(13)));
+    let none: Option<Base> = combined::<Base, Base>(&[], &[]);
+    assert!(rt; none == Some(Base::new(0)));
+    let above = [element([0, 1, 0, 0]), element([1, 0, 0, 2])];
+    let sum: Option<Extension> = combined_above(&above, &numbers(alloc, &[4, 5])?);
+    assert!(rt; sum == Some(element([5, 4, 0, 10])));
     Ok(())
+}
+
+/// The row of this index; empty where there is none.
+fn row_at<T>(matrix: &RowMajorMatrix<T>, r: usize) -> &[T] {
+    if r < matrix.height() {
+        matrix.row(r)
+    } else {
+        &[]
+    }
 }
 
 #[test]
 fn owned_rows(rt: HostRuntime) -> Result<(), Fail> {
     let alloc = rt.alloc();
     let matrix = RowMajorMatrix::new(vec![in alloc; 1u8, 2, 3, 4, 5, 6]?, 3);
-    assert_eq!(rt; matrix.width(), 3);
-    assert_eq!(rt; matrix.height(), 2);
-    assert!(rt; matrix.row(0) == [1, 2, 3].as_slice());
-    assert!(rt; matrix.row(1) == [4, 5, 6].as_slice());
+    assert_eq!(rt; (matrix.width(), matrix.height()), (3, 2));
+    assert_eq!(rt; row_at(&matrix, 0), [1, 2, 3].as_slice());
+    assert_eq!(rt; row_at(&matrix, 1), [4, 5, 6].as_slice());
     let column = RowMajorMatrix::new_col(vec![in alloc; 7u8, 8]?);
-    assert_eq!(rt; column.width(), 1);
-    assert_eq!(rt; column.height(), 2);
-    assert!(rt; column.row(1) == [8].as_slice());
+    assert_eq!(rt; (column.width(), column.height()), (1, 2));
+    assert_eq!(rt; row_at(&column, 1), [8].as_slice());
     let none = RowMajorMatrix::new(Vec::<u8>::new(alloc), 0);
     assert_eq!(rt; none.height(), 0);
     Ok(())
 }
 
+/// A column of elements, as rows of their coordinates.
+fn flattened<F: Field, EF: ExtensionField<F>>(
+    alloc: Global,
+    elements: Vec<EF>,
+) -> Result<RowMajorMatrix<F>, AllocError> {
+    let _dimension = EF::DIMENSION;
+    RowMajorMatrix::new_col(elements).flatten_to_base(alloc)
+}
+
+fn flattened_over<F: RowField>(
+    alloc: Global,
+    elements: Vec<F::Above>,
+) -> Result<RowMajorMatrix<F>, AllocError> {
+    flattened(alloc, elements)
+}
+
 #[test]
 fn flat_rows(rt: HostRuntime) -> Result<(), Fail> {
     let alloc = rt.alloc();
-    let elements = vec![in alloc; element(1, 2, 3, 4), element(5, 6, 7, 8)]?;
-    let column = RowMajorMatrix::new_col(elements);
-    let flat: RowMajorMatrix<S12289> = column.flatten_to_base(alloc)?;
-    assert_eq!(rt; flat.width(), 4);
-    assert_eq!(rt; flat.height(), 2);
-    assert_eq!(rt; flat.values.len(), 8);
-    for (index, x) in flat.values.iter().enumerate() {
-        assert_eq!(rt; x.value() as usize, index + 1);
-    }
+    let elements = vec![in alloc; element([1, 2, 3, 4]), element([5, 6, 7, 8])]?;
+    let flat: RowMajorMatrix<Base> = flattened_over(alloc, elements)?;
+    assert_eq!(rt; (flat.width(), flat.height()), (4, 2));
+    assert_eq!(rt;
+        values(alloc, &flat.values)?.as_slice(),
+        [1, 2, 3, 4, 5, 6, 7, 8].as_slice()
+    );
     Ok(())
+}
+
+/// The packed rows from this one on; none where there is no such row.
+fn packed_row<P: PackedValue>(
+    alloc: Global,
+    matrix: &RowMajorMatrix<P::Value>,
+    r: usize,
+) -> Result<Vec<P>, AllocError> {
+    if r < matrix.height() {
+        matrix.vertically_packed_row(alloc, r)
+    } else {
+        Ok(Vec::new(alloc))
+    }
 }
 
 // One lane: the row itself.
 #[test]
 fn packed_rows(rt: HostRuntime) -> Result<(), Fail> {
     let alloc = rt.alloc();
-    let values = vec![in alloc;
-        S12289::new(1),
-        S12289::new(2),
-        S12289::new(3),
-        S12289::new(4),
-    ]?;
-    let matrix = RowMajorMatrix::new(values, 2);
-    let packed: Vec<S12289> = matrix.vertically_packed_row(alloc, 1)?;
-    assert_eq!(rt; packed.len(), 2);
-    assert_eq!(rt; (packed[0].value(), packed[1].value()), (3, 4));
+    let list = numbers(alloc, &[1, 2, 3, 4])?;
+    if list.len() != 4 {
+        return Err(Fail::new("other rows"));
+    }
+    let matrix = RowMajorMatrix::new(list, 2);
+    let packed: Vec<Base> = packed_row(alloc, &matrix, 1)?;
+    assert_eq!(rt; values(alloc, &packed)?.as_slice(), [3, 4].as_slice());
     Ok(())
 }

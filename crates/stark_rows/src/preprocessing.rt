@@ -1,43 +1,34 @@
 //! Prover's data and verifier's key of preprocessed traces, over the scheme in the clear.
-ghost use Rattle.std.specs.Prelude.{◌≤◌};
-ghost use Rattle.p3_uni_stark.specs.Preprocessing.{HasHeight};
+ghost use Rattle.p3_uni_stark.specs.Preprocessing.{HasHeight, IsCommittedWithin};
 
+use crate::calls::{self, Keys};
+use crate::elements::Base;
 use crate::empty_trace::EmptyTraceAir;
-use p3_uni_stark::{PreprocessedProverData, PreprocessedVerifierKey, setup_preprocessed};
 use stark_air::BaseAir;
-use stark_bench::{ClearCommitment, Ext4, S12289, Sha256Challenger};
+use stark_bench::{ClearCommitment, Sha256Challenger};
 use stark_clear::{ClearPcs, CounterAir, PreprocessedAir};
 use stark_parts::StarkConfig;
 use std::alloc::Global;
 use std::test::Fail;
 
-type Commitment = ClearCommitment<S12289>;
-
-type Config = StarkConfig<ClearPcs<S12289>, Ext4<S12289>, Sha256Challenger<S12289>>;
-
-type Keys = (
-    PreprocessedProverData<Commitment, Commitment>,
-    PreprocessedVerifierKey<Commitment>,
-);
-
 /// What is set up for an AIR at a height.
-fn set_up<A: BaseAir<S12289>>(
+fn set_up<A: BaseAir<Base>>(
     alloc: Global,
     air: &A,
     degree_bits: usize,
-) -> Result<Option<Keys>, Fail>
+) -> Result<Option<Keys<Base>>, Fail>
     requires height { HasHeight degree_bits (A.preprocessed_trace air.now) }
-    requires within { degree_bits ≤ 12 }
+    requires within { IsCommittedWithin degree_bits 12 (A.preprocessed_trace air.now) }
 {
-    let config: Config = StarkConfig::new(ClearPcs::new(), Sha256Challenger::new());
-    match setup_preprocessed(alloc, &config, air, degree_bits) {
-        Ok(keys) => Ok(keys),
-        Err(_) => Err(Fail::new("nothing was set up")),
+    let config = StarkConfig::new(ClearPcs::new(), Sha256Challenger::<Base>::new());
+    match calls::set_up(alloc, &config, air, degree_bits) {
+        Some(keys) => Ok(keys),
+        None => Err(Fail::new("nothing was set up")),
     }
 }
 
 /// Whether a commitment is to this column alone.
-fn lists(commitment: &Commitment, coefficients: &[u32]) -> bool {
+fn lists(commitment: &ClearCommitment<Base>, coefficients: &[u32]) -> bool {
     let [columns] = commitment.matrices() else {
         return false;
     };
@@ -65,10 +56,11 @@ fn a_preprocessed_column(rt: HostRuntime) -> Result<(), Fail> {
     Ok(())
 }
 
+// Without columns no height is used, so that it may be beyond the scheme's greatest, 12, and beyond all.
 #[test]
 fn no_preprocessed_trace(rt: HostRuntime) -> Result<(), Fail> {
     let alloc = rt.alloc();
-    for degree_bits in [0, 1, 5] {
+    for degree_bits in [0, 1, 5, 13, 64] {
         assert!(rt; set_up(alloc, &CounterAir, degree_bits)?.is_none());
     }
     Ok(())

@@ -2,47 +2,53 @@
 ghost use Rattle.std.specs.Prelude.{◌≡◌, ◌≤◌, unwrap_or};
 ghost use Rattle.stark_security.specs.Openings.{random_columns};
 
+use crate::calls::{RowField, folded, recomposed_of_one};
+use crate::elements::{Base, Extension, number};
 use crate::sized_airs::{ColumnAir, SteppedSquareAir};
 use crate::wide_air::WideAir;
-use p3_uni_stark::{
-    OpeningShape, StarkSecurityParams, num_batched_openings, ood_error_bound,
-    recompose_quotient_from_chunks,
-};
+use p3_uni_stark::{OpeningShape, StarkSecurityParams, num_batched_openings, ood_error_bound};
 use stark_air::{Air, AirLayout};
-use stark_bench::{Coset, Ext4, S12289, Sha256Challenger};
-use stark_clear::{
-    ClearPcs, CounterAir, CubicAir, FibonacciAir, PairAir, PreprocessedAir, UnconstrainedAir,
-};
-use stark_parts::{StarkConfig, fold_constraints};
+use stark_bench::{Coset, Ext4, Sha256Challenger};
+use stark_clear::{Asked, CounterAir, CubicAir, FibonacciAir, PairAir, PreprocessedAir, SmallAir};
 use stark_support::{
-    Element, ExtensionField, Field, FriRegime, GrindingSites, LagrangeSelectors, PolynomialSpace,
+    FriRegime, GrindingSites, LagrangeSelectors, PolynomialSpace, QuarticBase, TwoAdicField,
 };
 use std::alloc::{AllocError, Global};
 use std::test::Fail;
 
-type Extension = Ext4<S12289>;
+type Challenger = Sha256Challenger<Base>;
 
-type Config = StarkConfig<ClearPcs<S12289>, Extension, Sha256Challenger<S12289>>;
-
-fn bound<A: Air<S12289>>(
+/// The bounds at a height; none where they are too great, or the height is.
+fn bound_over<F: RowField, A: Air<F>>(
     alloc: Global,
     air: &A,
     degree_bits: usize,
     is_zk: usize,
-) -> Result<Option<(usize, usize)>, AllocError>
-    requires flag { is_zk ≤ 1 }
-    requires masked { is_zk ≤ degree_bits }
-    requires fits { degree_bits ≤ 63 }
-{
-    let layout = AirLayout::from_air::<S12289, A>(air);
-    ood_error_bound::<S12289, Extension, A>(alloc, air, layout, degree_bits, is_zk)
+) -> Result<Option<(usize, usize)>, AllocError> {
+    if is_zk > 1 || is_zk > degree_bits || degree_bits > 63 {
+        return Ok(None);
+    }
+    let layout = AirLayout::from_air::<F, A>(air);
+    ood_error_bound::<F, F::Above, A>(alloc, air, layout, degree_bits, is_zk)
+}
+
+fn bound<A: Air<Base>>(
+    alloc: Global,
+    air: &A,
+    degree_bits: usize,
+    is_zk: usize,
+) -> Result<Option<(usize, usize)>, AllocError> {
+    bound_over(alloc, air, degree_bits, is_zk)
 }
 
 #[test]
 fn bounds_of_bad_draws(rt: HostRuntime) -> Result<(), Fail> {
     let alloc = rt.alloc();
     assert_eq!(rt; bound(alloc, &CounterAir, 1, 0)?, Some((1, 3)));
-    assert_eq!(rt; bound(alloc, &UnconstrainedAir, 1, 0)?, Some((0, 3)));
+    assert_eq!(rt;
+        bound(alloc, &SmallAir::new(Asked::Nothing), 1, 0)?,
+        Some((0, 3))
+    );
     assert_eq!(rt; bound(alloc, &CounterAir, 63, 0)?, Some((1, usize::MAX)));
     assert_eq!(rt; bound(alloc, &CubicAir, 63, 0)?, None);
     assert_eq!(rt; bound(alloc, &CubicAir, 3, 0)?, Some((0, 23)));
@@ -116,28 +122,32 @@ fn regime() -> FriRegime
     }
 }
 
-fn params(
+fn params<F: QuarticBase + TwoAdicField>(
     alloc: Global,
     air: &WideAir,
     openings: OpeningShape,
     grinding: GrindingSites,
-) -> Result<StarkSecurityParams, AllocError>
+) -> Result<Option<StarkSecurityParams>, AllocError>
     requires hint { unwrap_or air.now.hint 0 ≤ 5 }
     requires random { random_columns openings ≡ 0 }
 {
-    let domain: Coset<S12289> = Coset::subgroup(3);
-    StarkSecurityParams::from_air::<S12289, Extension, WideAir, Coset<S12289>>(
+    if F::TWO_ADICITY < 3 {
+        return Ok(None);
+    }
+    let domain: Coset<F> = Coset::subgroup(3);
+    let params = StarkSecurityParams::from_air::<F, Ext4<F>, WideAir, Coset<F>>(
         alloc,
         regime(),
         air,
-        AirLayout::from_air::<S12289, WideAir>(air),
+        AirLayout::from_air::<F, WideAir>(air),
         &domain,
         54,
         128,
         2,
         openings,
         grinding,
-    )
+    )?;
+    Ok(Some(params))
 }
 
 #[test]
@@ -152,15 +162,21 @@ fn functions_of_an_air(rt: HostRuntime) -> Result<(), Fail> {
         reads_next: false,
         hint: None,
     };
-    let plain = params(alloc, &next, OpeningShape::new(), none)?;
+    let Some(plain) = params::<Base>(alloc, &next, OpeningShape::new(), none)? else {
+        return Err(Fail::new("no domain"));
+    };
     assert_eq!(rt; plain.num_batched_functions, 20);
     assert_eq!(rt; plain.num_constraints, 3);
     assert_eq!(rt; plain.air_max_constraint_degree, 1);
     assert_eq!(rt; plain.num_quotient_chunks, 1);
     assert!(rt; plain.grinding == none);
-    let local = params(alloc, &alone, OpeningShape::new(), none)?;
+    let Some(local) = params::<Base>(alloc, &alone, OpeningShape::new(), none)? else {
+        return Err(Fail::new("no domain"));
+    };
     assert_eq!(rt; local.num_batched_functions, 12);
-    let hidden = params(alloc, &next, OpeningShape::hiding(0), none)?;
+    let Some(hidden) = params::<Base>(alloc, &next, OpeningShape::hiding(0), none)? else {
+        return Err(Fail::new("no domain"));
+    };
     assert_eq!(rt; hidden.num_batched_functions, 28);
     Ok(())
 }
@@ -177,7 +193,9 @@ fn chunks_and_work(rt: HostRuntime) -> Result<(), Fail> {
             reads_next: true,
             hint: Some(hint),
         };
-        let found = params(alloc, &air, OpeningShape::hiding(0), grinding)?;
+        let Some(found) = params::<Base>(alloc, &air, OpeningShape::hiding(0), grinding)? else {
+            return Err(Fail::new("no domain"));
+        };
         assert_eq!(rt; found.num_quotient_chunks, chunks);
         assert_eq!(rt; found.air_max_constraint_degree, 1);
         assert_eq!(rt; found.grinding.batch_combination, 16);
@@ -205,42 +223,45 @@ fn parameters_in_their_fields(rt: HostRuntime) -> Result<(), Fail> {
     Ok(())
 }
 
-fn number(n: u32) -> Extension {
-    Ext4::from_base(S12289::new(n))
-}
-
 // The equation of the counter's false trace 5, 7 at zeta, with the selectors as sums: the first is 1 + zeta, the last
 // h + h^2 * zeta, the transition's zeta - 1/h, for h = -1; the column is 6 - X.
 fn is_balanced(zeta: Extension, quotient: Extension) -> Result<bool, AllocError> {
-    let column = |x: Extension| number(6) - x;
-    let folded: Extension = fold_constraints::<Config, CounterAir>(
+    let (one, six) = (number(1), number(6));
+    let sum: Extension = folded::<Base, Challenger, CounterAir>(
         &CounterAir,
-        &[column(zeta)],
-        &[column(-zeta)],
+        &[six - zeta],
+        &[six + zeta],
         &[],
         &[],
-        &[],
-        &[S12289::new(5)],
+        &[Base::new(5)],
         LagrangeSelectors {
-            is_first_row: Ext4::ONE + zeta,
-            is_last_row: zeta - Ext4::ONE,
-            is_transition: zeta + Ext4::ONE,
-            inv_vanishing: Ext4::ZERO,
+            is_first_row: one + zeta,
+            is_last_row: zeta - one,
+            is_transition: zeta + one,
+            inv_vanishing: number(0),
         },
         number(4),
     )?;
-    Ok(folded == (zeta * zeta - Ext4::ONE) * quotient)
+    Ok(sum == (zeta * zeta - one) * quotient)
 }
 
 #[test]
 fn bad_zetas_of_a_false_trace(rt: HostRuntime) -> Result<(), Fail> {
-    let rows: Coset<S12289> = Coset::subgroup(1);
+    let alloc = rt.alloc();
+    let rows: Coset<Base> = Coset::subgroup(1);
     let domain = rows.create_disjoint_domain(2);
-    let chunks = [vec![in rt.alloc(); number(6143), Ext4::ZERO, Ext4::ZERO, Ext4::ZERO]?];
-    let mut found = Vec::new(rt.alloc());
+    let mut found = Vec::new(alloc);
     for n in 0..12289u32 {
         let zeta = number(n);
-        let quotient = recompose_quotient_from_chunks::<Config>(&[domain], &chunks, zeta);
+        let Some(quotient) = recomposed_of_one::<Base, Challenger>(
+            alloc,
+            domain,
+            number(6143),
+            zeta,
+        )?
+        else {
+            return Err(Fail::new("not of degree four"));
+        };
         if is_balanced(zeta, quotient)? {
             found.push(n)?;
         }

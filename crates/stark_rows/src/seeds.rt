@@ -4,8 +4,10 @@ ghost use Rattle.std.specs.List.{range_with_len};
 ghost use Rattle.std.proofs.Common.{rules};
 ghost use Rattle.std.proofs.lemmas.List.{length-map};
 
+use crate::calls::RowField;
+use crate::elements::Base;
 use stark_air::{BaseAir, every_column};
-use stark_bench::{Ext4, S12289};
+use stark_bench::Ext4;
 use stark_parts::StarkShape;
 use stark_support::{DomainSeparator, InteractionPattern, RowMajorMatrix};
 use std::alloc::{AllocError, Global};
@@ -27,19 +29,29 @@ fn small() -> StarkShape {
     }
 }
 
-fn pattern(alloc: Global, shape: &StarkShape) -> Result<InteractionPattern, AllocError> {
-    shape.pattern::<S12289, Ext4<S12289>>(alloc)
+fn pattern_over<F: RowField>(
+    alloc: Global,
+    shape: &StarkShape,
+) -> Result<InteractionPattern, AllocError> {
+    shape.pattern::<F, F::Above>(alloc)
+}
+
+fn separator_over<F: RowField>(
+    alloc: Global,
+    shape: &StarkShape,
+) -> Result<DomainSeparator, AllocError> {
+    shape.domain_separator::<F, F::Above>(alloc)
 }
 
 fn separator(alloc: Global, shape: &StarkShape) -> Result<DomainSeparator, AllocError> {
-    shape.domain_separator::<S12289, Ext4<S12289>>(alloc)
+    separator_over::<Base>(alloc, shape)
 }
 
 #[test]
 fn first_bytes(rt: HostRuntime) -> Result<(), Fail> {
     let alloc = rt.alloc();
     let shape = small();
-    assert_eq!(rt; pattern(alloc, &shape)?.steps().len(), 7);
+    assert_eq!(rt; pattern_over::<Base>(alloc, &shape)?.steps().len(), 7);
     let separator = separator(alloc, &shape)?;
     let seed = separator.seed();
     assert_eq!(rt; seed.len(), 443);
@@ -59,17 +71,17 @@ fn lengths(rt: HostRuntime) -> Result<(), Fail> {
         ood_pow_bits: 6,
         ..small()
     };
-    assert_eq!(rt; separator(alloc, &worked)?.seed().len(), 477);
     let random = StarkShape {
         has_randomization: true,
         ..small()
     };
-    assert_eq!(rt; separator(alloc, &random)?.seed().len(), 487);
     let preprocessed = StarkShape {
         preprocessed_width: 3,
         ..small()
     };
-    assert_eq!(rt; separator(alloc, &preprocessed)?.seed().len(), 493);
+    for (shape, length) in [(worked, 477), (random, 487), (preprocessed, 493)] {
+        assert_eq!(rt; separator(alloc, &shape)?.seed().len(), length);
+    }
     Ok(())
 }
 
@@ -125,10 +137,10 @@ fn one_field_changed(rt: HostRuntime) -> Result<(), Fail> {
 /// Seven columns, three preprocessed ones and five public values, beside periodic columns; all next rows are read.
 #[derive(Drop)]
 struct WideAir {
-    periodic: Vec<Vec<S12289>>,
+    periodic: Vec<Vec<Base>>,
 }
 
-impl BaseAir<S12289> for WideAir {
+impl BaseAir<Base> for WideAir {
     ghost layout = { λ air. record { main = 7; main_next = 7; preprocessed = 3; preprocessed_next = 3; publics = 5; periodics = length air.periodic.items } };
 
     ghost preprocessed_trace = { λ _. Some (record { width = 3; values = [] }) };
@@ -154,7 +166,7 @@ impl BaseAir<S12289> for WideAir {
     fn preprocessed_trace(
         &self,
         alloc: Global,
-    ) -> Result<Option<RowMajorMatrix<S12289>>, AllocError> {
+    ) -> Result<Option<RowMajorMatrix<Base>>, AllocError> {
         Ok(Some(RowMajorMatrix::new(Vec::new(alloc), 3)))
     }
 
@@ -162,7 +174,7 @@ impl BaseAir<S12289> for WideAir {
         5
     }
 
-    fn periodic_columns(&self) -> &[Vec<S12289>] {
+    fn periodic_columns(&self) -> &[Vec<Base>] {
         &self.periodic
     }
 
@@ -192,8 +204,8 @@ fn shape_of_an_air(rt: HostRuntime) -> Result<(), Fail> {
     let alloc = rt.alloc();
     let air = WideAir {
         periodic: vec![in alloc;
-            vec![in alloc; S12289::new(1)]?,
-            vec![in alloc; S12289::new(2)]?,
+            vec![in alloc; Base::new(1)]?,
+            vec![in alloc; Base::new(2)]?,
         ]?,
     };
     let shape = StarkShape::new(alloc, &air, 3, 9, 8, 4, true, 6)?;

@@ -1,20 +1,19 @@
 //! Transcripts of both sides, over the two challengers.
-ghost use Rattle.std.specs.Prelude.{◌≡◌};
+ghost use Rattle.std.specs.Prelude.{◌≡◌, length};
 
-use stark_bench::{ClearCommitment, Ext4, S12289, ScriptChallenger, Sha256Challenger};
+use crate::calls::RowField;
+use crate::elements::{Base, Extension};
+use stark_bench::{ClearCommitment, Ext4, ScriptChallenger, Sha256Challenger};
 use stark_parts::{
     StarkProverTranscript, StarkShape, StarkTranscriptFailure, StarkVerifierTranscript,
 };
-use stark_support::{CanObserve, CanSample, GrindingChallenger};
+use stark_support::{CanObserve, CanSample, Field, GrindingChallenger};
 use std::alloc::{AllocError, Global};
 use std::test::Fail;
 
-type Extension = Ext4<S12289>;
-
-type Commitment = ClearCommitment<S12289>;
-
-fn commitment(alloc: Global, number: u32) -> Result<Commitment, AllocError> {
-    let column = vec![in alloc; S12289::new(number)]?;
+fn commitment<F: RowField>(alloc: Global, x: F) -> Result<ClearCommitment<F>, AllocError> {
+    let mut column = Vec::new(alloc);
+    column.push(x)?;
     let matrix = vec![in alloc; column]?;
     Ok(ClearCommitment::new(vec![in alloc; matrix]?))
 }
@@ -40,24 +39,26 @@ fn shape(preprocessed_width: usize, has_randomization: bool, ood_pow_bits: usize
 }
 
 // The first phase of a verifier, over any challenger; its failure.
-fn first_failure<C>(
+fn first_failure<F, C>(
     alloc: Global,
     challenger: &mut C,
+    x: F,
+    publics: &[F],
     preprocessed_width: usize,
-    preprocessed: Option<&Commitment>,
+    preprocessed: Option<&ClearCommitment<F>>,
 ) -> Result<Option<StarkTranscriptFailure>, AllocError>
 where
-    C: CanObserve<S12289>
-        + CanObserve<Commitment>
-        + CanSample<Extension>
-        + GrindingChallenger<Witness = S12289>,
+    F: RowField,
+    C: CanObserve<F>
+        + CanObserve<ClearCommitment<F>>
+        + CanSample<F::Above>
+        + GrindingChallenger<Witness = F>,
+    requires { length publics.now ≡ 1 }
 {
-    let trace = commitment(alloc, 1)?;
+    let trace = commitment(alloc, x)?;
     let shape = shape(preprocessed_width, false, 0);
-    let mut transcript = StarkVerifierTranscript::<C, S12289, Extension>::new(
-        alloc, challenger, shape,
-    )?;
-    let answer = transcript.constraint_phase::<Commitment>(&trace, preprocessed, &[S12289::new(5)]);
+    let mut transcript = StarkVerifierTranscript::<C, F, F::Above>::new(alloc, challenger, shape)?;
+    let answer = transcript.constraint_phase::<ClearCommitment<F>>(&trace, preprocessed, publics);
     transcript.abort();
     Ok(answer.err())
 }
@@ -65,111 +66,118 @@ where
 #[test]
 fn preprocessed_commitments(rt: HostRuntime) -> Result<(), Fail> {
     let alloc = rt.alloc();
-    let other = commitment(alloc, 2)?;
-    let mut challenger = Sha256Challenger::<S12289>::new();
-    assert_eq!(rt;
-        first_failure(alloc, &mut challenger, 3, None)?,
-        Some(StarkTranscriptFailure::MissingPreprocessedCommitment { width: 3 })
-    );
-    assert_eq!(rt;
-        first_failure(alloc, &mut challenger, 0, Some(&other))?,
-        Some(StarkTranscriptFailure::UnexpectedPreprocessedCommitment)
-    );
-    assert_eq!(rt;
-        first_failure(alloc, &mut challenger, 3, Some(&other))?,
-        None
-    );
-    assert_eq!(rt; first_failure(alloc, &mut challenger, 0, None)?, None);
+    let x = Base::new(5);
+    let other = commitment(alloc, Base::new(2))?;
+    for (width, given, expected) in [
+        (
+            3,
+            None,
+            Some(StarkTranscriptFailure::MissingPreprocessedCommitment { width: 3 }),
+        ),
+        (
+            0,
+            Some(&other),
+            Some(StarkTranscriptFailure::UnexpectedPreprocessedCommitment),
+        ),
+        (3, Some(&other), None),
+        (0, None, None),
+    ] {
+        let mut challenger = Sha256Challenger::<Base>::new();
+        assert!(rt; first_failure(alloc, &mut challenger, x, &[x], width, given)? == expected);
+    }
     Ok(())
 }
 
 // What is committed to and handed over in a run.
 #[derive(Drop)]
-struct Inputs {
-    trace: Commitment,
-    preprocessed: Commitment,
-    public: S12289,
-    quotient: Commitment,
-    random: Commitment,
+struct Inputs<F> {
+    trace: ClearCommitment<F>,
+    preprocessed: ClearCommitment<F>,
+    public: F,
+    quotient: ClearCommitment<F>,
+    random: ClearCommitment<F>,
 }
 
-fn inputs_of(alloc: Global, numbers: [u32; 5]) -> Result<Inputs, AllocError> {
+fn inputs_of(alloc: Global, numbers: [u32; 5]) -> Result<Inputs<Base>, AllocError> {
     let [trace, preprocessed, public, quotient, random] = numbers;
     Ok(Inputs {
-        trace: commitment(alloc, trace)?,
-        preprocessed: commitment(alloc, preprocessed)?,
-        public: S12289::new(public),
-        quotient: commitment(alloc, quotient)?,
-        random: commitment(alloc, random)?,
+        trace: commitment(alloc, Base::new(trace))?,
+        preprocessed: commitment(alloc, Base::new(preprocessed))?,
+        public: Base::new(public),
+        quotient: commitment(alloc, Base::new(quotient))?,
+        random: commitment(alloc, Base::new(random))?,
     })
 }
 
 // A prover's run up to the end, or aborted after zeta: alpha, zeta and the witness.
-fn proved<C>(
+fn proved<F, C>(
     alloc: Global,
     challenger: &mut C,
-    inputs: &Inputs,
+    inputs: &Inputs<F>,
+    publics: &[F],
     delegates: bool,
-) -> Result<Option<(Extension, Extension, S12289)>, AllocError>
+) -> Result<Option<(F::Above, F::Above, F)>, AllocError>
 where
-    C: CanObserve<S12289>
-        + CanObserve<Commitment>
-        + CanSample<Extension>
-        + GrindingChallenger<Witness = S12289>,
+    F: RowField,
+    C: CanObserve<F>
+        + CanObserve<ClearCommitment<F>>
+        + CanSample<F::Above>
+        + GrindingChallenger<Witness = F>,
+    requires { length publics.now ≡ 1 }
 {
     let shape = shape(3, true, 1);
-    let mut transcript = StarkProverTranscript::<C, S12289, Extension>::new(
-        alloc, challenger, shape,
-    )?;
-    let alpha = transcript.constraint_phase::<Commitment>(
+    let mut transcript = StarkProverTranscript::<C, F, F::Above>::new(alloc, challenger, shape)?;
+    let alpha = transcript.constraint_phase::<ClearCommitment<F>>(
         &inputs.trace,
         Some(&inputs.preprocessed),
-        &[inputs.public],
+        publics,
     );
-    match transcript.ood_phase::<Commitment>(&inputs.quotient, Some(&inputs.random)) {
-        Ok((zeta, Some(witness))) => {
-            if delegates {
-                transcript.delegate(|_lent: &mut C| {});
-                transcript.finish();
-            } else {
-                transcript.abort();
-            }
-            Ok(Some((alpha, zeta, witness)))
-        }
-        _ => {
-            transcript.abort();
-            Ok(None)
-        }
-    }
-}
-
-// A verifier's run: alpha and zeta.
-fn verified<C>(
-    alloc: Global,
-    challenger: &mut C,
-    inputs: &Inputs,
-    witness: S12289,
-) -> Result<Option<(Extension, Extension)>, AllocError>
-where
-    C: CanObserve<S12289>
-        + CanObserve<Commitment>
-        + CanSample<Extension>
-        + GrindingChallenger<Witness = S12289>,
-{
-    let shape = shape(3, true, 1);
-    let mut transcript = StarkVerifierTranscript::<C, S12289, Extension>::new(
-        alloc, challenger, shape,
-    )?;
-    let publics = [inputs.public];
-    let Ok(alpha) = transcript.constraint_phase::<Commitment>(
-        &inputs.trace,
-        Some(&inputs.preprocessed),
-        &publics,
+    let Ok((zeta, witness)) = transcript.ood_phase::<ClearCommitment<F>>(
+        &inputs.quotient,
+        Some(&inputs.random),
     ) else {
         transcript.abort();
         return Ok(None);
     };
-    let Ok(zeta) = transcript.ood_phase::<Commitment>(
+    if delegates {
+        transcript.delegate(|_lent: &mut C| {});
+        transcript.finish();
+    } else {
+        transcript.abort();
+    }
+    match witness {
+        Some(witness) => Ok(Some((alpha, zeta, witness))),
+        None => Ok(None),
+    }
+}
+
+// A verifier's run: alpha and zeta.
+fn verified<F, C>(
+    alloc: Global,
+    challenger: &mut C,
+    inputs: &Inputs<F>,
+    publics: &[F],
+    witness: F,
+) -> Result<Option<(F::Above, F::Above)>, AllocError>
+where
+    F: RowField,
+    C: CanObserve<F>
+        + CanObserve<ClearCommitment<F>>
+        + CanSample<F::Above>
+        + GrindingChallenger<Witness = F>,
+    requires { length publics.now ≡ 1 }
+{
+    let shape = shape(3, true, 1);
+    let mut transcript = StarkVerifierTranscript::<C, F, F::Above>::new(alloc, challenger, shape)?;
+    let Ok(alpha) = transcript.constraint_phase::<ClearCommitment<F>>(
+        &inputs.trace,
+        Some(&inputs.preprocessed),
+        publics,
+    ) else {
+        transcript.abort();
+        return Ok(None);
+    };
+    let Ok(zeta) = transcript.ood_phase::<ClearCommitment<F>>(
         &inputs.quotient,
         Some(&inputs.random),
         witness,
@@ -187,11 +195,12 @@ fn sha256_run(
     alloc: Global,
     numbers: [u32; 5],
     delegates: bool,
-) -> Result<Option<(Extension, Extension, S12289, S12289)>, AllocError> {
+) -> Result<Option<(Extension, Extension, Base, Base)>, AllocError> {
     let inputs = inputs_of(alloc, numbers)?;
-    let mut challenger = Sha256Challenger::<S12289>::new();
-    let played = proved(alloc, &mut challenger, &inputs, delegates)?;
-    let next: S12289 = challenger.sample();
+    let mut challenger = Sha256Challenger::<Base>::new();
+    let publics = [inputs.public];
+    let played = proved(alloc, &mut challenger, &inputs, &publics, delegates)?;
+    let next: Base = challenger.sample();
     match played {
         Some((alpha, zeta, witness)) => Ok(Some((alpha, zeta, witness, next))),
         None => Ok(None),
@@ -205,9 +214,11 @@ fn both_sides(rt: HostRuntime) -> Result<(), Fail> {
     let Some((alpha, zeta, witness, next)) = sha256_run(alloc, numbers, true)? else {
         return Err(Fail::new("no witness of one bit"));
     };
-    let mut challenger = Sha256Challenger::<S12289>::new();
-    let drawn = verified(alloc, &mut challenger, &inputs_of(alloc, numbers)?, witness)?;
-    let next_drawn: S12289 = challenger.sample();
+    let mut challenger = Sha256Challenger::<Base>::new();
+    let inputs = inputs_of(alloc, numbers)?;
+    let publics = [inputs.public];
+    let drawn = verified(alloc, &mut challenger, &inputs, &publics, witness)?;
+    let next_drawn: Base = challenger.sample();
     assert!(rt; drawn == Some((alpha, zeta)));
     assert!(rt; next_drawn == next);
     let aborted = sha256_run(alloc, numbers, false)?;
@@ -235,30 +246,33 @@ fn other_events(rt: HostRuntime) -> Result<(), Fail> {
 }
 
 // The failure of a verifier's second phase.
-fn second_failure<C>(
+fn second_failure<'r, F, C>(
     alloc: Global,
     challenger: &mut C,
+    x: F,
+    publics: &[F],
     has_randomization: bool,
     bits: usize,
-    random: Option<&Commitment>,
+    random: Option<&'r ClearCommitment<F>>,
 ) -> Result<Option<StarkTranscriptFailure>, AllocError>
 where
-    C: CanObserve<S12289>
-        + CanObserve<Commitment>
-        + CanSample<Extension>
-        + GrindingChallenger<Witness = S12289>,
+    F: RowField,
+    C: CanObserve<F>
+        + CanObserve<ClearCommitment<F>>
+        + CanSample<F::Above>
+        + GrindingChallenger<Witness = F>,
+    requires { length publics.now ≡ 1 }
 {
-    let trace = commitment(alloc, 1)?;
+    let trace = commitment(alloc, x)?;
     let shape = shape(0, has_randomization, bits);
-    let mut transcript = StarkVerifierTranscript::<C, S12289, Extension>::new(
-        alloc, challenger, shape,
-    )?;
-    let first = transcript.constraint_phase::<Commitment>(&trace, None, &[S12289::new(5)]);
+    let mut transcript = StarkVerifierTranscript::<C, F, F::Above>::new(alloc, challenger, shape)?;
+    let absent: Option<&'r ClearCommitment<F>> = None;
+    let first = transcript.constraint_phase::<ClearCommitment<F>>(&trace, absent, publics);
     if let Err(failure) = first {
         transcript.abort();
         return Ok(Some(failure));
     }
-    let second = transcript.ood_phase::<Commitment>(&trace, random, S12289::new(0));
+    let second = transcript.ood_phase::<ClearCommitment<F>>(&trace, random, F::ZERO);
     transcript.abort();
     Ok(second.err())
 }
@@ -266,24 +280,33 @@ where
 #[test]
 fn second_phases(rt: HostRuntime) -> Result<(), Fail> {
     let alloc = rt.alloc();
-    let other = commitment(alloc, 2)?;
-    let list = vec![in alloc; S12289::new(4), S12289::new(3)]?;
-    let mut script = ScriptChallenger::new(list);
-    assert_eq!(rt;
-        second_failure(alloc, &mut script, true, 0, None)?,
-        Some(StarkTranscriptFailure::MissingRandomCommitment)
-    );
-    assert_eq!(rt;
-        second_failure(alloc, &mut script, false, 0, Some(&other))?,
-        Some(StarkTranscriptFailure::UnexpectedRandomCommitment)
-    );
-    assert_eq!(rt;
-        second_failure(alloc, &mut script, false, 16, None)?,
-        Some(StarkTranscriptFailure::OodPowWitness { bits: 16 })
-    );
-    assert_eq!(rt;
-        second_failure(alloc, &mut script, true, 0, Some(&other))?,
-        None
-    );
+    let x = Base::new(5);
+    let other = commitment(alloc, Base::new(2))?;
+    for (has_randomization, bits, random, expected) in [
+        (
+            true,
+            0,
+            None,
+            Some(StarkTranscriptFailure::MissingRandomCommitment),
+        ),
+        (
+            false,
+            0,
+            Some(&other),
+            Some(StarkTranscriptFailure::UnexpectedRandomCommitment),
+        ),
+        (
+            false,
+            16,
+            None,
+            Some(StarkTranscriptFailure::OodPowWitness { bits: 16 }),
+        ),
+        (true, 0, Some(&other), None),
+    ] {
+        let list = vec![in alloc; Base::new(4), Base::new(3)]?;
+        let mut script = ScriptChallenger::new(list);
+        let found = second_failure(alloc, &mut script, x, &[x], has_randomization, bits, random)?;
+        assert!(rt; found == expected);
+    }
     Ok(())
 }

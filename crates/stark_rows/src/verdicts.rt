@@ -4,22 +4,16 @@ mod heights;
 mod others;
 mod preprocessed;
 
-use crate::elements::element;
+use crate::calls;
+use crate::elements::{Base, Extension, numbers, row};
 use p3_uni_stark::{
-    Com, Commitments, OpenedValues, PcsError, PreprocessedOpenedValues, PreprocessedVerifierKey,
-    Proof, StarkProof, Val, verify, verify_with_preprocessed,
+    Commitments, OpenedValues, PreprocessedOpenedValues, PreprocessedVerifierKey, Proof,
 };
 use stark_air::Air;
-use stark_bench::{ClearCommitment, Ext4, S12289, ScriptChallenger};
+use stark_bench::{ClearCommitment, ScriptChallenger};
 use stark_clear::{ClearPcs, ClearProof};
-use stark_parts::{StarkConfig, StarkGenericConfig};
-use stark_support::GrindingChallenger;
+use stark_parts::StarkConfig;
 use std::alloc::{AllocError, Global};
-use std::fmt::Debug;
-
-type Base = S12289;
-
-type Extension = Ext4<Base>;
 
 type Commitment = ClearCommitment<Base>;
 
@@ -60,22 +54,6 @@ fn config(alloc: Global, zeta: u32, bits: usize) -> Result<Config, AllocError> {
     ]?;
     let config = StarkConfig::new(ClearPcs::new(), ScriptChallenger::new(list));
     Ok(config.with_ood_proof_of_work_bits(bits))
-}
-
-fn numbers(alloc: Global, values: &[u32]) -> Result<Vec<Base>, AllocError> {
-    let mut list = Vec::new(alloc);
-    for value in values {
-        list.push(Base::new(*value))?;
-    }
-    Ok(list)
-}
-
-fn row(alloc: Global, values: &[u32]) -> Result<Vec<Extension>, AllocError> {
-    let mut list = Vec::new(alloc);
-    for value in values {
-        list.push(element(*value, 0, 0, 0))?;
-    }
-    Ok(list)
 }
 
 /// The commitment to one matrix of one column.
@@ -131,28 +109,6 @@ fn proof_of(
     })
 }
 
-/// What any verifier answers, in words: `verify` where no key is given.
-fn verified<SC, A>(
-    alloc: Global,
-    config: &SC,
-    air: &A,
-    proof: &StarkProof<SC>,
-    publics: &[Val<SC>],
-    key: Option<&PreprocessedVerifierKey<Com<SC>>>,
-) -> Result<String, AllocError>
-where
-    SC: StarkGenericConfig,
-    SC::Challenger: GrindingChallenger<Witness = Val<SC>>,
-    A: Air<Val<SC>>,
-    PcsError<SC>: Debug,
-{
-    let answer = match key {
-        Some(_) => verify_with_preprocessed(alloc, config, air, proof, publics, key),
-        None => verify(alloc, config, air, proof, publics),
-    };
-    format!(in alloc; "{answer:?}")
-}
-
 /// What the verifier of an AIR answers of a proof with these preprocessed rows and this key.
 fn answer_with<A: Air<Base>>(
     alloc: Global,
@@ -164,7 +120,7 @@ fn answer_with<A: Air<Base>>(
     let config = config(alloc, shown.zeta, shown.bits)?;
     let publics = numbers(alloc, shown.publics)?;
     let proof = proof_of(alloc, shown, rows)?;
-    verified(alloc, &config, air, &proof, &publics, key)
+    calls::answer(alloc, &config, air, &proof, &publics, key)
 }
 
 /// The same without preprocessed columns.

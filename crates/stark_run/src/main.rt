@@ -1,34 +1,13 @@
-//! Checks the numbers of a proof at one point, from bytes to bytes.
+//! Checks the numbers of a proof at one point, or verifies a proof, from bytes to bytes.
 #![tactic(auto)]
 
 ghost use Rattle.std.specs.Prelude.{◌≡◌, ◌⊎◌, IfErr};
 
-#[cfg(test)]
-mod air_tests;
-mod airs;
-mod check;
-mod input;
-mod judge;
-mod point;
-mod proof_input;
-mod refusal;
-mod run;
-mod sources;
-mod streams;
-#[cfg(test)]
-mod tests;
-mod verdict;
-mod verify;
-#[cfg(test)]
-mod verify_tests;
-mod words;
-
-use run::run;
-use sources::{WatchedReader, WatchedWriter};
+use stark_input::{Refusal, RunEnd, Verdict, WatchedReader, WatchedWriter, tell};
+use stark_program::run;
 use std::alloc::AllocError;
 use std::process::ExitCode;
 use std::{env, io};
-use verdict::{Refusal, RunEnd, Verdict};
 
 /// The words after the program's name, or what is said where there are none.
 fn words_of(rt: &HostRuntime) -> Result<Vec<String>, Verdict>
@@ -56,7 +35,7 @@ fn main(rt: HostRuntime) -> ExitCode {
             let mut reader = WatchedReader::new(rt.stdin());
             run(rt.alloc(), &words, &mut reader, &mut writer)
         }
-        Err(verdict) => run::tell(verdict, &mut writer),
+        Err(verdict) => tell(verdict, &mut writer),
     };
     match end {
         RunEnd::InputFailed => {

@@ -105,7 +105,7 @@ module _ {F E : Type 0} (i : AirInstance F E) (laws : FieldLaws i.ring i.inverse
   one_row_more n kept row l h = elim (below_or_same l n h) [ inl below ↦ kept l below | inr same ↦ subst (RowHolds i columns) (sym same) row ]
 
   -- A trace keeps all rows, or some row is the first broken one.
-  first_broken : (n : ℕ) → n ≤ height i → ((l : ℕ) → l < n → RowHolds i columns l) ⊎ ((k : ℕ) × IsFirstBrokenRow i columns k)
+  pub first_broken : (n : ℕ) → n ≤ height i → ((l : ℕ) → l < n → RowHolds i columns l) ⊎ ((k : ℕ) × IsFirstBrokenRow i columns k)
   first_broken zero within = inl (λ l h. absurd (omega (arith, h)))
   first_broken (suc n) within =
       elim (first_broken n (omega (arith, within))) [

@@ -3,10 +3,9 @@ ghost use Rattle.std.specs.Prelude.{◌≡◌, ◌<◌, ◌^◌};
 ghost use Rattle.stark_security.specs.Openings.{hides, random_columns, powers_of, batched_openings, points_of};
 
 /// What a commitment scheme opens beside the columns that an AIR has.
-#[derive(Clone, Copy, Debug, PartialEq, Eq, Default)]
+#[derive(Clone, Copy, Debug, PartialEq, Eq)]
 pub enum OpeningShape {
     /// Two-adic FRI: each column once at each of its points.
-    #[default]
     TwoAdic,
     /// Circle FRI, which takes two powers of the batching challenge for each column and point.
     Circle,
@@ -15,6 +14,18 @@ pub enum OpeningShape {
         /// How many random columns each of these matrices has.
         num_random_codewords: usize,
     },
+}
+
+impl Default for OpeningShape {
+    ghost use Rattle.std.specs.Prelude.{◌≡◌};
+    ghost use Rattle.stark_security.specs.declared.openings.OpeningShape.TheVariants.{TwoAdic};
+
+    ghost is_default = { λ shape. shape ≡ TwoAdic };
+
+    /// That of two-adic FRI.
+    fn default() -> OpeningShape {
+        OpeningShape::TwoAdic
+    }
 }
 
 impl OpeningShape {

@@ -201,6 +201,11 @@ pub trait ExtensionField<F: Field>: Field + Algebra<F> {
         requires { index < DIMENSION }
         ensures { slice_get (coordinates self) index ≡ Some result };
 
+    /// An element of the basis.
+    fn basis_element(index: usize) -> Self
+        requires { index < DIMENSION }
+        ensures { slice_get basis index ≡ Some result };
+
     /// The element with the coordinates; None if their number isn't `DIMENSION`.
     fn from_basis_coefficients_slice(coefficients: &[F]) -> Option<Self>
         ensures as_many { length coefficients.now ≡ DIMENSION → result ≡ Some (basis_sum Self.ring (λ c. c) basis (map embed coefficients.now)) }
@@ -227,11 +232,14 @@ pub trait ExtensionField<F: Field>: Field + Algebra<F> {
 /// `ExtensionField` its type keeps a trait's method from being generic in an extension.
 pub trait PackedExtensionField<F: Field>: ExtensionField<F> {
     /// Packed values of this field, as many as the base field packs.
-    type ExtensionPacking: PackedValue<Value = Self>;
+    type ExtensionPacking: PackedValue<Value = Self> + From<F::Packing>;
 
     /// Packed elements of the base field, each embedded.
     fn from_packed_base(x: F::Packing) -> Self::ExtensionPacking
         ensures { Self.ExtensionPacking.lanes result ≡ map Self.embed (F.Packing.lanes x) };
+
+    /// Packed elements of the base field that are turned into packed elements of this one are each embedded.
+    ghost from_packed_is: { (x : F.Packing) (y : Self.ExtensionPacking) → ⟦<Self::ExtensionPacking as From<F::Packing>>⟧.from_gives x y → Self.ExtensionPacking.lanes y ≡ map Self.embed (F.Packing.lanes x) };
 
     /// The lanes are added and multiplied as this field's elements.
     ghost extension_packed_ring: { Self.ExtensionPacking.lane_ring ≡ Self.ring };

@@ -1,19 +1,23 @@
 //! Values that JSON spells.
-ghost use Rattle.std.specs.Prelude.{◌≡◌, ◌≢◌, Option, Some, IfOk, map};
+ghost use Rattle.std.specs.Prelude.{◌≡◌, ◌≢◌, Option, Some, IfErr, IfOk, map};
 ghost use Rattle.serde_json.specs.Data.{Data, null};
 ghost use Rattle.serde_json.specs.View.{view, items_view};
 ghost use Rattle.serde_json.specs.Find.{get};
 ghost use Rattle.stark_support.specs.Json.{Gives, each_at, array_at, json_of};
+ghost use Rattle.stark_support.specs.declared.json.JsonFault.TheVariants.{Invalid};
 
 use serde_json::Value;
 use std::alloc::{AllocError, AllocFailed, Global};
+use thiserror::Error;
 
 /// Why a value was not read.
-#[derive(Debug, Drop)]
+#[derive(Debug, Drop, Error)]
 pub enum JsonFault {
     /// The JSON value spells none.
+    #[error("the JSON value is refused")]
     Invalid,
     /// A growth of memory was refused.
+    #[error("out of memory")]
     OutOfMemory,
 }
 
@@ -118,9 +122,10 @@ pub fn lists_from_json<T: JsonCodec + Drop>(
     each_list_from_json(alloc, values)
 }
 
-/// What an object has under a key.
+/// What an object has under a key. It takes no memory.
 pub fn field_of<'a>(value: &'a Value, key: &str) -> Result<&'a Value, JsonFault>
-    ensures { Gives (λ v. view v.now) result (get key.now (view value.now)) }
+    ensures found { Gives (λ v. view v.now) result (get key.now (view value.now)) }
+    ensures no_memory { IfErr result (λ fault. fault ≡ Invalid) }
 {
     match value.get(key) {
         Some(found) => Ok(found),

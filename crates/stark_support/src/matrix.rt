@@ -1,9 +1,9 @@
 //! Rows of values, owned and borrowed.
-ghost use Rattle.std.specs.Prelude.{◌≡◌, ◌<◌, ◌+◌, ◌*◌, ◌/◌, ◌%◌, ◌^◌, ◌++◌, ℕ, Some, length, IfOk, OnOk};
+ghost use Rattle.std.specs.Prelude.{◌≡◌, ◌<◌, ◌≤◌, ◌+◌, ◌*◌, ◌/◌, ◌%◌, ◌^◌, ◌++◌, ℕ, Some, length, IfOk, OnOk, OnErr, vec_capacity};
 ghost use Rattle.std.specs.List.{flat_map, slice_get, slice_range};
 
 use crate::field::{ExtensionField, Field};
-use crate::packed::PackedValue;
+use crate::packed::{PackedValue, packed_from_fn};
 use std::alloc::{AllocError, Global};
 
 /// Rows of a matrix, one after the other.
@@ -61,47 +61,81 @@ impl<T> RowMajorMatrix<T> {
     }
 }
 
+/// The row that lies `further` after row `r` of `height` rows, taken round the end.
+fn row_after(r: usize, further: usize, height: usize) -> usize
+    requires { 0 < height }
+    ensures { result ≡ (r + further) % height }
+{
+    let first = r % height;
+    let more = further % height;
+    if more < height - first {
+        first + more
+    } else {
+        more - (height - first)
+    }
+}
+
 impl<T: Copy> RowMajorMatrix<T> {
-    /// The values of a column in `count` rows from row `r` on, taken round the end.
-    fn cells_down(
-        &self,
-        alloc: Global,
-        r: usize,
-        column: usize,
-        count: usize,
-    ) -> Result<Vec<T>, AllocError>
-        requires row { r < length self.now.values.items / self.now.width }
+    /// The value of a column in the row that lies `further` after row `r`, taken round the end.
+    fn cell_down(&self, r: usize, further: usize, column: usize) -> T
+        requires rows { 0 < length self.now.values.items / self.now.width }
         requires column { column < self.now.width }
-        ensures number { IfOk result (λ cells. length cells.items ≡ count) }
-        ensures cells { IfOk result (λ cells. (i : ℕ) → i < count → slice_get cells.items i
-            ≡ slice_get self.now.values.items (((r + i) % (length self.now.values.items / self.now.width)) * self.now.width + column)) }
+        ensures { slice_get self.now.values.items (((r + further) % (length self.now.values.items / self.now.width)) * self.now.width + column) ≡ Some result }
     {
-        let height = self.height();
-        let mut cells = Vec::new(alloc);
-        let mut row = r;
-        for _cell in 0..count {
-            cells.push(self.values[row * self.width + column])?;
-            row = (row + 1) % height;
-        }
-        Ok(cells)
+        self.values[row_after(r, further, self.height()) * self.width + column]
     }
 
-    /// For each column the packed values of the rows `r`, `r + 1`, .., a row a lane, taken round the end.
+    /// The packed values of a column in the rows `r`, `r + 1`, .., a row a lane, taken round the end.
+    fn packed_down<P: PackedValue<Value = T>>(&self, r: usize, column: usize) -> P
+        requires rows { 0 < length self.now.values.items / self.now.width }
+        requires column { column < self.now.width }
+        ensures { (i : ℕ) → i < P.WIDTH → slice_get (P.lanes result) i
+            ≡ slice_get self.now.values.items (((r + i) % (length self.now.values.items / self.now.width)) * self.now.width + column) }
+    {
+        packed_from_fn(
+            |lane| -> T
+                requires rows { 0 < length self.now.values.items / self.now.width }
+                requires column { column < self.now.width }
+                ensures { slice_get self.entry.now.values.items (((r + lane) % (length self.entry.now.values.items / self.entry.now.width)) * self.entry.now.width + column) ≡ Some result }
+            { self.cell_down(r, lane, column) },
+        )
+    }
+
+    /// Puts `vertically_packed_row` in a lent buffer, in place of what it has. Err only where the buffer has no room for it
+    /// and memory was refused.
+    pub fn vertically_packed_row_into<P: PackedValue<Value = T>>(
+        &self,
+        r: usize,
+        packed: &mut Vec<P>,
+    ) -> Result<(), AllocError>
+        requires { 0 < length self.now.values.items / self.now.width }
+        ensures room { OnErr result (vec_capacity packed.old < self.now.width) }
+        ensures kept_room { vec_capacity packed.old ≤ vec_capacity packed.new }
+        ensures number { OnOk result (length packed.new.items ≡ self.now.width) }
+        ensures lanes { OnOk result ((c : ℕ) (p : P) → slice_get packed.new.items c ≡ Some p → (i : ℕ) → i < P.WIDTH → slice_get (P.lanes p) i
+            ≡ slice_get self.now.values.items (((r + i) % (length self.now.values.items / self.now.width)) * self.now.width + c)) }
+    {
+        packed.clear();
+        for column in 0..self.width {
+            packed.push(self.packed_down(r, column))?;
+        }
+        Ok(())
+    }
+
+    /// For each column the packed values of the rows `r`, `r + 1`, .., a row a lane, taken round the end. Err only where
+    /// memory was refused.
     pub fn vertically_packed_row<P: PackedValue<Value = T>>(
         &self,
         alloc: Global,
         r: usize,
     ) -> Result<Vec<P>, AllocError>
-        requires { r < length self.now.values.items / self.now.width }
+        requires { 0 < length self.now.values.items / self.now.width }
         ensures number { IfOk result (λ packed. length packed.items ≡ self.now.width) }
         ensures lanes { IfOk result (λ packed. (c : ℕ) (p : P) → slice_get packed.items c ≡ Some p → (i : ℕ) → i < P.WIDTH → slice_get (P.lanes p) i
             ≡ slice_get self.now.values.items (((r + i) % (length self.now.values.items / self.now.width)) * self.now.width + c)) }
     {
         let mut packed = Vec::new(alloc);
-        for column in 0..self.width {
-            let cells = self.cells_down(alloc, r, column, P::WIDTH)?;
-            packed.push(P::from_slice(&cells))?;
-        }
+        self.vertically_packed_row_into(r, &mut packed)?;
         Ok(packed)
     }
 }

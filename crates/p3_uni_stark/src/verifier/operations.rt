@@ -1,6 +1,15 @@
 //! What a verifier's clauses say of a configuration's types and values, in two records.
 ghost use Rattle.std.specs.Prelude.{List, Option};
+ghost use Rattle.stark_parts.specs.Replay.{PhaseOutcome};
+ghost use Rattle.stark_parts.specs.declared.error.VerificationError.{VerificationError};
+ghost use Rattle.stark_parts.specs.declared.shape.StarkShape.{StarkShape};
+ghost use Rattle.stark_parts.specs.declared.shape.StarkTranscriptFailure.{StarkTranscriptFailure};
+ghost use Rattle.stark_proof.specs.ProofView.{proof_view};
+ghost use Rattle.stark_proof.specs.declared.values.Proof.{Proof};
+ghost use Rattle.p3_uni_stark.specs.Acceptance.{Accepted, IsBalanced, RunHolds, challenges, described, seeded, shape_fault};
+ghost use Rattle.p3_uni_stark.specs.FirstFault.{FirstFault, RunFault};
 ghost use Rattle.p3_uni_stark.specs.Instance.{Instance, ProtocolOps};
+ghost use Rattle.p3_uni_stark.specs.SoundAcceptance.{BreakingNeedsBadChallenges};
 ghost use Rattle.p3_uni_stark.specs.declared.preprocessed.PreprocessedVerifierKey.{PreprocessedVerifierKey};
 
 use stark_air::Air;
@@ -63,6 +72,67 @@ where
       public_values = public_values;
       key = key;
     } };
+}
+
+/// What a verdict on a proof says, with a configuration, for an AIR, with public values and a key: whether the proof is
+/// accepted, what an accepted proof says of the columns, which errors name the first fault.
+pub trait StarkVerdict<A>: StarkGenericConfig {
+    ghost accepted: { Self → A → Proof Self.Pcs.Commitment Self.Challenge Self.Pcs.Proof Self.Pcs.Domain.Val → List Self.Pcs.Domain.Val → Option (PreprocessedVerifierKey Self.Pcs.Commitment) → Type 0 };
+
+    ghost sound: { Self → A → Proof Self.Pcs.Commitment Self.Challenge Self.Pcs.Proof Self.Pcs.Domain.Val → List Self.Pcs.Domain.Val → Option (PreprocessedVerifierKey Self.Pcs.Commitment) → Type 0 };
+
+    ghost first_fault: { Self → A → Proof Self.Pcs.Commitment Self.Challenge Self.Pcs.Proof Self.Pcs.Domain.Val → List Self.Pcs.Domain.Val → Option (PreprocessedVerifierKey Self.Pcs.Commitment) → VerificationError Self.Pcs.Error → Type 0 };
+}
+
+impl<SC, A> StarkVerdict<A> for SC
+where
+    SC: StarkGenericConfig,
+    SC::Challenger: GrindingChallenger<Witness = Val<SC>>,
+    A: Air<Val<SC>>,
+{
+    ghost accepted = { λ config air proof public_values key. Accepted ⟦<SC as StarkOperations>⟧.operations (⟦<SC as StarkInstance<A>>⟧.instance config air public_values key) (proof_view proof) };
+
+    ghost sound = { λ config air proof public_values key. BreakingNeedsBadChallenges ⟦<SC as StarkOperations>⟧.operations (⟦<SC as StarkInstance<A>>⟧.instance config air public_values key) (proof_view proof) };
+
+    ghost first_fault = { λ config air proof public_values key. FirstFault ⟦<SC as StarkOperations>⟧.operations (⟦<SC as StarkInstance<A>>⟧.instance config air public_values key) (proof_view proof) };
+}
+
+/// What the parts of a verifier find of a proof, with the same.
+pub trait StarkRun<A>: StarkGenericConfig {
+    ghost shape_fault: { Self → A → Proof Self.Pcs.Commitment Self.Challenge Self.Pcs.Proof Self.Pcs.Domain.Val → List Self.Pcs.Domain.Val → Option (PreprocessedVerifierKey Self.Pcs.Commitment) → Option (VerificationError Self.Pcs.Error) };
+
+    ghost described: { Self → A → Proof Self.Pcs.Commitment Self.Challenge Self.Pcs.Proof Self.Pcs.Domain.Val → List Self.Pcs.Domain.Val → Option (PreprocessedVerifierKey Self.Pcs.Commitment) → StarkShape };
+
+    ghost seeded: { Self → A → Proof Self.Pcs.Commitment Self.Challenge Self.Pcs.Proof Self.Pcs.Domain.Val → List Self.Pcs.Domain.Val → Option (PreprocessedVerifierKey Self.Pcs.Commitment) → Self.Challenger };
+
+    ghost challenges: { Self → A → Proof Self.Pcs.Commitment Self.Challenge Self.Pcs.Proof Self.Pcs.Domain.Val → List Self.Pcs.Domain.Val → Option (PreprocessedVerifierKey Self.Pcs.Commitment) → PhaseOutcome Self.Challenger (Self.Challenge × Self.Challenge) StarkTranscriptFailure };
+
+    ghost run_holds: { Self → A → Proof Self.Pcs.Commitment Self.Challenge Self.Pcs.Proof Self.Pcs.Domain.Val → List Self.Pcs.Domain.Val → Option (PreprocessedVerifierKey Self.Pcs.Commitment) → Self.Challenge → Self.Challenge → Type 0 };
+
+    ghost run_fault: { Self → A → Proof Self.Pcs.Commitment Self.Challenge Self.Pcs.Proof Self.Pcs.Domain.Val → List Self.Pcs.Domain.Val → Option (PreprocessedVerifierKey Self.Pcs.Commitment) → VerificationError Self.Pcs.Error → Type 0 };
+
+    ghost balanced: { Self → A → Proof Self.Pcs.Commitment Self.Challenge Self.Pcs.Proof Self.Pcs.Domain.Val → List Self.Pcs.Domain.Val → Option (PreprocessedVerifierKey Self.Pcs.Commitment) → Self.Challenge → Self.Challenge → Type 0 };
+}
+
+impl<SC, A> StarkRun<A> for SC
+where
+    SC: StarkGenericConfig,
+    SC::Challenger: GrindingChallenger<Witness = Val<SC>>,
+    A: Air<Val<SC>>,
+{
+    ghost shape_fault = { λ config air proof public_values key. shape_fault ⟦<SC as StarkOperations>⟧.operations (⟦<SC as StarkInstance<A>>⟧.instance config air public_values key) (proof_view proof) };
+
+    ghost described = { λ config air proof public_values key. described ⟦<SC as StarkOperations>⟧.operations (⟦<SC as StarkInstance<A>>⟧.instance config air public_values key) (proof_view proof) };
+
+    ghost seeded = { λ config air proof public_values key. seeded ⟦<SC as StarkOperations>⟧.operations (⟦<SC as StarkInstance<A>>⟧.instance config air public_values key) (proof_view proof) };
+
+    ghost challenges = { λ config air proof public_values key. challenges ⟦<SC as StarkOperations>⟧.operations (⟦<SC as StarkInstance<A>>⟧.instance config air public_values key) (proof_view proof) };
+
+    ghost run_holds = { λ config air proof public_values key. RunHolds ⟦<SC as StarkOperations>⟧.operations (⟦<SC as StarkInstance<A>>⟧.instance config air public_values key) (proof_view proof) };
+
+    ghost run_fault = { λ config air proof public_values key. RunFault ⟦<SC as StarkOperations>⟧.operations (⟦<SC as StarkInstance<A>>⟧.instance config air public_values key) (proof_view proof) };
+
+    ghost balanced = { λ config air proof public_values key. IsBalanced ⟦<SC as StarkOperations>⟧.operations (⟦<SC as StarkInstance<A>>⟧.instance config air public_values key) (proof_view proof) };
 }
 
 /// The opening proofs of a configuration's scheme.

@@ -1,4 +1,5 @@
 //! The run of a verifier's transcript: the challenges, the tests at the sampled point, the opening argument.
+ghost use Rattle.std.specs.Option.{option_copied};
 ghost use Rattle.std.specs.Prelude.{◌≡◌, ◌≢◌, ◌⊎◌, ◌^◌, ◌≤◌, ◌<◌, ◌+◌, IfErr, IfOk, None, length, map, option_map};
 ghost use Rattle.stark_support.specs.Coset.{coset_size, coset_vanishing};
 ghost use Rattle.stark_support.specs.Periodic.{first_fault};
@@ -6,18 +7,17 @@ ghost use Rattle.stark_support.specs.Scheme.{natural_coset, zk_bits};
 ghost use Rattle.stark_parts.specs.Shape.{shape_of};
 ghost use Rattle.stark_parts.specs.declared.error.VerificationError.TheVariants.{OutOfMemory};
 ghost use Rattle.stark_parts.specs.declared.shape.TranscriptPhase.TheVariants.{Delegated, Drawn, Opened};
-ghost use Rattle.p3_uni_stark.specs.Acceptance.{IsPointOfH, RunHolds, challenges, described, periodic_values, seeded};
+ghost use Rattle.p3_uni_stark.specs.Acceptance.{IsPointOfH, periodic_values};
 ghost use Rattle.p3_uni_stark.specs.Challenges.{challenges_outcome};
-ghost use Rattle.p3_uni_stark.specs.FirstFault.{PointFault, RunFault};
+ghost use Rattle.p3_uni_stark.specs.FirstFault.{IsOutOfMemoryOr, PointFault};
 ghost use Rattle.p3_uni_stark.specs.Instance.{log_height, trace_coset};
-ghost use Rattle.stark_proof.specs.ProofView.{proof_view};
 ghost use Rattle.p3_uni_stark.specs.ShapeFaults.{width_in_force};
 ghost use Rattle.p3_uni_stark.specs.Sizes.{log_parts_of};
 
 use crate::heights::power_of_two;
 use crate::preprocessed::PreprocessedVerifierKey;
 use crate::verifier::argument::delegate_openings;
-use crate::verifier::operations::{StarkInstance, StarkOperations, StarkProof};
+use crate::verifier::operations::{StarkOperations, StarkProof, StarkRun};
 use crate::verifier::point::check_point;
 use crate::verifier::preprocessed::width_in_force;
 use crate::verifier::steps::ProofDomains;
@@ -63,15 +63,10 @@ where
     ensures drawn { IfOk result (λ _. transcript.new.phase ≡ Drawn) }
 {
     let trace = &commitments.trace;
-    let alpha = match transcript.constraint_phase::<K>(trace, preprocessed, public_values) {
-        Ok(alpha) => alpha,
-        Err(failure) => return Err(failure),
-    };
+    let alpha = transcript.constraint_phase::<K>(trace, preprocessed, public_values)?;
     let random = commitments.random.as_ref();
-    match transcript.ood_phase::<K>(&commitments.quotient_chunks, random, witness) {
-        Ok(zeta) => Ok((alpha, zeta)),
-        Err(failure) => Err(failure),
-    }
+    let zeta = transcript.ood_phase::<K>(&commitments.quotient_chunks, random, witness)?;
+    Ok((alpha, zeta))
 }
 
 /// A key's commitment.
@@ -133,12 +128,12 @@ where
     A: Air<Val<SC>>,
     requires counted { length public_values.now ≡ (A.layout air.now).publics }
     requires opened { transcript.old.phase ≡ Opened }
-    requires described { transcript.old.shape ≡ described ⟦<SC as StarkOperations>⟧.operations (⟦<SC as StarkInstance<A>>⟧.instance config.now air.now public_values.now (option_map (λ k. k.now) key)) (proof_view proof.now) }
-    requires seeded { transcript.old.challenger.now ≡ seeded ⟦<SC as StarkOperations>⟧.operations (⟦<SC as StarkInstance<A>>⟧.instance config.now air.now public_values.now (option_map (λ k. k.now) key)) (proof_view proof.now) }
+    requires described { transcript.old.shape ≡ ⟦<SC as StarkRun<A>>⟧.described config.now air.now proof.now public_values.now (option_copied key) }
+    requires seeded { transcript.old.challenger.now ≡ ⟦<SC as StarkRun<A>>⟧.seeded config.now air.now proof.now public_values.now (option_copied key) }
     ensures same_reference { transcript.new.challenger.ghost_name ≡ transcript.old.challenger.ghost_name }
     ensures drawn { IfOk result (λ _. transcript.new.phase ≡ Drawn) }
-    ensures answer { result ≡ (challenges ⟦<SC as StarkOperations>⟧.operations (⟦<SC as StarkInstance<A>>⟧.instance config.now air.now public_values.now (option_map (λ k. k.now) key.entry)) (proof_view proof.now)).answer }
-    ensures state { transcript.new.challenger.now ≡ (challenges ⟦<SC as StarkOperations>⟧.operations (⟦<SC as StarkInstance<A>>⟧.instance config.now air.now public_values.now (option_map (λ k. k.now) key.entry)) (proof_view proof.now)).state }
+    ensures answer { result ≡ (⟦<SC as StarkRun<A>>⟧.challenges config.now air.now proof.now public_values.now (option_copied key.entry)).answer }
+    ensures state { transcript.new.challenger.now ≡ (⟦<SC as StarkRun<A>>⟧.challenges config.now air.now proof.now public_values.now (option_copied key.entry)).state }
 {
     let commitments = &proof.commitments;
     let preprocessed = commitment_of(key);
@@ -172,15 +167,11 @@ where
     ensures fault { IfErr result (λ error. (error ≡ OutOfMemory) ⊎ PointFault (IsPointOfH ⟦<SC as StarkOperations>⟧.operations.opening.fields (log_height SC.Pcs.ZK degree_bits) zeta)
         (first_fault (2 ^ log_height SC.Pcs.ZK degree_bits) 0 (map (λ column. length column) (A.periodic_columns air.now))) error) }
 {
-    match check_point::<Domain<SC>, SC::Challenge, A, PcsError<SC>>(
-        alloc,
-        air,
-        &domains.trace,
-        zeta,
-    ) {
-        Ok(values) => Ok(values),
-        Err(fault) => Err(fault),
-    }
+    let trace = &domains.trace;
+    let values = check_point::<Domain<SC>, SC::Challenge, A, PcsError<SC>>(
+        alloc, air, trace, zeta,
+    )?;
+    Ok(values)
 }
 
 /// The transcript up to the end of its opening argument.
@@ -202,31 +193,23 @@ where
     requires committed { SC.Pcs.Domain.coset_of domains.committed ≡ natural_coset SC.Pcs.Domain.Val.ring proof.now.degree_bits }
     requires counted { length public_values.now ≡ (A.layout air.now).publics }
     requires opened { transcript.old.phase ≡ Opened }
-    requires described { transcript.old.shape ≡ described ⟦<SC as StarkOperations>⟧.operations (⟦<SC as StarkInstance<A>>⟧.instance config.now air.now public_values.now (option_map (λ k. k.now) key)) (proof_view proof.now) }
-    requires seeded { transcript.old.challenger.now ≡ seeded ⟦<SC as StarkOperations>⟧.operations (⟦<SC as StarkInstance<A>>⟧.instance config.now air.now public_values.now (option_map (λ k. k.now) key)) (proof_view proof.now) }
+    requires described { transcript.old.shape ≡ ⟦<SC as StarkRun<A>>⟧.described config.now air.now proof.now public_values.now (option_copied key) }
+    requires seeded { transcript.old.challenger.now ≡ ⟦<SC as StarkRun<A>>⟧.seeded config.now air.now proof.now public_values.now (option_copied key) }
     ensures same_reference { transcript.new.challenger.ghost_name ≡ transcript.old.challenger.ghost_name }
     ensures delegated { IfOk result (λ _. transcript.new.phase ≡ Delegated) }
-    ensures holds { IfOk result (λ point. RunHolds ⟦<SC as StarkOperations>⟧.operations (⟦<SC as StarkInstance<A>>⟧.instance config.now air.now public_values.now (option_map (λ k. k.now) key.entry)) (proof_view proof.now) point.alpha point.zeta) }
+    ensures holds { IfOk result (λ point. ⟦<SC as StarkRun<A>>⟧.run_holds config.now air.now proof.now public_values.now (option_copied key.entry) point.alpha point.zeta) }
     ensures nonzero { IfOk result (λ point. coset_vanishing SC.Challenge.ring (λ c. c) SC.Challenge.inverse_of (coset_size (SC.Pcs.Domain.coset_of domains.trace)) (SC.Challenge.embed (SC.Pcs.Domain.coset_of domains.trace).shift) point.zeta ≢ SC.Challenge.ring.zero) }
     ensures values { IfOk result (λ point. point.periodic_values.items ≡ periodic_values ⟦<SC as StarkOperations>⟧.operations.opening.fields (A.periodic_columns air.now) (log_height SC.Pcs.ZK proof.now.degree_bits) point.zeta) }
-    ensures fault { IfErr result (λ error. (error ≡ OutOfMemory) ⊎ RunFault ⟦<SC as StarkOperations>⟧.operations (⟦<SC as StarkInstance<A>>⟧.instance config.now air.now public_values.now (option_map (λ k. k.now) key.entry)) (proof_view proof.now) error) }
+    ensures fault { IfErr result (IsOutOfMemoryOr (⟦<SC as StarkRun<A>>⟧.run_fault config.now air.now proof.now public_values.now (option_copied key.entry))) }
 {
-    let (alpha, zeta) = match replay_proof(config, air, proof, public_values, key, transcript) {
-        Ok(drawn) => drawn,
-        Err(failure) => return Err(VerificationError::from(failure)),
-    };
-    let periodic_values = match test_point::<SC, A>(alloc, air, proof.degree_bits, domains, zeta) {
-        Ok(values) => values,
-        Err(fault) => return Err(fault),
-    };
-    match delegate_openings(alloc, config, proof, key, domains, zeta, transcript) {
-        Ok(()) => Ok(SampledPoint {
-            alpha,
-            zeta,
-            periodic_values,
-        }),
-        Err(fault) => Err(fault),
-    }
+    let (alpha, zeta) = replay_proof(config, air, proof, public_values, key, transcript)?;
+    let periodic_values = test_point::<SC, A>(alloc, air, proof.degree_bits, domains, zeta)?;
+    delegate_openings(alloc, config, proof, key, domains, zeta, transcript)?;
+    Ok(SampledPoint {
+        alpha,
+        zeta,
+        periodic_values,
+    })
 }
 
 /// The run of the transcript from the configuration's first state: the challenges, the tests at zeta, the opening argument.
@@ -249,10 +232,10 @@ where
     requires extended { zk_bits SC.Pcs.ZK ≤ proof.now.degree_bits }
     requires few { domains.log_chunks < 64 }
     requires counted { length public_values.now ≡ (A.layout air.now).publics }
-    ensures holds { IfOk result (λ point. RunHolds ⟦<SC as StarkOperations>⟧.operations (⟦<SC as StarkInstance<A>>⟧.instance config.now air.now public_values.now (option_map (λ k. k.now) key.entry)) (proof_view proof.now) point.alpha point.zeta) }
+    ensures holds { IfOk result (λ point. ⟦<SC as StarkRun<A>>⟧.run_holds config.now air.now proof.now public_values.now (option_copied key.entry) point.alpha point.zeta) }
     ensures nonzero { IfOk result (λ point. coset_vanishing SC.Challenge.ring (λ c. c) SC.Challenge.inverse_of (coset_size (SC.Pcs.Domain.coset_of domains.trace)) (SC.Challenge.embed (SC.Pcs.Domain.coset_of domains.trace).shift) point.zeta ≢ SC.Challenge.ring.zero) }
     ensures values { IfOk result (λ point. point.periodic_values.items ≡ periodic_values ⟦<SC as StarkOperations>⟧.operations.opening.fields (A.periodic_columns air.now) (log_height SC.Pcs.ZK proof.now.degree_bits) point.zeta) }
-    ensures fault { IfErr result (λ error. (error ≡ OutOfMemory) ⊎ RunFault ⟦<SC as StarkOperations>⟧.operations (⟦<SC as StarkInstance<A>>⟧.instance config.now air.now public_values.now (option_map (λ k. k.now) key.entry)) (proof_view proof.now) error) }
+    ensures fault { IfErr result (IsOutOfMemoryOr (⟦<SC as StarkRun<A>>⟧.run_fault config.now air.now proof.now public_values.now (option_copied key.entry))) }
 {
     let mut challenger = config.initialise_challenger(alloc)?;
     let shape = describe::<SC, A>(

@@ -1,19 +1,20 @@
 //! The tests of a proof's shape, in their order.
 ghost use Rattle.std.specs.Prelude.{◌≡◌, ◌+◌, ◌-◌, ◌^◌, ◌<◌, ◌≤◌, ◌⊎◌, IfErr, IfOk, None, Some, length, option_map};
-ghost use Rattle.std.specs.Option.{option_or};
+ghost use Rattle.std.specs.Option.{option_copied, option_or};
 ghost use Rattle.stark_support.specs.Scheme.{natural_coset, zk_bits};
 ghost use Rattle.stark_parts.specs.Shape.{opens_next_row};
-ghost use Rattle.stark_proof.specs.ProofView.{openings_view, preprocessed_view, proof_view};
+ghost use Rattle.stark_proof.specs.ProofView.{openings_view, preprocessed_view};
 ghost use Rattle.p3_uni_stark.specs.ShapeFaults.{degree_fault, opened_fault, preprocessed_fault, quotient_fault, randomization_fault};
 ghost use Rattle.p3_uni_stark.specs.Sizes.{log_parts_of, quotient_coset};
+ghost use Rattle.p3_uni_stark.specs.FirstFault.{IsOutOfMemoryOr};
 ghost use Rattle.p3_uni_stark.specs.Instance.{log_height, trace_coset};
-ghost use Rattle.p3_uni_stark.specs.Acceptance.{of_shape, shape_fault};
+ghost use Rattle.p3_uni_stark.specs.Acceptance.{of_shape};
 ghost use Rattle.stark_parts.specs.declared.error.VerificationError.TheVariants.{OutOfMemory};
 
 use crate::heights::{natural_domain, power_of_two};
 use crate::preprocessed::PreprocessedVerifierKey;
 use crate::verifier::opened::{check_opened, check_randomization};
-use crate::verifier::operations::{StarkInstance, StarkOperations, StarkProof};
+use crate::verifier::operations::{StarkProof, StarkRun};
 use crate::verifier::preprocessed::check_preprocessed;
 use crate::verifier::quotient::{log_parts_of, quotient_domain_of};
 use crate::verifier::validate_degree_bits;
@@ -54,10 +55,14 @@ fn check_height<SC: StarkGenericConfig>(
     let pcs = config.pcs();
     let minimum = pcs.log_min_trace_height();
     let maximum = pcs.log_max_trace_height();
-    match validate_degree_bits(None, degree_bits, config.is_zk(), minimum, maximum) {
-        Ok((log_height, _height)) => Ok(log_height),
-        Err(error) => Err(error),
-    }
+    let (log_height, _height) = validate_degree_bits(
+        None,
+        degree_bits,
+        config.is_zk(),
+        minimum,
+        maximum,
+    )?;
+    Ok(log_height)
 }
 
 /// The preprocessed rows and the key.
@@ -143,10 +148,7 @@ where
         (SC.config.ood_bits config.now) (SC.Pcs.Domain.Val.eq proof.now.ood_pow_witness SC.Pcs.Domain.Val.ring.zero))) ≡ Some error)) }
 {
     let opened = &proof.opened_values;
-    match check_randomization(SC::Pcs::ZK, &proof.commitments.random, &opened.random) {
-        Ok(()) => {}
-        Err(fault) => return Err(fault),
-    }
+    check_randomization(SC::Pcs::ZK, &proof.commitments.random, &opened.random)?;
     let columns = air.main_next_row_columns(alloc)?;
     let reads_next = opens_next_row(&columns);
     let is_zero = is_zero(proof.ood_pow_witness);
@@ -177,7 +179,7 @@ where
     SC: StarkGenericConfig,
     SC::Challenger: GrindingChallenger<Witness = Val<SC>>,
     A: Air<Val<SC>>,
-    ensures clear { IfOk result (λ _. shape_fault ⟦<SC as StarkOperations>⟧.operations (⟦<SC as StarkInstance<A>>⟧.instance config.now air.now public_values.now (option_map (λ k. k.now) key.entry)) (proof_view proof.now) ≡ None) }
+    ensures clear { IfOk result (λ _. ⟦<SC as StarkRun<A>>⟧.shape_fault config.now air.now proof.now public_values.now (option_copied key.entry) ≡ None) }
     ensures rows { IfOk result (λ _. preprocessed_fault (option_map (λ k. k.now) key.entry) (A.layout air.now).preprocessed (opens_next_row (A.preprocessed_next_row_columns air.now)) proof.now.degree_bits (openings_view proof.now.opened_values).preprocessed ≡ None) }
     ensures opened { IfOk result (λ domains. opened_fault (A.layout air.now).publics (length public_values.now) (opens_next_row (A.main_next_row_columns air.now)) (A.layout air.now).main (2 ^ domains.log_chunks) SC.Challenge.DIMENSION (openings_view proof.now.opened_values)
         (SC.config.ood_bits config.now) (SC.Pcs.Domain.Val.eq proof.now.ood_pow_witness SC.Pcs.Domain.Val.ring.zero) ≡ None) }
@@ -187,27 +189,19 @@ where
     ensures chunks { IfOk result (λ domains. domains.log_chunks ≡ log_parts_of (A.constraints air.now) (A.degree_hint air.now) (zk_bits SC.Pcs.ZK) + zk_bits SC.Pcs.ZK) }
     ensures extended { IfOk result (λ _. zk_bits SC.Pcs.ZK ≤ proof.now.degree_bits) }
     ensures few { IfOk result (λ domains. domains.log_chunks < 64) }
-    ensures fault { IfErr result (λ error. (error ≡ OutOfMemory) ⊎ (shape_fault ⟦<SC as StarkOperations>⟧.operations (⟦<SC as StarkInstance<A>>⟧.instance config.now air.now public_values.now (option_map (λ k. k.now) key.entry)) (proof_view proof.now) ≡ Some error)) }
+    ensures fault { IfErr result (IsOutOfMemoryOr (λ error. ⟦<SC as StarkRun<A>>⟧.shape_fault config.now air.now proof.now public_values.now (option_copied key.entry) ≡ Some error)) }
 {
     let degree_bits = proof.degree_bits;
     let log_height = check_height(config, degree_bits)?;
-    match check_key(
+    check_key(
         alloc,
         air,
         key,
         degree_bits,
         &proof.opened_values.preprocessed,
-    ) {
-        Ok(()) => {}
-        Err(fault) => return Err(fault),
-    }
-    let domains = match domains_of(alloc, config, air, degree_bits, log_height) {
-        Ok(domains) => domains,
-        Err(fault) => return Err(fault),
-    };
+    )?;
+    let domains = domains_of(alloc, config, air, degree_bits, log_height)?;
     let publics = public_values.len();
-    match check_values(alloc, config, air, proof, publics, domains.log_chunks) {
-        Ok(()) => Ok(domains),
-        Err(fault) => Err(fault),
-    }
+    check_values(alloc, config, air, proof, publics, domains.log_chunks)?;
+    Ok(domains)
 }

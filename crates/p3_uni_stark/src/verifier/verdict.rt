@@ -1,20 +1,19 @@
 //! The verifier.
-ghost use Rattle.std.specs.Prelude.{◌≡◌, ◌≢◌, ◌⊎◌, ◌+◌, ◌^◌, ◌≤◌, IfErr, IfOk, None, length, option_map};
+ghost use Rattle.std.specs.Option.{option_copied};
+ghost use Rattle.std.specs.Prelude.{◌≡◌, ◌≢◌, ◌+◌, ◌^◌, ◌≤◌, IfErr, None, OnOk, length, option_map};
 ghost use Rattle.stark_support.specs.Coset.{coset_size, coset_vanishing};
 ghost use Rattle.stark_support.specs.Scheme.{natural_coset, zk_bits};
-ghost use Rattle.stark_parts.specs.declared.error.VerificationError.TheVariants.{OutOfMemory};
-ghost use Rattle.p3_uni_stark.specs.Acceptance.{Accepted, IsBalanced, periodic_values};
-ghost use Rattle.p3_uni_stark.specs.FirstFault.{EquationFault, FirstFault};
+ghost use Rattle.p3_uni_stark.specs.Acceptance.{periodic_values};
+ghost use Rattle.p3_uni_stark.specs.FirstFault.{EquationFault, IsOutOfMemoryOr};
 ghost use Rattle.p3_uni_stark.specs.Instance.{log_height, trace_coset};
-ghost use Rattle.stark_proof.specs.ProofView.{openings_view, proof_view};
+ghost use Rattle.stark_proof.specs.ProofView.{openings_view};
 ghost use Rattle.p3_uni_stark.specs.ShapeFaults.{opened_fault, preprocessed_fault};
 ghost use Rattle.stark_parts.specs.Shape.{opens_next_row};
 ghost use Rattle.p3_uni_stark.specs.Sizes.{log_parts_of, quotient_coset};
-ghost use Rattle.p3_uni_stark.specs.SoundAcceptance.{BreakingNeedsBadChallenges};
 
 use crate::preprocessed::PreprocessedVerifierKey;
 use crate::verifier::equation::check_equation;
-use crate::verifier::operations::{StarkInstance, StarkOperations, StarkProof};
+use crate::verifier::operations::{StarkOperations, StarkProof, StarkRun, StarkVerdict};
 use crate::verifier::run::{SampledPoint, check_run};
 use crate::verifier::steps::{ProofDomains, check_shape};
 use stark_air::Air;
@@ -46,14 +45,11 @@ where
     requires extended { zk_bits SC.Pcs.ZK ≤ proof.now.degree_bits }
     requires nonzero { coset_vanishing SC.Challenge.ring (λ c. c) SC.Challenge.inverse_of (coset_size (SC.Pcs.Domain.coset_of domains.trace)) (SC.Challenge.embed (SC.Pcs.Domain.coset_of domains.trace).shift) point.now.zeta ≢ SC.Challenge.ring.zero }
     requires values { point.now.periodic_values.items ≡ periodic_values ⟦<SC as StarkOperations>⟧.operations.opening.fields (A.periodic_columns air.now) (log_height SC.Pcs.ZK proof.now.degree_bits) point.now.zeta }
-    ensures holds { IfOk result (λ _. IsBalanced ⟦<SC as StarkOperations>⟧.operations (⟦<SC as StarkInstance<A>>⟧.instance config.now air.now public_values.now (option_map (λ k. k.now) key.entry)) (proof_view proof.now) point.now.alpha point.now.zeta) }
-    ensures fault { IfErr result (λ error. (error ≡ OutOfMemory) ⊎ EquationFault (IsBalanced ⟦<SC as StarkOperations>⟧.operations (⟦<SC as StarkInstance<A>>⟧.instance config.now air.now public_values.now (option_map (λ k. k.now) key.entry)) (proof_view proof.now) point.now.alpha point.now.zeta) error) }
+    ensures holds { OnOk result (⟦<SC as StarkRun<A>>⟧.balanced config.now air.now proof.now public_values.now (option_copied key.entry) point.now.alpha point.now.zeta) }
+    ensures fault { IfErr result (IsOutOfMemoryOr (EquationFault (⟦<SC as StarkRun<A>>⟧.balanced config.now air.now proof.now public_values.now (option_copied key.entry) point.now.alpha point.now.zeta))) }
 {
     let opened = &proof.opened_values;
-    match check_equation::<SC, A, PcsError<SC>>(alloc, air, opened, public_values, domains, point) {
-        Ok(()) => Ok(()),
-        Err(fault) => Err(fault),
-    }
+    check_equation::<SC, A, PcsError<SC>>(alloc, air, opened, public_values, domains, point)
 }
 
 /// Whether a proof is one for the AIR with these public values, where `key` is the key of the preprocessed columns, None
@@ -86,20 +82,14 @@ where
     SC: StarkGenericConfig,
     SC::Challenger: GrindingChallenger<Witness = Val<SC>>,
     A: Air<Val<SC>>,
-    ensures accepted { IfOk result (λ _. Accepted ⟦<SC as StarkOperations>⟧.operations (⟦<SC as StarkInstance<A>>⟧.instance config.now air.now public_values.now (option_map (λ k. k.now) key.entry)) (proof_view proof.now)) }
-    ensures sound { IfOk result (λ _. BreakingNeedsBadChallenges ⟦<SC as StarkOperations>⟧.operations (⟦<SC as StarkInstance<A>>⟧.instance config.now air.now public_values.now (option_map (λ k. k.now) key.entry)) (proof_view proof.now)) }
-    ensures refused { IfErr result (λ error. (error ≡ OutOfMemory) ⊎ FirstFault ⟦<SC as StarkOperations>⟧.operations (⟦<SC as StarkInstance<A>>⟧.instance config.now air.now public_values.now (option_map (λ k. k.now) key.entry)) (proof_view proof.now) error) }
-    ensures exact { IfErr result (λ error. (error ≡ OutOfMemory) ⊎ (Accepted ⟦<SC as StarkOperations>⟧.operations (⟦<SC as StarkInstance<A>>⟧.instance config.now air.now public_values.now (option_map (λ k. k.now) key.entry)) (proof_view proof.now) → ⊥)) }
+    ensures accepted { OnOk result (⟦<SC as StarkVerdict<A>>⟧.accepted config.now air.now proof.now public_values.now (option_copied key.entry)) }
+    ensures sound { OnOk result (⟦<SC as StarkVerdict<A>>⟧.sound config.now air.now proof.now public_values.now (option_copied key.entry)) }
+    ensures refused { IfErr result (IsOutOfMemoryOr (⟦<SC as StarkVerdict<A>>⟧.first_fault config.now air.now proof.now public_values.now (option_copied key.entry))) }
+    ensures exact { IfErr result (IsOutOfMemoryOr (λ _. ¬ ⟦<SC as StarkVerdict<A>>⟧.accepted config.now air.now proof.now public_values.now (option_copied key.entry))) }
 {
-    let domains = match check_shape(alloc, config, air, proof, public_values, key) {
-        Ok(domains) => domains,
-        Err(fault) => return Err(fault),
-    };
-    let point = match check_run(alloc, config, air, proof, public_values, key, domains) {
-        Ok(point) => point,
-        Err(fault) => return Err(fault),
-    };
-    match test_equation(
+    let domains = check_shape(alloc, config, air, proof, public_values, key)?;
+    let point = check_run(alloc, config, air, proof, public_values, key, domains)?;
+    test_equation(
         alloc,
         config,
         air,
@@ -108,10 +98,8 @@ where
         key,
         domains,
         &point,
-    ) {
-        Ok(()) => Ok(()),
-        Err(fault) => Err(fault),
-    }
+    )?;
+    Ok(())
 }
 
 /// Whether a proof is one for an AIR without preprocessed columns: `verify_with_preprocessed` without a key.
@@ -126,10 +114,10 @@ where
     SC: StarkGenericConfig,
     SC::Challenger: GrindingChallenger<Witness = Val<SC>>,
     A: Air<Val<SC>>,
-    ensures accepted { IfOk result (λ _. Accepted ⟦<SC as StarkOperations>⟧.operations (⟦<SC as StarkInstance<A>>⟧.instance config.now air.now public_values.now None) (proof_view proof.now)) }
-    ensures sound { IfOk result (λ _. BreakingNeedsBadChallenges ⟦<SC as StarkOperations>⟧.operations (⟦<SC as StarkInstance<A>>⟧.instance config.now air.now public_values.now None) (proof_view proof.now)) }
-    ensures refused { IfErr result (λ error. (error ≡ OutOfMemory) ⊎ FirstFault ⟦<SC as StarkOperations>⟧.operations (⟦<SC as StarkInstance<A>>⟧.instance config.now air.now public_values.now None) (proof_view proof.now) error) }
-    ensures exact { IfErr result (λ error. (error ≡ OutOfMemory) ⊎ (Accepted ⟦<SC as StarkOperations>⟧.operations (⟦<SC as StarkInstance<A>>⟧.instance config.now air.now public_values.now None) (proof_view proof.now) → ⊥)) }
+    ensures accepted { OnOk result (⟦<SC as StarkVerdict<A>>⟧.accepted config.now air.now proof.now public_values.now None) }
+    ensures sound { OnOk result (⟦<SC as StarkVerdict<A>>⟧.sound config.now air.now proof.now public_values.now None) }
+    ensures refused { IfErr result (IsOutOfMemoryOr (⟦<SC as StarkVerdict<A>>⟧.first_fault config.now air.now proof.now public_values.now None)) }
+    ensures exact { IfErr result (IsOutOfMemoryOr (λ _. ¬ ⟦<SC as StarkVerdict<A>>⟧.accepted config.now air.now proof.now public_values.now None)) }
 {
     let key: Option<&'p PreprocessedVerifierKey<Com<SC>>> = None;
     verify_with_preprocessed(alloc, config, air, proof, public_values, key)

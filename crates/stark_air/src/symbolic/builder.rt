@@ -1,11 +1,12 @@
 //! The builder that keeps the constraints' trees.
-ghost use Rattle.std.specs.Prelude.{◌≡◌, [], ◌∷◌, IfOk, OnErr, IsSome, length};
+ghost use Rattle.std.specs.Prelude.{◌≡◌, [], ◌∷◌, All, IfOk, OnErr, IsSome, length};
+ghost use Rattle.std.specs.List.{slice_get};
 ghost use Rattle.std.proofs.Common.{subst, sym};
 ghost use Rattle.stark_air.specs.Symbolic.{Stands, symbolic_operations, pair_stands};
 ghost use Rattle.stark_air.specs.Tree.{Tree, base, extension, product};
 ghost use Rattle.stark_air.specs.SymbolicBuilder.{builder_environment, builder_layout, after_asserting, asserting_laws};
-ghost use Rattle.stark_air.specs.SymbolicRow.{AreVariables};
-ghost use Rattle.stark_air.specs.Value.{value};
+ghost use Rattle.stark_air.specs.SymbolicRow.{AreVariables, variable_gives};
+ghost use Rattle.stark_air.specs.Value.{Shows, value};
 
 use crate::builder::{AirBuilder, ExtensionBuilder};
 use crate::layout::AirLayout;
@@ -97,7 +98,14 @@ impl<F: Field, EF> AirBuilder for SymbolicAirBuilder<F, EF> {
 
     ghost emission_laws = { asserting_laws F.ring };
 
-    fn main(&self) -> Result<SymbolicWindow<F>, AllocError> {
+    /// The variables of the main columns, at offset 0 in the current row and at offset 1 in the next.
+    fn main(&self) -> Result<SymbolicWindow<F>, AllocError>
+        ensures rows { IfOk result (λ w.
+            (Shows variable_gives Stands (builder_environment self.now).main_current (builder_layout self.now).main (λ i. slice_get w.current.items i))
+            × (Shows variable_gives Stands (builder_environment self.now).main_next (builder_layout self.now).main_next (λ i. slice_get w.next.items i))) }
+        ensures width { IfOk result (λ w. (length w.current.items ≡ self.now.layout.main_width) × (length w.next.items ≡ self.now.layout.main_width)) }
+        ensures offsets { IfOk result (λ w. (All (λ v. v.entry ≡ BaseEntry.Main 0) w.current.items) × (All (λ v. v.entry ≡ BaseEntry.Main 1) w.next.items)) }
+    {
         let width = self.layout.main_width;
         Ok(SymbolicWindow {
             current: variables(self.alloc, BaseEntry::Main { offset: 0 }, width)?,
@@ -105,7 +113,14 @@ impl<F: Field, EF> AirBuilder for SymbolicAirBuilder<F, EF> {
         })
     }
 
-    fn preprocessed(&self) -> Result<SymbolicWindow<F>, AllocError> {
+    /// The variables of the preprocessed columns, with the same offsets.
+    fn preprocessed(&self) -> Result<SymbolicWindow<F>, AllocError>
+        ensures rows { IfOk result (λ w.
+            (Shows variable_gives Stands (builder_environment self.now).preprocessed_current (builder_layout self.now).preprocessed (λ i. slice_get w.current.items i))
+            × (Shows variable_gives Stands (builder_environment self.now).preprocessed_next (builder_layout self.now).preprocessed_next (λ i. slice_get w.next.items i))) }
+        ensures width { IfOk result (λ w. (length w.current.items ≡ self.now.layout.preprocessed_width) × (length w.next.items ≡ self.now.layout.preprocessed_width)) }
+        ensures offsets { IfOk result (λ w. (All (λ v. v.entry ≡ BaseEntry.Preprocessed 0) w.current.items) × (All (λ v. v.entry ≡ BaseEntry.Preprocessed 1) w.next.items)) }
+    {
         let width = self.layout.preprocessed_width;
         Ok(SymbolicWindow {
             current: variables(self.alloc, BaseEntry::Preprocessed { offset: 0 }, width)?,
@@ -135,6 +150,7 @@ impl<F: Field, EF> AirBuilder for SymbolicAirBuilder<F, EF> {
 
     /// Err also where memory for a node of the expression was refused.
     fn assert_zero(&mut self, x: SymbolicExpression<F>) -> Result<(), AllocError>
+        ensures same_fields { self.new ≡ record self.old { constraints = self.new.constraints } }
         ensures kept { self.new.alloc ≡ self.old.alloc }
         ensures same_environment { builder_environment self.new ≡ builder_environment self.old }
         ensures same_layout { builder_layout self.new ≡ builder_layout self.old }
@@ -163,6 +179,7 @@ impl<F: Field, EF> ExtensionBuilder for SymbolicAirBuilder<F, EF> {
 
     /// Err also where memory for a node of the expression was refused.
     fn assert_zero_ext(&mut self, x: SymbolicExpression<F>) -> Result<(), AllocError>
+        ensures same_fields { self.new ≡ record self.old { constraints = self.new.constraints } }
         ensures kept { self.new.alloc ≡ self.old.alloc }
         ensures same_environment { builder_environment self.new ≡ builder_environment self.old }
         ensures same_layout { builder_layout self.new ≡ builder_layout self.old }

@@ -1,9 +1,9 @@
 //! Symbolic expressions: trees that own their nodes.
-ghost use Rattle.std.specs.Prelude.{◌≡◌, Some, IsNone, IsTrue, ◌↔◌};
+ghost use Rattle.std.specs.Prelude.{◌≡◌, Option, Some, IsNone, IsTrue, ◌↔◌, true};
 ghost use Rattle.stark_support.specs.Ring.{difference as ring_difference};
-ghost use Rattle.stark_air.specs.Tree.{constant, first_row, last_row, transition, sum, difference, product, negation};
+ghost use Rattle.stark_air.specs.Tree.{Tree, constant, first_row, last_row, transition, sum, difference, product, negation};
 ghost use Rattle.stark_air.specs.Degree.{expression_degree};
-ghost use Rattle.stark_air.specs.Symbolic.{GivesPair, GivesSingle, Stands, symbolic_operations, pair_stands, single_stands, stands_itself, embedding_stands};
+ghost use Rattle.stark_air.specs.Symbolic.{GivesPair, GivesSingle, Stands, is_leaf, symbolic_operations, pair_stands, single_stands, stands_itself, embedding_stands};
 
 use crate::symbolic::node::{
     copy_of, degree_of, difference_of, is_whole, negation_of, product_of, sum_of,
@@ -162,7 +162,11 @@ impl<F: Field> Algebra<F> for SymbolicExpression<F> {
 
     ghost negated_stands = { single_stands negation F.ring.neg };
 
-    fn dup(&self) -> SymbolicExpression<F> {
+    /// A second copy, refused where memory for it was. A constant, a variable and a selector take none.
+    fn dup(&self) -> SymbolicExpression<F>
+        ensures copied { (v : Option (Tree F)) → Stands v self.now → Stands v result }
+        ensures leaf { is_leaf self.now ≡ true → result ≡ self.now }
+    {
         SymbolicExpression {
             node: copy_of(&self.node),
         }

@@ -1,10 +1,10 @@
 //! Nodes of symbolic expressions, put together and read.
-ghost use Rattle.std.specs.Prelude.{◌≡◌, IfSome, IsSome, IsTrue, ◌↔◌};
+ghost use Rattle.std.specs.Prelude.{◌≡◌, IfSome, IsSome, IsTrue, ◌↔◌, true};
 ghost use Rattle.stark_support.specs.Ring.{difference as ring_difference};
 ghost use Rattle.stark_air.specs.Tree.{sum, difference, product, negation};
 ghost use Rattle.stark_air.specs.Degree.{degree};
 ghost use Rattle.stark_air.specs.ConstantFolding.{both_constants};
-ghost use Rattle.stark_air.specs.Symbolic.{known_constant, GivesPair, GivesSingle, Stands};
+ghost use Rattle.stark_air.specs.Symbolic.{known_constant, is_leaf, GivesPair, GivesSingle, Stands};
 ghost use Rattle.stark_air.specs.SymbolicView.{tree_of};
 
 use crate::symbolic::expression::SymbolicNode;
@@ -138,9 +138,10 @@ pub fn negation_of<F: Field>(inner: SymbolicNode<F>) -> SymbolicNode<F>
     }
 }
 
-/// A second copy, refused where memory for it was.
+/// A second copy, refused where memory for it was. A leaf takes none.
 pub fn copy_of<F: Field>(node: &SymbolicNode<F>) -> SymbolicNode<F>
-    ensures { Stands (tree_of node.now) (tree_of result) }
+    ensures copied { Stands (tree_of node.now) (tree_of result) }
+    ensures leaf { is_leaf (tree_of node.now) ≡ true → tree_of result ≡ tree_of node.now }
 {
     match node {
         SymbolicNode::Constant(k) => SymbolicNode::Constant(*k),

@@ -1,5 +1,5 @@
 //! Two rows of symbolic variables.
-ghost use Rattle.std.specs.Prelude.{◌≡◌, IfOk, length};
+ghost use Rattle.std.specs.Prelude.{◌≡◌, All, IfOk, length};
 ghost use Rattle.std.specs.List.{slice_get};
 ghost use Rattle.stark_air.specs.SymbolicRow.{AreVariables};
 
@@ -45,6 +45,7 @@ pub fn variables<F: Field>(
 ) -> Result<Vec<SymbolicVariable<F>>, AllocError>
     ensures size { IfOk result (λ row. length row.items ≡ count) }
     ensures each { IfOk result (λ row. AreVariables entry row.items) }
+    ensures entries { IfOk result (λ row. All (λ v. v.entry ≡ entry) row.items) }
 {
     let mut row = Vec::new(alloc);
     for index in 0..count {

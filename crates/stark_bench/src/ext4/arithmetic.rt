@@ -1,6 +1,6 @@
 //! The extension's operations.
 ghost use Rattle.std.specs.Prelude.{false, ◌≡◌, refl, ⊤, map, [], ◌∷◌};
-ghost use Rattle.std.proofs.Common.{sym};
+ghost use Rattle.std.proofs.Common.{ap};
 ghost use Rattle.stark_support.specs.Extension.{basis_sum};
 ghost use Rattle.stark_support.specs.Ring.{difference};
 ghost use Rattle.stark_support.specs.Lanes.{one_lane, alone_is_lane_by_lane};
@@ -9,8 +9,8 @@ ghost use Rattle.stark_support.specs.Embedding.{embedded_two_adic};
 ghost use Rattle.stark_bench.specs.Quartic.{quartic_norm, quartic_cofactor};
 ghost use Rattle.stark_bench.specs.Ext4Field.{coordinates_of, of_coordinates, ext4, ext4_ring, ext4_inverse, ext4_laws, embedded, embedded_is_embedding, basis_of, coordinate_list, ext4_basis, generator_x, eq_gives_same};
 
-use crate::alone::PackedAlone;
 use crate::ext4::Ext4;
+use crate::residue::Residue;
 use stark_support::{
     Algebra, Element, ExtensionField, Field, PackedExtensionField, PackedValue, QuarticBase,
     TwoAdicField,
@@ -334,6 +334,22 @@ impl<F: QuarticBase> ExtensionField<F> for Ext4<F> {
         }
     }
 
+    fn basis_element(index: usize) -> Ext4<F> {
+        let mut element = Ext4 {
+            c0: F::ZERO,
+            c1: F::ZERO,
+            c2: F::ZERO,
+            c3: F::ZERO,
+        };
+        match index {
+            0 => element.c0 = F::ONE,
+            1 => element.c1 = F::ONE,
+            2 => element.c2 = F::ONE,
+            _ => element.c3 = F::ONE,
+        }
+        element
+    }
+
     fn from_basis_coefficients_slice(coefficients: &[F]) -> Option<Ext4<F>> {
         match coefficients {
             [c0, c1, c2, c3] => Some(from_coordinates(*c0, *c1, *c2, *c3)),
@@ -386,17 +402,19 @@ impl<F: QuarticBase> ExtensionField<F> for Ext4<F> {
     ghost exact_above = { λ _ _ h. h };
 }
 
-impl<F: QuarticBase + PackedAlone> PackedExtensionField<F> for Ext4<F> {
-    type ExtensionPacking = Ext4<F>;
+impl<Kind> PackedExtensionField<Residue<Kind>> for Ext4<Residue<Kind>> {
+    type ExtensionPacking = Ext4<Residue<Kind>>;
 
     #[tactic(auto, using(stark_support::specs::Lanes::lone_mapped))]
-    fn from_packed_base(x: F::Packing) -> Ext4<F> {
-        Ext4::from(x.extract(0))
+    fn from_packed_base(x: Residue<Kind>) -> Ext4<Residue<Kind>> {
+        Ext4::from(x)
     }
+
+    ghost from_packed_is = { λ _ _ h. ap (λ z. one_lane z) h };
 
     ghost extension_packed_ring = { refl };
 
-    ghost packed_as_wide = { sym F.one_wide };
+    ghost packed_as_wide = { refl };
 }
 
 impl<F: QuarticBase + TwoAdicField> TwoAdicField for Ext4<F> {

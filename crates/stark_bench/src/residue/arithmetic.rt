@@ -8,7 +8,6 @@ ghost use Rattle.std.proofs.Common.{rules, lit<};
 ghost use Rattle.stark_bench.specs.Residues.{residue, residue_ring, residue_inverse, residue_laws, eq_gives_same, eleven, value_of_residue, residue_of_value};
 ghost use Rattle.stark_bench.specs.Roots.{root, two_adic_laws};
 
-use crate::alone::PackedAlone;
 use crate::residue::Residue;
 use stark_support::{
     Algebra, Element, Field, PackedValue, PrimeField64, QuarticBase, TwoAdicField, squared_times,
@@ -235,10 +234,6 @@ impl<Kind> Field for Residue<Kind> {
     ghost neg_is = { λ _ _ h. h };
 
     ghost packed_ring = { refl };
-}
-
-impl<Kind> PackedAlone for Residue<Kind> {
-    ghost one_wide = { refl };
 }
 
 impl<Kind> PrimeField64 for Residue<Kind> {

@@ -4,6 +4,8 @@ ghost use Rattle.std.specs.Int.{IsPowerOfTwo};
 ghost use Rattle.std.specs.List.{AllByRecursion};
 ghost use Rattle.stark_support.specs.Coset.{coset_size};
 ghost use Rattle.stark_support.specs.Scheme.{TakesRows, matrix_row, natural_coset};
+ghost use Rattle.stark_support.specs.Polynomial.{value};
+ghost use Rattle.stark_clear.specs.ColumnPoints.{IsPolynomialBelow};
 ghost use Rattle.stark_clear.specs.Columns.{column_list, columns_list};
 ghost use Rattle.stark_clear.specs.PlainChunks.{ArePlainChunks};
 
@@ -68,7 +70,7 @@ pub fn committed_alone<F: Copy>(
 }
 
 /// The columns of a matrix that take its rows on the natural domain of its height, with as many coefficients as the domain
-/// points.
+/// points: plain interpolation, with zeros behind.
 pub fn columns_of<F: TwoAdicField>(
     alloc: Global,
     domain: &Coset<F>,
@@ -79,6 +81,7 @@ pub fn columns_of<F: TwoAdicField>(
     ensures full { IfOk result (λ columns. AllByRecursion (λ column. length column ≡ coset_size (⟦<Coset<F> as PolynomialSpace>⟧.coset_of domain.now)) (columns_list columns)) }
     ensures rows { IfOk result (λ columns. (log_height : ℕ) → 2 ^ log_height ≡ length matrix.now.values.items / matrix.now.width
         → TakesRows F.ring F.root (natural_coset F.ring log_height) matrix.now.width (matrix_row matrix.now.values.items matrix.now.width) (columns_list columns)) }
+    ensures plain { IfOk result (λ columns. AllByRecursion (λ column. IsPolynomialBelow F.ring (length matrix.now.values.items / matrix.now.width) (value F.ring column)) (columns_list columns)) }
 {
     let natural = Coset::subgroup(log2_strict_usize(matrix.height()));
     let columns = interpolated_columns(

@@ -1,13 +1,15 @@
 //! The scheme in the clear.
-ghost use Rattle.std.specs.Prelude.{◌≡◌, ◌≤◌, ◌/◌, ◌*◌, ◌^◌, ℕ, List, [], ◌∷◌, false, map, length, IfErr, IfOk};
+ghost use Rattle.std.specs.Prelude.{◌≡◌, ◌≢◌, ◌≤◌, ◌/◌, ◌*◌, ◌^◌, ℕ, List, [], ◌∷◌, false, map, length, IfErr, IfOk};
 ghost use Rattle.std.specs.Int.{IsPowerOfTwo};
 ghost use Rattle.std.specs.List.{AllByRecursion};
 ghost use Rattle.stark_support.specs.Claims.{IfRefused, claim_view, opened_view, round_view};
 ghost use Rattle.stark_support.specs.Coset.{coset_size};
 ghost use Rattle.stark_support.specs.PeriodicTable.{HasPeriodicValues};
 ghost use Rattle.stark_support.specs.Scheme.{AreQuotientChunks, OpenedRound, QuotientChunk, RoundStands, TakesRows, committed_chunk, handed, matrix_row, natural_coset, true_claim, true_values, zk_bits};
+ghost use Rattle.stark_support.specs.Polynomial.{value};
 ghost use Rattle.stark_clear.specs.ClearFacts.{clear_laws};
-ghost use Rattle.stark_clear.specs.ClearScheme.{clear_scheme};
+ghost use Rattle.stark_clear.specs.ClearScheme.{clear_pcs, clear_scheme};
+ghost use Rattle.stark_clear.specs.ColumnPoints.{IsPolynomialBelow};
 
 use crate::clear::check::{ClearError, check_claims};
 use crate::clear::commit::{chunks_of, columns_of, committed, committed_alone, copied};
@@ -40,12 +42,14 @@ pub struct ClearProof;
 /// all claims are true of the listed columns; else it names the first round at fault.
 #[derive(Clone, Debug, Drop)]
 pub struct ClearPcs<F> {
-    field: PhantomData<F>,
+    pub field: PhantomData<F>,
 }
 
 impl<F> ClearPcs<F> {
     /// The scheme. It takes no memory.
-    pub fn new() -> ClearPcs<F> {
+    pub fn new() -> ClearPcs<F>
+        ensures { result ≡ clear_pcs }
+    {
         ClearPcs { field: PhantomData }
     }
 }
@@ -95,6 +99,7 @@ impl<F: TwoAdicField, EF: ExtensionField<F>, C> Pcs<EF, C> for ClearPcs<F> {
             × ((log_height : ℕ) → 2 ^ log_height ≡ length matrix.values.items / matrix.width
             → TakesRows F.ring F.root (natural_coset F.ring log_height) matrix.width (matrix_row matrix.values.items matrix.width) columns)) }
         ensures refused { IfErr result (λ fault. IfRefused fault (⟦<ClearPcs<F> as Pcs<EF, C>>⟧.scheme.RefusesCommit self.now (⟦<Coset<F> as PolynomialSpace>⟧.coset_of domain) matrix.values.items matrix.width)) }
+        ensures plain { IfOk result (λ made. AllByRecursion (AllByRecursion (λ column. IsPolynomialBelow F.ring (length matrix.values.items / matrix.width) (value F.ring column))) made.0) }
     {
         let columns = columns_of(alloc, &domain, &matrix)?;
         let made = committed_alone(alloc, columns)?;
@@ -135,6 +140,7 @@ impl<F: TwoAdicField, EF: ExtensionField<F>, C> UnivariateStarkPcs<EF, C> for Cl
             × ((log_height : ℕ) → 2 ^ log_height ≡ length matrix.values.items / matrix.width
             → TakesRows F.ring F.root (natural_coset F.ring log_height) matrix.width (matrix_row matrix.values.items matrix.width) columns)) }
         ensures refused { IfErr result (λ fault. IfRefused fault (⟦<ClearPcs<F> as Pcs<EF, C>>⟧.scheme.RefusesPreprocessing self.now (⟦<Coset<F> as PolynomialSpace>⟧.coset_of domain) matrix.values.items matrix.width)) }
+        ensures plain { IfOk result (λ made. AllByRecursion (AllByRecursion (λ column. IsPolynomialBelow F.ring (length matrix.values.items / matrix.width) (value F.ring column))) made.0) }
     {
         let columns = columns_of(alloc, &domain, &matrix)?;
         let made = committed_alone(alloc, columns)?;
@@ -225,6 +231,7 @@ impl<F: TwoAdicField, EF: ExtensionField<F>, C> UnivariateStarkPcs<EF, C> for Cl
     ) -> Result<(), SchemeFault<ClearError>>
         ensures accepted { IfOk result (λ _. ⟦<ClearPcs<F> as Pcs<EF, C>>⟧.scheme.Accepts self.now (map (claim_view ⟦<Coset<F> as PolynomialSpace>⟧.coset_of) claims.entry.items) _proof.now _challenger.old _preprocessed_index) }
         ensures refused { IfErr result (λ fault. IfRefused fault (⟦<ClearPcs<F> as Pcs<EF, C>>⟧.scheme.Refuses self.now (map (claim_view ⟦<Coset<F> as PolynomialSpace>⟧.coset_of) claims.entry.items) _proof.now _challenger.old _preprocessed_index)) }
+        ensures no_memory { IfErr result (λ fault. fault ≢ SchemeFault.OutOfMemory) }
     {
         match check_claims::<Coset<F>, EF>(&claims) {
             Ok(()) => Ok(()),

@@ -1,6 +1,6 @@
 //! Proofs of the first row's selector, of zeros, and of an author's bound on the degree.
 use crate::verdicts::{Shown, answer};
-use stark_clear::{CubicAir, FirstRowAir, HintedAir};
+use stark_clear::{Asked, CubicAir, SmallAir};
 use std::test::Fail;
 
 /// The zero column of one row, without a next row and public values, at zeta 3.
@@ -40,7 +40,10 @@ fn the_first_row(rt: HostRuntime) -> Result<(), Fail> {
             "Err(InvalidProofShape(UnexpectedTraceNext { air: None }))",
         ),
     ] {
-        assert_eq!(rt; answer(alloc, &FirstRowAir, &shown)?.as_str(), expected);
+        assert_eq!(rt;
+            answer(alloc, &SmallAir::new(Asked::FirstRow), &shown)?.as_str(),
+            expected
+        );
     }
     Ok(())
 }
@@ -70,7 +73,8 @@ fn high_cubics(rt: HostRuntime) -> Result<(), Fail> {
 
 #[test]
 fn a_bound_past_all_domains(rt: HostRuntime) -> Result<(), Fail> {
-    let hinted = HintedAir {
+    let hinted = SmallAir {
+        asked: Asked::Zeros,
         max_degree: Some(usize::MAX),
     };
     assert_eq!(rt;

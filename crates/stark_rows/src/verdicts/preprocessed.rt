@@ -1,5 +1,6 @@
 //! Proofs with preprocessed columns, and keys.
-use crate::verdicts::{Extension, FixedRows, Key, Shown, answer_with, committed, counted, row};
+use crate::elements::{Extension, row};
+use crate::verdicts::{FixedRows, Key, Shown, answer_with, committed, counted};
 use p3_uni_stark::PreprocessedVerifierKey;
 use stark_clear::{CounterAir, PreprocessedAir};
 use std::alloc::{AllocError, Global};

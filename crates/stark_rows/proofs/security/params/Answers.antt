@@ -5,6 +5,6 @@ use Rattle.stark_rows.proofs.SmallParams.{batched_fit}
 use Rattle.stark_rows.proofs.security.params.Goals as goal
 
 pub from_air-requires-2-clause-batched : goal.from_air-requires-2-clause-batched
-from_air-requires-2-clause-batched c = λ chunks count.
+from_air-requires-2-clause-batched g c = λ chunks count.
     batched_fit c.args.openings count (opens_next_row (wide_next_columns c.args.air.now.reads_next)) false c.from_air.result.main_width c.from_air.result.preprocessed_width (omega arith) c.requires.hint
     c.from_air.ensures.main_width c.from_air.ensures.preprocessed_width c.requires.random

@@ -1,13 +1,16 @@
-use Rattle.std.proofs.Common.{◌∙◌, sym}
+use Rattle.std.proofs.Common.{◌∙◌, refl, sym}
+use Rattle.p3_uni_stark.proofs.Carried.{carried}
 use Rattle.p3_uni_stark.proofs.Verdicts.{openings_refused, point_refused, replay_refused}
 use Rattle.p3_uni_stark.proofs.verifier.run.play.Goals as goal
 
-pub returns-in-Err-clause-fault : goal.returns-in-Err-clause-fault
-returns-in-Err-clause-fault g c = replay_refused (sym c.replay_proof.ensures.answer ∙ c.in-Err.is) c.from.ensures
+pub returns-in_err-alpha-clause-fault : goal.returns-in_err-alpha-clause-fault
+returns-in_err-alpha-clause-fault g c = carried _ _ _ c.from_residual.ensures (replay_refused (sym c.replay_proof.ensures.answer ∙ c.in_err-alpha.was) refl)
 
-pub returns-in-Err-test_point-clause-fault : goal.returns-in-Err-test_point-clause-fault
-returns-in-Err-test_point-clause-fault g c = point_refused (sym c.replay_proof.ensures.answer ∙ c.in-Ok.is) c.in-Err-test_point.ensures.fault
+pub returns-in_err-periodic_values-clause-fault : goal.returns-in_err-periodic_values-clause-fault
+returns-in_err-periodic_values-clause-fault g c =
+    carried _ _ _ c.from_residual-in_err-periodic_values.ensures (point_refused (sym c.replay_proof.ensures.answer ∙ c.in_ok-alpha.was) c.in_err-periodic_values.ensures.fault)
 
-pub returns-in-Err-delegate_openings-clause-fault : goal.returns-in-Err-delegate_openings-clause-fault
-returns-in-Err-delegate_openings-clause-fault g c =
-    openings_refused (sym c.replay_proof.ensures.answer ∙ c.in-Ok.is) c.in-Ok-test_point.ensures.outside c.in-Ok-test_point.ensures.fitting c.replay_proof.ensures.state c.in-Err-delegate_openings.ensures.verdict.fault
+pub returns-in_err-delegate_openings-clause-fault : goal.returns-in_err-delegate_openings-clause-fault
+returns-in_err-delegate_openings-clause-fault g c =
+    carried _ _ _ c.from_residual-in_err-delegate_openings.ensures
+    (openings_refused (sym c.replay_proof.ensures.answer ∙ c.in_ok-alpha.was) c.in_ok-periodic_values.ensures.outside c.in_ok-periodic_values.ensures.fitting c.replay_proof.ensures.state c.in_err-delegate_openings.ensures.verdict.fault)

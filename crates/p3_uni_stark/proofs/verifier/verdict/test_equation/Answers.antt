@@ -1,6 +1,7 @@
 use Rattle.std.proofs.Common.{◌∙◌, ◌^◌, ap, length, option_map}
 use Rattle.std.proofs.lemmas.List.{length-map}
 use Rattle.stark_proof.specs.ProofView.{openings_view}
+use Rattle.p3_uni_stark.proofs.Carried.{on_err, on_ok}
 use Rattle.p3_uni_stark.proofs.Balance.{balanced_fault, balanced_held}
 use Rattle.p3_uni_stark.proofs.ShapeSteps.{chunks_counted, chunks_long, one_width, rows_cover}
 use Rattle.p3_uni_stark.proofs.verifier.verdict.test_equation.Goals as goal
@@ -23,12 +24,12 @@ pub check_equation-requires-clause-dimension : goal.check_equation-requires-clau
 check_equation-requires-clause-dimension g c = chunks_long g.SC.Challenge.Field.ring.zero (option_map (λ k. k.now) c.args.key) (g.A.BaseAir.layout c.args.air.now) (g.A.BaseAir.main_next_row_columns c.args.air.now) (g.A.BaseAir.preprocessed_next_row_columns c.args.air.now) c.args.proof.now.degree_bits (openings_view c.args.proof.now.opened_values) c.args.public_values.now (2 ^ c.args.domains.log_chunks)
     g.SC.Challenge.ExtensionField.DIMENSION (g.SC.StarkGenericConfig.config.ood_bits c.args.config.now) (g.SC.Pcs.Domain.Val.PartialEq.eq c.args.proof.now.ood_pow_witness g.SC.Pcs.Domain.Val.Field.ring.zero) c.requires.rows c.requires.opened
 
-pub returns-in-Ok-clause-holds : goal.returns-in-Ok-clause-holds
-returns-in-Ok-clause-holds g c =
-    balanced_held (g.SC.Pcs.Domain.PolynomialSpace.coset_of c.args.domains.trace) (g.SC.Pcs.Domain.PolynomialSpace.coset_of c.args.domains.quotient) c.args.domains.log_chunks c.args.point.now.periodic_values.items
-    c.requires.trace c.requires.quotient c.requires.chunks c.requires.extended c.requires.values c.in-Ok.ensures.holds
+pub returns-clause-holds : goal.returns-clause-holds
+returns-clause-holds g c =
+    on_ok _ _ c.check_equation.result (λ _ held. balanced_held (g.SC.Pcs.Domain.PolynomialSpace.coset_of c.args.domains.trace) (g.SC.Pcs.Domain.PolynomialSpace.coset_of c.args.domains.quotient) c.args.domains.log_chunks c.args.point.now.periodic_values.items
+    c.requires.trace c.requires.quotient c.requires.chunks c.requires.extended c.requires.values held) c.check_equation.ensures.holds
 
-pub returns-in-Err-clause-fault : goal.returns-in-Err-clause-fault
-returns-in-Err-clause-fault g c =
-    balanced_fault (g.SC.Pcs.Domain.PolynomialSpace.coset_of c.args.domains.trace) (g.SC.Pcs.Domain.PolynomialSpace.coset_of c.args.domains.quotient) c.args.domains.log_chunks c.args.point.now.periodic_values.items
-    c.requires.trace c.requires.quotient c.requires.chunks c.requires.extended c.requires.values c.in-Err.ensures.fault
+pub returns-clause-fault : goal.returns-clause-fault
+returns-clause-fault g c =
+    on_err _ _ c.check_equation.result (λ _ fault. balanced_fault (g.SC.Pcs.Domain.PolynomialSpace.coset_of c.args.domains.trace) (g.SC.Pcs.Domain.PolynomialSpace.coset_of c.args.domains.quotient) c.args.domains.log_chunks c.args.point.now.periodic_values.items
+    c.requires.trace c.requires.quotient c.requires.chunks c.requires.extended c.requires.values fault) c.check_equation.ensures.fault

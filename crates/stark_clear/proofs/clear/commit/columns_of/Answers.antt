@@ -1,7 +1,8 @@
 use Rattle.std.proofs.Common.{◌≡◌, ◌≤◌, ◌/◌, ◌^◌, ◌∙◌, ap, arith, length, subst}
 use Rattle.stark_support.specs.LogarithmFacts.{exponent_at_most}
 use Rattle.stark_support.proofs.CellSteps.{cell_within}
-use Rattle.stark_clear.specs.ColumnPoints.{AreColumns}
+use Rattle.stark_support.specs.Polynomial.{value}
+use Rattle.stark_clear.specs.ColumnPoints.{AreColumns, IsPolynomialBelow}
 use Rattle.stark_clear.specs.Columns.{columns_list}
 use Rattle.stark_clear.specs.RowFacts.{all_listed, natural_rows}
 use Rattle.stark_clear.proofs.clear.commit.columns_of.Goals as goal
@@ -34,3 +35,9 @@ returns-clause-rows g c = λ k power.
     let size : 2 ^ c.subgroup-natural.result.log_size ≡ length c.args.matrix.now.values.items / c.args.matrix.now.width = ap (λ n. 2 ^ n) c.subgroup-natural.ensures.size ∙ c.log2_strict_usize.ensures ∙ c.height.ensures in
     natural_rows g.F.Field.ring g.F.TwoAdicField.root (record { shift = c.subgroup-natural.result.shift; log_size = c.subgroup-natural.result.log_size }) c.args.matrix.now.values.items c.args.matrix.now.width c.size.result (columns_list c.in_ok-columns.columns)
     (subst (λ t. AreColumns g.F.Field.ring g.F.TwoAdicField.root (record { shift = c.subgroup-natural.result.shift; log_size = c.subgroup-natural.result.log_size }) t 0 c.args.matrix.now.width c.args.matrix.now.width c.size.result (columns_list c.in_ok-columns.columns)) c.deref.ensures.value c.in_ok-columns.ensures) c.subgroup-natural.ensures.shift size k power
+
+pub returns-clause-plain : goal.returns-clause-plain
+returns-clause-plain g c =
+    let size : 2 ^ c.subgroup-natural.result.log_size ≡ length c.args.matrix.now.values.items / c.args.matrix.now.width = ap (λ n. 2 ^ n) c.subgroup-natural.ensures.size ∙ c.log2_strict_usize.ensures ∙ c.height.ensures in
+    all_listed (λ column. IsPolynomialBelow g.F.Field.ring (length c.args.matrix.now.values.items / c.args.matrix.now.width) (value g.F.Field.ring column)) (columns_list c.in_ok-columns.columns)
+    (λ i p there. subst (λ n. IsPolynomialBelow g.F.Field.ring n (value g.F.Field.ring p)) size (c.in_ok-columns.ensures.plain i p there))

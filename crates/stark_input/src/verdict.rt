@@ -1,0 +1,91 @@
+//! What the program finds, and the line that says so.
+
+ghost use Rattle.std.specs.Prelude.{◌≡◌};
+ghost use Rattle.stark_input.specs.Verdict.{line_of, end_of, status_of};
+
+use crate::refusal::ProofRefusal;
+
+/// How a run ends.
+#[derive(Clone, Copy, Debug, PartialEq, Eq)]
+pub enum RunEnd {
+    /// The line `accepted` is written.
+    Accepted,
+    /// A line that begins with `refused` is written.
+    Refused,
+    /// The line `bad input` is written.
+    BadInput,
+    /// A read failed.
+    InputFailed,
+    /// A write failed.
+    OutputFailed,
+}
+
+impl RunEnd {
+    /// The exit status.
+    pub fn status(self) -> u8
+        ensures { result ≡ status_of self }
+    {
+        match self {
+            RunEnd::Accepted => 0,
+            RunEnd::Refused => 1,
+            RunEnd::BadInput | RunEnd::InputFailed | RunEnd::OutputFailed => 2,
+        }
+    }
+}
+
+/// Why what was read is refused.
+#[derive(Clone, Copy, Debug, PartialEq, Eq)]
+pub enum Refusal {
+    /// The folded constraints differ from the vanishing value times the quotient.
+    OodEvaluationMismatch,
+    /// The point lies in the domain of the trace.
+    OodPointInDomain,
+    /// A periodic column doesn't fit the height.
+    PeriodicColumn,
+    /// The field has no group as large as the quotient's domain.
+    QuotientDomainTooLarge,
+    /// A growth of memory was refused.
+    OutOfMemory,
+    /// A proof is refused for a reason that no check of numbers finds.
+    Proof(ProofRefusal),
+}
+
+/// What is found of an input.
+#[derive(Clone, Copy, Debug, PartialEq, Eq)]
+pub enum Verdict {
+    /// The checks hold.
+    Accepted,
+    /// The numbers were read and a check does not hold, or memory was wanting.
+    Refused(Refusal),
+    /// No numbers of the right widths and counts were read.
+    BadInput,
+}
+
+impl Verdict {
+    /// The line that says it, with its newline.
+    pub fn line(self) -> &'static str
+        ensures { result.now ≡ line_of self }
+    {
+        match self {
+            Verdict::Accepted => "accepted\n",
+            Verdict::Refused(Refusal::OodEvaluationMismatch) => "refused OodEvaluationMismatch\n",
+            Verdict::Refused(Refusal::OodPointInDomain) => "refused OodPointInDomain\n",
+            Verdict::Refused(Refusal::PeriodicColumn) => "refused PeriodicColumn\n",
+            Verdict::Refused(Refusal::QuotientDomainTooLarge) => "refused QuotientDomainTooLarge\n",
+            Verdict::Refused(Refusal::OutOfMemory) => "refused OutOfMemory\n",
+            Verdict::Refused(Refusal::Proof(why)) => why.line(),
+            Verdict::BadInput => "bad input\n",
+        }
+    }
+
+    /// How a run ends that has written the line.
+    pub fn end(self) -> RunEnd
+        ensures { result ≡ end_of self }
+    {
+        match self {
+            Verdict::Accepted => RunEnd::Accepted,
+            Verdict::Refused(_) => RunEnd::Refused,
+            Verdict::BadInput => RunEnd::BadInput,
+        }
+    }
+}

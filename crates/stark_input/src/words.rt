@@ -1,0 +1,64 @@
+//! The words after the program's name.
+
+ghost use Rattle.std.specs.Prelude.{◌≡◌, map, string_bytes};
+ghost use Rattle.stark_input.specs.Words.{command_of, named_air};
+
+/// The AIRs that have a name.
+#[derive(Clone, Copy, Debug, PartialEq, Eq)]
+pub enum SampleAir {
+    /// A column that counts from the public value.
+    Counter,
+    /// A column whose cube is zero.
+    Cubic,
+    /// Two columns, each the sum of those before it.
+    Fibonacci,
+    /// A column that is a periodic one.
+    Periodic,
+    /// A column that is a preprocessed one.
+    Preprocessed,
+    /// Two counters side by side.
+    Pair,
+}
+
+/// What the words ask for.
+#[derive(Clone, Copy, Debug, PartialEq, Eq)]
+pub enum Command {
+    /// To check the numbers of a proof for an AIR.
+    Check(SampleAir),
+    /// To verify a proof for an AIR.
+    Verify(SampleAir),
+}
+
+/// The AIR of a name, compared whole.
+#[tactic(auto, unfolding(crate::specs::Words::named_air))]
+fn named_air(name: &str) -> Option<SampleAir>
+    ensures { result ≡ named_air name.now }
+{
+    match name {
+        "counter" => Some(SampleAir::Counter),
+        "cubic" => Some(SampleAir::Cubic),
+        "fibonacci" => Some(SampleAir::Fibonacci),
+        "periodic" => Some(SampleAir::Periodic),
+        "preprocessed" => Some(SampleAir::Preprocessed),
+        "pair" => Some(SampleAir::Pair),
+        _ => None,
+    }
+}
+
+/// The command that the words name, compared whole.
+#[tactic(auto, unfolding(crate::specs::Words::command_of))]
+pub fn named_command(words: &[String]) -> Option<Command>
+    ensures { result ≡ command_of (map string_bytes words.now) }
+{
+    match words {
+        [verb, air] if verb.as_str() == "check" => {
+            let air = named_air(air.as_str())?;
+            Some(Command::Check(air))
+        }
+        [verb, air] if verb.as_str() == "verify" => {
+            let air = named_air(air.as_str())?;
+            Some(Command::Verify(air))
+        }
+        _ => None,
+    }
+}

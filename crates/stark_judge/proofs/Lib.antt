@@ -1,0 +1,6 @@
+pub mod Parts
+pub mod Sizes
+pub mod EquationFaults
+pub mod EquationParts
+pub mod PointSteps
+pub mod Judged

@@ -1,0 +1,4 @@
+pub mod Point
+pub mod Check
+pub mod Verify
+pub mod SoundRun

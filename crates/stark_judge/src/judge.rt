@@ -1,0 +1,54 @@
+//! What is found of an input's bytes.
+
+ghost use Rattle.std.specs.Prelude.{◌≡◌, ◌⊎◌, ℕ};
+ghost use Rattle.stark_input.specs.Airs.{IsCutInto, log_chunks_of, sample, shape_of};
+ghost use Rattle.stark_input.specs.Input.{numbers_in};
+ghost use Rattle.stark_judge.specs.Check.{judged};
+
+use crate::check::check;
+use stark_air::Air;
+use stark_bench::F12289;
+use stark_clear::{CounterAir, CubicAir, FibonacciAir, PairAir, PeriodicAir, PreprocessedAir};
+use stark_input::{CheckShape, DeclaredAir, Refusal, SampleAir, Verdict, numbers_from};
+use stark_support::JsonFault;
+use std::alloc::Global;
+
+/// What the check of an AIR finds of the bytes of an input.
+fn judge<A: Air<F12289>>(alloc: Global, air: &A, bytes: &[u8]) -> Verdict
+    ensures { (log_chunks : ℕ) → IsCutInto (⟦<A as DeclaredAir>⟧.declared air.now) log_chunks
+        → (result ≡ judged (⟦<A as DeclaredAir>⟧.declared air.now) log_chunks
+        (numbers_in (shape_of (⟦<A as DeclaredAir>⟧.declared air.now)) bytes.now))
+        ⊎ (result ≡ Verdict.Refused Refusal.OutOfMemory) }
+{
+    let Ok(shape) = CheckShape::from_air(alloc, air) else {
+        return Verdict::Refused(Refusal::OutOfMemory);
+    };
+    match numbers_from(alloc, shape, bytes) {
+        Ok(input) => {
+            if input.has_shape(shape) {
+                check(alloc, air, &input)
+            } else {
+                Verdict::BadInput
+            }
+        }
+        Err(JsonFault::Invalid) => Verdict::BadInput,
+        Err(JsonFault::OutOfMemory) => Verdict::Refused(Refusal::OutOfMemory),
+    }
+}
+
+/// What the check of a sample AIR finds of the bytes of an input.
+pub fn judge_sample(alloc: Global, air: SampleAir, bytes: &[u8]) -> Verdict
+    ensures { (result ≡ judged (sample air) (log_chunks_of air) (numbers_in (shape_of (sample air)) bytes.now)) ⊎ (result ≡ Verdict.Refused Refusal.OutOfMemory) }
+{
+    match air {
+        SampleAir::Counter => judge(alloc, &CounterAir, bytes),
+        SampleAir::Cubic => judge(alloc, &CubicAir, bytes),
+        SampleAir::Fibonacci => judge(alloc, &FibonacciAir, bytes),
+        SampleAir::Periodic => match PeriodicAir::new(alloc) {
+            Ok(air) => judge(alloc, &air, bytes),
+            Err(_) => Verdict::Refused(Refusal::OutOfMemory),
+        },
+        SampleAir::Preprocessed => judge(alloc, &PreprocessedAir, bytes),
+        SampleAir::Pair => judge(alloc, &PairAir, bytes),
+    }
+}

@@ -1,0 +1,221 @@
+//! What a verifier finds of an input.
+
+ghost use Rattle.std.specs.Prelude.{◌≡◌, ◌⊎◌, ◌+◌, ◌≤◌, ℕ, List, replicate};
+ghost use Rattle.stark_support.specs.Coset.{TwoAdicCoset};
+ghost use Rattle.stark_support.specs.Scheme.{zk_bits};
+ghost use Rattle.p3_uni_stark.specs.Preprocessing.{HasHeight};
+ghost use Rattle.stark_proof.specs.ProofView.{proof_view};
+ghost use Rattle.stark_clear.specs.ClearScheme.{clear_pcs};
+ghost use Rattle.stark_input.specs.Airs.{sample};
+ghost use Rattle.stark_input.specs.ProofInput.{HasSomeNumber, named_challenger, proof_numbers_in};
+ghost use Rattle.stark_judge.specs.SoundRun.{IsSoundlyRead};
+ghost use Rattle.stark_judge.specs.Verify.{IsJudged, IsJudgedBy, IsVerified, JudgesWithKey};
+ghost use Rattle.stark_input.specs.declared.verdict.Verdict.{Verdict};
+
+use crate::point::ClearConfig;
+use p3_uni_stark::{
+    Proof, ProvingError, StarkInstance, StarkOperations, StarkProof, setup_preprocessed, verify,
+    verify_with_preprocessed,
+};
+use stark_air::Air;
+use stark_bench::{ClearCommitment, F12289, ScriptChallenger, Sha256Challenger};
+use stark_clear::{
+    ClearPcs, ClearProof, CounterAir, CubicAir, FibonacciAir, PairAir, PeriodicAir, PreprocessedAir,
+};
+use stark_input::{
+    ChosenChallenger, DeclaredAir, Extension, ProofInput, Refusal, SampleAir, Verdict,
+    proof_input_from, told,
+};
+use stark_parts::{StarkConfig, StarkGenericConfig, Val};
+use stark_support::{
+    CanObserve, ExtensionChallenger, FieldChallenger, GrindingChallenger, JsonCodec, JsonFault,
+    PackedExtensionField, PrimeField64, TwoAdicField,
+};
+use std::alloc::Global;
+
+/// The program's configuration, with one of its challengers.
+pub type ProgramConfig<C> = ClearConfig<F12289, Extension, C>;
+
+/// The proofs of the program's configuration.
+type ProgramProof = Proof<ClearCommitment<F12289>, Extension, ClearProof, F12289>;
+
+/// What a verifier finds of the bytes of an input, by the verifier's own acceptance, and that the columns which the proof in them
+/// lists break no constraint, unless a challenge is bad. It has no code.
+pub trait VerifiedInput {
+    ghost verified: { Self → List ℕ → Verdict → Type 0 };
+
+    ghost sound: { Self → List ℕ → Type 0 };
+}
+
+impl VerifiedInput for SampleAir {
+    ghost verified = { λ air input v. IsVerified
+        (⟦<ProgramConfig<Sha256Challenger<F12289>> as StarkOperations>⟧.operations) (⟦<ProgramConfig<ScriptChallenger<F12289>> as StarkOperations>⟧.operations)
+        clear_pcs (replicate 32 0) (λ numbers. (numbers, 0)) (sample air)
+        (proof_numbers_in (⟦<ClearCommitment<F12289> as JsonCodec>⟧.reading) (⟦<ClearProof as JsonCodec>⟧.reading) input) v };
+
+    ghost sound = { λ air input. IsSoundlyRead
+        (⟦<ProgramConfig<Sha256Challenger<F12289>> as StarkOperations>⟧.operations) (⟦<ProgramConfig<ScriptChallenger<F12289>> as StarkOperations>⟧.operations)
+        clear_pcs (replicate 32 0) (λ numbers. (numbers, 0)) (sample air)
+        (proof_numbers_in (⟦<ClearCommitment<F12289> as JsonCodec>⟧.reading) (⟦<ClearProof as JsonCodec>⟧.reading) input) };
+}
+
+/// What a verifier finds of a proof, with the key of the AIR's preprocessed columns, which have four rows. The scheme sets
+/// up all columns of so few rows.
+fn judge_with<SC, A>(
+    alloc: Global,
+    config: &SC,
+    air: &A,
+    proof: &StarkProof<SC>,
+    publics: &[Val<SC>],
+) -> Verdict
+where
+    SC: StarkGenericConfig,
+    SC::Challenger: GrindingChallenger<Witness = Val<SC>>,
+    A: Air<Val<SC>>,
+    requires height { HasHeight 2 (A.preprocessed_trace air.now) }
+    requires within { 2 + zk_bits SC.Pcs.ZK ≤ SC.Pcs.scheme.log_max_trace_height (SC.config.scheme config.now) }
+    requires sets_up { (coset : TwoAdicCoset SC.Pcs.Domain.Val) (values : List SC.Pcs.Domain.Val) (width : ℕ) (reason : SC.Pcs.ProverError) → SC.Pcs.scheme.RefusesPreprocessing (SC.config.scheme config.now) coset values width reason → ⊥ }
+    ensures { JudgesWithKey ⟦<SC as StarkOperations>⟧.operations (SC.config.scheme config.now) (A.preprocessed_trace air.now) (⟦<SC as StarkInstance<A>>⟧.instance config.now air.now publics.now) (proof_view proof.now) result }
+{
+    match setup_preprocessed(alloc, config, air, 2) {
+        Ok(None) => {
+            let answer = verify(alloc, config, air, proof, publics);
+            told(&answer)
+        }
+        Ok(Some((_data, key))) => {
+            let answer = verify_with_preprocessed(alloc, config, air, proof, publics, Some(&key));
+            told(&answer)
+        }
+        Err(ProvingError::OutOfMemory) => Verdict::Refused(Refusal::OutOfMemory),
+        Err(_) => unreachable!(),
+    }
+}
+
+/// The same in the clear, over any field and extension. A call of this one writes out no scheme.
+fn judge_over<F, EF, C, A>(
+    alloc: Global,
+    config: &ClearConfig<F, EF, C>,
+    air: &A,
+    proof: &Proof<ClearCommitment<F>, EF, ClearProof, F>,
+    publics: &[F],
+) -> Verdict
+where
+    F: PrimeField64 + TwoAdicField,
+    EF: PackedExtensionField<F>,
+    C: FieldChallenger<F>
+        + GrindingChallenger<Witness = F>
+        + CanObserve<ClearCommitment<F>>
+        + ExtensionChallenger<F, EF>
+        + Clone,
+    A: Air<F>,
+    requires height { HasHeight 2 (A.preprocessed_trace air.now) }
+    requires within { 2 ≤ F.TWO_ADICITY }
+    ensures { JudgesWithKey ⟦<ClearConfig<F, EF, C> as StarkOperations>⟧.operations config.now.pcs (A.preprocessed_trace air.now) (⟦<ClearConfig<F, EF, C> as StarkInstance<A>>⟧.instance config.now air.now publics.now) (proof_view proof.now) result }
+{
+    judge_with(alloc, config, air, proof, publics)
+}
+
+/// The same with a challenger in its first state, and so many bits of work.
+fn judge_proof<C, A>(
+    alloc: Global,
+    air: &A,
+    challenger: C,
+    proof: &ProgramProof,
+    publics: &[F12289],
+    ood_bits: usize,
+) -> Verdict
+where
+    C: FieldChallenger<F12289>
+        + GrindingChallenger<Witness = F12289>
+        + CanObserve<ClearCommitment<F12289>>
+        + ExtensionChallenger<F12289, Extension>
+        + Clone,
+    A: Air<F12289>,
+    requires height { HasHeight 2 (A.preprocessed_trace air.now) }
+    ensures { (result ≡ Verdict.Refused Refusal.OutOfMemory) ⊎ IsJudged (⟦<ProgramConfig<C> as StarkOperations>⟧.operations) clear_pcs challenger
+        (⟦<A as DeclaredAir>⟧.declared air.now) (proof_view proof.now) publics.now ood_bits result }
+{
+    let config: ProgramConfig<C> = StarkConfig::new(
+        ClearPcs::new(),
+        challenger,
+    ).with_ood_proof_of_work_bits(ood_bits);
+    judge_over(alloc, &config, air, proof, publics)
+}
+
+/// The same with the challenger that is named.
+fn judge_by<A: Air<F12289>>(
+    alloc: Global,
+    air: &A,
+    challenger: ChosenChallenger,
+    proof: &ProgramProof,
+    publics: &[F12289],
+    ood_bits: usize,
+) -> Verdict
+    requires height { HasHeight 2 (A.preprocessed_trace air.now) }
+    requires some { HasSomeNumber challenger }
+    ensures { (result ≡ Verdict.Refused Refusal.OutOfMemory) ⊎ IsJudgedBy
+        (⟦<ProgramConfig<Sha256Challenger<F12289>> as StarkOperations>⟧.operations) (⟦<ProgramConfig<ScriptChallenger<F12289>> as StarkOperations>⟧.operations)
+        clear_pcs (replicate 32 0) (λ numbers. (numbers, 0)) (⟦<A as DeclaredAir>⟧.declared air.now)
+        (record { proof = proof_view proof.now; publics = publics.now; challenger = named_challenger challenger; ood_bits = ood_bits }) (named_challenger challenger) result }
+{
+    match challenger {
+        ChosenChallenger::Sha256 => {
+            judge_proof(
+                alloc,
+                air,
+                Sha256Challenger::new(),
+                proof,
+                publics,
+                ood_bits,
+            )
+        }
+        ChosenChallenger::Script(numbers) => {
+            let script = ScriptChallenger::new(numbers);
+            judge_proof(alloc, air, script, proof, publics, ood_bits)
+        }
+    }
+}
+
+/// What a verifier of an AIR finds of the bytes of an input.
+#[tactic(auto, unfolding(crate::specs::Verify::IsVerified))]
+fn verify_air<A: Air<F12289>>(alloc: Global, air: &A, bytes: &[u8]) -> Verdict
+    requires height { HasHeight 2 (A.preprocessed_trace air.now) }
+    ensures { (result ≡ Verdict.Refused Refusal.OutOfMemory) ⊎ IsVerified
+        (⟦<ProgramConfig<Sha256Challenger<F12289>> as StarkOperations>⟧.operations) (⟦<ProgramConfig<ScriptChallenger<F12289>> as StarkOperations>⟧.operations)
+        clear_pcs (replicate 32 0) (λ numbers. (numbers, 0)) (⟦<A as DeclaredAir>⟧.declared air.now)
+        (proof_numbers_in (⟦<ClearCommitment<F12289> as JsonCodec>⟧.reading) (⟦<ClearProof as JsonCodec>⟧.reading) bytes.now) result }
+{
+    match proof_input_from::<ClearCommitment<F12289>, ClearProof>(alloc, bytes) {
+        Ok(input) => {
+            let ProofInput {
+                proof,
+                publics,
+                challenger,
+                ood_bits,
+            } = input;
+            judge_by(alloc, air, challenger, &proof, &publics, ood_bits)
+        }
+        Err(JsonFault::Invalid) => Verdict::BadInput,
+        Err(JsonFault::OutOfMemory) => Verdict::Refused(Refusal::OutOfMemory),
+    }
+}
+
+/// What the verifier of a sample AIR finds of the bytes of an input.
+pub fn verify_sample(alloc: Global, air: SampleAir, bytes: &[u8]) -> Verdict
+    ensures { IsVerified
+        (⟦<ProgramConfig<Sha256Challenger<F12289>> as StarkOperations>⟧.operations) (⟦<ProgramConfig<ScriptChallenger<F12289>> as StarkOperations>⟧.operations)
+        clear_pcs (replicate 32 0) (λ numbers. (numbers, 0)) (sample air)
+        (proof_numbers_in (⟦<ClearCommitment<F12289> as JsonCodec>⟧.reading) (⟦<ClearProof as JsonCodec>⟧.reading) bytes.now) result ⊎ (result ≡ Verdict.Refused Refusal.OutOfMemory) }
+{
+    match air {
+        SampleAir::Counter => verify_air(alloc, &CounterAir, bytes),
+        SampleAir::Cubic => verify_air(alloc, &CubicAir, bytes),
+        SampleAir::Fibonacci => verify_air(alloc, &FibonacciAir, bytes),
+        SampleAir::Periodic => match PeriodicAir::new(alloc) {
+            Ok(air) => verify_air(alloc, &air, bytes),
+            Err(_) => Verdict::Refused(Refusal::OutOfMemory),
+        },
+        SampleAir::Preprocessed => verify_air(alloc, &PreprocessedAir, bytes),
+        SampleAir::Pair => verify_air(alloc, &PairAir, bytes),
+    }
+}

@@ -1,0 +1,122 @@
+-- What an accepted input means.
+use Rattle.std.proofs.Common.{◌≡◌, ◌⊎◌, inl, inr, sym, ◌∙◌, ap, ℕ, ◌-◌, ◌+◌, ◌≤◌, ◌<◌, ◌^◌, ◌≢◌, ◌==◌, length, nat_le, List, Option, Some, None, IfSome, Bool, true, false, if◌then◌else◌, arith, refl}
+use Rattle.std.proofs.lemmas.Bool.{eqb-true, leb-true}
+use Rattle.stark_support.specs.Ring.{RingOps, FieldLaws, difference}
+use Rattle.stark_support.specs.FieldFacts.{if_same}
+use Rattle.stark_support.specs.Powers.{power, squarings}
+use Rattle.stark_support.specs.PowerFacts.{power-power, power-one, squarings_is_power}
+use Rattle.stark_support.specs.LogarithmFacts.{at_most_or_above}
+use Rattle.stark_support.specs.KeepsRing.{kept_power}
+use Rattle.stark_support.specs.CosetFacts.{root_has_order, squarings_more, whole_order}
+use Rattle.stark_bench.specs.Residues.{residue, residue_ring, residue_laws}
+use Rattle.stark_bench.specs.Roots.{root, two_adic_laws}
+use Rattle.stark_bench.specs.Ext4Field.{embedded_is_embedding}
+use Rattle.stark_input.specs.Airs.{CheckedAir, IsCutInto, log_chunks_of, sample, shape_of}
+use Rattle.stark_judge.specs.Check.{checked, CheckHolds, IsBalanced, IsPointOfH, element_of, found_at_point, folded, if_none, laws_of_elements, periodic_fault, quotient, vanishing}
+use Rattle.stark_input.specs.Input.{CheckNumbers, elements, has_shape, numbers_in}
+use Rattle.stark_program.specs.Run.{CheckHoldsOf, HoldsOf, IsVerdict}
+use Rattle.stark_judge.specs.Check.{judged}
+use Rattle.stark_judge.proofs.Sizes.{cut_of_sample}
+use Rattle.stark_input.specs.declared.words.Command.{Command}
+use Rattle.stark_input.specs.declared.words.Command.TheVariants.{Check, Verify}
+use Rattle.stark_input.specs.declared.words.SampleAir.{SampleAir}
+use Rattle.stark_input.specs.declared.verdict.Verdict.{Verdict}
+use Rattle.stark_input.specs.declared.verdict.Verdict.TheVariants.{Accepted, Refused, BadInput}
+use Rattle.stark_input.specs.declared.verdict.Refusal.{Refusal}
+use Rattle.stark_input.specs.declared.verdict.Refusal.TheVariants.{OodPointInDomain, OodEvaluationMismatch, PeriodicColumn, QuotientDomainTooLarge}
+
+-- root n to the 2^n is one, also past the field's adicity
+root_reaches : {M : Type 0} (n : ℕ) → squarings (residue_ring {M = M}) (root n) n ≡ residue 1
+unfolding squarings
+root_reaches {M} n = elim (at_most_or_above n 12) [
+  | inl within ↦ whole_order residue_laws 12 root (residue 11) two_adic_laws n within
+  | inr past ↦
+      let rest = n - 12 in
+      let whole : n ≡ rest + 12 = omega arith in
+      let none : 12 - n ≡ 0 = omega arith in
+      ap (λ k. squarings (residue_ring {M = M}) (squarings residue_ring (residue 1331) k) n) none ∙ ap (λ k. squarings (residue_ring {M = M}) (residue 1331) k) whole ∙
+      squarings_more residue_laws 12 root (residue 11) two_adic_laws (residue 1331) 12 rest (whole_order residue_laws 12 root (residue 11) two_adic_laws 12 (omega arith))
+]
+
+-- The vanishing value is zero at a point of H.
+pub vanishing_at_point : (m : CheckNumbers) → IsPointOfH m → vanishing m ≡ elements.zero
+vanishing_at_point m point =
+    let n = m.log_height in
+    let h = element_of (root n) in
+    let laws = laws_of_elements in
+    let reaches : power elements h (2 ^ n) ≡ elements.one =
+    sym (kept_power (embedded_is_embedding residue_laws.of_ring (residue 11)).keeps (root n) _ (2 ^ n) refl) ∙
+    ap element_of (sym (squarings_is_power residue_laws.of_ring (root n) n) ∙ root_reaches n) in
+    let unity : power elements (power elements h point.0) (2 ^ n) ≡ elements.one =
+    power-power laws.of_ring h point.0 (2 ^ n) ∙ ap (power elements h) (omega arith) ∙ sym (power-power laws.of_ring h (2 ^ n) point.0) ∙
+    ap (λ t. power elements t point.0) reaches ∙ power-one laws.of_ring point.0 in
+    ap (λ t. difference elements t elements.one) (ap (λ t. power elements t (2 ^ n)) point.1 ∙ unity) ∙ laws.of_ring.add_neg elements.one
+
+refusal_clash : (why : Refusal) → Refused why ≡ Accepted → ⊥
+refusal_clash why h = cc
+
+bad_input_clash : BadInput ≡ Accepted → ⊥
+bad_input_clash h = cc
+
+module _ {K : Type 0} {ring : RingOps K} {inverse : K → K} (laws : FieldLaws ring inverse) (x y : K) where
+  same_if_accepted : if_same laws x y Accepted (Refused OodEvaluationMismatch) ≡ Accepted → x ≡ y
+  same_if_accepted = elim (laws.decides x y) as (λ d. elim d [ inl e ↦ Accepted | inr n ↦ Refused OodEvaluationMismatch ] ≡ Accepted → x ≡ y) [
+    | inl e ↦ λ h. e
+    | inr n ↦ λ h. absurd (refusal_clash OodEvaluationMismatch h)
+  ]
+
+  other_if_accepted : (v : Verdict) → if_same laws x y (Refused OodPointInDomain) v ≡ Accepted → (x ≢ y) × (v ≡ Accepted)
+  other_if_accepted v = elim (laws.decides x y) as (λ d. elim d [ inl e ↦ Refused OodPointInDomain | inr n ↦ v ] ≡ Accepted → (x ≢ y) × (v ≡ Accepted)) [
+    | inl e ↦ λ h. absurd (refusal_clash OodPointInDomain h)
+    | inr n ↦ λ h. (n, h)
+  ]
+
+none_if_accepted : {X : Type 0} (fault : Option X) (v : Verdict) → if_none fault v (Refused PeriodicColumn) ≡ Accepted → (fault ≡ None) × (v ≡ Accepted)
+none_if_accepted None v h = (refl, h)
+none_if_accepted (Some x) v h = absurd (refusal_clash PeriodicColumn h)
+
+true_if_accepted : (b : Bool) (v w : Verdict) → (w ≡ Accepted → ⊥) → (if b then v else w) ≡ Accepted → (b ≡ true) × (v ≡ Accepted)
+true_if_accepted true v w other h = (refl, h)
+true_if_accepted false v w other h = absurd (other h)
+
+module _ (air : CheckedAir) (log_chunks : ℕ) (m : CheckNumbers) where
+  holds_at_point : found_at_point air log_chunks m ≡ Accepted → (IsPointOfH m → ⊥) × (periodic_fault air m ≡ None) × IsBalanced air log_chunks m
+  unfolding found_at_point
+  holds_at_point h =
+      let point = other_if_accepted laws_of_elements (vanishing m) elements.zero _ h in
+      let columns = none_if_accepted (periodic_fault air m) _ point.1 in
+      (λ inside. point.0 (vanishing_at_point m inside), columns.0, same_if_accepted laws_of_elements (folded air m) (elements.mul (vanishing m) (quotient log_chunks m)) columns.1)
+
+  pub holds_if_accepted : IsCutInto air log_chunks → checked air log_chunks m ≡ Accepted → CheckHolds air log_chunks m
+  unfolding checked
+  holds_if_accepted cut h =
+      let domain = true_if_accepted (nat_le (m.log_height + log_chunks) 12) _ (Refused QuotientDomainTooLarge) (refusal_clash QuotientDomainTooLarge) h in
+      let count = true_if_accepted (length m.chunks == 2 ^ log_chunks) (found_at_point air log_chunks m) BadInput bad_input_clash domain.1 in
+      let point = holds_at_point count.1 in
+      record {
+        cut = cut;
+        within = leb-true (m.log_height + log_chunks) 12 domain.0;
+        chunks = eqb-true (length m.chunks) (2 ^ log_chunks) count.0;
+        outside = point.0;
+        fitting = point.1;
+        balanced = point.2;
+      }
+
+spelled : (air : SampleAir) (input : List ℕ) (o : Option CheckNumbers) → numbers_in (shape_of (sample air)) input ≡ o → judged (sample air) (log_chunks_of air) o ≡ Accepted → CheckHoldsOf (Some (Check air)) input
+spelled air input None is h = absurd (bad_input_clash h)
+spelled air input (Some m) is h =
+    let shaped = true_if_accepted (has_shape (shape_of (sample air)) m) (checked (sample air) (log_chunks_of air) m) BadInput bad_input_clash h in
+    (air, refl, m, is, shaped.0, holds_if_accepted (sample air) (log_chunks_of air) m (cut_of_sample air) shaped.1)
+
+module _ (verified : SampleAir → List ℕ → Verdict → Type 0) where
+  holds_of_verdict : (command : Option Command) (input : List ℕ) → IsVerdict verified command input Accepted → HoldsOf verified command input
+  unfolding IsVerdict
+  holds_of_verdict None input h = absurd (bad_input_clash (sym h))
+  holds_of_verdict (Some (Check air)) input h = inl (spelled air input (numbers_in (shape_of (sample air)) input) refl (sym h))
+  holds_of_verdict (Some (Verify air)) input h = inr (air, refl, h)
+
+  pub holds_known : (command : Option Command) (known : Option (List ℕ)) (P Q : List ℕ → Type 0)
+      → IfSome known (λ input. (bytes : List ℕ) → P bytes → Q bytes → IsVerdict verified command input Accepted)
+      → IfSome known (λ input. (bytes : List ℕ) → P bytes → Q bytes → HoldsOf verified command input)
+  holds_known command None P Q h = tt
+  holds_known command (Some input) P Q h = λ bytes p q. holds_of_verdict command input (h bytes p q)

@@ -1,0 +1,507 @@
+//! The library's calls that the rows make of a configuration. At closed types such a call has the evidence of all its types
+//! written out, which takes a minute to prove. So each stands here once: over any base field and extension, then over any base
+//! field and its extension. The rows make it at one field, where only that field's evidence is left.
+ghost use Rattle.std.specs.Prelude.{◌≡◌, ◌↔◌, ◌≤◌, All, IfOk, IsTrue, [], length, vec_len};
+ghost use Rattle.stark_air.specs.Layout.{Covers};
+ghost use Rattle.stark_air.specs.Rows.{layout_of};
+ghost use Rattle.stark_support.specs.Coset.{coset_size, coset_vanishing};
+ghost use Rattle.p3_uni_stark.specs.Equation.{OpenedRows, opened_layout, row_or_empty};
+ghost use Rattle.p3_uni_stark.specs.Preprocessing.{HasHeight, IsCommittedWithin};
+
+use crate::elements::Base;
+use p3_uni_stark::{
+    PreprocessedProverData, PreprocessedVerifierKey, Proof, StarkProof,
+    recompose_quotient_from_chunks, setup_preprocessed, verify, verify_constraints,
+    verify_with_preprocessed,
+};
+use stark_air::{Air, AirBuilder, BaseAir, RowWindow, SubAirBuilder, WindowAccess};
+use stark_bench::{ClearCommitment, Coset, Ext4, F12289};
+use stark_clear::{ClearPcs, ClearProof, CounterAir};
+use stark_parts::{
+    Com, Domain, PcsError, StarkConfig, StarkGenericConfig, Val, VerificationError,
+    VerifierConstraintFolder, fold_constraints,
+};
+use stark_support::{
+    CanObserve, DomainShape, Element, ExtensionChallenger, ExtensionField, Field, FieldChallenger,
+    GrindingChallenger, LagrangeSelectors, PackedExtensionField, PolynomialSpace, PrimeField64,
+    QuarticBase, RowMajorMatrixView, TwoAdicField, VerticalPair,
+};
+use std::alloc::{AllocError, Global};
+use std::fmt::Debug;
+
+/// A base field of the rows, with the extension that stands above it.
+pub trait RowField: PrimeField64 + TwoAdicField {
+    type Above: PackedExtensionField<Self>;
+}
+
+impl RowField for Base {
+    type Above = Ext4<Base>;
+}
+
+impl RowField for F12289 {
+    type Above = Ext4<F12289>;
+}
+
+/// The configuration with the scheme in the clear.
+pub type ClearConfig<F, EF, C> = StarkConfig<ClearPcs<F>, EF, C>;
+
+/// The folded sum.
+fn folded_above<F, EF, C, A>(
+    air: &A,
+    local: &[EF],
+    next: &[EF],
+    fixed: &[EF],
+    periodic: &[EF],
+    publics: &[F],
+    selectors: LagrangeSelectors<EF>,
+    alpha: EF,
+) -> Result<EF, AllocError>
+where
+    F: TwoAdicField + PrimeField64,
+    EF: PackedExtensionField<F>,
+    C: FieldChallenger<F> + CanObserve<ClearCommitment<F>> + ExtensionChallenger<F, EF> + Clone,
+    A: Air<F>,
+    requires { Covers (layout_of local.now next.now fixed.now [] publics.now periodic.now) (A.layout air.now) }
+{
+    fold_constraints::<ClearConfig<F, EF, C>, A>(
+        air,
+        local,
+        next,
+        fixed,
+        &local[..0],
+        periodic,
+        publics,
+        selectors,
+        alpha,
+    )
+}
+
+/// The folded sum over a main row and the one after it, a preprocessed row, periodic values and public values.
+pub fn folded<F, C, A>(
+    air: &A,
+    local: &[F::Above],
+    next: &[F::Above],
+    fixed: &[F::Above],
+    periodic: &[F::Above],
+    publics: &[F],
+    selectors: LagrangeSelectors<F::Above>,
+    alpha: F::Above,
+) -> Result<F::Above, AllocError>
+where
+    F: RowField,
+    C: FieldChallenger<F>
+        + CanObserve<ClearCommitment<F>>
+        + ExtensionChallenger<F, F::Above>
+        + Clone,
+    A: Air<F>,
+    requires { Covers (layout_of local.now next.now fixed.now [] publics.now periodic.now) (A.layout air.now) }
+{
+    folded_above::<F, F::Above, C, A>(air, local, next, fixed, periodic, publics, selectors, alpha)
+}
+
+/// Whether a domain's vanishing value at a point is zero.
+fn vanishes_at<D: PolynomialSpace, EF: ExtensionField<D::Val>>(domain: &D, point: EF) -> bool
+    ensures { IsTrue result ↔ (coset_vanishing EF.ring (λ c. c) EF.inverse_of (coset_size (D.coset_of domain.now)) (EF.embed (D.coset_of domain.now).shift) point ≡ EF.ring.zero) }
+{
+    domain.vanishing_poly_at_point(point) == EF::ZERO
+}
+
+/// The selectors of the subgroup of `2^log_size` points; none where there is no such group, or the point lies in it.
+fn selectors_above<F: TwoAdicField, EF: ExtensionField<F>>(
+    log_size: usize,
+    point: EF,
+) -> Option<LagrangeSelectors<EF>> {
+    if log_size > F::TWO_ADICITY {
+        return None;
+    }
+    let domain: Coset<F> = Coset::subgroup(log_size);
+    if vanishes_at(&domain, point) {
+        return None;
+    }
+    Some(domain.selectors_at_point(point))
+}
+
+pub fn selectors_at<F: RowField>(
+    log_size: usize,
+    point: F::Above,
+) -> Option<LagrangeSelectors<F::Above>> {
+    selectors_above::<F, F::Above>(log_size, point)
+}
+
+/// The value recomposed from two parts' chunks.
+fn recomposed<SC: StarkGenericConfig>(
+    alloc: Global,
+    domain: &Domain<SC>,
+    chunks: &[Vec<SC::Challenge>],
+    zeta: SC::Challenge,
+) -> Result<SC::Challenge, AllocError>
+    requires points { 2 ≤ coset_size (SC.Pcs.Domain.coset_of domain.now) }
+    requires chunks { length chunks.now ≡ 2 }
+    requires dimensions { All (λ chunk. vec_len chunk ≡ SC.Challenge.DIMENSION) chunks.now }
+{
+    let domains = domain.split_domains(alloc, 2)?;
+    Ok(recompose_quotient_from_chunks::<SC>(&domains, chunks, zeta))
+}
+
+fn recomposed_above<F, EF, C>(
+    alloc: Global,
+    domain: &Coset<F>,
+    chunks: &[Vec<EF>],
+    zeta: EF,
+) -> Result<EF, AllocError>
+where
+    F: TwoAdicField + PrimeField64,
+    EF: PackedExtensionField<F>,
+    C: FieldChallenger<F> + CanObserve<ClearCommitment<F>> + ExtensionChallenger<F, EF> + Clone,
+    requires points { 2 ≤ coset_size (⟦<Coset<F> as PolynomialSpace>⟧.coset_of domain.now) }
+    requires chunks { length chunks.now ≡ 2 }
+    requires dimensions { All (λ chunk. vec_len chunk ≡ EF.DIMENSION) chunks.now }
+{
+    recomposed::<ClearConfig<F, EF, C>>(alloc, domain, chunks, zeta)
+}
+
+/// A list of a number and three zeros.
+fn chunk<X: Copy + Drop>(alloc: Global, x: X, zero: X) -> Result<Vec<X>, AllocError>
+    ensures { IfOk result (λ v. vec_len v ≡ 4) }
+{
+    let mut values = Vec::new(alloc);
+    values.push(x)?;
+    values.push(zero)?;
+    values.push(zero)?;
+    values.push(zero)?;
+    Ok(values)
+}
+
+/// The value recomposed on the two parts of a domain, from chunks whose first coordinates are given and the others zero; none
+/// where the domain has no two points, or the extension another degree than four.
+pub fn recomposed_of_two<F, C>(
+    alloc: Global,
+    domain: &Coset<F>,
+    first: F::Above,
+    second: F::Above,
+    zeta: F::Above,
+) -> Result<Option<F::Above>, AllocError>
+where
+    F: RowField,
+    C: FieldChallenger<F>
+        + CanObserve<ClearCommitment<F>>
+        + ExtensionChallenger<F, F::Above>
+        + Clone,
+{
+    if domain.size() < 2 || F::Above::DIMENSION != 4 {
+        return Ok(None);
+    }
+    let zero = F::Above::ZERO;
+    let mut chunks = Vec::new(alloc);
+    chunks.push(chunk(alloc, first, zero)?)?;
+    chunks.push(chunk(alloc, second, zero)?)?;
+    let value = recomposed_above::<F, F::Above, C>(alloc, domain, &chunks, zeta)?;
+    Ok(Some(value))
+}
+
+fn recomposed_alone_above<F, EF, C>(
+    alloc: Global,
+    domain: Coset<F>,
+    chunk: Vec<EF>,
+    zeta: EF,
+) -> Result<EF, AllocError>
+where
+    F: TwoAdicField + PrimeField64,
+    EF: PackedExtensionField<F>,
+    C: FieldChallenger<F> + CanObserve<ClearCommitment<F>> + ExtensionChallenger<F, EF> + Clone,
+    requires dimension { vec_len chunk ≡ EF.DIMENSION }
+{
+    let mut domains = Vec::new(alloc);
+    domains.push(domain)?;
+    let chunks = vec![in alloc; chunk]?;
+    Ok(recompose_quotient_from_chunks::<ClearConfig<F, EF, C>>(&domains, &chunks, zeta))
+}
+
+/// The value recomposed from one chunk, whose first coordinate is given and the others zero; none where the extension has
+/// another degree than four.
+pub fn recomposed_of_one<F, C>(
+    alloc: Global,
+    domain: Coset<F>,
+    first: F::Above,
+    zeta: F::Above,
+) -> Result<Option<F::Above>, AllocError>
+where
+    F: RowField,
+    C: FieldChallenger<F>
+        + CanObserve<ClearCommitment<F>>
+        + ExtensionChallenger<F, F::Above>
+        + Clone,
+{
+    if F::Above::DIMENSION != 4 {
+        return Ok(None);
+    }
+    let chunk = chunk(alloc, first, F::Above::ZERO)?;
+    let value = recomposed_alone_above::<F, F::Above, C>(alloc, domain, chunk, zeta)?;
+    Ok(Some(value))
+}
+
+/// What the part of the last two of three columns reads in a verifier's folder: of the current row the columns 0 and 2, of the
+/// next one 1 and 2. None where there are other columns, or where the part or its copy doesn't show those two columns' values.
+fn part_reads<'a, SC: StarkGenericConfig>(
+    local: &'a [SC::Challenge],
+    next: &'a [SC::Challenge],
+    publics: &'a [Val<SC>],
+) -> Result<Option<[Option<SC::Challenge>; 4]>, AllocError> {
+    if local.len() != 3 || next.len() != 3 {
+        return Ok(None);
+    }
+    let none = &local[..0];
+    let mut parent: VerifierConstraintFolder<'_, SC> = VerifierConstraintFolder {
+        main: VerticalPair {
+            top: RowMajorMatrixView::new_row(local),
+            bottom: RowMajorMatrixView::new_row(next),
+        },
+        preprocessed: VerticalPair {
+            top: RowMajorMatrixView::new_row(none),
+            bottom: RowMajorMatrixView::new_row(none),
+        },
+        preprocessed_window: RowWindow::from_two_rows(none, none),
+        periodic_values: none,
+        public_values: publics,
+        is_first_row: SC::Challenge::ONE,
+        is_last_row: SC::Challenge::ONE,
+        is_transition: SC::Challenge::ONE,
+        alpha: SC::Challenge::ONE,
+        accumulator: SC::Challenge::ZERO,
+    };
+    let part: SubAirBuilder<'_, VerifierConstraintFolder<'_, SC>, CounterAir, SC::Challenge> =
+        SubAirBuilder::new(&mut parent, 1..3);
+    let window = part.main()?;
+    if window.current_slice() != &local[1..] || window.next_slice() != &next[1..] {
+        return Ok(None);
+    }
+    let copy = window.clone()?;
+    if copy.current_slice() != &local[1..] {
+        return Ok(None);
+    }
+    Ok(Some([
+        window.current(0),
+        window.current(2),
+        window.next(1),
+        window.next(2),
+    ]))
+}
+
+fn part_reads_above<'a, F, EF, C>(
+    local: &'a [EF],
+    next: &'a [EF],
+    publics: &'a [F],
+) -> Result<Option<[Option<EF>; 4]>, AllocError>
+where
+    F: TwoAdicField + PrimeField64,
+    EF: PackedExtensionField<F>,
+    C: FieldChallenger<F> + CanObserve<ClearCommitment<F>> + ExtensionChallenger<F, EF> + Clone,
+{
+    part_reads::<ClearConfig<F, EF, C>>(local, next, publics)
+}
+
+/// What the part of the last two of three columns reads, as `part_reads`.
+pub fn reads_of_a_part<'a, F, C>(
+    local: &'a [F::Above],
+    next: &'a [F::Above],
+    publics: &'a [F],
+) -> Result<Option<[Option<F::Above>; 4]>, AllocError>
+where
+    F: RowField,
+    C: FieldChallenger<F>
+        + CanObserve<ClearCommitment<F>>
+        + ExtensionChallenger<F, F::Above>
+        + Clone,
+{
+    part_reads_above::<F, F::Above, C>(local, next, publics)
+}
+
+/// No scheme's refusal.
+#[derive(Debug, Drop)]
+pub enum NoScheme {}
+
+/// The test of the constraints on the subgroup of `2^log_size` points; none where there is no such group, or zeta lies in it.
+fn equation_above<'p, F, EF, C, A>(
+    air: &A,
+    local: &[EF],
+    next: &[EF],
+    preprocessed_local: Option<&'p [EF]>,
+    publics: &[F],
+    log_size: usize,
+    zeta: EF,
+    alpha: EF,
+    quotient: EF,
+) -> Option<Result<(), VerificationError<NoScheme>>>
+where
+    F: TwoAdicField + PrimeField64,
+    EF: PackedExtensionField<F>,
+    C: FieldChallenger<F> + CanObserve<ClearCommitment<F>> + ExtensionChallenger<F, EF> + Clone,
+    A: Air<F>,
+    requires widths { Covers (layout_of local.now next.now [] [] publics.now []) (A.layout air.now) }
+{
+    if log_size > F::TWO_ADICITY {
+        return None;
+    }
+    let domain: Coset<F> = Coset::subgroup(log_size);
+    if vanishes_at(&domain, zeta) {
+        return None;
+    }
+    let absent: Option<&'p [EF]> = None;
+    Some(verify_constraints::<ClearConfig<F, EF, C>, A, NoScheme>(
+        air,
+        local,
+        next,
+        preprocessed_local,
+        absent,
+        &local[..0],
+        publics,
+        domain,
+        zeta,
+        alpha,
+        quotient,
+    ))
+}
+
+/// The test of the constraints on the subgroup of `2^log_size` points, at rows as in `folded`.
+pub fn equation<F, C, A>(
+    air: &A,
+    local: &[F::Above],
+    next: &[F::Above],
+    preprocessed_local: Option<&[F::Above]>,
+    publics: &[F],
+    log_size: usize,
+    zeta: F::Above,
+    alpha: F::Above,
+    quotient: F::Above,
+) -> Option<Result<(), VerificationError<NoScheme>>>
+where
+    F: RowField,
+    C: FieldChallenger<F>
+        + CanObserve<ClearCommitment<F>>
+        + ExtensionChallenger<F, F::Above>
+        + Clone,
+    A: Air<F>,
+    requires widths { Covers (layout_of local.now next.now [] [] publics.now []) (A.layout air.now) }
+{
+    equation_above::<F, F::Above, C, A>(
+        air,
+        local,
+        next,
+        preprocessed_local,
+        publics,
+        log_size,
+        zeta,
+        alpha,
+        quotient,
+    )
+}
+
+/// A proof over the scheme in the clear.
+pub type ClearShown<F, EF> = Proof<ClearCommitment<F>, EF, ClearProof, F>;
+
+/// What any verifier answers, in words: `verify` where no key is given.
+fn verified<SC, A>(
+    alloc: Global,
+    config: &SC,
+    air: &A,
+    proof: &StarkProof<SC>,
+    publics: &[Val<SC>],
+    key: Option<&PreprocessedVerifierKey<Com<SC>>>,
+) -> Result<String, AllocError>
+where
+    SC: StarkGenericConfig,
+    SC::Challenger: GrindingChallenger<Witness = Val<SC>>,
+    A: Air<Val<SC>>,
+    PcsError<SC>: Debug,
+{
+    let answer = match key {
+        Some(_) => verify_with_preprocessed(alloc, config, air, proof, publics, key),
+        None => verify(alloc, config, air, proof, publics),
+    };
+    format!(in alloc; "{answer:?}")
+}
+
+fn answer_above<F, EF, C, A>(
+    alloc: Global,
+    config: &ClearConfig<F, EF, C>,
+    air: &A,
+    proof: &Proof<ClearCommitment<F>, EF, ClearProof, F>,
+    publics: &[F],
+    key: Option<&PreprocessedVerifierKey<ClearCommitment<F>>>,
+) -> Result<String, AllocError>
+where
+    F: TwoAdicField + PrimeField64,
+    EF: PackedExtensionField<F>,
+    C: FieldChallenger<F>
+        + CanObserve<ClearCommitment<F>>
+        + ExtensionChallenger<F, EF>
+        + GrindingChallenger<Witness = F>
+        + Clone,
+    A: Air<F>,
+{
+    verified::<ClearConfig<F, EF, C>, A>(alloc, config, air, proof, publics, key)
+}
+
+/// What the verifier answers, in words.
+pub fn answer<F, C, A>(
+    alloc: Global,
+    config: &ClearConfig<F, F::Above, C>,
+    air: &A,
+    proof: &ClearShown<F, F::Above>,
+    publics: &[F],
+    key: Option<&PreprocessedVerifierKey<ClearCommitment<F>>>,
+) -> Result<String, AllocError>
+where
+    F: RowField,
+    C: FieldChallenger<F>
+        + CanObserve<ClearCommitment<F>>
+        + ExtensionChallenger<F, F::Above>
+        + GrindingChallenger<Witness = F>
+        + Clone,
+    A: Air<F>,
+{
+    answer_above::<F, F::Above, C, A>(alloc, config, air, proof, publics, key)
+}
+
+/// What is set up for an AIR with preprocessed columns.
+pub type Keys<F> = (
+    PreprocessedProverData<ClearCommitment<F>, ClearCommitment<F>>,
+    PreprocessedVerifierKey<ClearCommitment<F>>,
+);
+
+fn set_up_above<F, EF, C, A>(
+    alloc: Global,
+    config: &ClearConfig<F, EF, C>,
+    air: &A,
+    degree_bits: usize,
+) -> Option<Option<Keys<F>>>
+where
+    F: TwoAdicField + PrimeField64,
+    EF: PackedExtensionField<F>,
+    C: FieldChallenger<F> + CanObserve<ClearCommitment<F>> + ExtensionChallenger<F, EF> + Clone,
+    A: BaseAir<F>,
+    requires height { HasHeight degree_bits (A.preprocessed_trace air.now) }
+    requires within { IsCommittedWithin degree_bits F.TWO_ADICITY (A.preprocessed_trace air.now) }
+{
+    setup_preprocessed(alloc, config, air, degree_bits).ok()
+}
+
+/// What is set up for an AIR at a height; nothing where it was refused.
+pub fn set_up<F, C, A>(
+    alloc: Global,
+    config: &ClearConfig<F, F::Above, C>,
+    air: &A,
+    degree_bits: usize,
+) -> Option<Option<Keys<F>>>
+where
+    F: RowField,
+    C: FieldChallenger<F>
+        + CanObserve<ClearCommitment<F>>
+        + ExtensionChallenger<F, F::Above>
+        + Clone,
+    A: BaseAir<F>,
+    requires height { HasHeight degree_bits (A.preprocessed_trace air.now) }
+    requires within { IsCommittedWithin degree_bits F.TWO_ADICITY (A.preprocessed_trace air.now) }
+{
+    set_up_above::<F, F::Above, C, A>(alloc, config, air, degree_bits)
+}

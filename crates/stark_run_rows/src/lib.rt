@@ -1,0 +1,9 @@
+//! Runs of the program on bytes in memory. Each number was found apart from this code. The crate has nothing but tests.
+#![tactic(auto)]
+
+#[cfg(test)]
+mod air_tests;
+#[cfg(test)]
+mod tests;
+#[cfg(test)]
+mod verify_tests;

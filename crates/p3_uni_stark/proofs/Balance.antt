@@ -6,12 +6,12 @@ use Rattle.stark_support.specs.Scheme.{natural_coset, zk_bits}
 use Rattle.stark_support.specs.Subgroup.{subgroup_of}
 use Rattle.stark_parts.specs.declared.error.VerificationError.{VerificationError}
 use Rattle.stark_parts.specs.declared.error.VerificationError.TheVariants.{OutOfMemory}
-use Rattle.p3_uni_stark.specs.Equation.{EquationHolds}
-use Rattle.p3_uni_stark.specs.Instance.{Instance, ProtocolOps, log_height, trace_coset}
+use Rattle.stark_protocol.specs.Equation.{EquationHolds}
+use Rattle.stark_protocol.specs.Instance.{Instance, ProtocolOps, log_height, trace_coset}
 use Rattle.stark_proof.specs.ProofView.{ProofView}
-use Rattle.p3_uni_stark.specs.Acceptance.{IsBalanced, log_parts, periodic_values, quotient_value, rows_of}
-use Rattle.p3_uni_stark.specs.FirstFault.{EquationFault, in_balance}
-use Rattle.p3_uni_stark.specs.Sizes.{chunk_shifts, quotient_coset}
+use Rattle.stark_protocol.specs.Acceptance.{IsBalanced, log_parts, periodic_values, quotient_value, rows_of}
+use Rattle.stark_protocol.specs.FirstFault.{EquationFault, in_balance}
+use Rattle.stark_protocol.specs.Sizes.{chunk_shifts, quotient_coset}
 
 module _ {S F E C K T P X Y : Type 0} (ops : ProtocolOps S F E C K T P X Y) (i : Instance S F C K) (p : ProofView K E P F) (trace quotient : TwoAdicCoset F) (log_chunks : ℕ) (periodic : List E) (alpha zeta : E) where
   -- The equation as it is computed, over these domains and periodic columns' values.

@@ -10,7 +10,7 @@ use Rattle.stark_air.specs.Rows.{environment_of}
 use Rattle.stark_parts.specs.Folded.{folded}
 use Rattle.stark_parts.specs.declared.error.VerificationError.TheVariants.{InvalidProofShape, OodEvaluationMismatch}
 use Rattle.stark_parts.specs.declared.error.InvalidProofShapeError.TheVariants.{PreprocessedTraceWidthMismatch}
-use Rattle.p3_uni_stark.specs.Equation.{OpenedRows, ConstraintsHold, ConstraintsFault, folded_constraints, two_widths, unbalanced}
+use Rattle.stark_protocol.specs.Equation.{OpenedRows, ConstraintsHold, ConstraintsFault, folded_constraints, two_widths, unbalanced}
 
 -- Where the test of equality answers false, the two differ.
 pub differ_if_untrue : {E : Type 0} (eq : E → E → Bool) (x y : E) (answer : Bool) → eq x x ≡ true → answer ≡ eq x y → answer ≡ false → x ≢ y

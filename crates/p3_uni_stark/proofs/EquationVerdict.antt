@@ -6,10 +6,10 @@ use Rattle.stark_support.specs.Selectors.{Subgroup}
 use Rattle.stark_air.specs.Tree.{Constraint}
 use Rattle.stark_parts.specs.declared.error.VerificationError.{VerificationError}
 use Rattle.stark_parts.specs.declared.error.VerificationError.TheVariants.{OutOfMemory}
-use Rattle.p3_uni_stark.specs.Equation.{ConstraintsFault, ConstraintsHold, EquationHolds, OpenedRows, row_or_empty, two_widths, unbalanced}
+use Rattle.stark_protocol.specs.Equation.{ConstraintsFault, ConstraintsHold, EquationHolds, OpenedRows, row_or_empty, two_widths, unbalanced}
 use Rattle.stark_proof.specs.ProofView.{PreprocessedView}
-use Rattle.p3_uni_stark.specs.Acceptance.{preprocessed_local}
-use Rattle.p3_uni_stark.specs.FirstFault.{EquationFault, in_balance}
+use Rattle.stark_protocol.specs.Acceptance.{preprocessed_local}
+use Rattle.stark_protocol.specs.FirstFault.{EquationFault, in_balance}
 
 -- Rows by other names.
 pub rows_are : {F E : Type 0} (rows : OpenedRows F E) (local next fixed_local fixed_next periodic : List E) (publics : List F)

@@ -4,12 +4,12 @@ use Rattle.stark_support.specs.Scheme.{SchemeLaws}
 use Rattle.stark_support.specs.declared.periodic.PeriodicColumnShapeError.{PeriodicColumnShapeError}
 use Rattle.stark_parts.specs.declared.error.VerificationError.{VerificationError}
 use Rattle.stark_parts.specs.declared.error.VerificationError.TheVariants.{OutOfMemory}
-use Rattle.p3_uni_stark.specs.declared.preprocessed.PreprocessedVerifierKey.{PreprocessedVerifierKey}
-use Rattle.p3_uni_stark.specs.Instance.{Instance, OpeningOps, ProtocolOps, log_height}
-use Rattle.p3_uni_stark.specs.OpenedClaims.{OpeningsFault, OpeningsHold, claims, preprocessed_place, refused}
+use Rattle.stark_protocol.specs.declared.preprocessed.PreprocessedVerifierKey.{PreprocessedVerifierKey}
+use Rattle.stark_protocol.specs.Instance.{Instance, OpeningOps, ProtocolOps, log_height}
+use Rattle.stark_protocol.specs.OpenedClaims.{OpeningsFault, OpeningsHold, claims, preprocessed_place, refused}
 use Rattle.stark_proof.specs.ProofView.{ProofView}
-use Rattle.p3_uni_stark.specs.Acceptance.{Accepted, IsBalanced, IsPointOfH, RunHolds, challenges, columns_fault}
-use Rattle.p3_uni_stark.specs.FirstFault.{EquationFault, FirstFault, PointFault, RunFault, in_balance, in_columns, in_domain, in_equation, in_openings, in_point, in_replay, in_run, in_shape}
+use Rattle.stark_protocol.specs.Acceptance.{Accepted, IsBalanced, IsPointOfH, RunHolds, challenges, columns_fault}
+use Rattle.stark_protocol.specs.FirstFault.{EquationFault, FirstFault, PointFault, RunFault, in_balance, in_columns, in_domain, in_equation, in_openings, in_point, in_replay, in_run, in_shape}
 
 ok_same : {A B : Type 0} {x y : A} {r : Result A B} → r ≡ Ok x → r ≡ Ok y → x ≡ y
 ok_same e f = cc

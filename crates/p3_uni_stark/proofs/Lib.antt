@@ -1,4 +1,3 @@
-pub mod QuotientSteps
 pub mod PointSteps
 pub mod ClaimSteps
 pub mod Verdicts
@@ -7,7 +6,6 @@ pub mod ShapeSteps
 pub mod Balance
 pub mod Excluded
 pub mod EquationSteps
-pub mod SetUpSteps
 pub mod TakenValueSteps
 pub mod SoundAcceptanceSteps
 pub mod Carried

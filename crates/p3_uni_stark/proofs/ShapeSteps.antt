@@ -10,11 +10,11 @@ use Rattle.stark_air.specs.Layout.{Layout, Covers}
 use Rattle.stark_air.specs.Declaration.{Trace, IsDeclared, next_width}
 use Rattle.stark_parts.specs.Shape.{opens_next_row}
 use Rattle.stark_parts.specs.declared.error.InvalidProofShapeError.TheVariants.{OpenedValuesDimensionMismatch, PreprocessedVerifierKeyInconsistency, PublicValuesLengthMismatch, TraceNextMismatch}
-use Rattle.p3_uni_stark.specs.declared.preprocessed.PreprocessedVerifierKey.{PreprocessedVerifierKey}
-use Rattle.p3_uni_stark.specs.Equation.{opened_layout}
+use Rattle.stark_protocol.specs.declared.preprocessed.PreprocessedVerifierKey.{PreprocessedVerifierKey}
+use Rattle.stark_protocol.specs.Equation.{opened_layout}
 use Rattle.stark_proof.specs.ProofView.{OpeningsView, PreprocessedView}
-use Rattle.p3_uni_stark.specs.Acceptance.{preprocessed_local, preprocessed_next, rows_of}
-use Rattle.p3_uni_stark.specs.ShapeFaults.{dimensions_fault, expected_next, fault_if, key_degree_fault, key_width_fault, opened_fault, preprocessed_fault, preprocessed_rows_fault, publics_fault, random_fits, trace_next_fault, unread_next_fault, width_in_force, width_of, witness_fault}
+use Rattle.stark_protocol.specs.Acceptance.{preprocessed_local, preprocessed_next, rows_of}
+use Rattle.stark_protocol.specs.ShapeFaults.{dimensions_fault, expected_next, fault_if, key_degree_fault, key_width_fault, opened_fault, preprocessed_fault, preprocessed_rows_fault, publics_fault, random_fits, trace_next_fault, unread_next_fault, width_in_force, width_of, witness_fault}
 
 -- ---- a test that finds no fault
 

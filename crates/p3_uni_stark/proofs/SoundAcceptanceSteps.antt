@@ -8,12 +8,12 @@ use Rattle.stark_air.specs.Layout.{Layout, Covers, LeavesWithin}
 use Rattle.stark_air.specs.Declaration.{Trace, IsDeclared, next_width}
 use Rattle.stark_parts.specs.Shape.{opens_next_row}
 use Rattle.stark_parts.specs.declared.error.InvalidProofShapeError.{InvalidProofShapeError}
-use Rattle.p3_uni_stark.specs.declared.preprocessed.PreprocessedVerifierKey.{PreprocessedVerifierKey}
-use Rattle.p3_uni_stark.specs.Equation.{opened_layout}
+use Rattle.stark_protocol.specs.declared.preprocessed.PreprocessedVerifierKey.{PreprocessedVerifierKey}
+use Rattle.stark_protocol.specs.Equation.{opened_layout}
 use Rattle.stark_proof.specs.ProofView.{OpeningsView, PreprocessedView, ProofView}
-use Rattle.p3_uni_stark.specs.Instance.{Instance, ProtocolOps, log_height}
-use Rattle.p3_uni_stark.specs.Acceptance.{preprocessed_local, preprocessed_next, rows_of, of_shape, periodic_values, quotient_value, log_parts, challenges, shape_fault, height_fault, key_fault, domain_fault, values_fault, IsBalanced, RunHolds, Accepted}
-use Rattle.p3_uni_stark.specs.ShapeFaults.{fault_if, key_degree_fault, opened_fault, preprocessed_fault, preprocessed_rows_fault, publics_fault, randomization_fault, trace_next_fault, width_in_force, width_of}
+use Rattle.stark_protocol.specs.Instance.{Instance, ProtocolOps, log_height}
+use Rattle.stark_protocol.specs.Acceptance.{preprocessed_local, preprocessed_next, rows_of, of_shape, periodic_values, quotient_value, log_parts, challenges, shape_fault, height_fault, key_fault, domain_fault, values_fault, IsBalanced, RunHolds, Accepted}
+use Rattle.stark_protocol.specs.ShapeFaults.{fault_if, key_degree_fault, opened_fault, preprocessed_fault, preprocessed_rows_fault, publics_fault, randomization_fault, trace_next_fault, width_in_force, width_of}
 use Rattle.p3_uni_stark.specs.SoundAcceptance.{proved_air, proved_shifts, BreakingNeedsBadChallenges}
 use Rattle.p3_uni_stark.proofs.ShapeSteps.{in_force, met, rows_cover}
 use Rattle.p3_uni_stark.proofs.TakenValueSteps.{StandFor, accepted_needs_bad_draws}

@@ -14,7 +14,7 @@ use Rattle.stark_air.specs.Tree as tree
 use Rattle.stark_air.specs.Layout.{Layout, TreeWithin, LeavesWithin}
 use Rattle.stark_air.specs.Value.{Environment, value, constraint_values}
 use Rattle.stark_parts.specs.Folded.{folded}
-use Rattle.p3_uni_stark.specs.Equation.{OpenedRows, opened_environment, EquationHolds}
+use Rattle.stark_protocol.specs.Equation.{OpenedRows, opened_environment, EquationHolds}
 use Rattle.stark_proof.specs.ProofView.{OpeningsView, PreprocessedView}
 use Rattle.stark_security.specs.ConstraintPolynomial.{AirInstance, Columns, height, group, next_point, environment_at}
 use Rattle.stark_security.specs.BadValues.{IsBalanced}

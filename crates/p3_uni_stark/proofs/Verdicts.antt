@@ -5,11 +5,11 @@ use Rattle.stark_parts.specs.Errors.{transcript_error}
 use Rattle.stark_parts.specs.declared.shape.StarkTranscriptFailure.{StarkTranscriptFailure}
 use Rattle.stark_parts.specs.declared.error.VerificationError.{VerificationError}
 use Rattle.stark_parts.specs.declared.error.VerificationError.TheVariants.{OutOfMemory}
-use Rattle.p3_uni_stark.specs.Instance.{Instance, ProtocolOps, log_height}
-use Rattle.p3_uni_stark.specs.OpenedClaims.{OpeningsFault}
+use Rattle.stark_protocol.specs.Instance.{Instance, ProtocolOps, log_height}
+use Rattle.stark_protocol.specs.OpenedClaims.{OpeningsFault}
 use Rattle.stark_proof.specs.ProofView.{ProofView}
-use Rattle.p3_uni_stark.specs.Acceptance.{IsBalanced, IsPointOfH, RunHolds, challenges, columns_fault, shape_fault}
-use Rattle.p3_uni_stark.specs.FirstFault.{EquationFault, FirstFault, PointFault, RunFault, in_equation, in_openings, in_point, in_replay, in_run, in_shape}
+use Rattle.stark_protocol.specs.Acceptance.{IsBalanced, IsPointOfH, RunHolds, challenges, columns_fault, shape_fault}
+use Rattle.stark_protocol.specs.FirstFault.{EquationFault, FirstFault, PointFault, RunFault, in_equation, in_openings, in_point, in_replay, in_run, in_shape}
 
 -- what is found at the point, by another name of the height
 pub point_fault_at : {X : Type 0} (Inside : ℕ → Type 0) (fault : ℕ → Option PeriodicColumnShapeError) {j k : ℕ} {error : VerificationError X} → j ≡ k

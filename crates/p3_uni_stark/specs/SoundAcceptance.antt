@@ -1,11 +1,11 @@
 -- What an accepted proof says of the polynomials that take its opened values.
 use Rattle.std.specs.Prelude.{◌≡◌, ◌+◌, List, Ok}
 use Rattle.stark_support.specs.Scheme.{natural_coset, zk_bits}
-use Rattle.p3_uni_stark.specs.Acceptance.{challenges, log_parts}
+use Rattle.stark_protocol.specs.Acceptance.{challenges, log_parts}
 use Rattle.stark_security.specs.ConstraintPolynomial.{AirInstance}
-use Rattle.p3_uni_stark.specs.Instance.{Instance, ProtocolOps, log_height}
+use Rattle.stark_protocol.specs.Instance.{Instance, ProtocolOps, log_height}
 use Rattle.stark_proof.specs.ProofView.{ProofView}
-use Rattle.p3_uni_stark.specs.Sizes.{chunk_shifts, quotient_coset}
+use Rattle.stark_protocol.specs.Sizes.{chunk_shifts, quotient_coset}
 use Rattle.p3_uni_stark.specs.TakenValues.{BreakingNeedsBadDraws}
 
 module _ {S F E C K T P X Y : Type 0} (ops : ProtocolOps S F E C K T P X Y) (i : Instance S F C K) (p : ProofView K E P F) where

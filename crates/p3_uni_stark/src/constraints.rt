@@ -3,7 +3,7 @@ ghost use Rattle.std.specs.Prelude.{◌≡◌, ◌≢◌, ◌⊎◌, length, IfO
 ghost use Rattle.stark_support.specs.Coset.{coset_size, coset_vanishing};
 ghost use Rattle.stark_support.specs.Subgroup.{subgroup_of};
 ghost use Rattle.stark_air.specs.Layout.{Covers};
-ghost use Rattle.p3_uni_stark.specs.Equation.{ConstraintsFault, ConstraintsHold, OpenedRows, opened_layout, row_or_empty};
+ghost use Rattle.stark_protocol.specs.Equation.{ConstraintsFault, ConstraintsHold, OpenedRows, opened_layout, row_or_empty};
 
 use stark_air::Air;
 use stark_parts::{

@@ -2,12 +2,9 @@
 #![tactic(auto)]
 
 mod constraints;
-mod heights;
-mod preprocessed;
 mod verifier;
 
 pub use constraints::verify_constraints;
-pub use preprocessed::{PreprocessedProverData, PreprocessedVerifierKey, setup_preprocessed};
 pub use stark_air::{
     AirLayout, BaseEntry, ConstraintLayout, SubAirBuilder, SubSliced, SymbolicAirBuilder,
     SymbolicExpression, SymbolicVariable, get_all_symbolic_constraints, get_constraint_layout,
@@ -24,11 +21,12 @@ pub use stark_proof::{
     Commitments, OpenedValues, OpeningsDecodeError, PreprocessedOpenedValues, Proof,
     ProofDecodeError,
 };
+pub use stark_protocol::{
+    PcsProof, PreprocessedProverData, PreprocessedVerifierKey, StarkInstance, StarkOperations,
+    StarkProof, recompose_quotient_from_chunks, setup_preprocessed,
+};
 pub use stark_security::{
     OpeningShape, StarkSecurityParams, num_batched_openings, ood_error_bound,
 };
 pub use stark_support::{GrindingSites, PeriodicColumnShapeError};
-pub use verifier::{
-    PcsProof, StarkInstance, StarkOperations, StarkProof, StarkVerdict,
-    recompose_quotient_from_chunks, validate_degree_bits, verify, verify_with_preprocessed,
-};
+pub use verifier::{StarkVerdict, validate_degree_bits, verify, verify_with_preprocessed};

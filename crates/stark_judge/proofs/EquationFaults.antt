@@ -5,7 +5,7 @@ use Rattle.stark_support.specs.Selectors.{Subgroup}
 use Rattle.stark_air.specs.Tree.{Constraint}
 use Rattle.stark_parts.specs.declared.error.VerificationError.{VerificationError}
 use Rattle.stark_parts.specs.declared.error.VerificationError.TheVariants.{OutOfMemory}
-use Rattle.p3_uni_stark.specs.Equation.{ConstraintsFault, EquationHolds, OpenedRows, two_widths, unbalanced}
+use Rattle.stark_protocol.specs.Equation.{ConstraintsFault, EquationHolds, OpenedRows, two_widths, unbalanced}
 
 module _ {F E X : Type 0} (base : RingOps F) (ring : RingOps E) (embed : F → E) (subgroup : Subgroup E) (constraints : List (Constraint F)) (rows : OpenedRows F E) (zeta alpha quotient : E)
     (one_width : length rows.preprocessed_local ≡ length rows.preprocessed_next) where

@@ -3,7 +3,7 @@ use Rattle.std.proofs.Common.{◌≡◌, List, subst}
 use Rattle.stark_support.specs.Ring.{RingOps}
 use Rattle.stark_support.specs.Selectors.{Subgroup}
 use Rattle.stark_air.specs.Tree.{Constraint}
-use Rattle.p3_uni_stark.specs.Equation.{OpenedRows}
+use Rattle.stark_protocol.specs.Equation.{OpenedRows}
 use Rattle.stark_judge.specs.Point.{EquationVerdict}
 use Rattle.stark_input.specs.declared.verdict.Verdict.{Verdict}
 

@@ -3,11 +3,11 @@ use Rattle.std.proofs.Common.{◌≡◌, ◌⊎◌, ◌∙◌, inl, inr, ap, ref
 use Rattle.stark_parts.specs.declared.error.VerificationError.{VerificationError}
 use Rattle.stark_parts.specs.declared.error.VerificationError.TheVariants as error
 use Rattle.stark_air.specs.Declaration.{Trace}
-use Rattle.p3_uni_stark.specs.Acceptance.{Accepted}
-use Rattle.p3_uni_stark.specs.FirstFault.{FirstFault}
-use Rattle.p3_uni_stark.specs.Instance.{Instance, ProtocolOps}
+use Rattle.stark_protocol.specs.Acceptance.{Accepted}
+use Rattle.stark_protocol.specs.FirstFault.{FirstFault}
+use Rattle.stark_protocol.specs.Instance.{Instance, ProtocolOps}
 use Rattle.stark_proof.specs.ProofView.{ProofView}
-use Rattle.p3_uni_stark.specs.declared.preprocessed.PreprocessedVerifierKey.{PreprocessedVerifierKey}
+use Rattle.stark_protocol.specs.declared.preprocessed.PreprocessedVerifierKey.{PreprocessedVerifierKey}
 use Rattle.stark_input.specs.Airs.{CheckedAir, sample}
 use Rattle.stark_input.specs.declared.words.SampleAir.{SampleAir}
 use Rattle.stark_input.specs.Input.{Base, Extension}

@@ -7,8 +7,8 @@ use Rattle.stark_support.specs.Logarithm.{IsCeilingOfLog}
 use Rattle.stark_support.specs.LogarithmFacts.{exponent_below}
 use Rattle.stark_bench.specs.Residues.{residue}
 use Rattle.stark_input.specs.Input.{Base}
-use Rattle.p3_uni_stark.specs.Sizes.{quotient_coset}
-use Rattle.p3_uni_stark.proofs.QuotientSteps.{domain_of_size}
+use Rattle.stark_protocol.specs.Sizes.{quotient_coset}
+use Rattle.stark_protocol.specs.QuotientFacts.{domain_of_size}
 use Rattle.stark_judge.specs.Check.{trace_coset}
 
 pub same_ceiling : (j k n : ℕ) → IsCeilingOfLog j n → IsCeilingOfLog k n → j ≡ k

@@ -20,11 +20,11 @@ use Rattle.stark_air.specs.Declaration.{Trace, IsDeclared, next_width}
 use Rattle.stark_bench.specs.Residues.{residue, residue_ring, residue_inverse, residue_laws}
 use Rattle.stark_bench.specs.Roots.{root, two_adic_laws}
 use Rattle.stark_bench.specs.Ext4Field.{basis_of, embedded_is_embedding}
-use Rattle.p3_uni_stark.specs.Equation.{OpenedRows, EquationHolds, opened_layout}
+use Rattle.stark_protocol.specs.Equation.{OpenedRows, EquationHolds, opened_layout}
 use Rattle.stark_input.specs.Airs.{CheckedAir, shape_of}
 use Rattle.stark_judge.specs.Check.{IsBalanced, checked, element_of, found_at_point, folded, inverse_of, if_none, judged, laws_of_elements, opened_rows, periodic_fault, periodic_values, quotient, trace_coset, vanishing}
 use Rattle.stark_input.specs.Input.{CheckNumbers, Base, Extension, elements, has_shape, numbers_in, zeros}
-use Rattle.p3_uni_stark.specs.Sizes.{chunk_shifts, quotient_coset}
+use Rattle.stark_protocol.specs.Sizes.{chunk_shifts, quotient_coset}
 use Rattle.stark_judge.specs.Point.{EquationVerdict, IsOutsideCoset, PointVerdict, TellsEquation}
 use Rattle.stark_input.specs.declared.input.CheckShape.{CheckShape}
 use Rattle.stark_input.specs.declared.verdict.Verdict.{Verdict}

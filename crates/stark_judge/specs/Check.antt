@@ -12,10 +12,10 @@ use Rattle.stark_support.specs.declared.periodic.PeriodicColumnShapeError.{Perio
 use Rattle.stark_bench.specs.Residues.{residue, residue_ring, residue_inverse, residue_laws, eleven}
 use Rattle.stark_bench.specs.Roots.{root}
 use Rattle.stark_bench.specs.Ext4Field.{ext4_inverse, ext4_laws, embedded, basis_of}
-use Rattle.p3_uni_stark.specs.Equation.{OpenedRows, EquationHolds, folded_constraints}
+use Rattle.stark_protocol.specs.Equation.{OpenedRows, EquationHolds, folded_constraints}
 use Rattle.stark_input.specs.Airs.{CheckedAir, IsCutInto, shape_of}
 use Rattle.stark_input.specs.Input.{CheckNumbers, Base, Extension, elements, has_shape, zeros}
-use Rattle.p3_uni_stark.specs.Sizes.{chunk_shifts, quotient_coset}
+use Rattle.stark_protocol.specs.Sizes.{chunk_shifts, quotient_coset}
 use Rattle.stark_input.specs.declared.verdict.Verdict.{Verdict}
 use Rattle.stark_input.specs.declared.verdict.Verdict.TheVariants.{Accepted, Refused, BadInput}
 use Rattle.stark_input.specs.declared.verdict.Refusal.TheVariants.{OodPointInDomain, OodEvaluationMismatch, PeriodicColumn, QuotientDomainTooLarge}

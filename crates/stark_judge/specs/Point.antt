@@ -7,8 +7,8 @@ use Rattle.stark_support.specs.Recomposition.{recomposition}
 use Rattle.stark_support.specs.Subgroup.{subgroup_of}
 use Rattle.stark_support.specs.Selectors.{Subgroup}
 use Rattle.stark_air.specs.Tree.{Constraint}
-use Rattle.p3_uni_stark.specs.Equation.{OpenedRows, EquationHolds}
-use Rattle.p3_uni_stark.specs.Sizes.{chunk_shifts}
+use Rattle.stark_protocol.specs.Equation.{OpenedRows, EquationHolds}
+use Rattle.stark_protocol.specs.Sizes.{chunk_shifts}
 use Rattle.stark_input.specs.declared.verdict.Verdict.{Verdict}
 use Rattle.stark_input.specs.declared.verdict.Verdict.TheVariants.{Accepted, Refused, BadInput}
 use Rattle.stark_input.specs.declared.verdict.Refusal.{Refusal}

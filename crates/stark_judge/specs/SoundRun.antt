@@ -11,11 +11,11 @@ use Rattle.stark_security.specs.ConstraintPolynomial.{Columns, height}
 use Rattle.stark_security.specs.BadValues.{ColumnsFit, IsBadAlpha, IsBadZeta, Satisfies}
 use Rattle.stark_security.specs.DegreeBound.{alpha_bound, zeta_bound}
 use Rattle.stark_security.specs.ErrorBound.{FewBadDraws}
-use Rattle.p3_uni_stark.specs.Acceptance.{challenges, log_parts}
-use Rattle.p3_uni_stark.specs.Instance.{Instance, ProtocolOps}
+use Rattle.stark_protocol.specs.Acceptance.{challenges, log_parts}
+use Rattle.stark_protocol.specs.Instance.{Instance, ProtocolOps}
 use Rattle.p3_uni_stark.specs.SoundAcceptance.{proved_air, proved_shifts}
 use Rattle.p3_uni_stark.specs.TakenValues.{embedded_polynomials}
-use Rattle.p3_uni_stark.specs.declared.preprocessed.PreprocessedVerifierKey.{PreprocessedVerifierKey}
+use Rattle.stark_protocol.specs.declared.preprocessed.PreprocessedVerifierKey.{PreprocessedVerifierKey}
 use Rattle.stark_input.specs.Airs.{CheckedAir}
 use Rattle.stark_input.specs.Input.{Base, Extension}
 use Rattle.stark_input.specs.ProofInput.{NamedChallenger, ProofNumbers, hashing, scripted}

@@ -2,13 +2,13 @@
 use Rattle.std.specs.Prelude.{◌≡◌, ◌⊎◌, ℕ, Bool, false, List, Option, None, Some}
 use Rattle.stark_air.specs.Declaration.{Trace}
 use Rattle.stark_parts.specs.declared.error.VerificationError.{VerificationError}
-use Rattle.p3_uni_stark.specs.Acceptance.{Accepted}
-use Rattle.p3_uni_stark.specs.FirstFault.{FirstFault}
-use Rattle.p3_uni_stark.specs.Instance.{Instance, ProtocolOps}
-use Rattle.p3_uni_stark.specs.Preprocessing.{IsSetUp, has_columns}
+use Rattle.stark_protocol.specs.Acceptance.{Accepted}
+use Rattle.stark_protocol.specs.FirstFault.{FirstFault}
+use Rattle.stark_protocol.specs.Instance.{Instance, ProtocolOps}
+use Rattle.stark_protocol.specs.Preprocessing.{IsSetUp, has_columns}
 use Rattle.stark_proof.specs.ProofView.{ProofView}
-use Rattle.p3_uni_stark.specs.declared.preprocessed.PreprocessedProverData.{PreprocessedProverData}
-use Rattle.p3_uni_stark.specs.declared.preprocessed.PreprocessedVerifierKey.{PreprocessedVerifierKey}
+use Rattle.stark_protocol.specs.declared.preprocessed.PreprocessedProverData.{PreprocessedProverData}
+use Rattle.stark_protocol.specs.declared.preprocessed.PreprocessedVerifierKey.{PreprocessedVerifierKey}
 use Rattle.stark_input.specs.Airs.{CheckedAir}
 use Rattle.stark_input.specs.Input.{Base, Extension}
 use Rattle.stark_input.specs.ProofInput.{NamedChallenger, ProofNumbers, hashing, scripted}

@@ -7,7 +7,7 @@ ghost use Rattle.stark_input.specs.Airs.{IsCutInto, shape_of};
 ghost use Rattle.stark_judge.specs.Check.{IsBalanced, checked, found_at_point, trace_coset, vanishing};
 ghost use Rattle.stark_input.specs.Input.{elements, has_shape};
 ghost use Rattle.stark_input.specs.Numbers.{numbers};
-ghost use Rattle.p3_uni_stark.specs.Sizes.{quotient_coset};
+ghost use Rattle.stark_protocol.specs.Sizes.{quotient_coset};
 ghost use Rattle.stark_judge.specs.Point.{TellsEquation};
 
 use crate::point::{equation_over, quotient_domain_of, vanishes_at};

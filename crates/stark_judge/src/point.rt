@@ -1,24 +1,24 @@
 //! The steps of a check at one point, over any domain and extension, or any configuration.
-ghost use Rattle.std.specs.Prelude.{◌≡◌, ◌≢◌, ◌↔◌, ℕ, List, ◌+◌, ◌-◌, ◌^◌, ◌<◌, ◌≤◌, All, IfOk, IfSome, IsNone, IsTrue, length, map, vec_len};
+ghost use Rattle.std.specs.Prelude.{◌≡◌, ◌≢◌, ◌↔◌, List, ◌+◌, ◌-◌, ◌^◌, ◌<◌, ◌≤◌, All, IfSome, IsNone, IsTrue, length, vec_len};
 ghost use Rattle.stark_support.specs.Coset.{coset_size, coset_vanishing};
-ghost use Rattle.stark_support.specs.Recomposition.{recomposition};
 ghost use Rattle.stark_support.specs.Subgroup.{subgroup_of};
 ghost use Rattle.stark_air.specs.Layout.{Covers};
-ghost use Rattle.p3_uni_stark.specs.Equation.{OpenedRows, opened_layout};
-ghost use Rattle.p3_uni_stark.specs.Sizes.{chunk_shifts, quotient_coset};
+ghost use Rattle.stark_protocol.specs.Equation.{OpenedRows, opened_layout};
+ghost use Rattle.stark_protocol.specs.Sizes.{quotient_coset};
 ghost use Rattle.stark_judge.specs.Point.{EquationVerdict, IsOutsideCoset, PointVerdict};
 
-use p3_uni_stark::{recompose_quotient_from_chunks, verify_constraints};
+use p3_uni_stark::verify_constraints;
 use stark_air::Air;
 use stark_bench::{ClearCommitment, Coset};
 use stark_clear::ClearPcs;
 use stark_input::{Refusal, Verdict};
 use stark_parts::{Domain, StarkConfig, StarkGenericConfig, Val, VerificationError};
+use stark_protocol::quotient_at;
 use stark_support::{
     CanObserve, ExtensionChallenger, ExtensionField, Field, FieldChallenger, PackedExtensionField,
     PeriodicColumns, PolynomialSpace, PrimeField64, TwoAdicField, checked_log_size_sum,
 };
-use std::alloc::{AllocError, Global};
+use std::alloc::Global;
 
 /// A configuration in the clear.
 pub type ClearConfig<F, EF, C> = StarkConfig<ClearPcs<F>, EF, C>;
@@ -47,25 +47,6 @@ pub fn quotient_domain_of<D: PolynomialSpace>(
 {
     let (_log_size, size) = checked_log_size_sum(log_height, log_chunks)?;
     trace_domain.try_create_disjoint_domain(size)
-}
-
-/// The quotient's value at a point, from the values there of its chunks' coordinates: the chunks stand on the parts of
-/// the quotient's domain.
-pub fn quotient_at<SC: StarkGenericConfig>(
-    alloc: Global,
-    quotient_domain: &Domain<SC>,
-    log_chunks: usize,
-    chunks: &[Vec<SC::Challenge>],
-    zeta: SC::Challenge,
-) -> Result<SC::Challenge, AllocError>
-    requires number { length chunks.now ≡ 2 ^ log_chunks }
-    requires within { log_chunks ≤ (SC.Pcs.Domain.coset_of quotient_domain.now).log_size }
-    requires dimension { All (λ chunk. vec_len chunk ≡ SC.Challenge.DIMENSION) chunks.now }
-    ensures { IfOk result (λ quotient. quotient ≡ recomposition SC.Challenge.ring SC.Challenge.ring (λ c. c) SC.Challenge.inverse_of (2 ^ ((SC.Pcs.Domain.coset_of quotient_domain.now).log_size - log_chunks)) SC.Challenge.basis
-        (chunk_shifts SC.Pcs.Domain.Val.ring SC.Pcs.Domain.Val.root SC.Challenge.embed (SC.Pcs.Domain.coset_of quotient_domain.now) log_chunks) (map (λ chunk. chunk.items) chunks.now) zeta) }
-{
-    let domains = quotient_domain.split_domains(alloc, chunks.len())?;
-    Ok(recompose_quotient_from_chunks::<SC>(&domains, chunks, zeta))
 }
 
 /// What is found of the equation at a zeta outside the trace domain.

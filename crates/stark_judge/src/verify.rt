@@ -3,7 +3,7 @@
 ghost use Rattle.std.specs.Prelude.{◌≡◌, ◌⊎◌, ◌+◌, ◌≤◌, ℕ, List, replicate};
 ghost use Rattle.stark_support.specs.Coset.{TwoAdicCoset};
 ghost use Rattle.stark_support.specs.Scheme.{zk_bits};
-ghost use Rattle.p3_uni_stark.specs.Preprocessing.{HasHeight};
+ghost use Rattle.stark_protocol.specs.Preprocessing.{HasHeight};
 ghost use Rattle.stark_proof.specs.ProofView.{proof_view};
 ghost use Rattle.stark_clear.specs.ClearScheme.{clear_pcs};
 ghost use Rattle.stark_input.specs.Airs.{sample};

@@ -3,7 +3,7 @@ use Rattle.std.proofs.Common.{◌≡◌, refl, rules, subst, ℕ, List, Option, 
 use Rattle.stark_air.specs.Declaration.{IsDeclared}
 use Rattle.stark_air.specs.Layout.{LeavesWithin}
 use Rattle.stark_proof.specs.ProofView.{ProofView}
-use Rattle.p3_uni_stark.specs.Instance.{ProtocolOps}
+use Rattle.stark_protocol.specs.Instance.{ProtocolOps}
 use Rattle.stark_input.specs.Airs.{sample}
 use Rattle.stark_input.specs.Input.{Base, Extension}
 use Rattle.stark_input.specs.ProofInput.{NamedChallenger, ProofNumbers, hashing, scripted}

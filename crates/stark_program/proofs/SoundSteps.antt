@@ -21,14 +21,14 @@ use Rattle.stark_clear.specs.ClearClaims.{ClaimsAreTrue}
 use Rattle.stark_clear.specs.ClearScheme.{IsFull, columns_of}
 use Rattle.stark_security.specs.ConstraintPolynomial.{AirInstance, Columns, constraints_at, height, next_point}
 use Rattle.stark_security.specs.BadValues.{RowHolds, Satisfies, point}
-use Rattle.p3_uni_stark.specs.Acceptance.{Accepted, domain_fault, height_fault, key_fault, log_parts, of_shape}
-use Rattle.p3_uni_stark.specs.Instance.{Instance, ProtocolOps, log_height}
-use Rattle.p3_uni_stark.specs.OpenedClaims.{claims_of}
-use Rattle.p3_uni_stark.specs.Preprocessing.{has_columns}
-use Rattle.p3_uni_stark.specs.ShapeFaults.{fault_if, key_degree_fault, key_width_fault, preprocessed_fault, preprocessed_rows_fault, quotient_fault, randomization_fault, width_in_force}
+use Rattle.stark_protocol.specs.Acceptance.{Accepted, domain_fault, height_fault, key_fault, log_parts, of_shape}
+use Rattle.stark_protocol.specs.Instance.{Instance, ProtocolOps, log_height}
+use Rattle.stark_protocol.specs.OpenedClaims.{claims_of}
+use Rattle.stark_protocol.specs.Preprocessing.{has_columns}
+use Rattle.stark_protocol.specs.ShapeFaults.{fault_if, key_degree_fault, key_width_fault, preprocessed_fault, preprocessed_rows_fault, quotient_fault, randomization_fault, width_in_force}
 use Rattle.p3_uni_stark.specs.SoundAcceptance.{proved_air}
 use Rattle.p3_uni_stark.specs.TakenValues.{embedded_polynomials}
-use Rattle.p3_uni_stark.specs.declared.preprocessed.PreprocessedVerifierKey.{PreprocessedVerifierKey}
+use Rattle.stark_protocol.specs.declared.preprocessed.PreprocessedVerifierKey.{PreprocessedVerifierKey}
 use Rattle.p3_uni_stark.proofs.ShapeSteps.{met, not_found}
 use Rattle.p3_uni_stark.proofs.SoundAcceptanceSteps.{accepted_is_sound, shape_clear}
 use Rattle.p3_uni_stark.proofs.TakenValueSteps.{embedded_fit}

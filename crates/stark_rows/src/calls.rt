@@ -5,8 +5,8 @@ ghost use Rattle.std.specs.Prelude.{◌≡◌, ◌↔◌, ◌≤◌, All, IfOk, 
 ghost use Rattle.stark_air.specs.Layout.{Covers};
 ghost use Rattle.stark_air.specs.Rows.{layout_of};
 ghost use Rattle.stark_support.specs.Coset.{coset_size, coset_vanishing};
-ghost use Rattle.p3_uni_stark.specs.Equation.{OpenedRows, opened_layout, row_or_empty};
-ghost use Rattle.p3_uni_stark.specs.Preprocessing.{HasHeight, IsCommittedWithin};
+ghost use Rattle.stark_protocol.specs.Equation.{OpenedRows, opened_layout, row_or_empty};
+ghost use Rattle.stark_protocol.specs.Preprocessing.{HasHeight, IsCommittedWithin};
 
 use crate::elements::Base;
 use p3_uni_stark::{

@@ -1,5 +1,5 @@
 //! Prover's data and verifier's key of preprocessed traces, over the scheme in the clear.
-ghost use Rattle.p3_uni_stark.specs.Preprocessing.{HasHeight, IsCommittedWithin};
+ghost use Rattle.stark_protocol.specs.Preprocessing.{HasHeight, IsCommittedWithin};
 
 use crate::calls::{self, Keys};
 use crate::elements::Base;

@@ -1,19 +1,18 @@
 //! The opening argument at the sampled point.
 ghost use Rattle.std.specs.Prelude.{◌≡◌, ◌⊎◌, IfErr, IfOk, option_map};
 ghost use Rattle.stark_support.specs.Scheme.{natural_coset};
-ghost use Rattle.p3_uni_stark.specs.Instance.{trace_coset};
-ghost use Rattle.p3_uni_stark.specs.OpenedClaims.{OpeningsFault, OpeningsHold, OpeningsVerdict};
+ghost use Rattle.stark_protocol.specs.Instance.{trace_coset};
+ghost use Rattle.stark_protocol.specs.OpenedClaims.{OpeningsFault, OpeningsHold, OpeningsVerdict};
 ghost use Rattle.stark_proof.specs.ProofView.{proof_view};
 ghost use Rattle.stark_parts.specs.declared.error.VerificationError.TheVariants.{OutOfMemory};
 ghost use Rattle.stark_parts.specs.declared.shape.TranscriptPhase.TheVariants.{Delegated, Drawn};
 
-use crate::preprocessed::PreprocessedVerifierKey;
 use crate::verifier::claims::{claims_of, preprocessed_place};
-use crate::verifier::operations::{StarkOperations, StarkProof};
 use crate::verifier::steps::ProofDomains;
 use stark_parts::{
     Com, Domain, PcsError, StarkGenericConfig, StarkVerifierTranscript, Val, VerificationError,
 };
+use stark_protocol::{PreprocessedVerifierKey, StarkOperations, StarkProof};
 use stark_support::{GrindingChallenger, Pcs, PolynomialSpace, SchemeFault, UnivariateStarkPcs};
 use std::alloc::Global;
 

@@ -1,12 +1,12 @@
 //! What a proof claims of its commitments, for the scheme to verify.
 ghost use Rattle.std.specs.Prelude.{◌≡◌, IfOk, [], ◌∷◌, map, option_map};
 ghost use Rattle.stark_support.specs.Claims.{claim_view, point_view};
-ghost use Rattle.p3_uni_stark.specs.OpenedClaims.{chunks_round, claims_of, one_matrix, preprocessed_place, preprocessed_rounds, random_rounds, row_points};
+ghost use Rattle.stark_protocol.specs.OpenedClaims.{chunks_round, claims_of, one_matrix, preprocessed_place, preprocessed_rounds, random_rounds, row_points};
 ghost use Rattle.stark_proof.specs.ProofView.{openings_view, preprocessed_view};
 
-use crate::preprocessed::PreprocessedVerifierKey;
 use stark_parts::StarkOpeningLayout;
 use stark_proof::{Commitments, OpenedValues, PreprocessedOpenedValues};
+use stark_protocol::PreprocessedVerifierKey;
 use stark_support::{OpeningClaim, PolynomialSpace};
 use std::alloc::{AllocError, Global};
 

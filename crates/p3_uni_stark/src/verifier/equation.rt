@@ -5,19 +5,19 @@ ghost use Rattle.stark_support.specs.Recomposition.{recomposition};
 ghost use Rattle.stark_support.specs.Subgroup.{subgroup_of};
 ghost use Rattle.stark_air.specs.Layout.{Covers};
 ghost use Rattle.stark_parts.specs.declared.error.VerificationError.TheVariants.{OutOfMemory};
-ghost use Rattle.p3_uni_stark.specs.Acceptance.{preprocessed_next, rows_of};
-ghost use Rattle.p3_uni_stark.specs.Equation.{EquationHolds, opened_layout, row_or_empty};
-ghost use Rattle.p3_uni_stark.specs.FirstFault.{EquationFault};
+ghost use Rattle.stark_protocol.specs.Acceptance.{preprocessed_next, rows_of};
+ghost use Rattle.stark_protocol.specs.Equation.{EquationHolds, opened_layout, row_or_empty};
+ghost use Rattle.stark_protocol.specs.FirstFault.{EquationFault};
 ghost use Rattle.stark_proof.specs.ProofView.{openings_view, preprocessed_view};
-ghost use Rattle.p3_uni_stark.specs.Sizes.{chunk_shifts};
+ghost use Rattle.stark_protocol.specs.Sizes.{chunk_shifts};
 
 use crate::constraints::verify_constraints;
-use crate::verifier::quotient::quotient_at;
 use crate::verifier::run::SampledPoint;
 use crate::verifier::steps::ProofDomains;
 use stark_air::Air;
 use stark_parts::{Domain, StarkGenericConfig, Val, VerificationError};
 use stark_proof::{OpenedValues, PreprocessedOpenedValues};
+use stark_protocol::quotient_at;
 use stark_support::{ExtensionField, Field, PolynomialSpace};
 use std::alloc::{AllocError, Global};
 

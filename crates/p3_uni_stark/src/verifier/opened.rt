@@ -2,7 +2,7 @@
 ghost use Rattle.std.specs.Prelude.{◌≡◌, ◌==◌, IfErr, IfOk, None, Some, length, map, option_map};
 ghost use Rattle.std.specs.List.{list_all};
 ghost use Rattle.stark_proof.specs.ProofView.{openings_view};
-ghost use Rattle.p3_uni_stark.specs.ShapeFaults.{dimensions_fault, opened_fault, publics_fault, random_fits, randomization_fault, trace_next_fault, witness_fault};
+ghost use Rattle.stark_protocol.specs.ShapeFaults.{dimensions_fault, opened_fault, publics_fault, random_fits, randomization_fault, trace_next_fault, witness_fault};
 
 use stark_parts::{InvalidProofShapeError, VerificationError};
 use stark_proof::OpenedValues;

@@ -3,7 +3,7 @@ ghost use Rattle.std.specs.Prelude.{◌≡◌, ◌≢◌, ◌⊎◌, ◌↔◌, 
 ghost use Rattle.stark_support.specs.Coset.{coset_size, coset_vanishing};
 ghost use Rattle.stark_support.specs.Periodic.{first_fault, periodic_value};
 ghost use Rattle.stark_support.specs.Powers.{power};
-ghost use Rattle.p3_uni_stark.specs.FirstFault.{PointFault};
+ghost use Rattle.stark_protocol.specs.FirstFault.{PointFault};
 ghost use Rattle.stark_parts.specs.declared.error.VerificationError.TheVariants.{OutOfMemory};
 
 use stark_air::BaseAir;

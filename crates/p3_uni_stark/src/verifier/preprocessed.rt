@@ -1,11 +1,11 @@
 //! Tests of a proof's preprocessed rows and of the verifier's key.
 ghost use Rattle.std.specs.Prelude.{◌≡◌, IfErr, IfOk, None, Some, option_map};
 ghost use Rattle.stark_proof.specs.ProofView.{preprocessed_view};
-ghost use Rattle.p3_uni_stark.specs.ShapeFaults.{expected_next, key_degree_fault, key_width_fault, preprocessed_fault, preprocessed_rows_fault, unread_next_fault, width_in_force, width_of};
+ghost use Rattle.stark_protocol.specs.ShapeFaults.{expected_next, key_degree_fault, key_width_fault, preprocessed_fault, preprocessed_rows_fault, unread_next_fault, width_in_force, width_of};
 
-use crate::preprocessed::PreprocessedVerifierKey;
 use stark_parts::InvalidProofShapeError;
 use stark_proof::PreprocessedOpenedValues;
+use stark_protocol::PreprocessedVerifierKey;
 
 /// The key's width where a key is given, and else the AIR's.
 pub fn width_in_force<K>(key: Option<&PreprocessedVerifierKey<K>>, air_width: usize) -> usize

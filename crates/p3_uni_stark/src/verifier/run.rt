@@ -7,17 +7,14 @@ ghost use Rattle.stark_support.specs.Scheme.{natural_coset, zk_bits};
 ghost use Rattle.stark_parts.specs.Shape.{shape_of};
 ghost use Rattle.stark_parts.specs.declared.error.VerificationError.TheVariants.{OutOfMemory};
 ghost use Rattle.stark_parts.specs.declared.shape.TranscriptPhase.TheVariants.{Delegated, Drawn, Opened};
-ghost use Rattle.p3_uni_stark.specs.Acceptance.{IsPointOfH, periodic_values};
-ghost use Rattle.p3_uni_stark.specs.Challenges.{challenges_outcome};
-ghost use Rattle.p3_uni_stark.specs.FirstFault.{IsOutOfMemoryOr, PointFault};
-ghost use Rattle.p3_uni_stark.specs.Instance.{log_height, trace_coset};
-ghost use Rattle.p3_uni_stark.specs.ShapeFaults.{width_in_force};
-ghost use Rattle.p3_uni_stark.specs.Sizes.{log_parts_of};
+ghost use Rattle.stark_protocol.specs.Acceptance.{IsPointOfH, periodic_values};
+ghost use Rattle.stark_protocol.specs.Challenges.{challenges_outcome};
+ghost use Rattle.stark_protocol.specs.FirstFault.{IsOutOfMemoryOr, PointFault};
+ghost use Rattle.stark_protocol.specs.Instance.{log_height, trace_coset};
+ghost use Rattle.stark_protocol.specs.ShapeFaults.{width_in_force};
+ghost use Rattle.stark_protocol.specs.Sizes.{log_parts_of};
 
-use crate::heights::power_of_two;
-use crate::preprocessed::PreprocessedVerifierKey;
 use crate::verifier::argument::delegate_openings;
-use crate::verifier::operations::{StarkOperations, StarkProof, StarkRun};
 use crate::verifier::point::check_point;
 use crate::verifier::preprocessed::width_in_force;
 use crate::verifier::steps::ProofDomains;
@@ -27,6 +24,9 @@ use stark_parts::{
     StarkVerifierTranscript, Val, VerificationError,
 };
 use stark_proof::Commitments;
+use stark_protocol::{
+    PreprocessedVerifierKey, StarkOperations, StarkProof, StarkRun, power_of_two,
+};
 use stark_support::{
     CanObserve, CanSample, ExtensionField, GrindingChallenger, Pcs, PrimeField64, TranscriptSponge,
 };

@@ -1,6 +1,6 @@
 //! Tests of a proof's shape.
 ghost use Rattle.std.specs.Prelude.{◌≡◌, ◌+◌, ◌-◌, ◌^◌, ◌<◌, ◌≤◌, IfErr, IfOk, None, Some};
-ghost use Rattle.p3_uni_stark.specs.ShapeFaults.{degree_fault};
+ghost use Rattle.stark_protocol.specs.ShapeFaults.{degree_fault};
 
 use stark_parts::InvalidProofShapeError;
 use stark_support::checked_pow2;

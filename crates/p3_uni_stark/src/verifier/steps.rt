@@ -4,19 +4,15 @@ ghost use Rattle.std.specs.Option.{option_copied, option_or};
 ghost use Rattle.stark_support.specs.Scheme.{natural_coset, zk_bits};
 ghost use Rattle.stark_parts.specs.Shape.{opens_next_row};
 ghost use Rattle.stark_proof.specs.ProofView.{openings_view, preprocessed_view};
-ghost use Rattle.p3_uni_stark.specs.ShapeFaults.{degree_fault, opened_fault, preprocessed_fault, quotient_fault, randomization_fault};
-ghost use Rattle.p3_uni_stark.specs.Sizes.{log_parts_of, quotient_coset};
-ghost use Rattle.p3_uni_stark.specs.FirstFault.{IsOutOfMemoryOr};
-ghost use Rattle.p3_uni_stark.specs.Instance.{log_height, trace_coset};
-ghost use Rattle.p3_uni_stark.specs.Acceptance.{of_shape};
+ghost use Rattle.stark_protocol.specs.ShapeFaults.{degree_fault, opened_fault, preprocessed_fault, quotient_fault, randomization_fault};
+ghost use Rattle.stark_protocol.specs.Sizes.{log_parts_of, quotient_coset};
+ghost use Rattle.stark_protocol.specs.FirstFault.{IsOutOfMemoryOr};
+ghost use Rattle.stark_protocol.specs.Instance.{log_height, trace_coset};
+ghost use Rattle.stark_protocol.specs.Acceptance.{of_shape};
 ghost use Rattle.stark_parts.specs.declared.error.VerificationError.TheVariants.{OutOfMemory};
 
-use crate::heights::{natural_domain, power_of_two};
-use crate::preprocessed::PreprocessedVerifierKey;
 use crate::verifier::opened::{check_opened, check_randomization};
-use crate::verifier::operations::{StarkProof, StarkRun};
 use crate::verifier::preprocessed::check_preprocessed;
-use crate::verifier::quotient::{log_parts_of, quotient_domain_of};
 use crate::verifier::validate_degree_bits;
 use stark_air::{Air, BaseAir};
 use stark_parts::{
@@ -24,6 +20,10 @@ use stark_parts::{
     opens_next_row,
 };
 use stark_proof::PreprocessedOpenedValues;
+use stark_protocol::{
+    PreprocessedVerifierKey, StarkProof, StarkRun, log_parts_of, natural_domain, power_of_two,
+    quotient_domain_of,
+};
 use stark_support::{ExtensionField, Field, GrindingChallenger, Pcs, UnivariateStarkPcs};
 use std::alloc::Global;
 

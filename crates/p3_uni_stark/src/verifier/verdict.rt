@@ -3,21 +3,21 @@ ghost use Rattle.std.specs.Option.{option_copied};
 ghost use Rattle.std.specs.Prelude.{◌≡◌, ◌≢◌, ◌+◌, ◌^◌, ◌≤◌, IfErr, None, OnOk, length, option_map};
 ghost use Rattle.stark_support.specs.Coset.{coset_size, coset_vanishing};
 ghost use Rattle.stark_support.specs.Scheme.{natural_coset, zk_bits};
-ghost use Rattle.p3_uni_stark.specs.Acceptance.{periodic_values};
-ghost use Rattle.p3_uni_stark.specs.FirstFault.{EquationFault, IsOutOfMemoryOr};
-ghost use Rattle.p3_uni_stark.specs.Instance.{log_height, trace_coset};
+ghost use Rattle.stark_protocol.specs.Acceptance.{periodic_values};
+ghost use Rattle.stark_protocol.specs.FirstFault.{EquationFault, IsOutOfMemoryOr};
+ghost use Rattle.stark_protocol.specs.Instance.{log_height, trace_coset};
 ghost use Rattle.stark_proof.specs.ProofView.{openings_view};
-ghost use Rattle.p3_uni_stark.specs.ShapeFaults.{opened_fault, preprocessed_fault};
+ghost use Rattle.stark_protocol.specs.ShapeFaults.{opened_fault, preprocessed_fault};
 ghost use Rattle.stark_parts.specs.Shape.{opens_next_row};
-ghost use Rattle.p3_uni_stark.specs.Sizes.{log_parts_of, quotient_coset};
+ghost use Rattle.stark_protocol.specs.Sizes.{log_parts_of, quotient_coset};
 
-use crate::preprocessed::PreprocessedVerifierKey;
 use crate::verifier::equation::check_equation;
-use crate::verifier::operations::{StarkOperations, StarkProof, StarkRun, StarkVerdict};
+use crate::verifier::findings::StarkVerdict;
 use crate::verifier::run::{SampledPoint, check_run};
 use crate::verifier::steps::{ProofDomains, check_shape};
 use stark_air::Air;
 use stark_parts::{Com, Domain, PcsError, StarkGenericConfig, Val, VerificationError};
+use stark_protocol::{PreprocessedVerifierKey, StarkOperations, StarkProof, StarkRun};
 use stark_support::{ExtensionField, GrindingChallenger, PolynomialSpace};
 use std::alloc::Global;
 

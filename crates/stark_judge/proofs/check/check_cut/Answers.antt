@@ -6,7 +6,7 @@ use Rattle.stark_judge.specs.Check.{trace_coset}
 use Rattle.stark_input.specs.Input.{Base}
 use Rattle.stark_input.specs.Numbers.{numbers}
 use Rattle.stark_input.specs.Airs.{checked_air}
-use Rattle.p3_uni_stark.specs.Sizes.{quotient_coset}
+use Rattle.stark_protocol.specs.Sizes.{quotient_coset}
 use Rattle.stark_judge.proofs.Parts.{trace_coset_is}
 use Rattle.stark_judge.proofs.PointSteps.{found_counted, found_too_large, found_uncounted, shifted_one, within_adicity}
 use Rattle.stark_judge.proofs.check.check_cut.Goals as goal

@@ -1,5 +1,5 @@
 use Rattle.std.proofs.Common.{◌+◌, ◌^◌, refl}
-use Rattle.p3_uni_stark.proofs.QuotientSteps.{size_of_sum}
+use Rattle.stark_protocol.specs.QuotientFacts.{size_of_sum}
 use Rattle.stark_judge.proofs.Parts.{domain_if_some, none_of_size}
 use Rattle.stark_judge.proofs.point.quotient_domain_of.Goals as goal
 

@@ -1,5 +1,5 @@
 use Rattle.std.proofs.Common.{rules, inr}
-use Rattle.p3_uni_stark.specs.OpenedClaims.{refused}
+use Rattle.stark_protocol.specs.OpenedClaims.{refused}
 use Rattle.p3_uni_stark.proofs.verifier.argument.check_openings.Goals as goal
 
 pub returns-in-Err-Refused-clause-fault : goal.returns-in-Err-Refused-clause-fault

@@ -1,6 +1,6 @@
 use Rattle.std.proofs.Common.{◌∙◌, ap, sym, option_map, ◌∷◌, ◌++◌, map, Some}
 use Rattle.stark_support.specs.Claims.{claim_view}
-use Rattle.p3_uni_stark.specs.OpenedClaims.{chunks_round, one_matrix, preprocessed_rounds, random_rounds, row_points}
+use Rattle.stark_protocol.specs.OpenedClaims.{chunks_round, one_matrix, preprocessed_rounds, random_rounds, row_points}
 use Rattle.stark_proof.specs.ProofView.{openings_view, preprocessed_view}
 use Rattle.p3_uni_stark.proofs.ClaimSteps.{three_pushed, two_pushed}
 use Rattle.p3_uni_stark.proofs.verifier.claims.claims_of.Goals as goal

@@ -1,6 +1,6 @@
 use Rattle.std.proofs.Common.{◌≡◌, ◌++◌, drop, map}
 use Rattle.stark_support.specs.Claims.{matrix_view}
-use Rattle.p3_uni_stark.specs.OpenedClaims.{chunk_claim}
+use Rattle.stark_protocol.specs.OpenedClaims.{chunk_claim}
 use Rattle.p3_uni_stark.proofs.verifier.claims.quotient_round.Given as goal
 
 abbrev pub invariant-loop-chunk : goal.invariant-loop-chunk

@@ -1,9 +1,9 @@
 use Rattle.std.proofs.Common.{◌∙◌, ◌^◌, ◌-◌, ap, map, refl, replicate, unwrap_or, vec_len}
 use Rattle.stark_support.specs.Recomposition.{recomposition}
 use Rattle.stark_support.specs.Subgroup.{subgroup_of}
-use Rattle.p3_uni_stark.specs.Acceptance.{preprocessed_next, rows_of}
+use Rattle.stark_protocol.specs.Acceptance.{preprocessed_next, rows_of}
 use Rattle.stark_proof.specs.ProofView.{openings_view}
-use Rattle.p3_uni_stark.specs.Sizes.{chunk_shifts}
+use Rattle.stark_protocol.specs.Sizes.{chunk_shifts}
 use Rattle.p3_uni_stark.proofs.EquationVerdict.{chunk_lengths, equation_fault, equation_held, opened_local, rows_are}
 use Rattle.p3_uni_stark.proofs.verifier.equation.check_equation.Goals as goal
 

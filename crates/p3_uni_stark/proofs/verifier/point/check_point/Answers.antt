@@ -2,7 +2,7 @@ use Rattle.std.proofs.Common.{◌∙◌, inr, refl, vec_len}
 use Rattle.std.proofs.lemmas.Bool.{false≢true}
 use Rattle.stark_support.specs.Coset.{coset_size}
 use Rattle.stark_support.specs.Periodic.{periodic_value}
-use Rattle.p3_uni_stark.specs.FirstFault.{in_columns, in_domain}
+use Rattle.stark_protocol.specs.FirstFault.{in_columns, in_domain}
 use Rattle.p3_uni_stark.proofs.PointSteps.{same_fault, same_values}
 use Rattle.p3_uni_stark.proofs.verifier.point.check_point.Goals as goal
 

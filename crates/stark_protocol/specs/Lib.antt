@@ -1,0 +1,10 @@
+pub mod Sizes
+pub mod Instance
+pub mod OpenedClaims
+pub mod Challenges
+pub mod Acceptance
+pub mod FirstFault
+pub mod Equation
+pub mod ShapeFaults
+pub mod Preprocessing
+pub mod QuotientFacts

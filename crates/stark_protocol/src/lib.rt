@@ -1,0 +1,15 @@
+//! What prover and verifier share: the definitions of a proof's shape, replay, claims and acceptance over a configuration's
+//! types, the sizes and domains, the preprocessed columns' set-up, and the quotient's value from its chunks'.
+#![tactic(auto)]
+
+mod heights;
+mod operations;
+mod preprocessed;
+mod quotient;
+mod recomposition;
+
+pub use heights::{natural_domain, power_of_two};
+pub use operations::{PcsProof, StarkInstance, StarkOperations, StarkProof, StarkRun};
+pub use preprocessed::{PreprocessedProverData, PreprocessedVerifierKey, setup_preprocessed};
+pub use quotient::{log_parts_of, quotient_domain_of};
+pub use recomposition::{quotient_at, recompose_quotient_from_chunks};

@@ -318,7 +318,7 @@ where
 
 /// No scheme's refusal.
 #[derive(Debug, Drop)]
-pub enum NoScheme {}
+pub struct NoScheme;
 
 /// The test of the constraints on the subgroup of `2^log_size` points; none where there is no such group, or zeta lies in it.
 fn equation_above<'p, F, EF, C, A>(

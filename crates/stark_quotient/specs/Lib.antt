@@ -1,0 +1,2 @@
+pub mod FoldedPlaces
+pub mod FoldedLanes

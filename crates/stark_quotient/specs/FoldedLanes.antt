@@ -1,0 +1,62 @@
+-- Why each lane of what the prover's folder answers is a folded sum.
+use Rattle.std.specs.Prelude.{◌≡◌, ◌<◌, ℕ, zero, suc, List, [], ◌∷◌, ◌++◌, map, length, slice_index_or, refl}
+use Rattle.std.proofs.Common.{sym, ◌∙◌, ap, subst, arith}
+use Rattle.std.proofs.lemmas.Simd.{map-map}
+use Rattle.stark_support.specs.Ring.{RingOps, RingLaws}
+use Rattle.stark_support.specs.Operations.{Operations, ring_operations}
+use Rattle.stark_support.specs.Embedding.{IsEmbedding}
+use Rattle.stark_support.specs.Extension.{IsBasis}
+use Rattle.stark_support.specs.Lanes.{IsLaneByLane}
+use Rattle.stark_air.specs.Tree.{Tree, Constraint, base as over_base, extension as over_extension}
+use Rattle.stark_air.specs.Layout.{Layout}
+use Rattle.stark_air.specs.Value.{Environment, value, constraint_values}
+use Rattle.stark_air.specs.LaneValues.{lane_environment, lane_value}
+use Rattle.stark_air.specs.CollectingBoth.{CollectedBoth, of_base, of_extension}
+use Rattle.stark_parts.specs.Folded.{folded}
+use Rattle.stark_parts.specs.Finalized.{finalized, lane_values}
+use Rattle.stark_quotient.specs.FoldedPlaces.{embedded, AreFoldingPowers, folded_places}
+
+embedded_at : {F E : Type 0} (embed : F → E) (xs : List F) (i : ℕ) (a : F) (b : E) → i < length xs → slice_index_or (map embed xs) i b ≡ embed (slice_index_or xs i a)
+embedded_at embed [] i a b h = absurd (omega arith)
+embedded_at embed (x ∷ xs) zero a b h = refl
+embedded_at embed (x ∷ xs) (suc i) a b h = embedded_at embed xs i a b (omega arith)
+
+module _ {F E P : Type 0} {base : RingOps F} {ring : RingOps E} (laws : RingLaws ring) {embed : F → E} (embeds : IsEmbedding base ring embed)
+    {packed_base : RingOps F} {o : Operations F P} {width : ℕ} {lanes : P → List F} (same_base : packed_base ≡ base) (by_lane : IsLaneByLane packed_base o width lanes)
+    (i : ℕ) (within : i < width) (environment : Environment P) where
+  -- Lane i of a tree's value.
+  in_lane : (t : Tree F) → slice_index_or (lanes (value o environment t)) i base.zero ≡ value (ring_operations base (λ x. x)) (lane_environment lanes i base.zero environment) t
+  in_lane t = lane_value by_lane i base.zero within environment t ∙ ap (λ r. value (ring_operations r (λ x. x)) (lane_environment lanes i base.zero environment) t) same_base
+
+  base_lane : (cs : List (Constraint F)) → lane_values lanes i base.zero (of_base (value o environment) cs) ≡ of_base (value (ring_operations base (λ x. x)) (lane_environment lanes i base.zero environment)) cs
+  base_lane [] = refl
+  base_lane (over_base t ∷ cs) =
+      ap (λ x. x ∷ lane_values lanes i base.zero (of_base (value o environment) cs)) (in_lane t) ∙
+      ap (λ l. value (ring_operations base (λ x. x)) (lane_environment lanes i base.zero environment) t ∷ l) (base_lane cs)
+  base_lane (over_extension t ∷ cs) = base_lane cs
+
+  extension_lane : (cs : List (Constraint F)) → map (λ l. slice_index_or l i ring.zero) (of_extension (λ c. map embed (lanes (value o environment c))) cs)
+      ≡ of_extension (λ t. embed (value (ring_operations base (λ x. x)) (lane_environment lanes i base.zero environment) t)) cs
+  extension_lane [] = refl
+  extension_lane (over_base t ∷ cs) = extension_lane cs
+  extension_lane (over_extension t ∷ cs) =
+      let there = subst (λ n. i < n) (sym (by_lane.as_many (value o environment t))) within in
+      let lane = embedded_at embed (lanes (value o environment t)) i base.zero ring.zero there ∙ ap embed (in_lane t) in
+      ap (λ x. x ∷ map (λ l. slice_index_or l i ring.zero) (of_extension (λ c. map embed (lanes (value o environment c))) cs)) lane ∙
+      ap (λ l. embed (value (ring_operations base (λ x. x)) (lane_environment lanes i base.zero environment) t) ∷ l) (extension_lane cs)
+
+  -- Of values kept from nothing on, the sum in a lane is the folded sum of the constraints over that lane's row, embedded.
+  pub folded_lane : {coordinates : E → List F} {dimension : ℕ} {basis : List E} → IsBasis ring embed dimension basis coordinates
+      → (a : E) (cs : List (Constraint F)) (rows : List (List F)) (powers : List E) → AreFoldingPowers ring coordinates dimension a cs rows powers
+      → {Q : Type 0} (lanes_above : Q → List E) (kept : List P) (kept_above : List Q)
+      → kept ≡ of_base (value o environment) cs → map lanes_above kept_above ≡ of_extension (λ c. map embed (lanes (value o environment c))) cs
+      → (nothing : F) (nothing_above : E) → nothing ≡ base.zero → nothing_above ≡ ring.zero
+      → finalized base nothing ring nothing_above embed basis rows powers (lane_values lanes i base.zero kept) (lane_values lanes_above i ring.zero kept_above)
+      ≡ folded ring a (constraint_values (ring_operations ring embed) (embedded embed (lane_environment lanes i base.zero environment)) cs)
+  folded_lane {basis = basis} is_basis a cs rows powers are lanes_above kept kept_above is above_is nothing nothing_above nothing_is nothing_above_is =
+      ap (λ z. finalized base z ring nothing_above embed basis rows powers (lane_values lanes i base.zero kept) (lane_values lanes_above i ring.zero kept_above)) nothing_is ∙
+      ap (λ z. finalized base base.zero ring z embed basis rows powers (lane_values lanes i base.zero kept) (lane_values lanes_above i ring.zero kept_above)) nothing_above_is ∙
+      ap (λ l. finalized base base.zero ring ring.zero embed basis rows powers l (lane_values lanes_above i ring.zero kept_above)) (ap (lane_values lanes i base.zero) is ∙ base_lane cs) ∙
+      ap (finalized base base.zero ring ring.zero embed basis rows powers (of_base (value (ring_operations base (λ x. x)) (lane_environment lanes i base.zero environment)) cs))
+      (sym (map-map (λ l. slice_index_or l i ring.zero) lanes_above kept_above) ∙ ap (map (λ l. slice_index_or l i ring.zero)) above_is ∙ extension_lane cs) ∙
+      folded_places laws embeds is_basis a (lane_environment lanes i base.zero environment) cs rows powers are

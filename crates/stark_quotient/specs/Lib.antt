@@ -1,0 +1,3 @@
+pub mod FoldedPlaces
+pub mod FoldedLanes
+pub mod PointwiseQuotient

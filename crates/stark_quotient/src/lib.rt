@@ -1,0 +1,2 @@
+//! The prover's quotient.
+#![tactic(auto)]

@@ -1,3 +1,4 @@
 pub mod FoldedPlaces
 pub mod FoldedLanes
+pub mod ConstraintPolynomial
 pub mod PointwiseQuotient

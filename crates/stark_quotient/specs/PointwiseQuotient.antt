@@ -8,7 +8,7 @@ use Rattle.stark_air.specs.Declaration.{Trace}
 use Rattle.stark_air.specs.Rows.{environment_of}
 use Rattle.stark_air.specs.Value.{Environment, constraint_values}
 use Rattle.stark_parts.specs.Folded.{folded}
-use Rattle.stark_security.specs.ConstraintPolynomial.{AirInstance, height, group}
+use Rattle.stark_quotient.specs.ConstraintPolynomial.{AirInstance, height, group}
 
 -- Where a quotient is taken, and what is known there: the size of the coset and its points, the rows of the main and the
 -- preprocessed columns' values by the number of their point, and the public values.

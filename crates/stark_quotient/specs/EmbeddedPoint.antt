@@ -13,7 +13,7 @@ use Rattle.stark_support.specs.Subgroup.{group_of}
 use Rattle.stark_air.specs.Rows.{environment_of}
 use Rattle.stark_air.specs.Value.{constraint_values}
 use Rattle.stark_parts.specs.Folded.{folded}
-use Rattle.stark_quotient.specs.ConstraintPolynomial.{AirInstance, height, group}
+use Rattle.stark_security.specs.ConstraintPolynomial.{AirInstance, height, group}
 use Rattle.stark_quotient.specs.PointwiseQuotient.{RowsOnCoset, folded_in_row, next_row, periodic_row, pointwise_quotient, point_above}
 
 module _ {F E : Type 0} {base : RingOps F} {base_inverse : F → F} {ring : RingOps E} {inverse : E → E} {embed : F → E} (base_laws : FieldLaws base base_inverse) (laws : FieldLaws ring inverse) (embeds : IsEmbedding base ring embed) where

@@ -1,6 +1,6 @@
 pub mod FoldedPlaces
 pub mod FoldedLanes
-pub mod ConstraintPolynomial
 pub mod PointwiseQuotient
 pub mod EmbeddedPoint
 pub mod SameLeaves
+pub mod BaseRows

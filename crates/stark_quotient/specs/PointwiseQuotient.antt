@@ -1,14 +1,16 @@
 -- The quotient of an AIR's folded constraint by the trace's vanishing polynomial, point by point of a coset.
 use Rattle.std.specs.Prelude.{◌≡◌, ℕ, ◌+◌, ◌/◌, ◌%◌, ◌*◌, ◌<◌, List, [], map, length, Option, None, Some, slice_get}
+use Rattle.stark_support.specs.Ring.{RingOps}
 use Rattle.stark_support.specs.Operations.{ring_operations}
 use Rattle.stark_support.specs.Coset.{TwoAdicCoset, coset_point, coset_size, subgroup_vanishing}
 use Rattle.stark_support.specs.Periodic.{periodic_value}
+use Rattle.stark_support.specs.Scheme.{matrix_row}
 use Rattle.stark_support.specs.Selectors.{first_row_selector, last_row_selector, transition_selector}
 use Rattle.stark_air.specs.Declaration.{Trace}
 use Rattle.stark_air.specs.Rows.{environment_of}
 use Rattle.stark_air.specs.Value.{Environment, constraint_values}
 use Rattle.stark_parts.specs.Folded.{folded}
-use Rattle.stark_quotient.specs.ConstraintPolynomial.{AirInstance, height, group}
+use Rattle.stark_security.specs.ConstraintPolynomial.{AirInstance, height, group}
 
 -- Where a quotient is taken, and what is known there: the size of the coset and its points, the rows of the main and the
 -- preprocessed columns' values by the number of their point, and the public values.
@@ -57,7 +59,7 @@ module _ {F E : Type 0} (i : AirInstance F E) (rows : RowsOnCoset F) where
 -- ---- rows in matrices
 
 -- There are so many rows of this width.
-pub record HasRows {F : Type 0} (width height : ℕ) (matrix : Trace F) : Type 0 where
+pub record HasShape {F : Type 0} (width height : ℕ) (matrix : Trace F) : Type 0 where
   pub width_is : matrix.width ≡ width
   pub number : length matrix.values ≡ height * matrix.width
 
@@ -65,3 +67,13 @@ pub record HasRows {F : Type 0} (width height : ℕ) (matrix : Trace F) : Type 0
 abbrev pub matrix_or_empty : {F : Type 0} → Option (Trace F) → Trace F
 matrix_or_empty None = record { width = 0; values = [] }
 matrix_or_empty (Some matrix) = matrix
+
+-- The rows that matrices have on a coset.
+abbrev pub rows_of_matrices : {F : Type 0} → RingOps F → (ℕ → F) → TwoAdicCoset F → Trace F → Trace F → List F → RowsOnCoset F
+rows_of_matrices base root coset main preprocessed publics = record {
+  size = coset_size coset;
+  point = coset_point base root coset;
+  main = matrix_row main.values main.width;
+  preprocessed = matrix_row preprocessed.values preprocessed.width;
+  publics = publics;
+}

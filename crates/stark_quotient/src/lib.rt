@@ -1,2 +1,8 @@
-//! The prover's quotient.
+//! The prover's quotient: the constraints' folded values over a trace's rows, over the vanishing polynomial of its domain.
 #![tactic(auto)]
+
+mod plain_eval;
+
+mod row;
+
+

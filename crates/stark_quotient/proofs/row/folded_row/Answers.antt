@@ -1,21 +1,31 @@
-use Rattle.std.proofs.Common.{rules, ◌≡◌, ◌<◌, ℕ, List, [], IfOk, map, slice_index_or, ◌+◌, ◌-◌, ◌*◌, ◌≤◌, length, ◌/◌, ◌%◌, Bool, true, false, nat_eq, nat_lt, ◌∷◌, ◌++◌, slice_set, bit_and, bit_or, Fits, w8, w32, w64, Bor, MutBor}
+use Rattle.std.proofs.Common.{◌∙◌, ◌<◌, ap, map, option_map, refl, subst, sym}
 use Rattle.std.specs.Vec.{vec_items}
-use Rattle.stark_support.specs.Operations.{ring_operations}
-use Rattle.stark_air.specs.LaneValues.{lane_environment}
-use Rattle.stark_air.specs.Layout.{Covers}
-use Rattle.stark_air.specs.Value.{constraint_values}
-use Rattle.stark_parts.specs.Folded.{folded}
-use Rattle.stark_quotient.specs.FoldingPowers.{AreFoldingPowers, embedded}
+use Rattle.std.proofs.lemmas.List.{length-map}
+use Rattle.std.proofs.lemmas.Option.{slice_get-get_or, slice_get-map}
+use Rattle.stark_quotient.specs.FoldedLanes.{folded_lane}
+use Rattle.stark_quotient.proofs.PowerCounts.{powers_length, row_length}
 use Rattle.stark_quotient.proofs.row.folded_row.Goals as goal
 
--- src/row.rt:35:8
+pub finalize_constraints-requires-clause-dimension : goal.finalize_constraints-requires-clause-dimension
+finalize_constraints-requires-clause-dimension g c = sym (length-map c.args.folder.base_alpha_powers.now vec_items) ∙ c.requires.powers.1.base.number
+
 pub finalize_constraints-requires-clause-rows : goal.finalize_constraints-requires-clause-rows
-finalize_constraints-requires-clause-rows g c = ?
+finalize_constraints-requires-clause-rows g c = λ k d below.
+    let rows = c.args.folder.base_alpha_powers.now in
+    let at = slice_get-map vec_items rows k ∙ ap (option_map vec_items) (slice_get-get_or rows k d below) in
+    row_length c.requires.powers.1 c.in_ok-eval.ensures.asserted c.requires.nothing_kept k _ at
 
--- src/row.rt:35:8
 pub finalize_constraints-requires-clause-powers : goal.finalize_constraints-requires-clause-powers
-finalize_constraints-requires-clause-powers g c = ?
+finalize_constraints-requires-clause-powers g c =
+    let lanes = g.SC.Challenge.ExtensionPacking.PackedValue.lanes in
+    powers_length c.requires.powers.1 c.in_ok-eval.ensures.asserted (ap (map lanes) c.requires.nothing_kept_above) lanes c.eval.new.builder.ext_constraints.items refl
 
--- src/row.rt:19:1
 pub returns : goal.returns
-returns g c = ?
+returns g c = λ alpha are i within.
+    let lanes = g.SC.Challenge.ExtensionPacking.PackedValue.lanes in
+    let base = g.met.SC.Pcs.Domain.Val in
+    let field = g.met.SC.Challenge in
+    c.finalize_constraints.ensures i within ∙
+    folded_lane field.Field.field_laws.of_ring field.ExtensionField.embeds base.Field.packed_ring base.Packing.PackedValue.lane_by_lane field.ExtensionField.is_basis
+    c.in_ok-eval.ensures.asserted c.requires.nothing_kept (ap (map lanes) c.requires.nothing_kept_above) alpha _ _ are lanes c.eval.new.builder.ext_constraints.items refl _ _
+    base.Field.zero_is field.Field.zero_is i (subst (λ n. i < n) field.PackedExtensionField.packed_as_wide within)

@@ -2,7 +2,4 @@
 #![tactic(auto)]
 
 mod plain_eval;
-
 mod row;
-
-

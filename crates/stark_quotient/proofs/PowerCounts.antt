@@ -1,5 +1,5 @@
 -- How many powers and values there are of base constraints and of those over the extension.
-use Rattle.std.proofs.Common.{◌≡◌, ◌∙◌, ◌<◌, ◌+◌, ◌-◌, ℕ, refl, List, [], ◌∷◌, Some, map, length, ap, sym, arith, slice_index_or}
+use Rattle.std.proofs.Common.{◌≡◌, ◌∙◌, ◌+◌, ◌-◌, ℕ, refl, List, [], ◌∷◌, Some, map, length, ap, sym, arith}
 use Rattle.std.specs.List.{slice_get}
 use Rattle.std.proofs.lemmas.List.{length-map}
 use Rattle.stark_support.specs.Ring.{RingOps}
@@ -10,7 +10,7 @@ use Rattle.stark_support.specs.Operations.{Operations}
 use Rattle.stark_air.specs.Layout.{Layout}
 use Rattle.stark_air.specs.Value.{Environment, value}
 use Rattle.stark_air.specs.CollectingBoth.{CollectedBoth, of_base, of_extension}
-use Rattle.stark_quotient.specs.FoldingPowers.{AreFoldingPowers}
+use Rattle.stark_quotient.specs.FoldedPlaces.{AreFoldingPowers}
 use Rattle.stark_quotient.specs.FoldedLanes.{kept_from_nothing}
 
 as_many_base : {F A : Type 0} (f : Tree F → A) (n : ℕ) (cs : List (Constraint F)) → length (base_places n cs) ≡ length (of_base f cs)

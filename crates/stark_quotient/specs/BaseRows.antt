@@ -1,7 +1,7 @@
 -- Constraints over a row of base elements, seen in the extension.
-use Rattle.std.specs.Prelude.{List, map}
+use Rattle.std.specs.Prelude.{List, map, length, take, drop}
 use Rattle.stark_support.specs.Ring.{RingOps}
-use Rattle.stark_support.specs.Operations.{ring_operations}
+use Rattle.stark_support.specs.Operations.{Operations, ring_operations}
 use Rattle.stark_air.specs.Layout.{Layout}
 use Rattle.stark_air.specs.Rows.{environment_of, layout_of}
 use Rattle.stark_air.specs.Tree.{Constraint}
@@ -23,3 +23,17 @@ module _ {F E : Type 0} (base : RingOps F) (ring : RingOps E) (embed : F → E) 
   -- The sum over j below n of alpha ^ (n - 1 - j) times constraint j over the row.
   abbrev pub folded_over : E → List (Constraint F) → E
   folded_over alpha cs = folded ring alpha (constraint_values (ring_operations ring embed) row_environment cs)
+
+-- The row in a folder: two packed rows, one after the other, of the main and of the preprocessed columns, the periodic columns'
+-- packed values, and the row's public values and selectors.
+module _ {F P : Type 0} (main preprocessed periodic : List P) (row : BaseRow F) where
+  abbrev pub packed_environment : Operations F P → F → Environment P
+  packed_environment o blank =
+      environment_of o blank (o.embed row.is_first_row)
+      (take (length row.main_current.now) main) (drop (length row.main_current.now) main) (take (length row.preprocessed_current.now) preprocessed) (drop (length row.preprocessed_current.now) preprocessed)
+      row.public_values.now periodic (o.embed row.is_first_row) (o.embed row.is_last_row) (o.embed row.is_transition)
+
+  abbrev pub packed_layout : Layout
+  packed_layout =
+      layout_of (take (length row.main_current.now) main) (drop (length row.main_current.now) main) (take (length row.preprocessed_current.now) preprocessed) (drop (length row.preprocessed_current.now) preprocessed)
+      row.public_values.now periodic

@@ -1,5 +1,6 @@
--- FoldingPowers: AreFoldingPowers, embedded. FoldedPlaces: embedded_value, summed_coordinates, folded_places. FoldedLanes: folded_lane.
-pub mod FoldingPowers
+-- FoldedPlaces: embedded, AreFoldingPowers, embedded_value, summed_coordinates, folded_places. FoldedLanes: folded_lane.
+-- PointwiseQuotient: pointwise_quotient, ArePointwiseQuotients, rows_of_matrices. EmbeddedPoint: quotient_from_base.
+-- SameLeaves: same_constraints, broadcast_agrees. BaseRows: folded_over.
 pub mod FoldedPlaces
 pub mod FoldedLanes
 pub mod PointwiseQuotient

@@ -10,7 +10,7 @@ use Rattle.stark_support.specs.Operations.{Operations}
 use Rattle.stark_air.specs.Layout.{Layout}
 use Rattle.stark_air.specs.Value.{Environment, value}
 use Rattle.stark_air.specs.CollectingBoth.{CollectedBoth, of_base, of_extension}
-use Rattle.stark_quotient.specs.FoldingPowers.{AreFoldingPowers}
+use Rattle.stark_quotient.specs.FoldedPlaces.{AreFoldingPowers}
 use Rattle.stark_quotient.specs.FoldedLanes.{kept_from_nothing}
 
 as_many_base : {F A : Type 0} (f : Tree F → A) (n : ℕ) (cs : List (Constraint F)) → length (base_places n cs) ≡ length (of_base f cs)

@@ -14,8 +14,7 @@ use Rattle.stark_air.specs.LaneValues.{lane_environment, lane_value}
 use Rattle.stark_air.specs.CollectingBoth.{CollectedBoth, of_base, of_extension}
 use Rattle.stark_parts.specs.Folded.{folded}
 use Rattle.stark_parts.specs.Finalized.{finalized, lane_values}
-use Rattle.stark_quotient.specs.FoldingPowers.{AreFoldingPowers, embedded}
-use Rattle.stark_quotient.specs.FoldedPlaces.{folded_places}
+use Rattle.stark_quotient.specs.FoldedPlaces.{AreFoldingPowers, embedded, folded_places}
 
 embedded_at : {F E : Type 0} (embed : F → E) (xs : List F) (i : ℕ) (a : F) (b : E) → i < length xs → slice_index_or (map embed xs) i b ≡ embed (slice_index_or xs i a)
 embedded_at embed [] i a b h = absurd (omega arith)

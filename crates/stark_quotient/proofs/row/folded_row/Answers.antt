@@ -7,11 +7,11 @@ use Rattle.stark_quotient.proofs.PowerCounts.{powers_length, row_length}
 use Rattle.stark_quotient.proofs.row.folded_row.Goals as goal
 
 pub finalize_constraints-requires-clause-dimension : goal.finalize_constraints-requires-clause-dimension
-finalize_constraints-requires-clause-dimension g c = sym (length-map c.args.folder.base_alpha_powers.now vec_items) ∙ c.requires.powers.1.base.number
+finalize_constraints-requires-clause-dimension g c = sym (length-map c.args.folder.now.base_alpha_powers.now vec_items) ∙ c.requires.powers.1.base.number
 
 pub finalize_constraints-requires-clause-rows : goal.finalize_constraints-requires-clause-rows
 finalize_constraints-requires-clause-rows g c = λ k d below.
-    let rows = c.args.folder.base_alpha_powers.now in
+    let rows = c.args.folder.now.base_alpha_powers.now in
     let at = slice_get-map vec_items rows k ∙ ap (option_map vec_items) (slice_get-get_or rows k d below) in
     row_length c.requires.powers.1 c.in_ok-eval.ensures.asserted c.requires.nothing_kept k _ at
 

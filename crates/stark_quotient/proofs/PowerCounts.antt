@@ -1,5 +1,5 @@
 -- How many powers and values there are of base constraints and of those over the extension.
-use Rattle.std.proofs.Common.{◌≡◌, ◌∙◌, ◌<◌, ◌+◌, ◌-◌, ℕ, refl, List, [], ◌∷◌, Some, map, length, ap, sym, arith, slice_index_or}
+use Rattle.std.proofs.Common.{◌≡◌, ◌∙◌, ◌+◌, ◌-◌, ℕ, refl, List, [], ◌∷◌, Some, map, length, ap, sym, arith}
 use Rattle.std.specs.List.{slice_get}
 use Rattle.std.proofs.lemmas.List.{length-map}
 use Rattle.stark_support.specs.Ring.{RingOps}

@@ -16,6 +16,11 @@ use Rattle.stark_parts.specs.Folded.{folded}
 use Rattle.stark_parts.specs.Finalized.{finalized, lane_values}
 use Rattle.stark_quotient.specs.FoldedPlaces.{AreFoldingPowers, embedded, folded_places}
 
+-- In each lane below the width stands the folded sum of the constraints over that lane's row, embedded.
+abbrev pub AreFoldedLanes : {F E P : Type 0} → RingOps F → RingOps E → (F → E) → (P → List F) → ℕ → E → List (Constraint F) → Environment P → List E → Type 0
+AreFoldedLanes base ring embed lanes width a cs row sums =
+    (i : ℕ) → i < width → slice_index_or sums i ring.zero ≡ folded ring a (constraint_values (ring_operations ring embed) (embedded embed (lane_environment lanes i base.zero row)) cs)
+
 embedded_at : {F E : Type 0} (embed : F → E) (xs : List F) (i : ℕ) (a : F) (b : E) → i < length xs → slice_index_or (map embed xs) i b ≡ embed (slice_index_or xs i a)
 embedded_at embed [] i a b h = absurd (omega arith)
 embedded_at embed (x ∷ xs) zero a b h = refl

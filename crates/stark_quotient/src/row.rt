@@ -1,12 +1,9 @@
 //! One packed row's folded constraints.
-ghost use Rattle.std.specs.Prelude.{◌≡◌, ◌<◌, ℕ, List, [], IfOk, map, slice_index_or};
+ghost use Rattle.std.specs.Prelude.{◌≡◌, [], IfOk, map};
 ghost use Rattle.std.specs.Vec.{vec_items};
-ghost use Rattle.stark_support.specs.Operations.{ring_operations};
-ghost use Rattle.stark_air.specs.LaneValues.{lane_environment};
 ghost use Rattle.stark_air.specs.Layout.{Covers};
-ghost use Rattle.stark_air.specs.Value.{constraint_values};
-ghost use Rattle.stark_parts.specs.Folded.{folded};
-ghost use Rattle.stark_quotient.specs.FoldedPlaces.{AreFoldingPowers, embedded};
+ghost use Rattle.stark_quotient.specs.FoldedPlaces.{AreFoldingPowers};
+ghost use Rattle.stark_quotient.specs.FoldedLanes.{AreFoldedLanes};
 
 use stark_air::{Air, AirBuilder};
 use stark_parts::{PackedChallenge, ProverConstraintFolder, StarkGenericConfig, Val};
@@ -24,10 +21,10 @@ pub fn folded_row<'a, SC: StarkGenericConfig, A: Air<Val<SC>>>(
     requires nothing_kept { folder.old.base_constraints.items ≡ [] }
     requires nothing_kept_above { folder.old.ext_constraints.items ≡ [] }
     requires powers { (alpha : SC.Challenge) × AreFoldingPowers SC.Challenge.ring SC.Challenge.coordinates SC.Challenge.DIMENSION alpha (A.constraints air.now) (map vec_items folder.old.base_alpha_powers.now) folder.old.ext_alpha_powers.now }
-    ensures { IfOk result (λ packed. (alpha : SC.Challenge) → AreFoldingPowers SC.Challenge.ring SC.Challenge.coordinates SC.Challenge.DIMENSION alpha (A.constraints air.now) (map vec_items folder.old.base_alpha_powers.now) folder.old.ext_alpha_powers.now → (i : ℕ) → i < SC.Challenge.ExtensionPacking.WIDTH
-        → slice_index_or (SC.Challenge.ExtensionPacking.lanes packed) i SC.Challenge.ring.zero ≡ folded SC.Challenge.ring alpha (constraint_values (ring_operations SC.Challenge.ring SC.Challenge.embed)
-        (embedded SC.Challenge.embed (lane_environment SC.Pcs.Domain.Val.Packing.lanes i SC.Pcs.Domain.Val.ring.zero (⟦<ProverConstraintFolder<'a, SC> as AirBuilder>⟧.environment folder.old))) (A.constraints air.now))) }
+    ensures { IfOk result (λ packed. (alpha : SC.Challenge) → AreFoldingPowers SC.Challenge.ring SC.Challenge.coordinates SC.Challenge.DIMENSION alpha (A.constraints air.now) (map vec_items folder.old.base_alpha_powers.now) folder.old.ext_alpha_powers.now
+        → AreFoldedLanes SC.Pcs.Domain.Val.ring SC.Challenge.ring SC.Challenge.embed SC.Pcs.Domain.Val.Packing.lanes SC.Challenge.ExtensionPacking.WIDTH alpha (A.constraints air.now) (⟦<ProverConstraintFolder<'a, SC> as AirBuilder>⟧.environment folder.old) (SC.Challenge.ExtensionPacking.lanes packed)) }
 {
+    // What an evaluation leaves in a builder doesn't say that the powers stay, so they are put back.
     let base_alpha_powers = folder.base_alpha_powers;
     let ext_alpha_powers = folder.ext_alpha_powers;
     air.eval(folder)?;

@@ -13,12 +13,12 @@ pub finalize_constraints-requires-clause-rows : goal.finalize_constraints-requir
 finalize_constraints-requires-clause-rows g c = λ k d below.
     let rows = c.args.folder.now.base_alpha_powers.now in
     let at = slice_get-map vec_items rows k ∙ ap (option_map vec_items) (slice_get-get_or rows k d below) in
-    row_length {cs = g.A.Air.constraints c.args.air.now} c.requires.powers.1 {s = c.args.folder.now} {t = c.eval.new.builder} c.in_ok-eval.ensures.asserted c.requires.nothing_kept k _ at
+    row_length c.requires.powers.1 {s = c.args.folder.now} {t = c.eval.new.builder} c.in_ok-eval.ensures.asserted c.requires.nothing_kept k _ at
 
 pub finalize_constraints-requires-clause-powers : goal.finalize_constraints-requires-clause-powers
 finalize_constraints-requires-clause-powers g c =
     let lanes = g.SC.Challenge.ExtensionPacking.PackedValue.lanes in
-    powers_length {cs = g.A.Air.constraints c.args.air.now} c.requires.powers.1 {s = c.args.folder.now} {t = c.eval.new.builder} c.in_ok-eval.ensures.asserted (ap (map lanes) c.requires.nothing_kept_above) lanes c.eval.new.builder.ext_constraints.items refl
+    powers_length c.requires.powers.1 {s = c.args.folder.now} {t = c.eval.new.builder} c.in_ok-eval.ensures.asserted (ap (map lanes) c.requires.nothing_kept_above) lanes c.eval.new.builder.ext_constraints.items refl
 
 pub returns : goal.returns
 returns g c = λ alpha are i within.

@@ -1,7 +1,7 @@
 -- Why the sums by coordinates and over the extension are one folded sum of all constraints.
 use Rattle.std.specs.Prelude.{◌≡◌, ℕ, zero, suc, ◌+◌, ◌-◌, List, [], ◌∷◌, Some, map, length, refl}
 use Rattle.std.specs.List.{slice_get}
-use Rattle.std.proofs.Common.{sym, ◌∙◌, ap, arith, get_or}
+use Rattle.std.proofs.Common.{sym, ◌∙◌, ap, arith, get_or, subst}
 use Rattle.std.proofs.lemmas.List.{length-map}
 use Rattle.std.proofs.lemmas.Option.{get_or_from_slice_get}
 use Rattle.stark_support.specs.Ring.{RingOps, RingLaws}
@@ -37,6 +37,15 @@ embedded embed e = record {
 pub record AreFoldingPowers {F E : Type 0} (ring : RingOps E) (coordinates : E → List F) (dimension : ℕ) (a : E) (cs : List (Constraint F)) (rows : List (List F)) (powers : List E) : Type 0 where
   pub base : AreCoordinateRows coordinates dimension (place_powers ring a (length cs) (base_places 0 cs)) rows
   pub extension : powers ≡ place_powers ring a (length cs) (extension_places 0 cs)
+
+-- The powers at the places of an AIR's constraints are those that fold them.
+pub powers_at_places : {F E : Type 0} {ring : RingOps E} {coordinates : E → List F} {dimension : ℕ} {a : E} {cs : List (Constraint F)} {rows : List (List F)} {powers : List E} (bases extensions : List ℕ) (total : ℕ)
+    → bases ≡ base_places 0 cs → extensions ≡ extension_places 0 cs → total ≡ length cs
+    → AreCoordinateRows coordinates dimension (place_powers ring a total bases) rows → powers ≡ place_powers ring a total extensions → AreFoldingPowers ring coordinates dimension a cs rows powers
+powers_at_places {ring = ring} {coordinates = coordinates} {dimension = dimension} {a = a} {rows = rows} bases extensions total bases_are extensions_are counted are powers_are = record {
+  base = subst (λ ps. AreCoordinateRows coordinates dimension ps rows) (ap (λ n. place_powers ring a n bases) counted ∙ ap (place_powers ring a _) bases_are) are;
+  extension = powers_are ∙ ap (λ n. place_powers ring a n extensions) counted ∙ ap (place_powers ring a _) extensions_are;
+}
 
 -- The list of f 0, f 1, .. f (n - 1).
 abbrev first_values : {A : Type 0} → (ℕ → A) → ℕ → List A
@@ -123,9 +132,9 @@ module _ {F E : Type 0} {base : RingOps F} {ring : RingOps E} (laws : RingLaws r
   summed_coordinates {coordinates} {dimension} {basis} is_basis values ps rows are =
       let at : ℕ → E → F = λ d p. get_or (coordinates p) d base.zero in
       let whole : (p : E) → basis_sum ring (λ c. c) basis (first_values (λ d. embed (at d p)) (length rows)) ≡ p = λ p.
-          ap (λ n. basis_sum ring (λ c. c) basis (first_values (λ d. embed (at d p)) n)) (are.number ∙ sym (is_basis.count p)) ∙
-          ap (basis_sum ring (λ c. c) basis) (values_at_places embed (coordinates p) base.zero) ∙
-          sym (is_basis.sum p) in
+      ap (λ n. basis_sum ring (λ c. c) basis (first_values (λ d. embed (at d p)) n)) (are.number ∙ sym (is_basis.count p)) ∙
+      ap (basis_sum ring (λ c. c) basis) (values_at_places embed (coordinates p) base.zero) ∙
+      sym (is_basis.sum p) in
       summed_rows basis at values ps rows (λ d row h. row_read coordinates d base.zero row ps (are.each d row h)) ∙
       ap (sum_of_products ring ring.zero (map embed values)) (mapped_same _ (λ p. p) whole ps ∙ mapped_itself ps)
 

@@ -24,6 +24,7 @@ pub fn folded_row<'a, SC: StarkGenericConfig, A: Air<Val<SC>>>(
     ensures { IfOk result (λ packed. (alpha : SC.Challenge) → AreFoldingPowers SC.Challenge.ring SC.Challenge.coordinates SC.Challenge.DIMENSION alpha (A.constraints air.now) (map vec_items folder.old.base_alpha_powers.now) folder.old.ext_alpha_powers.now
         → AreFoldedLanes SC.Pcs.Domain.Val.ring SC.Challenge.ring SC.Challenge.embed SC.Pcs.Domain.Val.Packing.lanes SC.Challenge.ExtensionPacking.WIDTH alpha (A.constraints air.now) (⟦<ProverConstraintFolder<'a, SC> as AirBuilder>⟧.environment folder.old) (SC.Challenge.ExtensionPacking.lanes packed)) }
 {
+    // What an evaluation leaves in a builder doesn't say that the powers stay, so they are put back.
     let base_alpha_powers = folder.base_alpha_powers;
     let ext_alpha_powers = folder.ext_alpha_powers;
     air.eval(folder)?;

@@ -1,1 +1,2 @@
 pub mod PowerCounts
+pub mod PackedRows

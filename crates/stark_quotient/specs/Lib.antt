@@ -7,3 +7,4 @@ pub mod PointwiseQuotient
 pub mod EmbeddedPoint
 pub mod SameLeaves
 pub mod BaseRows
+pub mod OnCoset

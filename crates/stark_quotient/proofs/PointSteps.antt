@@ -1,7 +1,9 @@
 -- Steps to the quotient at a point.
-use Rattle.std.proofs.Common.{◌≡◌, ◌∙◌, ◌<◌, ◌≤◌, ℕ, zero, suc, refl, List, [], ◌∷◌, Option, Some, map, length, ap, subst, sym, arith}
+use Rattle.std.proofs.Common.{◌≡◌, ◌∙◌, ◌<◌, ◌≤◌, ℕ, zero, suc, refl, List, [], ◌∷◌, ◌++◌, ◌+◌, All, Option, Some, map, length, ap, subst, sym, arith}
 use Rattle.std.specs.List.{slice_get}
 use Rattle.std.proofs.lemmas.Option.{same_Some, slice_get_within}
+use Rattle.std.proofs.lemmas.List.Elements.{All-cons}
+use Rattle.stark_support.specs.ListFacts.{one_more_listed, one_more_number}
 use Rattle.stark_support.specs.Ring.{RingOps, FieldLaws}
 use Rattle.stark_support.specs.Operations.{ring_operations}
 use Rattle.stark_support.specs.Embedding.{IsEmbedding}
@@ -21,7 +23,7 @@ use Rattle.stark_parts.specs.Folded.{folded}
 use Rattle.stark_security.specs.ConstraintPolynomial.{AirInstance}
 use Rattle.stark_quotient.specs.EmbeddedPoint.{quotient_from_base}
 use Rattle.stark_quotient.specs.OnCoset.{ArePrepared}
-use Rattle.stark_quotient.specs.PointwiseQuotient.{RowsOnCoset, next_row, pointwise_quotient, rows_of_matrices}
+use Rattle.stark_quotient.specs.PointwiseQuotient.{AreFirstQuotients, ArePointwiseQuotients, RowsOnCoset, next_row, pointwise_quotient, rows_of_matrices}
 
 -- A value that is read from a list of known values.
 pub read_value : {A : Type 0} (xs ys : List A) (k : ℕ) (x y : A) → slice_get xs k ≡ Some x → xs ≡ ys → slice_get ys k ≡ Some y → x ≡ y
@@ -102,3 +104,21 @@ module _ {F E : Type 0} {base : RingOps F} {base_inverse : F → F} {ring : Ring
         (same_Some first _ (sym first_is ∙ prepared.first_row.at_row k within)) (same_Some last _ (sym last_is ∙ prepared.last_row.at_row k within)) (same_Some change _ (sym change_is ∙ prepared.transition.at_row k within))
         (same_Some inverted _ (sym inverted_is ∙ prepared.inv_vanishing.at_row k within) ∙ ap base_inverse (unshifted_vanishing base_laws adicity root generator two_adic trace valid unshifted x))
         (apart_outside base_laws adicity root generator two_adic trace valid unshifted coset disjoint k x refl)
+
+module _ {F E : Type 0} (i : AirInstance F E) (rows : RowsOnCoset F) (alpha : E) where
+  pub no_quotients : (values : List E) → values ≡ [] → AreFirstQuotients i rows alpha 0 values
+  no_quotients values none = record { number = ap length none; at_point = λ k below. absurd (omega arith) }
+
+  pub one_more_quotient : (n : ℕ) (before after : List E) (value : E) → AreFirstQuotients i rows alpha n before → value ≡ pointwise_quotient i rows alpha n → after ≡ before ++ value ∷ [] → AreFirstQuotients i rows alpha (n + 1) after
+  one_more_quotient n before after value first is grown = record {
+    number = one_more_number before after value n first.number grown;
+    at_point = one_more_listed (λ k. Some (pointwise_quotient i rows alpha k)) before after value n first.number first.at_point (ap Some (sym is)) grown;
+  }
+
+  pub all_quotients : (n : ℕ) (values : List E) → AreFirstQuotients i rows alpha n values → n ≡ rows.size → ArePointwiseQuotients i rows alpha values
+  all_quotients n values first is = subst (λ m. AreFirstQuotients i rows alpha m values) is first
+
+-- What holds of each mapped element.
+pub all_unmapped : {A B : Type 0} (f : A → B) (P : B → Type 0) (xs : List A) → All P (map f xs) → All (λ x. P (f x)) xs
+all_unmapped f P [] h = λ k d below. absurd (omega arith)
+all_unmapped f P (x ∷ xs) h = All-cons (λ x. P (f x)) x xs (h 0 (f x) (omega arith)) (all_unmapped f P xs (λ k d below. h (suc k) d (omega arith)))

@@ -51,10 +51,14 @@ module _ {F E : Type 0} (i : AirInstance F E) (rows : RowsOnCoset F) where
   abbrev pub pointwise_quotient : E → ℕ → E
   pointwise_quotient alpha k = i.ring.mul (folded_in_row alpha k) (i.inverse (subgroup_vanishing i.ring (height i) (point_above k)))
 
-  -- The values at all points, in their order.
-  pub record ArePointwiseQuotients (alpha : E) (values : List E) : Type 0 where
-    pub number : length values ≡ rows.size
-    pub at_point : (k : ℕ) → k < rows.size → slice_get values k ≡ Some (pointwise_quotient alpha k)
+  -- The quotients at the first `count` points, in their order.
+  pub record AreFirstQuotients (alpha : E) (count : ℕ) (values : List E) : Type 0 where
+    pub number : length values ≡ count
+    pub at_point : (k : ℕ) → k < count → slice_get values k ≡ Some (pointwise_quotient alpha k)
+
+  -- The quotients at all points.
+  abbrev pub ArePointwiseQuotients : E → List E → Type 0
+  ArePointwiseQuotients alpha values = AreFirstQuotients alpha rows.size values
 
 -- ---- rows in matrices
 

@@ -6,4 +6,4 @@ mod plain_eval;
 mod quotient;
 mod row;
 
-pub use quotient::QuotientAir;
+pub use quotient::{QuotientAir, QuotientOperations, quotient_values};

@@ -13,7 +13,7 @@ ghost use Rattle.stark_quotient.specs.PointwiseQuotient.{ArePointwiseQuotients, 
 
 use crate::matrices::{row_at, table_row, value_at, view_or_empty};
 use crate::plain_eval::{AlphaPowers, BaseRow, PlainEval, fold_row};
-use stark_air::{Air, AirLayout, get_constraint_layout};
+use stark_air::{Air, AirLayout, BaseAir, get_constraint_layout};
 use stark_parts::{Domain, StarkGenericConfig, Val};
 use stark_support::{
     DomainShape, ExtensionField, Field, LagrangeSelectors, Pcs, PeriodicColumns, PeriodicLdeTable,
@@ -134,4 +134,104 @@ fn quotient_at<SC: StarkGenericConfig, A: Air<Val<SC>>>(
     let sum = fold_row::<SC, A>(alloc, air, eval, &row, &on.powers)?;
     let inverse = value_at(on.selectors.inv_vanishing.as_slice(), k);
     Ok(sum * SC::Challenge::from_base(inverse))
+}
+
+/// The quotients at all points.
+fn values_on<SC: StarkGenericConfig, A: Air<Val<SC>>>(
+    alloc: Global,
+    air: &A,
+    on: &OnCoset<'_, SC>,
+) -> Result<Vec<SC::Challenge>, AllocError>
+    requires size { on.now.size ≡ coset_size (SC.Pcs.Domain.coset_of on.now.quotient_domain) }
+    requires step { on.now.step ≡ on.now.size / coset_size (SC.Pcs.Domain.coset_of on.now.trace_domain) }
+    requires room { on.now.size ≤ 2 ^ 63 }
+    requires subgroup { (SC.Pcs.Domain.coset_of on.now.trace_domain).shift ≡ SC.Pcs.Domain.Val.ring.one }
+    requires disjoint { AreDisjoint SC.Pcs.Domain.Val.ring SC.Pcs.Domain.Val.root (SC.Pcs.Domain.coset_of on.now.trace_domain) (SC.Pcs.Domain.coset_of on.now.quotient_domain) }
+    requires main { HasShape (A.layout air.now).main on.now.size (record { width = on.now.main.width; values = on.now.main.values.now }) }
+    requires preprocessed { HasShape (A.layout air.now).preprocessed on.now.size (record { width = on.now.preprocessed.width; values = on.now.preprocessed.values.now }) }
+    requires publics { length on.now.public_values.now ≡ (A.layout air.now).publics }
+    requires powers { AreFoldingPowers SC.Challenge.ring SC.Challenge.coordinates SC.Challenge.DIMENSION on.now.powers.alpha (A.constraints air.now) (map vec_items on.now.powers.base.items) on.now.powers.ext.items }
+    requires prepared { ArePrepared SC.Pcs.Domain.Val.ring SC.Pcs.Domain.Val.inverse_of SC.Pcs.Domain.Val.root (SC.Pcs.Domain.coset_of on.now.trace_domain) (SC.Pcs.Domain.coset_of on.now.quotient_domain) (A.periodic_columns air.now)
+        on.now.selectors.is_first_row.items on.now.selectors.is_last_row.items on.now.selectors.is_transition.items on.now.selectors.inv_vanishing.items on.now.periodic.values.items on.now.periodic.width on.now.periodic.period }
+    ensures { IfOk result (λ values. ArePointwiseQuotients (⟦<SC as QuotientOperations<A>>⟧.air_over air.now on.now.trace_domain)
+        (⟦<SC as QuotientOperations<A>>⟧.rows_on on.now.quotient_domain (record { width = on.now.main.width; values = on.now.main.values.now }) (record { width = on.now.preprocessed.width; values = on.now.preprocessed.values.now }) on.now.public_values.now) on.now.powers.alpha values.items) }
+{
+    let mut eval = PlainEval::new(alloc);
+    let mut periodic_row = Vec::new(alloc);
+    let mut values = Vec::new(alloc);
+    for k in 0..on.size {
+        let value = quotient_at::<SC, A>(alloc, air, on, &mut eval, &mut periodic_row, k)?;
+        values.push(value)?;
+    }
+    Ok(values)
+}
+
+/// How many points a domain has.
+fn points_of<D: PolynomialSpace>(domain: &D) -> usize
+    ensures size { result ≡ coset_size (D.coset_of domain.now) }
+    ensures nonzero { 0 < result }
+    ensures room { result ≤ 2 ^ 63 }
+{
+    domain.size()
+}
+
+/// The AIR's periodic columns beside a trace that they fit.
+fn fitting_columns<F, A: BaseAir<F>>(air: &A, trace_len: usize) -> PeriodicColumns<'_, F>
+    requires { All (λ column. ColumnFits trace_len (length column)) (A.periodic_columns air.now) }
+    ensures columns { map (λ column. column.items) result.columns.now ≡ A.periodic_columns air.now }
+    ensures trace_len { result.trace_len ≡ trace_len }
+{
+    PeriodicColumns {
+        columns: air.periodic_columns(),
+        trace_len,
+    }
+}
+
+/// The values of the quotient that the AIR's constraints, folded by `alpha`, leave over the vanishing polynomial of
+/// `trace_domain`: at each point of `quotient_domain`, in its order, the sum of `alpha^(n - 1 - j)` times constraint `j` for
+/// each of the `n`, over `Z_H`. The current row of a point is the matrices' row of the same number, the next one lies as many
+/// rows further as `quotient_domain` has points for each of `trace_domain`, taken round the end. A matrix has a row for each
+/// point, of the AIR's width; without one, the AIR has no preprocessed columns. The domains have no point in common, and
+/// `trace_domain` is a subgroup. Err only where memory was refused.
+pub fn quotient_values<SC: StarkGenericConfig, A: QuotientAir<SC>>(
+    alloc: Global,
+    pcs: &SC::Pcs,
+    air: &A,
+    public_values: &[Val<SC>],
+    layout: AirLayout,
+    trace_domain: Domain<SC>,
+    quotient_domain: Domain<SC>,
+    trace_on_quotient_domain: &RowMajorMatrix<Val<SC>>,
+    preprocessed_on_quotient_domain: Option<&RowMajorMatrix<Val<SC>>>,
+    alpha: SC::Challenge,
+) -> Result<Vec<SC::Challenge>, AllocError>
+    requires layout { Covers (symbolic_layout layout) (A.layout air.now) }
+    requires subgroup { (SC.Pcs.Domain.coset_of trace_domain).shift ≡ SC.Pcs.Domain.Val.ring.one }
+    requires disjoint { AreDisjoint SC.Pcs.Domain.Val.ring SC.Pcs.Domain.Val.root (SC.Pcs.Domain.coset_of trace_domain) (SC.Pcs.Domain.coset_of quotient_domain) }
+    requires trace { HasShape (A.layout air.now).main (coset_size (SC.Pcs.Domain.coset_of quotient_domain)) (record { width = trace_on_quotient_domain.now.width; values = trace_on_quotient_domain.now.values.items }) }
+    requires preprocessed { HasShape (A.layout air.now).preprocessed (coset_size (SC.Pcs.Domain.coset_of quotient_domain)) (matrix_or_empty (option_map (λ m. record { width = m.now.width; values = m.now.values.items }) preprocessed_on_quotient_domain)) }
+    requires publics { length public_values.now ≡ (A.layout air.now).publics }
+    requires periodic { All (λ column. ColumnFits (coset_size (SC.Pcs.Domain.coset_of trace_domain)) (length column)) (A.periodic_columns air.now) }
+    ensures { IfOk result (λ values. ArePointwiseQuotients (⟦<SC as QuotientOperations<A>>⟧.air_over air.now trace_domain) (⟦<SC as QuotientOperations<A>>⟧.rows_on quotient_domain (record { width = trace_on_quotient_domain.now.width; values = trace_on_quotient_domain.now.values.items })
+        (matrix_or_empty (option_map (λ m. record { width = m.now.width; values = m.now.values.items }) preprocessed_on_quotient_domain.entry)) public_values.now) alpha values.items) }
+{
+    let columns = fitting_columns::<Val<SC>, A>(air, points_of(&trace_domain));
+    let periodic = pcs.build_periodic_lde_table(alloc, &columns, trace_domain, quotient_domain)?;
+    let selectors = trace_domain.selectors_on_coset(alloc, &quotient_domain)?;
+    let powers = alpha_powers::<SC, A>(alloc, air, layout, alpha)?;
+    let trace = trace_on_quotient_domain;
+    let size = points_of(&quotient_domain);
+    let on = OnCoset {
+        trace_domain,
+        quotient_domain,
+        main: RowMajorMatrixView::new(trace.values.as_slice(), trace.width),
+        preprocessed: view_or_empty(preprocessed_on_quotient_domain),
+        public_values,
+        selectors,
+        periodic,
+        powers,
+        size,
+        step: size / points_of(&trace_domain),
+    };
+    values_on::<SC, A>(alloc, air, &on)
 }

@@ -8,3 +8,4 @@ pub mod EmbeddedPoint
 pub mod SameLeaves
 pub mod BaseRows
 pub mod OnCoset
+pub mod QuotientOfColumns

@@ -74,8 +74,8 @@ module _ {F E : Type 0} (i : AirInstance F E) (base_laws : FieldLaws i.base i.ba
       let e_last = ap i.embed last_is ∙ embedded_last_row base_laws laws embeds i.generator i.log_size x in
       let e_change = ap i.embed change_is ∙ embedded_transition base_laws laws embeds i.generator i.log_size x generator_nonzero in
       let over = λ (p : List E) (f l c : E). folded i.ring alpha (constraint_values (ring_operations i.ring i.embed)
-          (environment_of (ring_operations i.ring i.embed) i.base.zero i.ring.zero (map i.embed (rows.main k)) (map i.embed (rows.main (next_row i rows k))) (map i.embed (rows.preprocessed k)) (map i.embed (rows.preprocessed (next_row i rows k)))
-          rows.publics p f l c) i.constraints) in
+      (environment_of (ring_operations i.ring i.embed) i.base.zero i.ring.zero (map i.embed (rows.main k)) (map i.embed (rows.main (next_row i rows k))) (map i.embed (rows.preprocessed k)) (map i.embed (rows.preprocessed (next_row i rows k)))
+      rows.publics p f l c) i.constraints) in
       let at = point_above i rows k in
       let first_above : E = first_row_selector i.ring (λ c. c) (group i) at in
       let last_above : E = last_row_selector i.ring (λ c. c) (group i) at in

@@ -1,22 +1,21 @@
 -- The pointwise quotient over rows that are the values of columns is the folded constraint of these columns over Z_H.
-use Rattle.std.specs.Prelude.{◌≡◌, ℕ, zero, suc, ◌+◌, ◌-◌, ◌*◌, ◌/◌, ◌%◌, ◌^◌, ◌<◌, ◌≤◌, List, [], ◌∷◌, map, length, slice_index_or, refl}
+use Rattle.std.specs.Prelude.{◌≡◌, ℕ, zero, suc, ◌+◌, ◌-◌, ◌*◌, ◌/◌, ◌%◌, ◌^◌, ◌<◌, ◌≤◌, List, [], ◌∷◌, map, slice_index_or, refl}
 use Rattle.std.proofs.Common.{sym, ◌∙◌, ap, arith}
 use Rattle.std.proofs.Math.Nat.{mod-add-div, mod-lt, mul-div_cancel_left, pow-suc}
 use Rattle.std.proofs.lemmas.Nat.{pow-add}
-use Rattle.stark_support.specs.Ring.{RingOps, RingLaws, FieldLaws}
+use Rattle.stark_support.specs.Ring.{RingOps, FieldLaws}
 use Rattle.stark_support.specs.RingSolver.{solve, ◌⊗◌, v0, v1, v2}
 use Rattle.stark_support.specs.Powers.{power}
 use Rattle.stark_support.specs.PowerFacts.{suc-add, power-add, power-one, power-power}
 use Rattle.stark_support.specs.LogarithmFacts.{two_power_at_most}
-use Rattle.stark_support.specs.Operations.{ring_operations}
 use Rattle.stark_support.specs.Embedding.{IsEmbedding}
 use Rattle.stark_support.specs.TwoAdic.{TwoAdicLaws}
 use Rattle.stark_support.specs.Coset.{TwoAdicCoset, coset_point, coset_size, subgroup_vanishing}
 use Rattle.stark_support.specs.CosetFacts.{even_power, root_has_order}
 use Rattle.stark_support.specs.KeepsRing.{kept_value_over}
 use Rattle.stark_support.specs.Periodic.{periodic_value}
-use Rattle.stark_support.specs.Polynomial.{value, value_over}
-use Rattle.stark_support.specs.Scheme.{TakesRows, matrix_row, row_at}
+use Rattle.stark_support.specs.Polynomial.{value}
+use Rattle.stark_support.specs.Scheme.{TakesRows, row_at}
 use Rattle.stark_air.specs.Layout.{Layout, LeavesWithin}
 use Rattle.stark_parts.specs.Folded.{folded}
 use Rattle.stark_security.specs.ConstraintPolynomial.{AirInstance, Columns, environment_at, folded_at, height, next_point}

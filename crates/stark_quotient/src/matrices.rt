@@ -21,11 +21,7 @@ pub(crate) fn view_or_empty<'a, T>(
 }
 
 /// Row `r` of a matrix of `height` rows.
-pub(crate) fn row_at<'a, T>(
-    matrix: &RowMajorMatrixView<'a, T>,
-    height: usize,
-    r: usize,
-) -> &'a [T]
+pub(crate) fn row_at<'a, T>(matrix: &RowMajorMatrixView<'a, T>, height: usize, r: usize) -> &'a [T]
     requires whole { length matrix.now.values.now ≡ height * matrix.now.width }
     requires within { r < height }
     ensures row { result.now ≡ matrix_row matrix.now.values.now matrix.now.width r }

@@ -159,8 +159,10 @@ fn folder_on<'a, SC: StarkGenericConfig>(
     ensures ext_powers { result.ext_alpha_powers.now ≡ powers.now.ext.items }
 {
     let main = RowMajorMatrixView::new(rows.main.as_slice(), row.main_current.len());
-    let preprocessed =
-        RowMajorMatrixView::new(rows.preprocessed.as_slice(), row.preprocessed_current.len());
+    let preprocessed = RowMajorMatrixView::new(
+        rows.preprocessed.as_slice(),
+        row.preprocessed_current.len(),
+    );
     ProverConstraintFolder {
         main,
         preprocessed,

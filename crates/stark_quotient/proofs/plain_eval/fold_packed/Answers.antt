@@ -1,4 +1,4 @@
-use Rattle.std.proofs.Common.{◌∙◌, ◌<◌, ap, map, subst, sym, slice_index_or}
+use Rattle.std.proofs.Common.{◌∙◌, ◌<◌, ap, map, subst, sym}
 use Rattle.std.specs.Vec.{vec_items}
 use Rattle.stark_support.specs.Operations.{ring_operations}
 use Rattle.stark_air.specs.LaneValues.{lane_environment}
@@ -18,7 +18,7 @@ returns g c = λ i within.
     let folder = c.folder_on-folder in
     let rows = c.args.rows.now in
     let are = subst (λ powers. AreFoldingPowers ring field.coordinates field.DIMENSION alpha cs (map vec_items folder.result.base_alpha_powers.now) powers) (sym folder.ensures.ext_powers)
-        (subst (λ base_powers. AreFoldingPowers ring field.coordinates field.DIMENSION alpha cs (map vec_items base_powers) c.args.powers.now.ext.items) (sym folder.ensures.base_powers) c.requires.powers) in
+    (subst (λ base_powers. AreFoldingPowers ring field.coordinates field.DIMENSION alpha cs (map vec_items base_powers) c.args.powers.now.ext.items) (sym folder.ensures.base_powers) c.requires.powers) in
     c.in_ok-packed.ensures alpha are i within ∙
     ap (λ e. folded ring alpha (constraint_values (ring_operations ring field.embed) (embedded field.embed (lane_environment g.SC.Pcs.Domain.Val.Packing.PackedValue.lanes i base.zero e)) cs)) folder.ensures.environment ∙
     packed_folded base ring field.embed g.met.SC.Pcs.Domain.Val.Packing.PackedValue.lane_by_lane i (subst (λ n. i < n) g.met.SC.Challenge.PackedExtensionField.packed_as_wide within)

@@ -1,4 +1,4 @@
-use Rattle.std.proofs.Common.{◌∙◌, ◌<◌, ap, arith, subst, sym}
+use Rattle.std.proofs.Common.{◌∙◌, ◌<◌, arith, sym}
 use Rattle.std.proofs.lemmas.Option.{get_or_from_slice_get}
 use Rattle.stark_support.specs.LogarithmFacts.{two_power_at_most}
 use Rattle.stark_quotient.proofs.plain_eval.fold_row.Goals as goal

@@ -1,4 +1,4 @@
-use Rattle.std.proofs.Common.{All, get_or, length, subst, sym, vec_len}
+use Rattle.std.proofs.Common.{All, get_or, length, subst, sym}
 use Rattle.stark_support.specs.Periodic.{ColumnFits}
 use Rattle.stark_quotient.proofs.PointSteps.{all_unmapped}
 use Rattle.stark_quotient.proofs.quotient.fitting_columns.Goals as goal

@@ -1,7 +1,6 @@
-use Rattle.std.proofs.Common.{◌≡◌, ◌∙◌, ◌<◌, ◌%◌, ◌+◌, ◌/◌, ℕ, ap, length, subst, sym}
+use Rattle.std.proofs.Common.{◌≡◌, ◌∙◌, ◌<◌, ◌%◌, ◌+◌, ◌/◌, ap, length, subst, sym}
 use Rattle.std.specs.List.{slice_get}
 use Rattle.stark_support.specs.Coset.{coset_size}
-use Rattle.stark_support.specs.PeriodicTable.{table_at}
 use Rattle.stark_support.specs.Scheme.{matrix_row}
 use Rattle.stark_quotient.proofs.PointSteps.{next_within, quotient_of_rows, rows_cover}
 use Rattle.stark_quotient.proofs.quotient.quotient_at.Goals as goal
@@ -30,7 +29,7 @@ returns g c =
     let coset = g.SC.Pcs.Domain.PolynomialSpace.coset_of on.quotient_domain in
     let selectors = on.selectors in
     let next_is : (k + on.step) % on.size ≡ (k + coset_size coset / coset_size trace) % coset_size coset =
-        ap (λ s. (k + s) % on.size) (c.requires.step ∙ ap (λ n. n / coset_size trace) c.requires.size) ∙ ap (λ n. (k + coset_size coset / coset_size trace) % n) c.requires.size in
+    ap (λ s. (k + s) % on.size) (c.requires.step ∙ ap (λ n. n / coset_size trace) c.requires.size) ∙ ap (λ n. (k + coset_size coset / coset_size trace) % n) c.requires.size in
     challenge.Field.mul_is _ _ _ c.mul.ensures ∙ ap (field.mul c.in_ok-sum.sum) c.from_base.ensures ∙
     quotient_of_rows val.Field.field_laws challenge.Field.field_laws challenge.ExtensionField.embeds _ g.SC.Pcs.Domain.Val.TwoAdicField.root _ val.TwoAdicField.two_adic trace coset
     (g.met.SC.Pcs.Domain.PolynomialSpace.lawful on.trace_domain) c.requires.subgroup c.requires.disjoint g.SC.Challenge.ExtensionField.basis (g.A.Air.constraints c.args.air.now) (g.A.BaseAir.periodic_columns c.args.air.now)

@@ -1,5 +1,4 @@
 use Rattle.std.proofs.Common.{◌≡◌, ◌∙◌, arith}
-use Rattle.stark_support.specs.Coset.{coset_size}
 use Rattle.stark_quotient.proofs.PointSteps.{all_quotients, no_quotients, one_more_quotient}
 use Rattle.stark_quotient.proofs.quotient.values_on.Goals as goal
 

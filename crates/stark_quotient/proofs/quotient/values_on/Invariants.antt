@@ -18,5 +18,5 @@ invariant-loop-k g l =
       periodic = g.A.BaseAir.periodic_columns l.air;
     } in
     let rows = rows_of_matrices g.SC.Pcs.Domain.Val.Field.ring g.SC.Pcs.Domain.Val.TwoAdicField.root (g.SC.Pcs.Domain.PolynomialSpace.coset_of l.on.quotient_domain)
-        (record { width = l.on.main.width; values = l.on.main.values.now }) (record { width = l.on.preprocessed.width; values = l.on.preprocessed.values.now }) l.on.public_values.now in
+    (record { width = l.on.main.width; values = l.on.main.values.now }) (record { width = l.on.preprocessed.width; values = l.on.preprocessed.values.now }) l.on.public_values.now in
     AreFirstQuotients air rows l.on.powers.alpha l.k l.values.items

@@ -12,7 +12,7 @@ pub use stark_air::{
 };
 pub use stark_parts::{
     Com, Domain, GrindExhausted, InvalidProofShapeError, PackedChallenge, PackedVal, PcsError,
-    PcsProverError, ProvingError, StarkConfig, StarkGenericConfig, StarkOpeningLayout,
+    PcsProverError, ProverConstraintFolder, ProvingError, StarkConfig, StarkGenericConfig, StarkOpeningLayout,
     StarkProverTranscript, StarkShape, StarkTranscriptFailure, StarkVerifierTranscript, Val,
     VerificationError, VerifierConstraintFolder, get_log_num_quotient_chunks,
     get_log_num_quotient_chunks_for_domain, get_log_quotient_degree_extension,
@@ -25,6 +25,7 @@ pub use stark_protocol::{
     PcsProof, PreprocessedProverData, PreprocessedVerifierKey, StarkInstance, StarkOperations,
     StarkProof, recompose_quotient_from_chunks, setup_preprocessed,
 };
+pub use stark_quotient::{QuotientAir, quotient_values};
 pub use stark_security::{
     OpeningShape, StarkSecurityParams, num_batched_openings, ood_error_bound,
 };

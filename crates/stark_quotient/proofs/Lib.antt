@@ -1,0 +1,3 @@
+pub mod PowerCounts
+pub mod PackedRows
+pub mod PointSteps

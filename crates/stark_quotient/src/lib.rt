@@ -1,0 +1,9 @@
+//! The prover's quotient: the constraints' folded values over a trace's rows, over the vanishing polynomial of its domain.
+#![tactic(auto)]
+
+mod matrices;
+mod plain_eval;
+mod quotient;
+mod row;
+
+pub use quotient::{QuotientAir, QuotientOperations, quotient_values};

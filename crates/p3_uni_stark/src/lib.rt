@@ -12,10 +12,11 @@ pub use stark_air::{
 };
 pub use stark_parts::{
     Com, Domain, GrindExhausted, InvalidProofShapeError, PackedChallenge, PackedVal, PcsError,
-    PcsProverError, ProverConstraintFolder, ProvingError, StarkConfig, StarkGenericConfig, StarkOpeningLayout,
-    StarkProverTranscript, StarkShape, StarkTranscriptFailure, StarkVerifierTranscript, Val,
-    VerificationError, VerifierConstraintFolder, get_log_num_quotient_chunks,
-    get_log_num_quotient_chunks_for_domain, get_log_quotient_degree_extension,
+    PcsProverError, ProverConstraintFolder, ProvingError, StarkConfig, StarkGenericConfig,
+    StarkOpeningLayout, StarkProverTranscript, StarkShape, StarkTranscriptFailure,
+    StarkVerifierTranscript, Val, VerificationError, VerifierConstraintFolder,
+    get_log_num_quotient_chunks, get_log_num_quotient_chunks_for_domain,
+    get_log_quotient_degree_extension,
 };
 pub use stark_proof::{
     Commitments, OpenedValues, OpeningsDecodeError, PreprocessedOpenedValues, Proof,

@@ -31,6 +31,8 @@ mod preprocessing;
 #[cfg(test)]
 mod proofs;
 #[cfg(test)]
+mod quotients;
+#[cfg(test)]
 mod security;
 #[cfg(test)]
 mod seeds;

@@ -1,0 +1,159 @@
+//! Quotient values on the coset beside a trace's rows, point by point. One table of rows serves every field.
+use crate::calls::{ClearConfig, RowField};
+use crate::elements::Base;
+use p3_uni_stark::quotient_values;
+use stark_air::{Air, AirLayout};
+use stark_bench::{ClearCommitment, F12289, Sha256Challenger};
+use stark_clear::{Asked, ClearPcs, CounterAir, SmallAir};
+use stark_parts::{StarkConfig, StarkGenericConfig, Val};
+use stark_protocol::natural_domain;
+use stark_support::{
+    CanObserve, DomainShape, ExtensionChallenger, ExtensionField, Field, FieldChallenger,
+    PackedExtensionField, PolynomialSpace, PrimeField64, RowMajorMatrix, TwoAdicField,
+    UnivariateStarkPcs,
+};
+use std::alloc::{AllocError, Global};
+use std::test::Fail;
+
+/// The values for an AIR of one column, without preprocessed and periodic columns, over `2^log_height` rows, on the coset that
+/// stands beside them with as many points as there are values. None where they don't fit.
+#[tactic(auto, using(stark_support::specs::LogarithmFacts::two_power_at_most))]
+fn values_beside<SC: StarkGenericConfig, A: Air<Val<SC>>>(
+    alloc: Global,
+    config: &SC,
+    air: &A,
+    log_height: usize,
+    column: Vec<Val<SC>>,
+    publics: &[Val<SC>],
+    alpha: SC::Challenge,
+) -> Result<Option<Vec<SC::Challenge>>, AllocError> {
+    let fits = air.width() == 1
+        && air.preprocessed_width() == 0
+        && air.periodic_columns().is_empty()
+        && air.num_public_values() == publics.len();
+    if !fits || log_height > config.pcs().log_max_trace_height() || log_height > 63 {
+        return Ok(None);
+    }
+    let trace_domain = natural_domain(config, log_height);
+    let Some(apart) = trace_domain.try_create_disjoint_domain(column.len()) else {
+        return Ok(None);
+    };
+    if apart.size() != column.len() {
+        return Ok(None);
+    }
+    let layout = AirLayout::from_air(air);
+    let matrix = RowMajorMatrix::new_col(column);
+    let values = quotient_values::<SC, A>(
+        alloc,
+        config.pcs(),
+        air,
+        publics,
+        layout,
+        trace_domain,
+        apart,
+        &matrix,
+        None,
+        alpha,
+    )?;
+    Ok(Some(values))
+}
+
+fn values_above<F, EF, C, A>(
+    alloc: Global,
+    config: &ClearConfig<F, EF, C>,
+    air: &A,
+    log_height: usize,
+    column: Vec<F>,
+    publics: &[F],
+    alpha: EF,
+) -> Result<Option<Vec<EF>>, AllocError>
+where
+    F: TwoAdicField + PrimeField64,
+    EF: PackedExtensionField<F>,
+    C: FieldChallenger<F> + CanObserve<ClearCommitment<F>> + ExtensionChallenger<F, EF> + Clone,
+    A: Air<F>,
+{
+    values_beside::<ClearConfig<F, EF, C>, A>(
+        alloc, config, air, log_height, column, publics, alpha,
+    )
+}
+
+/// A number, as an element of the field.
+fn element<F: PrimeField64>(number: u16) -> F {
+    let [high, low] = number.to_be_bytes();
+    F::from_u8(high) * (F::from_u8(16) * F::from_u8(16)) + F::from_u8(low)
+}
+
+/// Numbers, as elements of the field.
+fn elements<F: PrimeField64>(alloc: Global, numbers: &[u16]) -> Result<Vec<F>, AllocError> {
+    let mut list = Vec::new(alloc);
+    for number in numbers {
+        list.push(element(*number))?;
+    }
+    Ok(list)
+}
+
+/// Whether the values with alpha 4 are this base number everywhere.
+fn are_everywhere<F, C, A>(
+    alloc: Global,
+    config: &ClearConfig<F, F::Above, C>,
+    air: &A,
+    log_height: usize,
+    column: &[u16],
+    publics: &[u16],
+    expected: u16,
+) -> Result<bool, AllocError>
+where
+    F: RowField,
+    C: FieldChallenger<F>
+        + CanObserve<ClearCommitment<F>>
+        + ExtensionChallenger<F, F::Above>
+        + Clone,
+    A: Air<F>,
+{
+    let alpha = F::Above::from_base(element(4));
+    let publics = elements::<F>(alloc, publics)?;
+    let list = elements::<F>(alloc, column)?;
+    let expected = F::Above::from_base(element(expected));
+    let values = values_above::<F, F::Above, C, A>(
+        alloc, config, air, log_height, list, &publics, alpha,
+    )?;
+    Ok(match values {
+        Some(values) => values.len() == column.len() && values.iter().all(|x| *x == expected),
+        None => false,
+    })
+}
+
+/// The rows, in one field. The counter's trace 5, 6 is the line (11 - X) / 2; its quotient is -1 everywhere, and so is that of
+/// the trace 5 of height one. Over one row the last AIR's folded sum, 16 * (5 - 1) + 4 * (5 - 2) + (5 - 3), is 78, and the
+/// vanishing value at 11 is 10.
+fn rows_hold<F, C>(alloc: Global, config: &ClearConfig<F, F::Above, C>) -> Result<bool, AllocError>
+where
+    F: RowField,
+    C: FieldChallenger<F>
+        + CanObserve<ClearCommitment<F>>
+        + ExtensionChallenger<F, F::Above>
+        + Clone,
+{
+    for (log_height, column) in [
+        (1, [0, 11].as_slice()),
+        (1, [0, 4160, 11, 8140].as_slice()),
+        (0, [5].as_slice()),
+    ] {
+        if !are_everywhere(alloc, config, &CounterAir, log_height, column, &[5], 12288)? {
+            return Ok(false);
+        }
+    }
+    let mixed = SmallAir::new(Asked::Mixed);
+    are_everywhere(alloc, config, &mixed, 0, &[5], &[], 9839)
+}
+
+#[test]
+fn quotients_of_worked_rows(rt: HostRuntime) -> Result<(), Fail> {
+    let alloc = rt.alloc();
+    let small = StarkConfig::new(ClearPcs::new(), Sha256Challenger::<Base>::new());
+    assert!(rt; rows_hold(alloc, &small)?);
+    let fast = StarkConfig::new(ClearPcs::new(), Sha256Challenger::<F12289>::new());
+    assert!(rt; rows_hold(alloc, &fast)?);
+    Ok(())
+}

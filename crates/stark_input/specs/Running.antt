@@ -1,5 +1,5 @@
 -- What a run writes of what is found, and how it ends.
-use Rattle.std.specs.Prelude.{◌≡◌, ◌⊎◌, ℕ, List, ◌++◌, Option, None, Some, take, IfSome}
+use Rattle.std.specs.Prelude.{◌≡◌, ◌⊎◌, ℕ, List, ◌++◌, Option, None, Some, take, codes, IfSome}
 use Rattle.std.specs.Io.KnownBytes.{Appends, Keeps}
 use Rattle.stark_input.specs.Verdict.{line_of, end_of}
 use Rattle.stark_input.specs.declared.verdict.Verdict.{Verdict}
@@ -26,6 +26,14 @@ abbrev pub Wrote : Option (List ℕ) → Option (List ℕ) → List ℕ → Type
 Wrote None new bytes = ⊥
 Wrote (Some xs) None bytes = ⊥
 Wrote (Some xs) (Some ys) bytes = ys ≡ xs ++ bytes
+
+-- Where the run wrote `accepted`, this holds of the input, if it is known.
+abbrev pub WhereAccepted : Option (List ℕ) → Option (List ℕ) → Option (List ℕ) → (List ℕ → Type 0) → Type 0
+WhereAccepted known old new holds = IfSome known (λ input. (bytes : List ℕ) → Wrote old new bytes → take 8 bytes ≡ codes "accepted" → holds input)
+
+-- The run ended as a verdict asks.
+abbrev pub IsVerdictEnd : RunEnd → Type 0
+IsVerdictEnd end = (end ≡ Accepted) ⊎ ((end ≡ Refused) ⊎ (end ≡ BadInput))
 
 -- Over what is found of an input, under the command that the words name.
 module _ (IsFound : Option Command → List ℕ → Verdict → Type 0) where

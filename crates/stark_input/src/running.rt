@@ -1,8 +1,8 @@
 //! A run over anything that finds a verdict, from bytes to bytes.
 
-ghost use Rattle.std.specs.Prelude.{◌≡◌, ◌↔◌, ◌⊎◌, ℕ, List, Option, map, string_bytes, true, false, None, Some, Ok, IfOk, IfSome, IfErr, is_err, take, codes};
+ghost use Rattle.std.specs.Prelude.{◌≡◌, ◌↔◌, ◌⊎◌, ℕ, List, Option, map, string_bytes, true, false, None, Some, Ok, IfOk, IfSome, IfErr, is_err};
 ghost use Rattle.std.specs.Io.KnownBytes.{Appends};
-ghost use Rattle.stark_input.specs.Running.{AcceptsSome, Found, IsFoundOrLacksMemory, Says, SaysFound, SaysOf, Wrote};
+ghost use Rattle.stark_input.specs.Running.{AcceptsSome, Found, IsFoundOrLacksMemory, IsVerdictEnd, Says, SaysFound, SaysOf, WhereAccepted};
 ghost use Rattle.stark_input.specs.Words.{command_of};
 ghost use Rattle.stark_input.specs.Verdict.{line_of};
 ghost use Rattle.stark_input.specs.declared.verdict.Verdict.{Verdict};
@@ -108,9 +108,7 @@ pub fn run_with<J: Judge, R: Source, W: Sink>(
     requires fresh_reader { R.has_failed reader.old ≡ false }
     requires fresh_writer { W.has_failed writer.old ≡ false }
     // What is written, and how the run ends.
-    ensures says { IfSome (R.remaining reader.old) (λ input.
-        SaysOf J.is_found (command_of (map string_bytes words.now)) input result
-        (W.contents writer.old) (W.contents writer.new)) }
+    ensures says { IfSome (R.remaining reader.old) (λ input. SaysOf J.is_found (command_of (map string_bytes words.now)) input result (W.contents writer.old) (W.contents writer.new)) }
     // With other words it says `bad input`, and nothing is read.
     ensures other_words { command_of (map string_bytes words.now) ≡ None → Says result Verdict.BadInput (W.contents writer.old) (W.contents writer.new) }
     ensures unread { command_of (map string_bytes words.now) ≡ None → reader.new ≡ reader.old }
@@ -118,15 +116,11 @@ pub fn run_with<J: Judge, R: Source, W: Sink>(
     ensures input_failed { (result ≡ RunEnd.InputFailed) ↔ (R.has_failed reader.new ≡ true) }
     ensures output_failed { (result ≡ RunEnd.OutputFailed) ↔ (W.has_failed writer.new ≡ true) }
     // Where neither failed, the end is that of a verdict.
-    ensures ends { R.has_failed reader.new ≡ false → W.has_failed writer.new ≡ false
-        → (result ≡ RunEnd.Accepted) ⊎ ((result ≡ RunEnd.Refused) ⊎ (result ≡ RunEnd.BadInput)) }
+    ensures ends { R.has_failed reader.new ≡ false → W.has_failed writer.new ≡ false → IsVerdictEnd result }
     // After a failed read nothing is written.
     ensures silent { result ≡ RunEnd.InputFailed → writer.new ≡ writer.old }
     // In every run `accepted` is written only where that is found.
-    ensures accepted { IfSome (R.remaining reader.old) (λ input. (bytes : List ℕ) →
-        Wrote (W.contents writer.old) (W.contents writer.new) bytes →
-        take 8 bytes ≡ codes "accepted" →
-        J.is_found (command_of (map string_bytes words.now)) input Verdict.Accepted) }
+    ensures accepted { WhereAccepted (R.remaining reader.old) (W.contents writer.old) (W.contents writer.new) (λ input. J.is_found (command_of (map string_bytes words.now)) input Verdict.Accepted) }
     // A run ends so only where that is found of an input, whether or not the reader tells its bytes.
     ensures accepted_end { result ≡ RunEnd.Accepted
         → AcceptsSome J.is_found (command_of (map string_bytes words.now)) (R.remaining reader.old) × Appends (W.contents writer.old) (W.contents writer.new) (line_of Verdict.Accepted) }

@@ -1,9 +1,9 @@
 //! A run of the program, from bytes to bytes.
 
-ghost use Rattle.std.specs.Prelude.{◌≡◌, ◌↔◌, ◌⊎◌, ℕ, List, map, string_bytes, true, false, None, IfSome, Some, take, codes};
+ghost use Rattle.std.specs.Prelude.{◌≡◌, ◌↔◌, map, string_bytes, true, false, None, IfSome, Some};
 ghost use Rattle.std.specs.Io.KnownBytes.{Appends};
 ghost use Rattle.stark_program.specs.Run.{AcceptsInput, HoldsOf, IsVerdict, IsVerdictOrLacksMemory, OfVerified, SaysVerdict, bad_input_without_command};
-ghost use Rattle.stark_input.specs.Running.{Says, Wrote};
+ghost use Rattle.stark_input.specs.Running.{IsVerdictEnd, Says, WhereAccepted};
 ghost use Rattle.stark_input.specs.Words.{command_of};
 ghost use Rattle.stark_input.specs.Verdict.{line_of};
 
@@ -45,9 +45,7 @@ pub fn run<R: Source, W: Sink>(
     requires fresh_reader { R.has_failed reader.old ≡ false }
     requires fresh_writer { W.has_failed writer.old ≡ false }
     // What is written, and how the run ends.
-    ensures says { IfSome (R.remaining reader.old) (λ input.
-        SaysVerdict (⟦<SampleAir as VerifiedInput>⟧.verified) (command_of (map string_bytes words.now)) input result
-        (W.contents writer.old) (W.contents writer.new)) }
+    ensures says { IfSome (R.remaining reader.old) (λ input. SaysVerdict (⟦<SampleAir as VerifiedInput>⟧.verified) (command_of (map string_bytes words.now)) input result (W.contents writer.old) (W.contents writer.new)) }
     // With other words it says `bad input`, and nothing is read.
     ensures other_words { command_of (map string_bytes words.now) ≡ None → Says result Verdict.BadInput (W.contents writer.old) (W.contents writer.new) }
     ensures unread { command_of (map string_bytes words.now) ≡ None → reader.new ≡ reader.old }
@@ -55,26 +53,16 @@ pub fn run<R: Source, W: Sink>(
     ensures input_failed { (result ≡ RunEnd.InputFailed) ↔ (R.has_failed reader.new ≡ true) }
     ensures output_failed { (result ≡ RunEnd.OutputFailed) ↔ (W.has_failed writer.new ≡ true) }
     // Where neither failed, the end is that of a verdict.
-    ensures ends { R.has_failed reader.new ≡ false → W.has_failed writer.new ≡ false
-        → (result ≡ RunEnd.Accepted) ⊎ ((result ≡ RunEnd.Refused) ⊎ (result ≡ RunEnd.BadInput)) }
+    ensures ends { R.has_failed reader.new ≡ false → W.has_failed writer.new ≡ false → IsVerdictEnd result }
     // After a failed read nothing is written.
     ensures silent { result ≡ RunEnd.InputFailed → writer.new ≡ writer.old }
     // In every run `accepted` is written only where the checks hold.
-    ensures accepted { IfSome (R.remaining reader.old) (λ input. (bytes : List ℕ) →
-        Wrote (W.contents writer.old) (W.contents writer.new) bytes →
-        take 8 bytes ≡ codes "accepted" →
-        IsVerdict (⟦<SampleAir as VerifiedInput>⟧.verified) (command_of (map string_bytes words.now)) input Verdict.Accepted) }
+    ensures accepted { WhereAccepted (R.remaining reader.old) (W.contents writer.old) (W.contents writer.new) (λ input. IsVerdict (⟦<SampleAir as VerifiedInput>⟧.verified) (command_of (map string_bytes words.now)) input Verdict.Accepted) }
     // So the named AIR's check holds of the numbers that the bytes spell, or its verifier accepts the proof that they spell.
-    ensures holds { IfSome (R.remaining reader.old) (λ input. (bytes : List ℕ) →
-        Wrote (W.contents writer.old) (W.contents writer.new) bytes →
-        take 8 bytes ≡ codes "accepted" →
-        HoldsOf (⟦<SampleAir as VerifiedInput>⟧.verified) (command_of (map string_bytes words.now)) input) }
+    ensures holds { WhereAccepted (R.remaining reader.old) (W.contents writer.old) (W.contents writer.new) (λ input. HoldsOf (⟦<SampleAir as VerifiedInput>⟧.verified) (command_of (map string_bytes words.now)) input) }
     // In every run in which a verifier writes `accepted`, the columns that the read proof's commitments list break no constraint on H,
     // or alpha is bad for them, or zeta is bad for them, alpha and the listed chunks.
-    ensures sound { IfSome (R.remaining reader.old) (λ input. (bytes : List ℕ) →
-        Wrote (W.contents writer.old) (W.contents writer.new) bytes →
-        take 8 bytes ≡ codes "accepted" →
-        OfVerified (⟦<SampleAir as VerifiedInput>⟧.sound) (command_of (map string_bytes words.now)) input) }
+    ensures sound { WhereAccepted (R.remaining reader.old) (W.contents writer.old) (W.contents writer.new) (λ input. OfVerified (⟦<SampleAir as VerifiedInput>⟧.sound) (command_of (map string_bytes words.now)) input) }
     // A run ends so only where they hold of an input, whether or not the reader tells its bytes.
     ensures accepted_end { result ≡ RunEnd.Accepted
         → AcceptsInput (⟦<SampleAir as VerifiedInput>⟧.verified) (command_of (map string_bytes words.now)) (R.remaining reader.old) × Appends (W.contents writer.old) (W.contents writer.new) (line_of Verdict.Accepted) }

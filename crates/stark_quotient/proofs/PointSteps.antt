@@ -89,18 +89,19 @@ module _ {F E : Type 0} {base : RingOps F} {base_inverse : F → F} {ring : Ring
         (λ c column listed. values c (subst (λ n. c < n) (sym prepared.periodic.count) (slice_get_within columns c column listed)) ∙ prepared.periodic.value k c column within listed)
 
     -- A folded sum over the rows at a point, times what the list of inverses has there, is the quotient.
-    pub quotient_of_rows : (alpha sum : E) (current next fixed_current fixed_next periodic : List F) (first last change inverted : F)
-        → sum ≡ folded ring alpha (constraint_values (ring_operations ring embed) (environment_of (ring_operations ring embed) base.zero ring.zero (map embed current) (map embed next) (map embed fixed_current) (map embed fixed_next) publics (map embed periodic) (embed first) (embed last) (embed change)) constraints)
+    pub quotient_of_rows : (alpha sum : E) (current next fixed_current fixed_next read_publics periodic : List F) (first last change inverted : F)
+        → sum ≡ folded ring alpha (constraint_values (ring_operations ring embed) (environment_of (ring_operations ring embed) base.zero ring.zero (map embed current) (map embed next) (map embed fixed_current) (map embed fixed_next) read_publics (map embed periodic) (embed first) (embed last) (embed change)) constraints)
+        → read_publics ≡ publics
         → current ≡ matrix_row main.values main.width k → next ≡ matrix_row main.values main.width (next_row over_trace rows k)
         → fixed_current ≡ matrix_row preprocessed.values preprocessed.width k → fixed_next ≡ matrix_row preprocessed.values preprocessed.width (next_row over_trace rows k)
         → length periodic ≡ width → ((c : ℕ) → c < width → slice_get periodic c ≡ table_at table width period k c)
         → slice_get firsts k ≡ Some first → slice_get lasts k ≡ Some last → slice_get changes k ≡ Some change → slice_get inverses k ≡ Some inverted
         → ring.mul sum (embed inverted) ≡ pointwise_quotient over_trace rows alpha k
-    quotient_of_rows alpha sum current next fixed_current fixed_next periodic first last change inverted sum_is current_is next_is fixed_is fixed_next_is number values first_is last_is change_is inverted_is =
+    quotient_of_rows alpha sum current next fixed_current fixed_next read_publics periodic first last change inverted sum_is publics_are current_is next_is fixed_is fixed_next_is number values first_is last_is change_is inverted_is =
         let x = coset_point base root coset k in
-        let over = λ (r s t u : List F). folded ring alpha (constraint_values (ring_operations ring embed) (environment_of (ring_operations ring embed) base.zero ring.zero (map embed r) (map embed s) (map embed t) (map embed u) publics (map embed periodic) (embed first) (embed last) (embed change)) constraints) in
+        let over = λ (p r s t u : List F). folded ring alpha (constraint_values (ring_operations ring embed) (environment_of (ring_operations ring embed) base.zero ring.zero (map embed r) (map embed s) (map embed t) (map embed u) p (map embed periodic) (embed first) (embed last) (embed change)) constraints) in
         quotient_from_base over_trace base_laws laws embeds (root_nonzero base_laws adicity root generator two_adic trace.log_size valid.within) rows k alpha sum periodic first last change inverted
-        (over_same_rows over sum sum_is current_is next_is fixed_is fixed_next_is) (table_values periodic number values)
+        (over_same_rows (over publics) sum (sum_is ∙ ap (λ p. over p current next fixed_current fixed_next) publics_are) current_is next_is fixed_is fixed_next_is) (table_values periodic number values)
         (same_Some first _ (sym first_is ∙ prepared.first_row.at_row k within)) (same_Some last _ (sym last_is ∙ prepared.last_row.at_row k within)) (same_Some change _ (sym change_is ∙ prepared.transition.at_row k within))
         (same_Some inverted _ (sym inverted_is ∙ prepared.inv_vanishing.at_row k within) ∙ ap base_inverse (unshifted_vanishing base_laws adicity root generator two_adic trace valid unshifted x))
         (apart_outside base_laws adicity root generator two_adic trace valid unshifted coset disjoint k x refl)

@@ -1,8 +1,8 @@
 //! Rows of matrices and of tables, by the number of their point.
-ghost use Rattle.std.specs.Prelude.{◌≡◌, ◌<◌, ◌*◌, ℕ, OnOk, Some, length, option_map};
+ghost use Rattle.std.specs.Prelude.{◌≡◌, ◌<◌, ◌*◌, ◌+◌, ◌%◌, ◌^◌, ℕ, OnOk, Some, length, option_map};
 ghost use Rattle.std.specs.List.{slice_get};
 ghost use Rattle.stark_support.specs.PeriodicTable.{table_at};
-ghost use Rattle.stark_support.specs.Scheme.{matrix_row};
+ghost use Rattle.stark_quotient.specs.OnCoset.{IsRow};
 ghost use Rattle.stark_quotient.specs.PointwiseQuotient.{matrix_or_empty};
 
 use stark_support::{PeriodicLdeTable, RowMajorMatrix, RowMajorMatrixView};
@@ -24,8 +24,7 @@ pub(crate) fn view_or_empty<'a, T>(
 pub(crate) fn row_at<'a, T>(matrix: &RowMajorMatrixView<'a, T>, height: usize, r: usize) -> &'a [T]
     requires whole { length matrix.now.values.now ≡ height * matrix.now.width }
     requires within { r < height }
-    ensures row { result.now ≡ matrix_row matrix.now.values.now matrix.now.width r }
-    ensures number { length result.now ≡ matrix.now.width }
+    ensures { IsRow matrix.now.values.now matrix.now.width r result.now }
 {
     let start = r * matrix.width;
     &matrix.values[start..start + matrix.width]
@@ -53,4 +52,13 @@ pub(crate) fn value_at<F: Copy>(values: &[F], k: usize) -> F
     ensures { slice_get values.now k ≡ Some result }
 {
     values[k]
+}
+
+/// The row that lies `step` after row `k` of `size` rows, taken round the end.
+pub(crate) fn row_after(k: usize, step: usize, size: usize) -> usize
+    requires nonzero { 0 < size }
+    requires room { k + step < 2 ^ 64 }
+    ensures { result ≡ (k + step) % size }
+{
+    (k + step) % size
 }

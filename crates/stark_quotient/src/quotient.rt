@@ -1,5 +1,6 @@
 //! Quotient values on a coset, point by point.
-ghost use Rattle.std.specs.Prelude.{◌≡◌, ◌≢◌, ◌<◌, ◌≤◌, ◌/◌, ◌%◌, ◌+◌, ◌^◌, ℕ, All, IfOk, List, Option, length, map, option_map};
+ghost use Rattle.std.specs.Prelude.{◌≡◌, ◌≢◌, ◌<◌, ◌≤◌, ◌/◌, ◌%◌, ◌+◌, ◌*◌, ◌^◌, ℕ, All, IfOk, Some, List, Option, length, map, option_map};
+ghost use Rattle.std.specs.List.{slice_get};
 ghost use Rattle.std.specs.Vec.{vec_items};
 ghost use Rattle.stark_support.specs.Coset.{AreDisjoint, coset_size};
 ghost use Rattle.stark_support.specs.Periodic.{ColumnFits};
@@ -8,10 +9,10 @@ ghost use Rattle.stark_air.specs.Layout.{Covers};
 ghost use Rattle.stark_air.specs.SymbolicLayout.{symbolic_layout};
 ghost use Rattle.stark_security.specs.ConstraintPolynomial.{AirInstance};
 ghost use Rattle.stark_quotient.specs.FoldedPlaces.{AreFoldingPowers};
-ghost use Rattle.stark_quotient.specs.OnCoset.{ArePrepared};
+ghost use Rattle.stark_quotient.specs.OnCoset.{ArePrepared, IsRow};
 ghost use Rattle.stark_quotient.specs.PointwiseQuotient.{ArePointwiseQuotients, HasShape, RowsOnCoset, matrix_or_empty, pointwise_quotient, rows_of_matrices};
 
-use crate::matrices::{row_at, table_row, value_at, view_or_empty};
+use crate::matrices::{row_after, row_at, table_row, value_at, view_or_empty};
 use crate::plain_eval::{AlphaPowers, BaseRow, PlainEval, fold_row};
 use stark_air::{Air, AirLayout, BaseAir, get_constraint_layout};
 use stark_parts::{Domain, StarkGenericConfig, Val};
@@ -94,6 +95,57 @@ struct OnCoset<'a, SC: StarkGenericConfig> {
     step: usize,
 }
 
+/// What constraints read at point `k`, but for the periodic columns' values, of which there are none.
+fn base_row<'a, SC: StarkGenericConfig>(on: &OnCoset<'a, SC>, k: usize) -> BaseRow<'a, Val<SC>>
+    requires within { k < on.now.size }
+    requires room { k + on.now.step < 2 ^ 64 }
+    requires main { length on.now.main.values.now ≡ on.now.size * on.now.main.width }
+    requires preprocessed { length on.now.preprocessed.values.now ≡ on.now.size * on.now.preprocessed.width }
+    requires first_row { length on.now.selectors.is_first_row.items ≡ on.now.size }
+    requires last_row { length on.now.selectors.is_last_row.items ≡ on.now.size }
+    requires transition { length on.now.selectors.is_transition.items ≡ on.now.size }
+    ensures main_current { IsRow on.now.main.values.now on.now.main.width k result.main_current.now }
+    ensures main_next { IsRow on.now.main.values.now on.now.main.width ((k + on.now.step) % on.now.size) result.main_next.now }
+    ensures preprocessed_current { IsRow on.now.preprocessed.values.now on.now.preprocessed.width k result.preprocessed_current.now }
+    ensures preprocessed_next { IsRow on.now.preprocessed.values.now on.now.preprocessed.width ((k + on.now.step) % on.now.size) result.preprocessed_next.now }
+    ensures publics { result.public_values.now ≡ on.now.public_values.now }
+    ensures is_first_row { slice_get on.now.selectors.is_first_row.items k ≡ Some result.is_first_row }
+    ensures is_last_row { slice_get on.now.selectors.is_last_row.items k ≡ Some result.is_last_row }
+    ensures is_transition { slice_get on.now.selectors.is_transition.items k ≡ Some result.is_transition }
+{
+    let next = row_after(k, on.step, on.size);
+    BaseRow {
+        main_current: row_at(&on.main, on.size, k),
+        main_next: row_at(&on.main, on.size, next),
+        preprocessed_current: row_at(&on.preprocessed, on.size, k),
+        preprocessed_next: row_at(&on.preprocessed, on.size, next),
+        periodic_values: &[],
+        public_values: on.public_values,
+        is_first_row: value_at(on.selectors.is_first_row.as_slice(), k),
+        is_last_row: value_at(on.selectors.is_last_row.as_slice(), k),
+        is_transition: value_at(on.selectors.is_transition.as_slice(), k),
+    }
+}
+
+/// An element of the extension times one of the base field.
+fn times_base<F: Field, EF: ExtensionField<F>>(x: EF, factor: F) -> EF
+    ensures { result ≡ EF.ring.mul x (EF.embed factor) }
+{
+    x * EF::from_base(factor)
+}
+
+/// A sum over the vanishing value at point `k`.
+fn over_vanishing<SC: StarkGenericConfig>(
+    on: &OnCoset<'_, SC>,
+    sum: SC::Challenge,
+    k: usize,
+) -> SC::Challenge
+    requires { k < length on.now.selectors.inv_vanishing.items }
+    ensures { (inverse : SC.Pcs.Domain.Val) → slice_get on.now.selectors.inv_vanishing.items k ≡ Some inverse → result ≡ SC.Challenge.ring.mul sum (SC.Challenge.embed inverse) }
+{
+    times_base(sum, value_at(on.selectors.inv_vanishing.as_slice(), k))
+}
+
 /// The quotient at point `k`.
 fn quotient_at<SC: StarkGenericConfig, A: Air<Val<SC>>>(
     alloc: Global,
@@ -118,22 +170,13 @@ fn quotient_at<SC: StarkGenericConfig, A: Air<Val<SC>>>(
     ensures { IfOk result (λ value. value ≡ pointwise_quotient (⟦<SC as QuotientOperations<A>>⟧.air_over air.now on.now.trace_domain)
         (⟦<SC as QuotientOperations<A>>⟧.rows_on on.now.quotient_domain (record { width = on.now.main.width; values = on.now.main.values.now }) (record { width = on.now.preprocessed.width; values = on.now.preprocessed.values.now }) on.now.public_values.now) on.now.powers.alpha k) }
 {
-    let next = (k + on.step) % on.size;
     table_row(&on.periodic, k, periodic_row)?;
     let row = BaseRow {
-        main_current: row_at(&on.main, on.size, k),
-        main_next: row_at(&on.main, on.size, next),
-        preprocessed_current: row_at(&on.preprocessed, on.size, k),
-        preprocessed_next: row_at(&on.preprocessed, on.size, next),
         periodic_values: periodic_row.as_slice(),
-        public_values: on.public_values,
-        is_first_row: value_at(on.selectors.is_first_row.as_slice(), k),
-        is_last_row: value_at(on.selectors.is_last_row.as_slice(), k),
-        is_transition: value_at(on.selectors.is_transition.as_slice(), k),
+        ..base_row::<SC>(on, k)
     };
     let sum = fold_row::<SC, A>(alloc, air, eval, &row, &on.powers)?;
-    let inverse = value_at(on.selectors.inv_vanishing.as_slice(), k);
-    Ok(sum * SC::Challenge::from_base(inverse))
+    Ok(over_vanishing::<SC>(on, sum, k))
 }
 
 /// The quotients at all points.

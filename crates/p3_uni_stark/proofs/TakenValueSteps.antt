@@ -2,62 +2,22 @@
 use Rattle.std.proofs.Common.{◌≡◌, ◌∙◌, ap, sym, refl, arith, ℕ, zero, suc, ◌<◌, List, [], ◌∷◌, map, Option, None, Some, IfSome, slice_index_or}
 use Rattle.std.specs.List.{AllByRecursion}
 use Rattle.std.proofs.lemmas.List.{length-map}
-use Rattle.stark_support.specs.Ring.{RingOps, FieldLaws, difference as ring_difference}
-use Rattle.stark_support.specs.Operations.{ring_operations}
+use Rattle.stark_support.specs.Ring.{RingOps, FieldLaws}
 use Rattle.stark_support.specs.Coset.{subgroup_vanishing}
 use Rattle.stark_support.specs.Periodic.{periodic_value}
 use Rattle.stark_support.specs.Polynomial.{value as polynomial_value, value_over, HasDegreeBelow}
 use Rattle.stark_support.specs.Recomposition.{recomposition}
 use Rattle.stark_support.specs.RecompositionPolynomial.{chunk_values}
-use Rattle.stark_air.specs.Tree.{Tree, Constraint, base, extension, constant, main_current, main_next, preprocessed_current, preprocessed_next, public_value, first_row, last_row, transition, sum, difference, product, negation}
-use Rattle.stark_air.specs.Tree as tree
-use Rattle.stark_air.specs.Layout.{Layout, TreeWithin, LeavesWithin}
-use Rattle.stark_air.specs.Value.{Environment, value, constraint_values}
+use Rattle.stark_air.specs.Layout.{Layout, LeavesWithin}
 use Rattle.stark_parts.specs.Folded.{folded}
 use Rattle.stark_protocol.specs.Equation.{OpenedRows, opened_environment, EquationHolds}
 use Rattle.stark_proof.specs.ProofView.{OpeningsView, PreprocessedView}
 use Rattle.stark_security.specs.ConstraintPolynomial.{AirInstance, Columns, height, group, next_point, environment_at}
 use Rattle.stark_security.specs.BadValues.{IsBalanced}
+use Rattle.stark_quotient.specs.SameLeaves.{AgreeWithin, same_constraints}
 use Rattle.p3_uni_stark.specs.TakenValues.{values_at, embedded_polynomials, TakeOpenedValues, BreakingNeedsBadDraws}
 use Rattle.stark_security.proofs.BadValueSteps.{alpha_or_zeta_is_bad}
 use Rattle.stark_security.proofs.ConstraintDegrees.{value_of_embedded}
-
--- Two environments have the same values at each leaf of a layout.
-pub record AgreeWithin {E : Type 0} (l : Layout) (e : Environment E) (f : Environment E) : Type 0 where
-  pub main_current : (c : ℕ) → c < l.main → e.main_current c ≡ f.main_current c
-  pub main_next : (c : ℕ) → c < l.main_next → e.main_next c ≡ f.main_next c
-  pub preprocessed_current : (c : ℕ) → c < l.preprocessed → e.preprocessed_current c ≡ f.preprocessed_current c
-  pub preprocessed_next : (c : ℕ) → c < l.preprocessed_next → e.preprocessed_next c ≡ f.preprocessed_next c
-  pub public_value : (k : ℕ) → e.public_value k ≡ f.public_value k
-  pub periodic : (c : ℕ) → e.periodic_value c ≡ f.periodic_value c
-  pub first_row : e.first_row ≡ f.first_row
-  pub last_row : e.last_row ≡ f.last_row
-  pub transition : e.transition ≡ f.transition
-
-module _ {F E : Type 0} (ring : RingOps E) (embed : F → E) (l : Layout) (e f : Environment E) (agree : AgreeWithin l e f) where
-  abbrev worth : Environment E → Tree F → E
-  worth env t = value (ring_operations ring embed) env t
-
-  same_tree : (t : Tree F) → TreeWithin l t → worth e t ≡ worth f t
-  same_tree (constant k) h = refl
-  same_tree (main_current c) h = agree.main_current c h
-  same_tree (main_next c) h = agree.main_next c h
-  same_tree (preprocessed_current c) h = agree.preprocessed_current c h
-  same_tree (preprocessed_next c) h = agree.preprocessed_next c h
-  same_tree (public_value k) h = agree.public_value k
-  same_tree (tree.periodic_value c) h = agree.periodic c
-  same_tree first_row h = agree.first_row
-  same_tree last_row h = agree.last_row
-  same_tree transition h = agree.transition
-  same_tree (sum t u) h = ap (λ w. ring.add w (worth e u)) (same_tree t h.0) ∙ ap (ring.add (worth f t)) (same_tree u h.1)
-  same_tree (difference t u) h = ap (λ w. ring_difference ring w (worth e u)) (same_tree t h.0) ∙ ap (ring_difference ring (worth f t)) (same_tree u h.1)
-  same_tree (product t u) h = ap (λ w. ring.mul w (worth e u)) (same_tree t h.0) ∙ ap (ring.mul (worth f t)) (same_tree u h.1)
-  same_tree (negation t) h = ap ring.neg (same_tree t h)
-
-  same_constraints : (cs : List (Constraint F)) → LeavesWithin l cs → constraint_values (ring_operations ring embed) e cs ≡ constraint_values (ring_operations ring embed) f cs
-  same_constraints [] h = refl
-  same_constraints (base t ∷ cs) h = ap (λ w. w ∷ constraint_values (ring_operations ring embed) e cs) (same_tree t h.0) ∙ ap (λ ws. worth f t ∷ ws) (same_constraints cs h.1)
-  same_constraints (extension t ∷ cs) h = ap (λ w. w ∷ constraint_values (ring_operations ring embed) e cs) (same_tree t h.0) ∙ ap (λ ws. worth f t ∷ ws) (same_constraints cs h.1)
 
 mapped_leaf : {A B : Type 0} (g : A → B) (xs : List A) (c : ℕ) (d : A) (e : B) → g d ≡ e → slice_index_or (map g xs) c e ≡ g (slice_index_or xs c d)
 mapped_leaf g [] c d e h = sym h
@@ -116,8 +76,8 @@ module _ {F E : Type 0} (i : AirInstance F E) (columns : Columns F E) (zeta : E)
       main_next = λ c below. optional_leaf l.main_next opened.trace_next rows.next columns.main (next_point i i.ring (λ c. c) zeta) taken.next stand.next stand.no_next c below;
       preprocessed_current = λ c below. preprocessed_leaf l.preprocessed opened.preprocessed rows.preprocessed_local taken.preprocessed_local stand.preprocessed_local stand.no_preprocessed c below;
       preprocessed_next = λ c below. preprocessed_next_leaf l.preprocessed_next opened.preprocessed rows.preprocessed_next (next_point i i.ring (λ c. c) zeta) taken.preprocessed_next stand.preprocessed_next stand.no_preprocessed_next stand.neither c below;
-      public_value = λ k. ap (λ publics. i.embed (slice_index_or publics k i.base.zero)) (sym same_publics);
-      periodic = λ c. periodic_leaf rows.periodic periodic_is c;
+      public_value = λ k below. ap (λ publics. i.embed (slice_index_or publics k i.base.zero)) (sym same_publics);
+      periodic_value = λ c below. periodic_leaf rows.periodic periodic_is c;
       first_row = refl;
       last_row = refl;
       transition = refl;

@@ -1,8 +1,11 @@
 //! Quotient values on the coset beside a trace's rows, point by point. One table of rows serves every field.
+ghost use Rattle.std.specs.Prelude.{IfSome};
+ghost use Rattle.stark_quotient.specs.PointwiseQuotient.{HasShape};
+
 use crate::calls::{ClearConfig, RowField};
 use crate::elements::Base;
 use p3_uni_stark::quotient_values;
-use stark_air::{Air, AirLayout};
+use stark_air::{Air, AirLayout, BaseAir};
 use stark_bench::{ClearCommitment, F12289, Sha256Challenger};
 use stark_clear::{Asked, ClearPcs, CounterAir, SmallAir};
 use stark_parts::{StarkConfig, StarkGenericConfig, Val};
@@ -15,20 +18,33 @@ use stark_support::{
 use std::alloc::{AllocError, Global};
 use std::test::Fail;
 
+/// A matrix of one column, for an AIR that has one, where there are so many rows.
+fn only_column<F: Field, A: BaseAir<F>>(
+    air: &A,
+    column: Vec<F>,
+    height: usize,
+) -> Option<RowMajorMatrix<F>>
+    ensures { IfSome result (λ m. HasShape (A.layout air.now).main height (record { width = m.width; values = m.values.items })) }
+{
+    if air.width() != 1 || column.len() != height {
+        return None;
+    }
+    Some(RowMajorMatrix::new_col(column))
+}
+
 /// The values for an AIR of one column, without preprocessed and periodic columns, over `2^log_height` rows, on the coset that
 /// stands beside them with as many points as there are values. None where they don't fit.
 #[tactic(auto, using(stark_support::specs::LogarithmFacts::two_power_at_most))]
-fn values_beside<SC: StarkGenericConfig, A: Air<Val<SC>>>(
+fn values_beside<'p, SC: StarkGenericConfig, A: Air<Val<SC>>>(
     alloc: Global,
     config: &SC,
     air: &A,
     log_height: usize,
     column: Vec<Val<SC>>,
-    publics: &[Val<SC>],
+    publics: &'p [Val<SC>],
     alpha: SC::Challenge,
 ) -> Result<Option<Vec<SC::Challenge>>, AllocError> {
-    let fits = air.width() == 1
-        && air.preprocessed_width() == 0
+    let fits = air.preprocessed_width() == 0
         && air.periodic_columns().is_empty()
         && air.num_public_values() == publics.len();
     if !fits || log_height > config.pcs().log_max_trace_height() || log_height > 63 {
@@ -38,11 +54,11 @@ fn values_beside<SC: StarkGenericConfig, A: Air<Val<SC>>>(
     let Some(apart) = trace_domain.try_create_disjoint_domain(column.len()) else {
         return Ok(None);
     };
-    if apart.size() != column.len() {
+    let Some(matrix) = only_column(air, column, apart.size()) else {
         return Ok(None);
-    }
+    };
     let layout = AirLayout::from_air(air);
-    let matrix = RowMajorMatrix::new_col(column);
+    let absent: Option<&'p RowMajorMatrix<Val<SC>>> = None;
     let values = quotient_values::<SC, A>(
         alloc,
         config.pcs(),
@@ -52,7 +68,7 @@ fn values_beside<SC: StarkGenericConfig, A: Air<Val<SC>>>(
         trace_domain,
         apart,
         &matrix,
-        None,
+        absent,
         alpha,
     )?;
     Ok(Some(values))

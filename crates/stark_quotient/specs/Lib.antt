@@ -1,6 +1,7 @@
 -- FoldedPlaces: AreFoldingPowers, powers_at_places, embedded, embedded_value, summed_coordinates, folded_places. FoldedLanes: AreFoldedLanes, folded_lane.
--- PointwiseQuotient: pointwise_quotient, ArePointwiseQuotients, rows_of_matrices. EmbeddedPoint: quotient_from_base.
--- SameLeaves: same_constraints, broadcast_agrees. BaseRows: folded_over.
+-- PointwiseQuotient: RowsOnCoset, pointwise_quotient, ArePointwiseQuotients, HasShape, matrix_or_empty, rows_of_matrices. QuotientOfColumns:
+-- AreValuesOfColumns, next_point_is, quotient_of_columns, embedded_rows. EmbeddedPoint: embedded_inverse, quotient_from_base. SameLeaves:
+-- AgreeWithin, same_constraints, broadcast_agrees. BaseRows: folded_over, packed_environment. OnCoset: ArePrepared, IsRow.
 pub mod FoldedPlaces
 pub mod FoldedLanes
 pub mod PointwiseQuotient

@@ -1,5 +1,5 @@
 //! Quotient values on a coset, point by point.
-ghost use Rattle.std.specs.Prelude.{◌≡◌, ◌≢◌, ◌<◌, ◌≤◌, ◌/◌, ◌%◌, ◌+◌, ◌*◌, ◌^◌, ℕ, All, IfOk, Some, List, Option, length, map, option_map};
+ghost use Rattle.std.specs.Prelude.{◌≡◌, ◌<◌, ◌≤◌, ◌/◌, ◌%◌, ◌+◌, ◌*◌, ◌^◌, All, IfOk, Some, List, length, map, option_map};
 ghost use Rattle.std.specs.List.{slice_get};
 ghost use Rattle.std.specs.Vec.{vec_items};
 ghost use Rattle.stark_support.specs.Coset.{AreDisjoint, coset_size};

@@ -4,6 +4,7 @@ ghost use Rattle.std.specs.List.{slice_get};
 ghost use Rattle.std.specs.Vec.{vec_items};
 ghost use Rattle.stark_support.specs.Coset.{AreDisjoint, coset_size};
 ghost use Rattle.stark_support.specs.Periodic.{ColumnFits};
+ghost use Rattle.stark_support.specs.PeriodicTable.{HasPeriodicValues};
 ghost use Rattle.stark_air.specs.Declaration.{Trace};
 ghost use Rattle.stark_air.specs.Layout.{Covers};
 ghost use Rattle.stark_air.specs.SymbolicLayout.{symbolic_layout};
@@ -230,6 +231,23 @@ fn fitting_columns<F, A: BaseAir<F>>(air: &A, trace_len: usize) -> PeriodicColum
     }
 }
 
+/// The values of the AIR's periodic columns at the quotient domain's points, beside a trace that they fit.
+fn periodic_table<SC: StarkGenericConfig, A: BaseAir<Val<SC>>>(
+    alloc: Global,
+    pcs: &SC::Pcs,
+    air: &A,
+    trace_domain: Domain<SC>,
+    quotient_domain: Domain<SC>,
+) -> Result<PeriodicLdeTable<Val<SC>>, AllocError>
+    requires { All (λ column. ColumnFits (coset_size (SC.Pcs.Domain.coset_of trace_domain)) (length column)) (A.periodic_columns air.now) }
+    ensures { IfOk result (λ table. HasPeriodicValues SC.Pcs.Domain.Val.ring SC.Pcs.Domain.Val.inverse_of SC.Pcs.Domain.Val.root (SC.Pcs.Domain.coset_of trace_domain) (SC.Pcs.Domain.coset_of quotient_domain) (A.periodic_columns air.now)
+        table.values.items table.width table.period) }
+{
+    let columns = fitting_columns::<Val<SC>, A>(air, points_of(&trace_domain));
+    let table = pcs.build_periodic_lde_table(alloc, &columns, trace_domain, quotient_domain)?;
+    Ok(table)
+}
+
 /// The values of the quotient that the AIR's constraints, folded by `alpha`, leave over the vanishing polynomial of
 /// `trace_domain`: at each point of `quotient_domain`, in its order, the sum of `alpha^(n - 1 - j)` times constraint `j` for
 /// each of the `n`, over `Z_H`. The current row of a point is the matrices' row of the same number, the next one lies as many
@@ -258,8 +276,7 @@ pub fn quotient_values<SC: StarkGenericConfig, A: QuotientAir<SC>>(
     ensures { IfOk result (λ values. ArePointwiseQuotients (⟦<SC as QuotientOperations<A>>⟧.air_over air.now trace_domain) (⟦<SC as QuotientOperations<A>>⟧.rows_on quotient_domain (record { width = trace_on_quotient_domain.now.width; values = trace_on_quotient_domain.now.values.items })
         (matrix_or_empty (option_map (λ m. record { width = m.now.width; values = m.now.values.items }) preprocessed_on_quotient_domain.entry)) public_values.now) alpha values.items) }
 {
-    let columns = fitting_columns::<Val<SC>, A>(air, points_of(&trace_domain));
-    let periodic = pcs.build_periodic_lde_table(alloc, &columns, trace_domain, quotient_domain)?;
+    let periodic = periodic_table::<SC, A>(alloc, pcs, air, trace_domain, quotient_domain)?;
     let selectors = trace_domain.selectors_on_coset(alloc, &quotient_domain)?;
     let powers = alpha_powers::<SC, A>(alloc, air, layout, alpha)?;
     let trace = trace_on_quotient_domain;

@@ -1,5 +1,6 @@
 //! Worked rows, run on the crates below. Each number was found apart from this code: by hand, or from the modular
-//! powers and inverses of another language. The crate has nothing but tests.
+//! powers and inverses of another language. Beside its tests the crate has the kinds of
+//! their AIRs alone, which definitions name.
 #![tactic(auto)]
 
 #[cfg(test)]
@@ -22,6 +23,7 @@ mod elements;
 mod empty_trace;
 #[cfg(test)]
 mod fields;
+mod kinds;
 #[cfg(test)]
 mod numbers;
 #[cfg(test)]
@@ -30,6 +32,8 @@ mod polynomials;
 mod preprocessing;
 #[cfg(test)]
 mod proofs;
+#[cfg(test)]
+mod rows;
 #[cfg(test)]
 mod security;
 #[cfg(test)]
@@ -44,5 +48,3 @@ mod tables;
 mod transcripts;
 #[cfg(test)]
 mod verdicts;
-#[cfg(test)]
-mod wide_air;

@@ -1,2 +1,1 @@
 pub mod SizedAirs
-pub mod WideAir

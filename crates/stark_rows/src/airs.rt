@@ -5,6 +5,7 @@ ghost use Rattle.stark_air.specs.Layout.{Covers};
 ghost use Rattle.stark_air.specs.Rows.{layout_of};
 
 use crate::calls;
+use crate::calls::RowField;
 use crate::elements::{Base, Extension, number};
 use stark_air::{Air, BaseAir, every_column};
 use stark_bench::Sha256Challenger;
@@ -12,6 +13,7 @@ use stark_clear::{
     Asked, CounterAir, CubicAir, FibonacciAir, PairAir, PeriodicAir, PreprocessedAir, SmallAir,
 };
 use stark_support::RowMajorMatrix;
+use std::alloc::{AllocError, Global};
 use std::test::Fail;
 
 /// The folded sum over a main row and the one after it, a preprocessed row, periodic values and public values.
@@ -22,13 +24,13 @@ fn folded<A: Air<Base>>(
     fixed: &[Extension],
     periodic: &[Extension],
     publics: &[Base],
-) -> Result<Extension, Fail>
+) -> Result<Extension, AllocError>
     requires { Covers (layout_of local.now next.now fixed.now [] publics.now periodic.now) (A.layout air.now) }
 {
     let Some(selectors) = calls::selectors_at::<Base>(1, number(3)) else {
-        return Err(Fail::new("3 lies in the domain"));
+        return Ok(number(0));
     };
-    let sum = calls::folded::<Base, Sha256Challenger<Base>, A>(
+    calls::folded::<Base, Sha256Challenger<Base>, A>(
         air,
         local,
         next,
@@ -37,228 +39,155 @@ fn folded<A: Air<Base>>(
         publics,
         selectors,
         number(4),
-    )?;
-    Ok(sum)
+    )
 }
 
-// 16 * (5 - 1) + 4 * (5 - 2) + (5 - 3): in the order of the constraints, base and extension ones alike.
-#[test]
-fn mixed(rt: HostRuntime) -> Result<(), Fail> {
-    let sum = folded(
-        &SmallAir::new(Asked::Mixed),
-        &[number(5)],
-        &[],
-        &[],
-        &[],
-        &[],
-    )?;
-    assert!(rt; sum == number(78));
-    Ok(())
-}
-
-// Each half has 4 * (4 - 5) and 4 * (7 - 4 - 1): 64 * -4 + 16 * 8 + 4 * -4 + 8 is -136.
-#[test]
-fn pair(rt: HostRuntime) -> Result<(), Fail> {
-    let local = [number(4), number(4)];
-    let next = [number(7), number(7)];
-    let sum = folded(&PairAir, &local, &next, &[], &[], &[Base::new(5)])?;
-    assert!(rt; sum == number(12153));
-    Ok(())
-}
-
-// The columns differ: 64 * (4 * (1 - 5)) + 16 * (4 * (3 - 1 - 1)) + 4 * (4 * (2 - 5)) + 4 * (9 - 2 - 1) is -984.
-#[test]
-fn pair_of_different_columns(rt: HostRuntime) -> Result<(), Fail> {
-    let local = [number(1), number(2)];
-    let next = [number(3), number(9)];
-    let sum = folded(&PairAir, &local, &next, &[], &[], &[Base::new(5)])?;
-    assert!(rt; sum == number(11305));
-    Ok(())
-}
-
-// 4 * (1 - 5), 4 * (2 - 6), 4 * (3 - 2), 4 * (4 - (1 + 2)) and 2 * (2 - 7), times 256, 64, 16, 4 and 1: -5050.
-#[test]
-fn fibonacci(rt: HostRuntime) -> Result<(), Fail> {
-    let local = [number(1), number(2)];
-    let next = [number(3), number(4)];
-    let publics = [Base::new(5), Base::new(6), Base::new(7)];
-    let sum = folded(&FibonacciAir, &local, &next, &[], &[], &publics)?;
-    assert!(rt; sum == number(7239));
-    Ok(())
-}
-
-#[test]
-fn cubic(rt: HostRuntime) -> Result<(), Fail> {
-    let sum = folded(&CubicAir, &[number(3)], &[], &[], &[], &[])?;
-    assert!(rt; sum == number(27));
-    Ok(())
-}
-
-// The column of zero and one takes the value -1 at 3.
-#[test]
-fn periodic(rt: HostRuntime) -> Result<(), Fail> {
-    let air: PeriodicAir<Base> = PeriodicAir::new(rt.alloc())?;
-    let value = number(12288);
-    let sum = folded(&air, &[value], &[], &[], &[value], &[])?;
-    assert!(rt; sum == number(0));
-    let sum = folded(&air, &[number(5)], &[], &[], &[value], &[])?;
-    assert!(rt; sum == number(6));
-    Ok(())
-}
-
-#[test]
-fn preprocessed(rt: HostRuntime) -> Result<(), Fail> {
-    let sum = folded(&PreprocessedAir, &[number(5)], &[], &[number(3)], &[], &[])?;
-    assert!(rt; sum == number(2));
-    Ok(())
-}
-
-// The first row's selector less one.
-#[test]
-fn first_row(rt: HostRuntime) -> Result<(), Fail> {
-    let sum = folded(
-        &SmallAir::new(Asked::FirstRow),
-        &[number(5)],
-        &[],
-        &[],
-        &[],
-        &[],
-    )?;
-    assert!(rt; sum == number(3));
-    Ok(())
-}
-
-#[test]
-fn hinted(rt: HostRuntime) -> Result<(), Fail> {
-    let air = SmallAir {
+// Of the mixed constraints 16 * (5 - 1) + 4 * (5 - 2) + (5 - 3): in their order, base and extension ones alike. Then the first
+// row's selector less one; the column alone, under an author's bound; and nothing.
+fn sums_of_small_airs() -> Result<[Extension; 4], AllocError> {
+    let local = [number(5)];
+    let hinted = SmallAir {
         asked: Asked::Zeros,
         max_degree: Some(3),
     };
-    let sum = folded(&air, &[number(5)], &[], &[], &[], &[])?;
-    assert!(rt; sum == number(5));
-    Ok(())
+    Ok([
+        folded(&SmallAir::new(Asked::Mixed), &local, &[], &[], &[], &[])?,
+        folded(&SmallAir::new(Asked::FirstRow), &local, &[], &[], &[], &[])?,
+        folded(&hinted, &local, &[], &[], &[], &[])?,
+        folded(&SmallAir::new(Asked::Nothing), &local, &[], &[], &[], &[])?,
+    ])
+}
+
+// Each half has 4 * (4 - 5) and 4 * (7 - 4 - 1): 64 * -4 + 16 * 8 + 4 * -4 + 8 is -136. Where the columns differ:
+// 64 * (4 * (1 - 5)) + 16 * (4 * (3 - 1 - 1)) + 4 * (4 * (2 - 5)) + 4 * (9 - 2 - 1) is -984.
+fn sums_of_pairs() -> Result<[Extension; 2], AllocError> {
+    let [one, two, three, nine] = [1, 2, 3, 9].map(number);
+    let publics = [Base::new(5)];
+    let (local, next) = ([number(4), number(4)], [number(7), number(7)]);
+    Ok([
+        folded(&PairAir, &local, &next, &[], &[], &publics)?,
+        folded(&PairAir, &[one, two], &[three, nine], &[], &[], &publics)?,
+    ])
+}
+
+// Fibonacci: 4 * (1 - 5), 4 * (2 - 6), 4 * (3 - 2), 4 * (4 - (1 + 2)) and 2 * (2 - 7), times 256, 64, 16, 4 and 1: -5050. The
+// cube of 3. The preprocessed column: 5 - 3.
+fn sums_of_samples() -> Result<[Extension; 3], AllocError> {
+    let [one, two, three, four] = [1, 2, 3, 4].map(number);
+    let publics = [Base::new(5), Base::new(6), Base::new(7)];
+    Ok([
+        folded(
+            &FibonacciAir,
+            &[one, two],
+            &[three, four],
+            &[],
+            &[],
+            &publics,
+        )?,
+        folded(&CubicAir, &[three], &[], &[], &[], &[])?,
+        folded(&PreprocessedAir, &[number(5)], &[], &[three], &[], &[])?,
+    ])
+}
+
+// The column of zero and one takes the value -1 at 3.
+fn sums_of_periodic(air: &PeriodicAir<Base>) -> Result<[Extension; 2], AllocError> {
+    let value = number(12288);
+    Ok([
+        folded(air, &[value], &[], &[], &[value], &[])?,
+        folded(air, &[number(5)], &[], &[], &[value], &[])?,
+    ])
 }
 
 #[test]
-fn unconstrained(rt: HostRuntime) -> Result<(), Fail> {
-    let sum = folded(
-        &SmallAir::new(Asked::Nothing),
-        &[number(5)],
-        &[],
-        &[],
-        &[],
-        &[],
-    )?;
-    assert!(rt; sum == number(0));
+fn folded_sums(rt: HostRuntime) -> Result<(), Fail> {
+    assert!(rt; sums_of_small_airs()? == [78, 3, 5, 0].map(number));
+    assert!(rt; sums_of_pairs()? == [12153, 11305].map(number));
+    assert!(rt; sums_of_samples()? == [7239, 27, 2].map(number));
+    let air: PeriodicAir<Base> = PeriodicAir::new(rt.alloc())?;
+    assert!(rt; sums_of_periodic(&air)? == [0, 6].map(number));
     Ok(())
 }
 
-fn counts<A: BaseAir<Base>>(air: &A) -> [usize; 4] {
-    [
+/// Main columns, preprocessed columns, public values, periodic columns; how many main and preprocessed columns' next rows are
+/// read; what the author says of the degree, of the number of constraints, and of the public values at the ends.
+type Declared = ([usize; 4], [usize; 2], Option<usize>, Option<usize>, usize);
+
+fn declared<F: RowField, A: BaseAir<F>>(alloc: Global, air: &A) -> Result<Declared, AllocError> {
+    let columns = [
         air.width(),
         air.preprocessed_width(),
         air.num_public_values(),
         air.num_periodic_columns(),
-    ]
-}
-
-// Main columns, preprocessed columns, public values, periodic columns.
-#[test]
-fn declared_counts(rt: HostRuntime) -> Result<(), Fail> {
-    let periodic: PeriodicAir<Base> = PeriodicAir::new(rt.alloc())?;
-    assert_eq!(rt; counts(&CounterAir), [1, 0, 1, 0]);
-    assert_eq!(rt; counts(&CubicAir), [1, 0, 0, 0]);
-    assert_eq!(rt; counts(&FibonacciAir), [2, 0, 3, 0]);
-    assert_eq!(rt; counts(&periodic), [1, 0, 0, 1]);
-    assert_eq!(rt; counts(&PreprocessedAir), [1, 1, 0, 0]);
-    assert_eq!(rt; counts(&PairAir), [2, 0, 1, 0]);
-    Ok(())
-}
-
-/// How many main and preprocessed columns' next rows an AIR reads.
-fn next_columns<A: BaseAir<Base>>(rt: &HostRuntime, air: &A) -> Result<[usize; 2], Fail> {
-    let main = air.main_next_row_columns(rt.alloc())?;
-    let preprocessed = air.preprocessed_next_row_columns(rt.alloc())?;
-    Ok([main.len(), preprocessed.len()])
-}
-
-#[test]
-fn declared_next_rows(rt: HostRuntime) -> Result<(), Fail> {
-    let periodic: PeriodicAir<Base> = PeriodicAir::new(rt.alloc())?;
-    assert_eq!(rt; next_columns(&rt, &CounterAir)?, [1, 0]);
-    assert_eq!(rt; next_columns(&rt, &CubicAir)?, [0, 0]);
-    assert_eq!(rt; next_columns(&rt, &FibonacciAir)?, [2, 0]);
-    assert_eq!(rt; next_columns(&rt, &periodic)?, [0, 0]);
-    assert_eq!(rt; next_columns(&rt, &PreprocessedAir)?, [0, 0]);
-    assert_eq!(rt; next_columns(&rt, &PairAir)?, [2, 0]);
-    Ok(())
-}
-
-#[test]
-fn columns_of_a_width(rt: HostRuntime) -> Result<(), Fail> {
-    let three = every_column(rt.alloc(), 3)?;
-    assert_eq!(rt; three.as_slice(), [0, 1, 2].as_slice());
-    assert_eq!(rt; every_column(rt.alloc(), 0)?.len(), 0);
-    Ok(())
-}
-
-fn author_says<A: BaseAir<Base>>(air: &A) -> (Option<usize>, Option<usize>, usize) {
-    (
+    ];
+    let main = air.main_next_row_columns(alloc)?.len();
+    let preprocessed = air.preprocessed_next_row_columns(alloc)?.len();
+    Ok((
+        columns,
+        [main, preprocessed],
         air.max_constraint_degree(),
         air.num_constraints(),
         air.public_boundary_io().len(),
-    )
+    ))
+}
+
+fn samples_declare<F: RowField>(alloc: Global) -> Result<[Declared; 7], AllocError> {
+    let small = |max_degree| SmallAir {
+        asked: Asked::Zeros,
+        max_degree,
+    };
+    Ok([
+        declared::<F, CounterAir>(alloc, &CounterAir)?,
+        declared::<F, CubicAir>(alloc, &CubicAir)?,
+        declared::<F, FibonacciAir>(alloc, &FibonacciAir)?,
+        declared::<F, PreprocessedAir>(alloc, &PreprocessedAir)?,
+        declared::<F, PairAir>(alloc, &PairAir)?,
+        declared::<F, SmallAir>(alloc, &small(Some(5)))?,
+        declared::<F, SmallAir>(alloc, &small(None))?,
+    ])
 }
 
 #[test]
-fn declared_hints(rt: HostRuntime) -> Result<(), Fail> {
-    let hinted = SmallAir {
-        asked: Asked::Zeros,
-        max_degree: Some(5),
-    };
-    let unhinted = SmallAir {
-        asked: Asked::Zeros,
-        max_degree: None,
-    };
-    assert!(rt; author_says(&hinted) == (Some(5), None, 0));
-    assert!(rt; author_says(&unhinted) == (None, None, 0));
-    assert!(rt; author_says(&CounterAir) == (None, None, 0));
+fn declared_numbers(rt: HostRuntime) -> Result<(), Fail> {
+    let found = samples_declare::<Base>(rt.alloc())?;
+    assert_eq!(rt;
+        found,
+        [
+            ([1, 0, 1, 0], [1, 0], None, None, 0),
+            ([1, 0, 0, 0], [0, 0], None, None, 0),
+            ([2, 0, 3, 0], [2, 0], None, None, 0),
+            ([1, 1, 0, 0], [0, 0], None, None, 0),
+            ([2, 0, 1, 0], [2, 0], None, None, 0),
+            ([1, 0, 0, 0], [0, 0], Some(5), None, 0),
+            ([1, 0, 0, 0], [0, 0], None, None, 0),
+        ]
+    );
     Ok(())
 }
 
-/// The values of an AIR's only periodic column, if there are two.
-fn two_values<A: BaseAir<Base>>(air: &A) -> Option<[u32; 2]> {
-    match air.periodic_columns() {
-        [column] => match column.as_slice() {
-            [x, y] => Some([x.value(), y.value()]),
-            _ => None,
-        },
-        _ => None,
+/// What the periodic AIR declares, with its columns.
+fn periodic_declared<F: RowField>(
+    alloc: Global,
+    air: &PeriodicAir<F>,
+) -> Result<(Declared, Vec<Vec<F>>), AllocError> {
+    let declared = declared::<F, PeriodicAir<F>>(alloc, air)?;
+    let mut columns = Vec::new(alloc);
+    for column in BaseAir::<F>::periodic_columns(air) {
+        columns.push(column.to_vec(alloc)?)?;
     }
+    Ok((declared, columns))
 }
 
 #[test]
-fn declared_periodic_column(rt: HostRuntime) -> Result<(), Fail> {
-    let periodic: PeriodicAir<Base> = PeriodicAir::new(rt.alloc())?;
-    assert_eq!(rt; two_values(&periodic), Some([0, 1]));
-    assert_eq!(rt; two_values(&CounterAir), None);
-    Ok(())
-}
-
-/// The values of a trace, if there are four.
-fn four_values(trace: &RowMajorMatrix<Base>) -> Option<[u32; 4]> {
-    match trace.values.as_slice() {
-        [a, b, c, d] => Some([a.value(), b.value(), c.value(), d.value()]),
-        _ => None,
-    }
-}
-
-#[test]
-fn declared_preprocessed_trace(rt: HostRuntime) -> Result<(), Fail> {
-    let trace: Option<RowMajorMatrix<Base>> = PreprocessedAir.preprocessed_trace(rt.alloc())?;
-    let trace = trace.ok_or("no trace")?;
-    assert_eq!(rt; trace.width(), 1);
-    assert_eq!(rt; four_values(&trace), Some([1, 2, 3, 4]));
+fn declared_columns(rt: HostRuntime) -> Result<(), Fail> {
+    let alloc = rt.alloc();
+    let periodic: PeriodicAir<Base> = PeriodicAir::new(alloc)?;
+    let declared = periodic_declared(alloc, &periodic)?;
+    let trace: Option<RowMajorMatrix<Base>> = PreprocessedAir.preprocessed_trace(alloc)?;
+    let columns = [every_column(alloc, 3)?, every_column(alloc, 0)?];
+    assert_eq!(rt;
+        format!(in alloc; "{declared:?} {trace:?} {columns:?}")?.as_str(),
+        "(([1, 0, 0, 1], [0, 0], None, None, 0), [[0, 1]]) Some(RowMajorMatrix { values: [1, 2, 3, 4], width: 1 }) [[0, 1, 2], []]"
+    );
     Ok(())
 }
 

@@ -240,8 +240,37 @@ where
     Ok(Some(value))
 }
 
-/// What the part of the last two of three columns reads in a verifier's folder: of the current row the columns 0 and 2, of the
-/// next one 1 and 2. None where there are other columns, or where the part or its copy doesn't show those two columns' values.
+/// What the part of the last two of three columns reads of any builder: of the current row the columns 0 and 2, of the next one
+/// 1 and 2. None where the part or its copy doesn't show the values of those two columns.
+fn part_of<AB: AirBuilder>(
+    builder: &mut AB,
+    local: &[AB::Var],
+    next: &[AB::Var],
+) -> Result<Option<[Option<AB::Var>; 4]>, AllocError>
+where
+    AB::Var: PartialEq,
+    AB::MainWindow: Clone,
+    requires current { 3 ≤ (AB.layout builder.old).main }
+    requires following { 3 ≤ (AB.layout builder.old).main_next }
+{
+    let part: SubAirBuilder<'_, AB, CounterAir, AB::Var> = SubAirBuilder::new(builder, 1..3);
+    let window = part.main()?;
+    if window.current_slice() != local || window.next_slice() != next {
+        return Ok(None);
+    }
+    let copy = window.clone()?;
+    if copy.current_slice() != local {
+        return Ok(None);
+    }
+    Ok(Some([
+        window.current(0),
+        window.current(2),
+        window.next(1),
+        window.next(2),
+    ]))
+}
+
+/// What `part_of` reads in a verifier's folder; none where there are other columns.
 fn part_reads<'a, SC: StarkGenericConfig>(
     local: &'a [SC::Challenge],
     next: &'a [SC::Challenge],
@@ -269,22 +298,7 @@ fn part_reads<'a, SC: StarkGenericConfig>(
         alpha: SC::Challenge::ONE,
         accumulator: SC::Challenge::ZERO,
     };
-    let part: SubAirBuilder<'_, VerifierConstraintFolder<'_, SC>, CounterAir, SC::Challenge> =
-        SubAirBuilder::new(&mut parent, 1..3);
-    let window = part.main()?;
-    if window.current_slice() != &local[1..] || window.next_slice() != &next[1..] {
-        return Ok(None);
-    }
-    let copy = window.clone()?;
-    if copy.current_slice() != &local[1..] {
-        return Ok(None);
-    }
-    Ok(Some([
-        window.current(0),
-        window.current(2),
-        window.next(1),
-        window.next(2),
-    ]))
+    part_of(&mut parent, &local[1..], &next[1..])
 }
 
 fn part_reads_above<'a, F, EF, C>(

@@ -5,10 +5,10 @@ ghost use Rattle.stark_support.specs.Claims.{IfRefused, claim_view};
 ghost use Rattle.stark_support.specs.Scheme.{matrix_row};
 
 use crate::calls::{ClearConfig, RowField};
-use serde_json::Value;
+use crate::rows::{all_rows, apart, list_in, numbers_in};
 use stark_bench::{ClearCommitment, Coset, Ext4, F12289, Sha256Challenger};
 use stark_clear::{ClearError, ClearPcs, ClearProof};
-use stark_parts::{StarkConfig, StarkGenericConfig};
+use stark_parts::{StarkConfig, StarkGenericConfig, Val};
 use stark_support::{
     CanObserve, CanSample, DomainShape, DomainVal, ExtensionChallenger, ExtensionField,
     FieldChallenger, JsonCodec, JsonFault, OpeningClaim, PackedExtensionField, Pcs,
@@ -47,26 +47,6 @@ fn listed(alloc: Global, coefficients: &[u32]) -> Result<Commitment, AllocError>
     Ok(ClearCommitment::new(vec![in alloc; columns]?))
 }
 
-/// Whether elements are these numbers.
-fn are(values: &[F12289], expected: &[u32]) -> bool {
-    values.len() == expected.len()
-        && values
-            .iter()
-            .zip(expected)
-            .all(|(value, expected)| value.value() == *expected)
-}
-
-/// Whether a commitment has this column alone.
-fn lists(commitment: &Commitment, coefficients: &[u32]) -> bool {
-    let [columns] = commitment.matrices() else {
-        return false;
-    };
-    let [column] = columns.as_slice() else {
-        return false;
-    };
-    are(column, coefficients)
-}
-
 /// What `commit` makes of one column on the subgroup of `2^log_size` points; nothing where it doesn't fit.
 #[tactic(auto, using(stark_support::specs::LogarithmFacts::two_power_at_most))]
 fn committed<F: RowField>(
@@ -86,21 +66,20 @@ fn committed<F: RowField>(
     <ClearPcs<F> as Pcs<F::Above, AnyChallenger>>::commit(&scheme, alloc, domain, matrix).ok()
 }
 
-// 6150 + 6144 X takes 5 and 6 on the subgroup of two points; on a larger one zeros stand behind.
-#[test]
-fn committed_columns(rt: HostRuntime) -> Result<(), Fail> {
-    let alloc = rt.alloc();
-    for (log_size, expected) in [
-        (1, [6150, 6144].as_slice()),
-        (2, [6150, 6144, 0, 0].as_slice()),
-    ] {
-        let Some((commitment, prover_data)) = committed(alloc, log_size, column(alloc, &[5, 6])?)
-        else {
-            return Err(Fail::new("nothing was committed to"));
-        };
-        assert!(rt; lists(&commitment, expected) && lists(&prover_data, expected));
-    }
-    Ok(())
+// The logarithm of the domain's size | the column. 6150 + 6144 X takes 5 and 6 on the subgroup of two points; on a larger one
+// zeros stand behind. Answered are the commitment and the prover's data.
+const COMMITTED: &str = "\
+1 | 5 6 => [[[6150, 6144]]] [[[6150, 6144]]]
+2 | 5 6 => [[[6150, 6144, 0, 0]]] [[[6150, 6144, 0, 0]]]";
+
+fn committed_answer(alloc: Global, text: &str) -> Result<String, Fail> {
+    let (log_size, values) = apart(text)?;
+    let [log_size] = numbers_in::<1>(log_size)?;
+    let column = column(alloc, &list_in(alloc, values)?)?;
+    let Some((commitment, data)) = committed(alloc, log_size as usize, column) else {
+        return Err(Fail::new("nothing was committed to"));
+    };
+    Ok(format!(in alloc; "{:?} {:?}", commitment.matrices(), data.matrices())?)
 }
 
 /// The values of a commitment's matrices, opened at two points each.
@@ -127,20 +106,11 @@ fn opened_values(rt: HostRuntime) -> Result<(), Fail> {
     let alloc = rt.alloc();
     let data = listed(alloc, &[6150, 6144])?;
     let points = vec![in alloc; number(3), number(12286)]?;
-    let Some(opened) = opened(alloc, &data, points)? else {
-        return Err(Fail::new("nothing was opened"));
-    };
-    let [round] = opened.as_slice() else {
-        return Err(Fail::new("other rounds"));
-    };
-    let [matrix] = round.as_slice() else {
-        return Err(Fail::new("other matrices"));
-    };
-    let [local, next] = matrix.as_slice() else {
-        return Err(Fail::new("other points"));
-    };
-    assert!(rt; local.as_slice() == [number(4)].as_slice());
-    assert!(rt; next.as_slice() == [number(7)].as_slice());
+    let opened = opened(alloc, &data, points)?;
+    assert_eq!(rt;
+        format!(in alloc; "{opened:?}")?.as_str(),
+        "Some([[[[Ext4 { c0: 4, c1: 0, c2: 0, c3: 0 }], [Ext4 { c0: 7, c1: 0, c2: 0, c3: 0 }]]]])"
+    );
     Ok(())
 }
 
@@ -192,34 +162,73 @@ fn refusal(
     Ok(format!(in alloc; "{answer:?}")?)
 }
 
-// A wrong shape is told before any wrong value.
-#[test]
-fn claims(rt: HostRuntime) -> Result<(), Fail> {
-    let alloc = rt.alloc();
-    let line = [6150, 6144].as_slice();
-    let longer = [6150, 6144, 0].as_slice();
-    for (first, claimed, second, expected) in [
-        (line, [4, 7], line, "Ok(())"),
-        (line, [5, 7], line, "Err(Refused(Value { round: 0 }))"),
-        (line, [4, 6], line, "Err(Refused(Value { round: 0 }))"),
-        (
-            line,
-            [4, 7],
-            [6150, 6145].as_slice(),
-            "Err(Refused(Value { round: 1 }))",
-        ),
-        (longer, [4, 7], line, "Err(Refused(Shape { round: 0 }))"),
-        (line, [5, 7], longer, "Err(Refused(Shape { round: 1 }))"),
-        (
-            [6150].as_slice(),
-            [5, 7],
-            longer,
-            "Err(Refused(Shape { round: 0 }))",
-        ),
-    ] {
-        assert_eq!(rt; refusal(alloc, first, claimed, second)?.as_str(), expected);
+// A first column | the values that are claimed of it at 3 and 12286 | a second one, of which 4 and 7 are claimed there. A wrong
+// shape is told before any wrong value.
+const CLAIMS: &str = "\
+6150 6144 | 4 7 | 6150 6144 => Ok(())
+6150 6144 | 5 7 | 6150 6144 => Err(Refused(Value { round: 0 }))
+6150 6144 | 4 6 | 6150 6144 => Err(Refused(Value { round: 0 }))
+6150 6144 | 4 7 | 6150 6145 => Err(Refused(Value { round: 1 }))
+6150 6144 0 | 4 7 | 6150 6144 => Err(Refused(Shape { round: 0 }))
+6150 6144 | 5 7 | 6150 6144 0 => Err(Refused(Shape { round: 1 }))
+6150 | 5 7 | 6150 6144 0 => Err(Refused(Shape { round: 0 }))";
+
+fn refusal_answer(alloc: Global, text: &str) -> Result<String, Fail> {
+    let (first, rest) = apart(text)?;
+    let (claimed, second) = apart(rest)?;
+    let claimed = numbers_in::<2>(claimed)?;
+    let first = list_in(alloc, first)?;
+    let second = list_in(alloc, second)?;
+    refusal(alloc, &first, claimed, &second)
+}
+
+fn commitment_of(alloc: Global, text: &str) -> Result<Commitment, JsonFault> {
+    let value = value_from_bytes(alloc, text.as_bytes())?;
+    Commitment::from_json(alloc, &value)
+}
+
+// A commitment is written as it was read.
+const COMMITMENTS: &str = "\
+[[[6150,6144]]] => [[[6150,6144]]] is [[[6150, 6144]]]
+null => Invalid
+[[6150,6144]] => Invalid
+[[[6150,12289]]] => Invalid
+[[[6150],null]] => Invalid";
+
+fn commitment_answer(alloc: Global, text: &str) -> Result<String, Fail> {
+    match commitment_of(alloc, text) {
+        Ok(read) => Ok(format!(in alloc;
+            "{} is {:?}",
+            read.to_json(alloc)?.to_string(alloc)?.as_str(),
+            read.matrices()
+        )?),
+        Err(fault) => Ok(format!(in alloc; "{fault:?}")?),
     }
-    Ok(())
+}
+
+fn proof_of(alloc: Global, text: &str) -> Result<ClearProof, JsonFault> {
+    let value = value_from_bytes(alloc, text.as_bytes())?;
+    ClearProof::from_json(alloc, &value)
+}
+
+const PROOFS: &str = "\
+null => null
+false => Invalid";
+
+fn proof_answer(alloc: Global, text: &str) -> Result<String, Fail> {
+    match proof_of(alloc, text) {
+        Ok(read) => Ok(read.to_json(alloc)?.to_string(alloc)?),
+        Err(fault) => Ok(format!(in alloc; "{fault:?}")?),
+    }
+}
+
+#[test]
+fn a_clear_scheme(rt: HostRuntime) -> Result<(), Fail> {
+    let alloc = rt.alloc();
+    all_rows(&rt, alloc, COMMITTED, committed_answer)?;
+    all_rows(&rt, alloc, CLAIMS, refusal_answer)?;
+    all_rows(&rt, alloc, COMMITMENTS, commitment_answer)?;
+    all_rows(&rt, alloc, PROOFS, proof_answer)
 }
 
 /// The rows of a commitment's first matrix on a domain beside the subgroup of two points.
@@ -241,17 +250,6 @@ fn rows_beside<F: RowField>(
         }
         None => Ok(None),
     }
-}
-
-// The line through 5 and 6 is (11 - X) / 2: at 11 and -11 it is 0 and 11.
-#[test]
-fn values_on_a_coset(rt: HostRuntime) -> Result<(), Fail> {
-    let alloc = rt.alloc();
-    let Some(rows) = rows_beside(alloc, &listed(alloc, &[6150, 6144])?)? else {
-        return Err(Fail::new("no such domain"));
-    };
-    assert!(rt; rows.width == 1 && are(&rows.values, &[0, 11]));
-    Ok(())
 }
 
 /// The table of columns beside the subgroup of four points, on a domain apart from it.
@@ -279,26 +277,6 @@ fn periodic_table<F: RowField>(
     }
 }
 
-// Beside four rows the column 5, 6 repeats twice: at x it is the line's value at x^2, here 121 and -121 in turn.
-#[test]
-fn periodic_values_on_a_coset(rt: HostRuntime) -> Result<(), Fail> {
-    let alloc = rt.alloc();
-    let columns = [column(alloc, &[5, 6])?, column(alloc, &[7])?];
-    let Some(table) = periodic_table(alloc, &columns)? else {
-        return Err(Fail::new("columns that don't fit"));
-    };
-    if table.width() != 2 {
-        return Err(Fail::new("other columns"));
-    }
-    for (row, expected) in [12234, 66, 12234, 66].iter().enumerate() {
-        assert_eq!(rt;
-            (table.get(row, 0).value(), table.get(row, 1).value()),
-            (*expected, 7)
-        );
-    }
-    Ok(())
-}
-
 /// The commitment to a quotient's values in two chunks, on the domain of four points beside the subgroup of two.
 fn committed_quotient<F: RowField>(alloc: Global, values: Vec<F>) -> Option<ClearCommitment<F>> {
     if F::TWO_ADICITY < 2 || values.len() != 4 {
@@ -318,68 +296,6 @@ fn committed_quotient<F: RowField>(alloc: Global, values: Vec<F>) -> Option<Clea
         Ok((commitment, _)) => Some(commitment),
         Err(_) => None,
     }
-}
-
-// On a domain of two points each of two chunks has one row, and so columns of one coefficient.
-#[test]
-fn a_quotient_in_chunks(rt: HostRuntime) -> Result<(), Fail> {
-    let alloc = rt.alloc();
-    let Some(commitment) = committed_quotient(alloc, column(alloc, &[1, 2, 3, 4])?) else {
-        return Err(Fail::new("nothing was committed to"));
-    };
-    let [first, second] = commitment.matrices() else {
-        return Err(Fail::new("other chunks"));
-    };
-    for (columns, expected) in [(first, [1, 2]), (second, [3, 4])] {
-        let mut numbers = Vec::new(alloc);
-        for column in columns {
-            assert_eq!(rt; column.len(), 1);
-            for coefficient in column {
-                numbers.push(coefficient.value())?;
-            }
-        }
-        assert_eq!(rt; numbers.as_slice(), expected.as_slice());
-    }
-    Ok(())
-}
-
-#[test]
-fn the_proof_is_null(rt: HostRuntime) -> Result<(), Fail> {
-    let alloc = rt.alloc();
-    assert!(rt; ClearProof.to_json(alloc)?.is_null());
-    assert!(rt; ClearProof::from_json(alloc, &Value::Null).is_ok());
-    assert!(rt;
-        matches!(
-            ClearProof::from_json(alloc, &Value::Bool(false)),
-            Err(JsonFault::Invalid)
-        )
-    );
-    Ok(())
-}
-
-fn commitment_of(alloc: Global, text: &str) -> Result<Commitment, JsonFault> {
-    let value = value_from_bytes(alloc, text.as_bytes())?;
-    Commitment::from_json(alloc, &value)
-}
-
-#[test]
-fn a_commitment_in_json(rt: HostRuntime) -> Result<(), Fail> {
-    let alloc = rt.alloc();
-    let written = listed(alloc, &[6150, 6144])?.to_json(alloc)?;
-    assert_eq!(rt; written.to_string(alloc)?.as_str(), "[[[6150,6144]]]");
-    let Ok(read) = commitment_of(alloc, "[[[6150,6144]]]") else {
-        return Err(Fail::new("the commitment was not read"));
-    };
-    assert!(rt; lists(&read, &[6150, 6144]));
-    for text in [
-        "null",
-        "[[6150,6144]]",
-        "[[[6150,12289]]]",
-        "[[[6150],null]]",
-    ] {
-        assert!(rt; matches!(commitment_of(alloc, text), Err(JsonFault::Invalid)));
-    }
-    Ok(())
 }
 
 /// Claims that any scheme's relation accepts are never refused.
@@ -419,20 +335,65 @@ where
     Ok(rows)
 }
 
-#[test]
-fn rows_read_back(rt: HostRuntime) -> Result<(), Fail> {
-    let alloc = rt.alloc();
+fn rows_again(alloc: Global, column: Vec<F12289>) -> Option<RowMajorMatrix<F12289>> {
     let scheme: ClearPcs<F12289> = ClearPcs::new();
-    let matrix = RowMajorMatrix::new_col(column(alloc, &[5, 6])?);
+    let matrix = RowMajorMatrix::new_col(column);
     if matrix.height() != 2 {
-        return Err(Fail::new("other rows"));
+        return None;
     }
-    let Ok(rows) = read_back::<Ext4<F12289>, AnyChallenger, ClearPcs<F12289>>(
-        alloc, &scheme, matrix,
-    ) else {
-        return Err(Fail::new("nothing was read back"));
-    };
-    assert!(rt; rows.width == 1 && are(&rows.values, &[5, 6]));
+    read_back::<Ext4<F12289>, AnyChallenger, ClearPcs<F12289>>(alloc, &scheme, matrix).ok()
+}
+
+/// The rows of a table of two columns.
+fn rows_of<F: Copy + Drop>(
+    alloc: Global,
+    table: &PeriodicLdeTable<F>,
+) -> Result<Vec<[F; 2]>, AllocError> {
+    let mut rows = Vec::new(alloc);
+    if table.width() == 2 {
+        for row in 0..4usize {
+            rows.push([table.get(row, 0), table.get(row, 1)])?;
+        }
+    }
+    Ok(rows)
+}
+
+/// The rows of the table of columns beside the subgroup of four points.
+fn periodic_rows<F: RowField>(
+    alloc: Global,
+    columns: &[Vec<F>],
+) -> Result<Option<Vec<[F; 2]>>, AllocError> {
+    match periodic_table(alloc, columns)? {
+        Some(table) => Ok(Some(rows_of(alloc, &table)?)),
+        None => Ok(None),
+    }
+}
+
+// The line through 5 and 6 is (11 - X) / 2: at 11 and -11 it is 0 and 11. Committed and read back on its own domain, it has its
+// rows again. On a domain of two points each of two chunks has one row, and so columns of one coefficient.
+#[test]
+fn rows_and_chunks(rt: HostRuntime) -> Result<(), Fail> {
+    let alloc = rt.alloc();
+    let beside = rows_beside(alloc, &listed(alloc, &[6150, 6144])?)?;
+    let again = rows_again(alloc, column(alloc, &[5, 6])?);
+    let quotient = committed_quotient(alloc, column(alloc, &[1, 2, 3, 4])?);
+    assert_eq!(rt;
+        format!(in alloc; "{beside:?} {again:?} {quotient:?}")?.as_str(),
+        "Some(RowMajorMatrix { values: [0, 11], width: 1 }) Some(RowMajorMatrix { values: [5, 6], width: 1 }) Some(ClearCommitment { matrices: [[[1], [2]], [[3], [4]]] })"
+    );
+    Ok(())
+}
+
+// Beside four rows the column 5, 6 repeats twice: at x it is the line's value at x^2, here 121 and -121 in turn.
+#[test]
+fn periodic_values_on_a_coset(rt: HostRuntime) -> Result<(), Fail> {
+    let alloc = rt.alloc();
+    let columns = [column(alloc, &[5, 6])?, column(alloc, &[7])?];
+    let rows = periodic_rows(alloc, &columns)?;
+    assert_eq!(rt;
+        format!(in alloc; "{rows:?}")?.as_str(),
+        "Some([[12234, 7], [66, 7], [12234, 7], [66, 7]])"
+    );
     Ok(())
 }
 
@@ -440,24 +401,22 @@ fn rows_read_back(rt: HostRuntime) -> Result<(), Fail> {
 fn answers<SC: StarkGenericConfig>(
     alloc: Global,
     config: &SC,
-) -> Result<((usize, usize, usize), SC::Challenger, SC::Challenger), AllocError> {
+) -> Result<([usize; 3], [Val<SC>; 2]), AllocError> {
     let scheme = config.pcs();
-    let heights = (
+    let heights = [
         scheme.log_min_trace_height(),
         scheme.log_max_trace_height(),
         config.is_zk(),
-    );
-    Ok((
-        heights,
-        config.initialise_challenger(alloc)?,
-        config.initialise_challenger(alloc)?,
-    ))
+    ];
+    let first = config.initialise_challenger(alloc)?.sample();
+    let second = config.initialise_challenger(alloc)?.sample();
+    Ok((heights, [first, second]))
 }
 
 fn answers_above<F, EF, C>(
     alloc: Global,
     config: &ClearConfig<F, EF, C>,
-) -> Result<((usize, usize, usize), C, C), AllocError>
+) -> Result<([usize; 3], [F; 2]), AllocError>
 where
     F: TwoAdicField + PrimeField64,
     EF: PackedExtensionField<F>,
@@ -469,7 +428,7 @@ where
 fn answers_in_the_clear<F, C>(
     alloc: Global,
     config: &ClearConfig<F, F::Above, C>,
-) -> Result<((usize, usize, usize), C, C), AllocError>
+) -> Result<([usize; 3], [F; 2]), AllocError>
 where
     F: RowField,
     C: FieldChallenger<F>
@@ -482,12 +441,12 @@ where
 
 #[test]
 fn a_configuration(rt: HostRuntime) -> Result<(), Fail> {
+    let alloc = rt.alloc();
     let config = StarkConfig::new(ClearPcs::new(), Sha256Challenger::<F12289>::new());
-    let (heights, mut challenger, mut again) = answers_in_the_clear(rt.alloc(), &config)?;
-    assert_eq!(rt; heights, (0, 12, 0));
-    let drawn: F12289 = challenger.sample();
-    assert_eq!(rt; drawn.value(), 9721);
-    let drawn: F12289 = again.sample();
-    assert_eq!(rt; drawn.value(), 9721);
+    let answers = answers_in_the_clear(alloc, &config)?;
+    assert_eq!(rt;
+        format!(in alloc; "{answers:?}")?.as_str(),
+        "([0, 12, 0], [9721, 9721])"
+    );
     Ok(())
 }

@@ -1,5 +1,6 @@
 //! Worked rows, run on the crates below. Each number was found apart from this code: by hand, or from the modular
-//! powers and inverses of another language. The crate has nothing but tests.
+//! powers and inverses of another language. Beside its tests the crate has the kinds of
+//! their AIRs alone, which definitions name.
 #![tactic(auto)]
 
 #[cfg(test)]
@@ -22,6 +23,7 @@ mod elements;
 mod empty_trace;
 #[cfg(test)]
 mod fields;
+mod kinds;
 #[cfg(test)]
 mod numbers;
 #[cfg(test)]
@@ -32,6 +34,8 @@ mod preprocessing;
 mod proofs;
 #[cfg(test)]
 mod quotients;
+#[cfg(test)]
+mod rows;
 #[cfg(test)]
 mod security;
 #[cfg(test)]
@@ -46,5 +50,3 @@ mod tables;
 mod transcripts;
 #[cfg(test)]
 mod verdicts;
-#[cfg(test)]
-mod wide_air;

@@ -4,8 +4,9 @@ ghost use Rattle.stark_security.specs.Openings.{random_columns};
 
 use crate::calls::{RowField, folded, recomposed_of_one};
 use crate::elements::{Base, Extension, number};
-use crate::sized_airs::{ColumnAir, SteppedSquareAir};
-use crate::wide_air::WideAir;
+use crate::kinds::Kind;
+use crate::rows::{all_rows, apart, numbers_in, option_in};
+use crate::sized_airs::SizedAir;
 use p3_uni_stark::{OpeningShape, StarkSecurityParams, num_batched_openings, ood_error_bound};
 use stark_air::{Air, AirLayout};
 use stark_bench::{Coset, Ext4, Sha256Challenger};
@@ -18,13 +19,15 @@ use std::test::Fail;
 
 type Challenger = Sha256Challenger<Base>;
 
+type Bound = Option<(usize, usize)>;
+
 /// The bounds at a height; none where they are too great, or the height is.
-fn bound_over<F: RowField, A: Air<F>>(
+fn bound<F: RowField, A: Air<F>>(
     alloc: Global,
     air: &A,
     degree_bits: usize,
     is_zk: usize,
-) -> Result<Option<(usize, usize)>, AllocError> {
+) -> Result<Bound, AllocError> {
     if is_zk > 1 || is_zk > degree_bits || degree_bits > 63 {
         return Ok(None);
     }
@@ -32,46 +35,48 @@ fn bound_over<F: RowField, A: Air<F>>(
     ood_error_bound::<F, F::Above, A>(alloc, air, layout, degree_bits, is_zk)
 }
 
-fn bound<A: Air<Base>>(
+fn bounds<F: RowField>(alloc: Global) -> Result<[Bound; 10], AllocError> {
+    Ok([
+        bound::<F, CounterAir>(alloc, &CounterAir, 1, 0)?,
+        bound::<F, SmallAir>(alloc, &SmallAir::new(Asked::Nothing), 1, 0)?,
+        bound::<F, CounterAir>(alloc, &CounterAir, 63, 0)?,
+        bound::<F, CubicAir>(alloc, &CubicAir, 63, 0)?,
+        bound::<F, CubicAir>(alloc, &CubicAir, 3, 0)?,
+        bound::<F, CubicAir>(alloc, &CubicAir, 4, 1)?,
+        bound::<F, FibonacciAir>(alloc, &FibonacciAir, 3, 0)?,
+        bound::<F, FibonacciAir>(alloc, &FibonacciAir, 4, 1)?,
+        bound::<F, PairAir>(alloc, &PairAir, 1, 0)?,
+        bound::<F, PreprocessedAir>(alloc, &PreprocessedAir, 2, 0)?,
+    ])
+}
+
+fn bound_of_kind<F: RowField>(
     alloc: Global,
-    air: &A,
+    kind: Kind,
+    hint: Option<usize>,
     degree_bits: usize,
-    is_zk: usize,
-) -> Result<Option<(usize, usize)>, AllocError> {
-    bound_over(alloc, air, degree_bits, is_zk)
+) -> Result<Bound, AllocError> {
+    bound::<F, SizedAir>(alloc, &SizedAir { kind, hint }, degree_bits, 0)
+}
+
+// The transition selector times two columns of degree 3 has degree 7; a hint raises the number of chunks alone.
+fn bounds_of_kinds<F: RowField>(alloc: Global) -> Result<[Bound; 4], AllocError> {
+    Ok([
+        bound_of_kind::<F>(alloc, Kind::SteppedSquare, None, 0)?,
+        bound_of_kind::<F>(alloc, Kind::SteppedSquare, None, 2)?,
+        bound_of_kind::<F>(alloc, Kind::Column, Some(3), 2)?,
+        bound_of_kind::<F>(alloc, Kind::Column, Some(usize::MAX), 0)?,
+    ])
 }
 
 #[test]
 fn bounds_of_bad_draws(rt: HostRuntime) -> Result<(), Fail> {
     let alloc = rt.alloc();
-    assert_eq!(rt; bound(alloc, &CounterAir, 1, 0)?, Some((1, 3)));
+    let found = (bounds::<Base>(alloc)?, bounds_of_kinds::<Base>(alloc)?);
     assert_eq!(rt;
-        bound(alloc, &SmallAir::new(Asked::Nothing), 1, 0)?,
-        Some((0, 3))
+        format!(in alloc; "{found:?}")?.as_str(),
+        "([Some((1, 3)), Some((0, 3)), Some((1, 18446744073709551615)), None, Some((0, 23)), Some((0, 79)), Some((4, 15)), Some((4, 47)), Some((3, 3)), Some((0, 7))], [Some((0, 1)), Some((0, 7)), Some((0, 11)), None])"
     );
-    assert_eq!(rt; bound(alloc, &CounterAir, 63, 0)?, Some((1, usize::MAX)));
-    assert_eq!(rt; bound(alloc, &CubicAir, 63, 0)?, None);
-    assert_eq!(rt; bound(alloc, &CubicAir, 3, 0)?, Some((0, 23)));
-    assert_eq!(rt; bound(alloc, &CubicAir, 4, 1)?, Some((0, 79)));
-    assert_eq!(rt; bound(alloc, &FibonacciAir, 3, 0)?, Some((4, 15)));
-    assert_eq!(rt; bound(alloc, &FibonacciAir, 4, 1)?, Some((4, 47)));
-    assert_eq!(rt; bound(alloc, &PairAir, 1, 0)?, Some((3, 3)));
-    assert_eq!(rt; bound(alloc, &PreprocessedAir, 2, 0)?, Some((0, 7)));
-    Ok(())
-}
-
-// The transition selector times two columns of degree 3 has degree 7; a hint raises the number of chunks alone.
-#[test]
-fn bounds_of_constraints_and_hints(rt: HostRuntime) -> Result<(), Fail> {
-    let alloc = rt.alloc();
-    assert_eq!(rt; bound(alloc, &SteppedSquareAir, 0, 0)?, Some((0, 1)));
-    assert_eq!(rt; bound(alloc, &SteppedSquareAir, 2, 0)?, Some((0, 7)));
-    let three = ColumnAir { hint: Some(3) };
-    assert_eq!(rt; bound(alloc, &three, 2, 0)?, Some((0, 11)));
-    let all = ColumnAir {
-        hint: Some(usize::MAX),
-    };
-    assert_eq!(rt; bound(alloc, &all, 0, 0)?, None);
     Ok(())
 }
 
@@ -79,33 +84,39 @@ fn bounds_of_constraints_and_hints(rt: HostRuntime) -> Result<(), Fail> {
 fn batched_openings(rt: HostRuntime) -> Result<(), Fail> {
     let plain = OpeningShape::new();
     let hiding = OpeningShape::hiding(0);
-    assert_eq!(rt; num_batched_openings(100, true, 0, false, 2, 4, plain), 208);
-    assert_eq!(rt;
+    let found = [
+        num_batched_openings(100, true, 0, false, 2, 4, plain),
         num_batched_openings(100, true, 0, false, 2, 4, hiding),
-        212
-    );
-    assert_eq!(rt;
         num_batched_openings(100, false, 0, false, 2, 4, plain),
-        108
-    );
-    assert_eq!(rt; num_batched_openings(100, true, 6, true, 2, 4, plain), 220);
-    assert_eq!(rt;
+        num_batched_openings(100, true, 6, true, 2, 4, plain),
         num_batched_openings(3, true, 0, false, 1, 4, OpeningShape::Circle),
-        20
-    );
+    ];
+    assert_eq!(rt; found, [208, 212, 108, 220, 20]);
     Ok(())
+}
+
+/// Is_zk, the random codewords and the powers for one opening.
+fn numbers_of(shape: OpeningShape) -> (OpeningShape, bool, usize, usize) {
+    (
+        shape,
+        shape.is_zk(),
+        shape.num_random_codewords(),
+        shape.powers_per_opening(),
+    )
 }
 
 #[test]
 fn opening_shapes(rt: HostRuntime) -> Result<(), Fail> {
-    let plain: OpeningShape = Default::default();
-    assert!(rt; plain == OpeningShape::TwoAdic);
-    let hiding = OpeningShape::hiding(3);
-    assert!(rt; hiding.is_zk() && !plain.is_zk() && !OpeningShape::Circle.is_zk());
-    assert_eq!(rt; hiding.num_random_codewords(), 3);
-    assert_eq!(rt; OpeningShape::Circle.num_random_codewords(), 0);
-    assert_eq!(rt; hiding.powers_per_opening(), 1);
-    assert_eq!(rt; OpeningShape::Circle.powers_per_opening(), 2);
+    let found = [
+        Default::default(),
+        OpeningShape::hiding(3),
+        OpeningShape::Circle,
+    ]
+    .map(numbers_of);
+    assert_eq!(rt;
+        format!(in rt.alloc(); "{found:?}")?.as_str(),
+        "[(TwoAdic, false, 0, 1), (Hiding { num_random_codewords: 3 }, true, 3, 1), (Circle, false, 0, 2)]"
+    );
     Ok(())
 }
 
@@ -122,24 +133,44 @@ fn regime() -> FriRegime
     }
 }
 
+fn opening_shape(hides: bool) -> OpeningShape
+    ensures { random_columns result ≡ 0 }
+{
+    if hides {
+        OpeningShape::hiding(0)
+    } else {
+        OpeningShape::new()
+    }
+}
+
+/// Of eight columns, of which the first three are zero.
 fn params<F: QuarticBase + TwoAdicField>(
     alloc: Global,
-    air: &WideAir,
+    reads_next: bool,
+    hint: Option<usize>,
     openings: OpeningShape,
-    grinding: GrindingSites,
+    batch_combination: usize,
 ) -> Result<Option<StarkSecurityParams>, AllocError>
-    requires hint { unwrap_or air.now.hint 0 ≤ 5 }
+    requires hint { unwrap_or hint 0 ≤ 5 }
     requires random { random_columns openings ≡ 0 }
 {
     if F::TWO_ADICITY < 3 {
         return Ok(None);
     }
+    let air = SizedAir {
+        kind: Kind::Wide(reads_next),
+        hint,
+    };
     let domain: Coset<F> = Coset::subgroup(3);
-    let params = StarkSecurityParams::from_air::<F, Ext4<F>, WideAir, Coset<F>>(
+    let grinding = GrindingSites {
+        batch_combination,
+        ..GrindingSites::NONE
+    };
+    let params = StarkSecurityParams::from_air::<F, Ext4<F>, SizedAir, Coset<F>>(
         alloc,
         regime(),
-        air,
-        AirLayout::from_air::<F, WideAir>(air),
+        &air,
+        AirLayout::from_air::<F, SizedAir>(&air),
         &domain,
         54,
         128,
@@ -150,76 +181,51 @@ fn params<F: QuarticBase + TwoAdicField>(
     Ok(Some(params))
 }
 
-#[test]
-fn functions_of_an_air(rt: HostRuntime) -> Result<(), Fail> {
-    let alloc = rt.alloc();
-    let none = GrindingSites::NONE;
-    let next = WideAir {
-        reads_next: true,
-        hint: None,
-    };
-    let alone = WideAir {
-        reads_next: false,
-        hint: None,
-    };
-    let Some(plain) = params::<Base>(alloc, &next, OpeningShape::new(), none)? else {
-        return Err(Fail::new("no domain"));
-    };
-    assert_eq!(rt; plain.num_batched_functions, 20);
-    assert_eq!(rt; plain.num_constraints, 3);
-    assert_eq!(rt; plain.air_max_constraint_degree, 1);
-    assert_eq!(rt; plain.num_quotient_chunks, 1);
-    assert!(rt; plain.grinding == none);
-    let Some(local) = params::<Base>(alloc, &alone, OpeningShape::new(), none)? else {
-        return Err(Fail::new("no domain"));
-    };
-    assert_eq!(rt; local.num_batched_functions, 12);
-    let Some(hidden) = params::<Base>(alloc, &next, OpeningShape::hiding(0), none)? else {
-        return Err(Fail::new("no domain"));
-    };
-    assert_eq!(rt; hidden.num_batched_functions, 28);
-    Ok(())
+fn params_answer(alloc: Global, text: &str) -> Result<String, Fail> {
+    let (hint, numbers) = apart(text)?;
+    let hint = option_in(hint)?;
+    let [reads_next, hides, batch_combination] = numbers_in::<3>(numbers)?;
+    if hint.unwrap_or(0) > 5 {
+        return Err(Fail::new("too great a degree"));
+    }
+    let openings = opening_shape(hides == 1);
+    let work = batch_combination as usize;
+    match params::<Base>(alloc, reads_next == 1, hint, openings, work)? {
+        Some(found) => Ok(format!(in alloc;
+            "{} {} {} {} {} {:?}",
+            found.num_batched_functions,
+            found.num_constraints,
+            found.air_max_constraint_degree,
+            found.num_quotient_chunks,
+            found.max_combo,
+            found.grinding
+        )?),
+        None => Err(Fail::new("no domain")),
+    }
 }
 
+// The author's bound on the degree | whether a next row is read, whether the scheme hides, the bits of work before the batch.
+// Answered are the batched functions, the constraints and their degree, the chunks, the greatest number of points, the work.
+const PARAMETERS: &str = "\
+none | 1 0 0 => 20 3 1 1 2 GrindingSites { lookup_challenge: 0, out_of_domain: 0, batch_combination: 0 }
+none | 0 0 0 => 12 3 1 1 2 GrindingSites { lookup_challenge: 0, out_of_domain: 0, batch_combination: 0 }
+none | 1 1 0 => 28 3 1 2 2 GrindingSites { lookup_challenge: 0, out_of_domain: 0, batch_combination: 0 }
+1 | 1 1 16 => 28 3 1 2 2 GrindingSites { lookup_challenge: 0, out_of_domain: 0, batch_combination: 16 }
+3 | 1 1 16 => 52 3 1 8 2 GrindingSites { lookup_challenge: 0, out_of_domain: 0, batch_combination: 16 }
+5 | 1 1 16 => 84 3 1 16 2 GrindingSites { lookup_challenge: 0, out_of_domain: 0, batch_combination: 16 }";
+
 #[test]
-fn chunks_and_work(rt: HostRuntime) -> Result<(), Fail> {
-    let alloc = rt.alloc();
-    let grinding = GrindingSites {
-        batch_combination: 16,
-        ..GrindingSites::NONE
-    };
-    for (hint, chunks) in [(1, 2), (3, 8), (5, 16)] {
-        let air = WideAir {
-            reads_next: true,
-            hint: Some(hint),
-        };
-        let Some(found) = params::<Base>(alloc, &air, OpeningShape::hiding(0), grinding)? else {
-            return Err(Fail::new("no domain"));
-        };
-        assert_eq!(rt; found.num_quotient_chunks, chunks);
-        assert_eq!(rt; found.air_max_constraint_degree, 1);
-        assert_eq!(rt; found.grinding.batch_combination, 16);
-        assert_eq!(rt; found.grinding.out_of_domain, 0);
-        assert_eq!(rt; found.max_combo, 2);
-    }
-    Ok(())
+fn parameters_of_an_air(rt: HostRuntime) -> Result<(), Fail> {
+    all_rows(&rt, rt.alloc(), PARAMETERS, params_answer)
 }
 
 #[test]
 fn parameters_in_their_fields(rt: HostRuntime) -> Result<(), Fail> {
     let params = StarkSecurityParams::new(regime(), 54, 128, 7, 3, 2, 20, 4);
-    assert_eq!(rt; params.fri_log_blowup, 1);
-    assert_eq!(rt; params.fri_num_queries, 100);
-    assert_eq!(rt; params.fri_log_final_poly_len, 3);
-    assert_eq!(rt; params.fri_max_log_arity, 2);
-    assert_eq!(rt; params.fri_commit_proof_of_work_bits, 5);
-    assert_eq!(rt; params.fri_query_proof_of_work_bits, 16);
-    assert_eq!(rt; params.num_modulus_bits, 54);
-    assert_eq!(rt; params.collision_resistance, 128);
-    assert_eq!(rt; params.num_constraints, 7);
-    assert_eq!(rt; params.air_max_constraint_degree, 3);
-    assert_eq!(rt; params.num_quotient_chunks, 4);
-    assert_eq!(rt; params.num_batched_functions, 20);
+    assert_eq!(rt;
+        format!(in rt.alloc(); "{params:?}")?.as_str(),
+        "StarkSecurityParams { fri_log_blowup: 1, fri_log_final_poly_len: 3, fri_max_log_arity: 2, fri_num_queries: 100, fri_commit_proof_of_work_bits: 5, fri_query_proof_of_work_bits: 16, num_modulus_bits: 54, collision_resistance: 128, num_constraints: 7, air_max_constraint_degree: 3, num_quotient_chunks: 4, max_combo: 2, num_batched_functions: 20, grinding: GrindingSites { lookup_challenge: 0, out_of_domain: 0, batch_combination: 0 } }"
+    );
     Ok(())
 }
 
@@ -266,6 +272,6 @@ fn bad_zetas_of_a_false_trace(rt: HostRuntime) -> Result<(), Fail> {
             found.push(n)?;
         }
     }
-    assert!(rt; found.as_slice() == [3, 12288].as_slice());
+    assert_eq!(rt; found.as_slice(), [3, 12288].as_slice());
     Ok(())
 }

@@ -3,6 +3,7 @@ ghost use Rattle.std.specs.Prelude.{◌≡◌, length};
 
 use crate::calls::RowField;
 use crate::elements::{Base, Extension};
+use crate::rows::{all_rows, numbers_in};
 use stark_bench::{ClearCommitment, Ext4, ScriptChallenger, Sha256Challenger};
 use stark_parts::{
     StarkProverTranscript, StarkShape, StarkTranscriptFailure, StarkVerifierTranscript,
@@ -63,29 +64,21 @@ where
     Ok(answer.err())
 }
 
-#[test]
-fn preprocessed_commitments(rt: HostRuntime) -> Result<(), Fail> {
-    let alloc = rt.alloc();
-    let x = Base::new(5);
+// The preprocessed columns, and whether a commitment to them is given.
+const FIRST_PHASES: &str = "\
+3 0 => Some(MissingPreprocessedCommitment { width: 3 })
+0 1 => Some(UnexpectedPreprocessedCommitment)
+3 1 => None
+0 0 => None";
+
+fn first_phase(alloc: Global, text: &str) -> Result<String, Fail> {
+    let [width, is_given] = numbers_in::<2>(text)?;
     let other = commitment(alloc, Base::new(2))?;
-    for (width, given, expected) in [
-        (
-            3,
-            None,
-            Some(StarkTranscriptFailure::MissingPreprocessedCommitment { width: 3 }),
-        ),
-        (
-            0,
-            Some(&other),
-            Some(StarkTranscriptFailure::UnexpectedPreprocessedCommitment),
-        ),
-        (3, Some(&other), None),
-        (0, None, None),
-    ] {
-        let mut challenger = Sha256Challenger::<Base>::new();
-        assert!(rt; first_failure(alloc, &mut challenger, x, &[x], width, given)? == expected);
-    }
-    Ok(())
+    let given = if is_given == 1 { Some(&other) } else { None };
+    let mut challenger = Sha256Challenger::<Base>::new();
+    let x = Base::new(5);
+    let failure = first_failure(alloc, &mut challenger, x, &[x], width as usize, given)?;
+    Ok(format!(in alloc; "{failure:?}")?)
 }
 
 // What is committed to and handed over in a run.
@@ -98,14 +91,14 @@ struct Inputs<F> {
     random: ClearCommitment<F>,
 }
 
-fn inputs_of(alloc: Global, numbers: [u32; 5]) -> Result<Inputs<Base>, AllocError> {
+fn inputs_of<F: RowField>(alloc: Global, numbers: [F; 5]) -> Result<Inputs<F>, AllocError> {
     let [trace, preprocessed, public, quotient, random] = numbers;
     Ok(Inputs {
-        trace: commitment(alloc, Base::new(trace))?,
-        preprocessed: commitment(alloc, Base::new(preprocessed))?,
-        public: Base::new(public),
-        quotient: commitment(alloc, Base::new(quotient))?,
-        random: commitment(alloc, Base::new(random))?,
+        trace: commitment(alloc, trace)?,
+        preprocessed: commitment(alloc, preprocessed)?,
+        public,
+        quotient: commitment(alloc, quotient)?,
+        random: commitment(alloc, random)?,
     })
 }
 
@@ -190,13 +183,15 @@ where
     Ok(Some((alpha, zeta)))
 }
 
-// Alpha, zeta, the witness and the next draw of a prover over SHA-256.
+/// Alpha, zeta, the witness and the next draw of a prover over SHA-256.
+type Run = (Extension, Extension, Base, Base);
+
 fn sha256_run(
     alloc: Global,
     numbers: [u32; 5],
     delegates: bool,
-) -> Result<Option<(Extension, Extension, Base, Base)>, AllocError> {
-    let inputs = inputs_of(alloc, numbers)?;
+) -> Result<Option<Run>, AllocError> {
+    let inputs = inputs_of(alloc, numbers.map(Base::new))?;
     let mut challenger = Sha256Challenger::<Base>::new();
     let publics = [inputs.public];
     let played = proved(alloc, &mut challenger, &inputs, &publics, delegates)?;
@@ -207,22 +202,34 @@ fn sha256_run(
     }
 }
 
+/// What a verifier over SHA-256 draws in the run with this witness.
+fn sha256_check(
+    alloc: Global,
+    numbers: [u32; 5],
+    witness: Base,
+) -> Result<Option<Run>, AllocError> {
+    let inputs = inputs_of(alloc, numbers.map(Base::new))?;
+    let mut challenger = Sha256Challenger::<Base>::new();
+    let publics = [inputs.public];
+    let drawn = verified(alloc, &mut challenger, &inputs, &publics, witness)?;
+    let next: Base = challenger.sample();
+    match drawn {
+        Some((alpha, zeta)) => Ok(Some((alpha, zeta, witness, next))),
+        None => Ok(None),
+    }
+}
+
 #[test]
 fn both_sides(rt: HostRuntime) -> Result<(), Fail> {
     let alloc = rt.alloc();
     let numbers = [1, 2, 7, 3, 4];
-    let Some((alpha, zeta, witness, next)) = sha256_run(alloc, numbers, true)? else {
+    let run = sha256_run(alloc, numbers, true)?;
+    let Some((_, _, witness, _)) = run else {
         return Err(Fail::new("no witness of one bit"));
     };
-    let mut challenger = Sha256Challenger::<Base>::new();
-    let inputs = inputs_of(alloc, numbers)?;
-    let publics = [inputs.public];
-    let drawn = verified(alloc, &mut challenger, &inputs, &publics, witness)?;
-    let next_drawn: Base = challenger.sample();
-    assert!(rt; drawn == Some((alpha, zeta)));
-    assert!(rt; next_drawn == next);
+    let checked = sha256_check(alloc, numbers, witness)?;
     let aborted = sha256_run(alloc, numbers, false)?;
-    assert!(rt; aborted == Some((alpha, zeta, witness, next)));
+    assert!(rt; checked == run && aborted == run);
     Ok(())
 }
 
@@ -239,8 +246,11 @@ fn other_events(rt: HostRuntime) -> Result<(), Fail> {
         let Some((other_alpha, _, _, other_next)) = sha256_run(alloc, changed, true)? else {
             return Err(Fail::new("no witness of one bit"));
         };
-        assert!(rt; other_next != next, "event {event}");
-        assert!(rt; (other_alpha != alpha) == (event < 3), "event {event}");
+        assert_eq!(rt;
+            (other_next != next, other_alpha != alpha),
+            (true, event < 3),
+            "event {event}"
+        );
     }
     Ok(())
 }
@@ -277,36 +287,26 @@ where
     Ok(second.err())
 }
 
-#[test]
-fn second_phases(rt: HostRuntime) -> Result<(), Fail> {
-    let alloc = rt.alloc();
-    let x = Base::new(5);
+// Whether there is randomization, the bits of work, and whether a random commitment is given.
+const SECOND_PHASES: &str = "\
+1 0 0 => Some(MissingRandomCommitment)
+0 0 1 => Some(UnexpectedRandomCommitment)
+0 16 0 => Some(OodPowWitness { bits: 16 })
+1 0 1 => None";
+
+fn second_phase(alloc: Global, text: &str) -> Result<String, Fail> {
+    let [is_random, bits, is_given] = numbers_in::<3>(text)?;
     let other = commitment(alloc, Base::new(2))?;
-    for (has_randomization, bits, random, expected) in [
-        (
-            true,
-            0,
-            None,
-            Some(StarkTranscriptFailure::MissingRandomCommitment),
-        ),
-        (
-            false,
-            0,
-            Some(&other),
-            Some(StarkTranscriptFailure::UnexpectedRandomCommitment),
-        ),
-        (
-            false,
-            16,
-            None,
-            Some(StarkTranscriptFailure::OodPowWitness { bits: 16 }),
-        ),
-        (true, 0, Some(&other), None),
-    ] {
-        let list = vec![in alloc; Base::new(4), Base::new(3)]?;
-        let mut script = ScriptChallenger::new(list);
-        let found = second_failure(alloc, &mut script, x, &[x], has_randomization, bits, random)?;
-        assert!(rt; found == expected);
-    }
-    Ok(())
+    let given = if is_given == 1 { Some(&other) } else { None };
+    let mut script = ScriptChallenger::new(vec![in alloc; Base::new(4), Base::new(3)]?);
+    let x = Base::new(5);
+    let bits = bits as usize;
+    let failure = second_failure(alloc, &mut script, x, &[x], is_random == 1, bits, given)?;
+    Ok(format!(in alloc; "{failure:?}")?)
+}
+
+#[test]
+fn failures(rt: HostRuntime) -> Result<(), Fail> {
+    all_rows(&rt, rt.alloc(), FIRST_PHASES, first_phase)?;
+    all_rows(&rt, rt.alloc(), SECOND_PHASES, second_phase)
 }

@@ -191,12 +191,19 @@ fn declared_columns(rt: HostRuntime) -> Result<(), Fail> {
     Ok(())
 }
 
-// Of the columns 1, 2, 3, with 4, 5, 6 in the next row, a part sees the last two.
+// Of the columns 1, 2, 3, with 4, 5, 6 in the next row, a part sees the first two, or the last two, and no third.
 #[test]
-fn part_of_the_columns(rt: HostRuntime) -> Result<(), Fail> {
+fn parts_of_the_columns(rt: HostRuntime) -> Result<(), Fail> {
     let local = [number(1), number(2), number(3)];
     let next = [number(4), number(5), number(6)];
-    let reads = calls::reads_of_a_part::<Base, Sha256Challenger<Base>>(&local, &next, &[])?;
-    assert!(rt; reads == Some([Some(number(2)), None, Some(number(6)), None]));
+    for (start, current, following) in [(0, 1, 5), (1, 2, 6)] {
+        let reads = calls::reads_of_a_part::<Base, Sha256Challenger<Base>>(
+            start,
+            &local,
+            &next,
+            &[],
+        )?;
+        assert!(rt; reads == Some([Some(number(current)), None, Some(number(following)), None]));
+    }
     Ok(())
 }

@@ -1,7 +1,7 @@
 //! The library's calls that the rows make of a configuration. At closed types such a call has the evidence of all its types
 //! written out, which takes a minute to prove. So each stands here once: over any base field and extension, then over any base
 //! field and its extension. The rows make it at one field, where only that field's evidence is left.
-ghost use Rattle.std.specs.Prelude.{◌≡◌, ◌↔◌, ◌≤◌, All, IfOk, IsTrue, [], length, vec_len};
+ghost use Rattle.std.specs.Prelude.{◌≡◌, ◌↔◌, ◌≤◌, ◌<◌, All, IfOk, IsTrue, [], length, vec_len};
 ghost use Rattle.stark_air.specs.Layout.{Covers};
 ghost use Rattle.stark_air.specs.Rows.{layout_of};
 ghost use Rattle.stark_support.specs.Coset.{coset_size, coset_vanishing};
@@ -240,10 +240,11 @@ where
     Ok(Some(value))
 }
 
-/// What the part of the last two of three columns reads of any builder: of the current row the columns 0 and 2, of the next one
-/// 1 and 2. None where the part or its copy doesn't show the values of those two columns.
+/// What the part of two of three columns reads of any builder: of the current row the columns 0 and 2, of the next one 1 and 2.
+/// None where the part or its copy doesn't show the values of those two columns alone.
 fn part_of<AB: AirBuilder>(
     builder: &mut AB,
+    start: usize,
     local: &[AB::Var],
     next: &[AB::Var],
 ) -> Result<Option<[Option<AB::Var>; 4]>, AllocError>
@@ -252,8 +253,10 @@ where
     AB::MainWindow: Clone,
     requires current { 3 ≤ (AB.layout builder.old).main }
     requires following { 3 ≤ (AB.layout builder.old).main_next }
+    requires first { start < 2 }
 {
-    let part: SubAirBuilder<'_, AB, CounterAir, AB::Var> = SubAirBuilder::new(builder, 1..3);
+    let columns = start..start + 2;
+    let part: SubAirBuilder<'_, AB, CounterAir, AB::Var> = SubAirBuilder::new(builder, columns);
     let window = part.main()?;
     if window.current_slice() != local || window.next_slice() != next {
         return Ok(None);
@@ -272,11 +275,12 @@ where
 
 /// What `part_of` reads in a verifier's folder; none where there are other columns.
 fn part_reads<'a, SC: StarkGenericConfig>(
+    start: usize,
     local: &'a [SC::Challenge],
     next: &'a [SC::Challenge],
     publics: &'a [Val<SC>],
 ) -> Result<Option<[Option<SC::Challenge>; 4]>, AllocError> {
-    if local.len() != 3 || next.len() != 3 {
+    if local.len() != 3 || next.len() != 3 || start > 1 {
         return Ok(None);
     }
     let none = &local[..0];
@@ -298,10 +302,12 @@ fn part_reads<'a, SC: StarkGenericConfig>(
         alpha: SC::Challenge::ONE,
         accumulator: SC::Challenge::ZERO,
     };
-    part_of(&mut parent, &local[1..], &next[1..])
+    let end = start + 2;
+    part_of(&mut parent, start, &local[start..end], &next[start..end])
 }
 
 fn part_reads_above<'a, F, EF, C>(
+    start: usize,
     local: &'a [EF],
     next: &'a [EF],
     publics: &'a [F],
@@ -311,11 +317,12 @@ where
     EF: PackedExtensionField<F>,
     C: FieldChallenger<F> + CanObserve<ClearCommitment<F>> + ExtensionChallenger<F, EF> + Clone,
 {
-    part_reads::<ClearConfig<F, EF, C>>(local, next, publics)
+    part_reads::<ClearConfig<F, EF, C>>(start, local, next, publics)
 }
 
-/// What the part of the last two of three columns reads, as `part_reads`.
+/// What the part of two of three columns reads, as `part_of`; none where there are other columns.
 pub fn reads_of_a_part<'a, F, C>(
+    start: usize,
     local: &'a [F::Above],
     next: &'a [F::Above],
     publics: &'a [F],
@@ -327,7 +334,7 @@ where
         + ExtensionChallenger<F, F::Above>
         + Clone,
 {
-    part_reads_above::<F, F::Above, C>(local, next, publics)
+    part_reads_above::<F, F::Above, C>(start, local, next, publics)
 }
 
 /// No scheme's refusal.

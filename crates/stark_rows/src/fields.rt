@@ -176,6 +176,25 @@ fn parts_above<F: RowField>(x: F::Above, index: usize, y: F) -> (Option<F>, F::A
     (coordinate(x, index), embedded, one)
 }
 
+/// An element of the basis; none past its end.
+fn basis_element<F: Field, EF: ExtensionField<F>>(index: usize) -> Option<EF> {
+    if index < EF::DIMENSION {
+        Some(EF::basis_element(index))
+    } else {
+        None
+    }
+}
+
+#[test]
+fn elements_of_the_basis(rt: HostRuntime) {
+    let found = [
+        basis_element::<Base, Extension>(0),
+        basis_element::<Base, Extension>(3),
+        basis_element::<Base, Extension>(4),
+    ];
+    assert!(rt; found == [Some(number(1)), Some(element([0, 0, 0, 1])), None]);
+}
+
 #[test]
 fn coordinates_both_ways(rt: HostRuntime) -> Result<(), Fail> {
     let base = [Base::new(1), Base::new(2), Base::new(3), Base::new(4)];
@@ -221,6 +240,11 @@ fn json_both_ways(rt: HostRuntime) -> Result<(), Fail> {
     );
     assert!(rt; read(alloc, "12288").ok() == Some(Base::new(12288)));
     assert!(rt; matches!(read::<Base>(alloc, "12289"), Err(JsonFault::Invalid)));
+    let fault = JsonFault::Invalid;
+    assert_eq!(rt;
+        format!(in alloc; "{fault}")?.as_str(),
+        "the JSON value is refused"
+    );
     assert!(rt;
         matches!(
             read::<Extension>(alloc, "[1,2,3,12289]"),

@@ -133,20 +133,22 @@ fn flat_rows(rt: HostRuntime) -> Result<(), Fail> {
     Ok(())
 }
 
-/// The packed rows from this one on; none where there is no such row.
+/// The packed rows from this one on, made anew and in a lent buffer; none where there is no row.
 fn packed_row<P: PackedValue>(
     alloc: Global,
     matrix: &RowMajorMatrix<P::Value>,
     r: usize,
-) -> Result<Vec<P>, AllocError> {
-    if r < matrix.height() {
-        matrix.vertically_packed_row(alloc, r)
-    } else {
-        Ok(Vec::new(alloc))
+    mut lent: Vec<P>,
+) -> Result<Option<[Vec<P>; 2]>, AllocError> {
+    if matrix.height() == 0 {
+        return Ok(None);
     }
+    let made = matrix.vertically_packed_row(alloc, r)?;
+    matrix.vertically_packed_row_into(r, &mut lent)?;
+    Ok(Some([made, lent]))
 }
 
-// One lane: the row itself.
+// One lane: the row itself. The fourth row of two is the second.
 #[test]
 fn packed_rows(rt: HostRuntime) -> Result<(), Fail> {
     let alloc = rt.alloc();
@@ -155,7 +157,13 @@ fn packed_rows(rt: HostRuntime) -> Result<(), Fail> {
         return Err(Fail::new("other rows"));
     }
     let matrix = RowMajorMatrix::new(list, 2);
-    let packed: Vec<Base> = packed_row(alloc, &matrix, 1)?;
-    assert_eq!(rt; values(alloc, &packed)?.as_slice(), [3, 4].as_slice());
+    for r in [1, 3] {
+        let lent = numbers(alloc, &[9])?;
+        let Some([made, lent]) = packed_row::<Base>(alloc, &matrix, r, lent)? else {
+            return Err(Fail::new("no row"));
+        };
+        assert_eq!(rt; values(alloc, &made)?.as_slice(), [3, 4].as_slice());
+        assert_eq!(rt; values(alloc, &lent)?.as_slice(), [3, 4].as_slice());
+    }
     Ok(())
 }

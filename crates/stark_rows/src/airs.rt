@@ -191,19 +191,20 @@ fn declared_columns(rt: HostRuntime) -> Result<(), Fail> {
     Ok(())
 }
 
-// Of the columns 1, 2, 3, with 4, 5, 6 in the next row, a part sees the first two, or the last two, and no third.
-#[test]
-fn parts_of_the_columns(rt: HostRuntime) -> Result<(), Fail> {
+/// What the part of two of the columns 1, 2, 3 reads, with 4, 5, 6 in the next row.
+fn part_from(start: usize) -> Result<Option<[Option<Extension>; 4]>, Fail> {
     let local = [number(1), number(2), number(3)];
     let next = [number(4), number(5), number(6)];
+    let reads = calls::reads_of_a_part::<Base, Sha256Challenger<Base>>(start, &local, &next, &[])?;
+    Ok(reads)
+}
+
+// A part sees the first two columns, or the last two, and no third.
+#[test]
+fn parts_of_the_columns(rt: HostRuntime) -> Result<(), Fail> {
     for (start, current, following) in [(0, 1, 5), (1, 2, 6)] {
-        let reads = calls::reads_of_a_part::<Base, Sha256Challenger<Base>>(
-            start,
-            &local,
-            &next,
-            &[],
-        )?;
-        assert!(rt; reads == Some([Some(number(current)), None, Some(number(following)), None]));
+        let seen = [Some(number(current)), None, Some(number(following)), None];
+        assert!(rt; part_from(start)? == Some(seen));
     }
     Ok(())
 }

@@ -26,6 +26,7 @@ pub use stark_protocol::{
     PcsProof, PreprocessedProverData, PreprocessedVerifierKey, StarkInstance, StarkOperations,
     StarkProof, recompose_quotient_from_chunks, setup_preprocessed,
 };
+pub use stark_prover::{StarkProving, prove, prove_with_preprocessed};
 pub use stark_quotient::{QuotientAir, quotient_values};
 pub use stark_security::{
     OpeningShape, StarkSecurityParams, num_batched_openings, ood_error_bound,

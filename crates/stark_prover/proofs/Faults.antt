@@ -1,0 +1,51 @@
+-- From what the stages of a prover find to what it answers.
+use Rattle.std.proofs.Common.{◌≡◌, ◌⊎◌, inl, inr, refl, sym, subst, List, ℕ, Option, None, Some, Result, Ok, Err, IfErr, IfOk, IsErr, IsErrAnd}
+use Rattle.stark_support.specs.Claims.{IfRefused}
+use Rattle.stark_support.specs.declared.scheme.SchemeFault.{SchemeFault}
+use Rattle.stark_support.specs.declared.scheme.SchemeFault.TheVariants.{Refused, OutOfMemory}
+use Rattle.stark_support.specs.declared.periodic.PeriodicColumnShapeError.{PeriodicColumnShapeError}
+use Rattle.stark_parts.specs.Errors.{IsFaultIn}
+use Rattle.stark_parts.specs.declared.error.InvalidProofShapeError.{InvalidProofShapeError}
+use Rattle.stark_parts.specs.declared.error.ProvingError.{ProvingError}
+use Rattle.stark_prover.specs.SchemeFaults.{IsSchemeFault}
+use Rattle.stark_prover.specs.Sizes.{IsQuotientSizeFault, SizesFault, in_columns, in_quotient}
+
+-- The error that `?` returns is the one that the call gave: what is said of that one is said of it.
+pub carried : {T E : Type 0} (P : E → Type 0) (r : Result T E) (e : E) → IsErr r × IsErrAnd r (λ error. error ≡ e) → P e → IfErr r P
+carried P (Ok x) e made holds = tt
+carried P (Err error) e made holds = subst P (sym made.1) holds
+
+-- Of a result that is handed on, what is said follows from what the call says.
+pub on_ok : {T E : Type 0} (P Q : T → Type 0) (r : Result T E) → ((x : T) → P x → Q x) → IfOk r P → IfOk r Q
+on_ok P Q (Ok x) follows held = follows x held
+on_ok P Q (Err e) follows held = tt
+
+pub on_err : {T E : Type 0} (P Q : E → Type 0) (r : Result T E) → ((e : E) → P e → Q e) → IfErr r P → IfErr r Q
+on_err P Q (Ok x) follows held = tt
+on_err P Q (Err e) follows held = follows e held
+
+pub columns_refused : {T Y : Type 0} (columns : ℕ → Option PeriodicColumnShapeError) (quotient : Option InvalidProofShapeError) (m n : ℕ) → m ≡ n → (r : Result T (ProvingError Y)) (fault : PeriodicColumnShapeError) → columns m ≡ Some fault
+    → IsErr r × IsErrAnd r (λ error. error ≡ ProvingError.PeriodicColumn fault) → IfErr r (λ error. (error ≡ ProvingError.OutOfMemory) ⊎ SizesFault (columns n) quotient error)
+columns_refused columns quotient m n same r fault found made =
+    carried (λ error. (error ≡ ProvingError.OutOfMemory) ⊎ SizesFault (columns n) quotient error) r _ made (inr (in_columns (subst (λ k. columns k ≡ Some fault) same found)))
+
+pub quotient_size_refused : {Y : Type 0} (columns : ℕ → Option PeriodicColumnShapeError) {quotient : Option InvalidProofShapeError} (m n : ℕ) → m ≡ n → (error : ProvingError Y) → columns m ≡ None
+    → (error ≡ ProvingError.OutOfMemory) ⊎ IsQuotientSizeFault quotient error → (error ≡ ProvingError.OutOfMemory) ⊎ SizesFault (columns n) quotient error
+quotient_size_refused columns m n same error fitting (inl memory) = inl memory
+quotient_size_refused columns m n same error fitting (inr fault) = inr (in_quotient (subst (λ k. columns k ≡ None) same fitting) fault)
+
+-- A scheme's fault in a phase is want of memory, or a reason that the scheme may have.
+pub scheme_fault : {Y : Type 0} (name : List ℕ) (MayRefuse : Y → Type 0) (fault : SchemeFault Y) (error : ProvingError Y) → IfRefused fault MayRefuse → IsFaultIn name fault error
+    → (error ≡ ProvingError.OutOfMemory) ⊎ IsSchemeFault name MayRefuse error
+scheme_fault name MayRefuse (Refused reason) error refuses named = inr (record { reason = reason; named = named; refuses = refuses })
+scheme_fault name MayRefuse OutOfMemory ProvingError.OutOfMemory refuses named = inl refl
+scheme_fault name MayRefuse OutOfMemory (ProvingError.Pcs phase source) refuses named = absurd named
+scheme_fault name MayRefuse OutOfMemory (ProvingError.GrindExhausted bits) refuses named = absurd named
+scheme_fault name MayRefuse OutOfMemory (ProvingError.QuotientDomainTooLarge maximum got) refuses named = absurd named
+scheme_fault name MayRefuse OutOfMemory (ProvingError.PeriodicColumn fault) refuses named = absurd named
+
+-- The same, where the scheme and the domain have other names.
+pub scheme_fault_at : {A B Y : Type 0} (name : List ℕ) (MayRefuse : A → B → Y → Type 0) (a s : A) (b d : B) (fault : SchemeFault Y) (error : ProvingError Y) → a ≡ s → b ≡ d → IfRefused fault (MayRefuse a b) → IsFaultIn name fault error
+    → (error ≡ ProvingError.OutOfMemory) ⊎ IsSchemeFault name (MayRefuse s d) error
+scheme_fault_at name MayRefuse a s b d fault error same_scheme same_domain refuses named =
+    scheme_fault name (MayRefuse s d) fault error (subst (λ t. IfRefused fault (MayRefuse t d)) same_scheme (subst (λ t. IfRefused fault (MayRefuse a t)) same_domain refuses)) named

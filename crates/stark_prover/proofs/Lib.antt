@@ -1,0 +1,17 @@
+pub mod Columns
+pub mod Faults
+pub mod QuotientSteps
+pub mod CommitSteps
+pub mod ReplaySteps
+pub mod BindSteps
+pub mod OpenedSteps
+pub mod OpeningSteps
+pub mod SameOpenings
+pub mod BehindSteps
+pub mod OpeningClaims
+pub mod BehindClaims
+pub mod FinishSteps
+pub mod PartsSteps
+pub mod SizedSteps
+pub mod HeightSteps
+pub mod AcceptableSteps

@@ -1,0 +1,72 @@
+-- From the sizes and the commitment to a trace to what a proof starts from.
+use Rattle.std.proofs.Common.{◌≡◌, ◌∙◌, ◌⊎◌, inl, inr, ap, sym, subst, ℕ, ◌+◌, ◌^◌, List, length, map, Option, None, Some, arith}
+use Rattle.std.specs.Prelude.{codes, Bool, IfErr, IfOk, IfSome, Result, Ok, Err}
+use Rattle.stark_support.specs.Periodic.{first_fault}
+use Rattle.stark_support.specs.Scheme.{natural_coset, zk_bits}
+use Rattle.stark_air.specs.Declaration.{Trace}
+use Rattle.stark_parts.specs.declared.error.ProvingError.{ProvingError}
+use Rattle.stark_protocol.specs.Instance.{Instance, ProtocolOps, log_height}
+use Rattle.stark_protocol.specs.declared.preprocessed.PreprocessedProverData.{PreprocessedProverData}
+use Rattle.stark_proof.specs.ProofView.{ProofView}
+use Rattle.stark_prover.specs.CommittedColumns.{IsPreprocessedCommitment, IsTraceCommitment}
+use Rattle.stark_prover.specs.ProofOfTrace.{IsProofOfTrace}
+use Rattle.stark_prover.specs.ProverFault.{IsReady, ProverFault, in_sizes, in_trace, columns_fault, domain_fault}
+use Rattle.stark_prover.specs.SchemeFaults.{IsSchemeFault}
+use Rattle.stark_prover.specs.Sizes.{SizesFault}
+
+-- The height, of the committed one.
+pub same_height : (is_zk : Bool) (height degree_bits : ℕ) → degree_bits ≡ height + zk_bits is_zk → log_height is_zk degree_bits ≡ height
+same_height is_zk height degree_bits is_height = omega (arith, is_height)
+
+-- What is held of preprocessed columns has their number.
+pub width_of_columns : {S F E C K T P X Y : Type 0} (ops : ProtocolOps S F E C K T P X Y) (s : S) (held : Option (PreprocessedProverData K T)) (fixed : List (List F)) (width : ℕ) → IsPreprocessedCommitment ops.opening.scheme s ops.opening.fields.base fixed held → length fixed ≡ width
+    → IfSome held (λ h. h.width ≡ width)
+width_of_columns ops s None fixed width stands number = tt
+width_of_columns ops s (Some held) fixed width stands number = sym stands.1 ∙ number
+
+module _ {S F E C K T P X Y : Type 0} {ops : ProtocolOps S F E C K T P X Y} {i : Instance S F C K} {coordinates : E → List F} {held : Option (PreprocessedProverData K T)} (height : ℕ) {degree_bits : ℕ} {trace : Trace F} (is_height : degree_bits ≡ height + zk_bits ops.opening.is_zk) where
+  pub ready_at : {columns fixed : List (List F)} {commitment : K} {prover_data : T} → columns_fault ops i coordinates held height degree_bits trace ≡ None → domain_fault ops i coordinates held height (height + zk_bits ops.opening.is_zk) trace ≡ None
+      → IsTraceCommitment ops.opening.scheme i.scheme ops.opening.fields.base ops.opening.fields.root (log_height ops.opening.is_zk degree_bits) degree_bits trace columns commitment prover_data
+      → IsPreprocessedCommitment ops.opening.scheme i.scheme ops.opening.fields.base fixed held
+      → IsReady ops i coordinates held (log_height ops.opening.is_zk degree_bits) degree_bits trace columns fixed commitment prover_data
+  ready_at fitting clear committed preprocessed = record {
+    fitting = ap (λ n. first_fault (2 ^ n) 0 (map (λ column. length column) i.periodic_columns)) (same_height ops.opening.is_zk height degree_bits is_height) ∙ fitting;
+    clear = ap (λ n. domain_fault ops i coordinates held height n trace) is_height ∙ clear;
+    committed = committed;
+    preprocessed = preprocessed;
+  }
+
+  pub proof_at : {proof : ProofView K E P F} → IsProofOfTrace ops i coordinates held (log_height ops.opening.is_zk degree_bits) trace proof → IsProofOfTrace ops i coordinates held height trace proof
+  proof_at {proof = proof} made = subst (λ n. IsProofOfTrace ops i coordinates held n trace proof) (same_height ops.opening.is_zk height degree_bits is_height) made
+
+  pub fault_at : (error : ProvingError Y) → (error ≡ ProvingError.OutOfMemory) ⊎ ProverFault ops i coordinates held (log_height ops.opening.is_zk degree_bits) degree_bits trace error
+      → (error ≡ ProvingError.OutOfMemory) ⊎ ProverFault ops i coordinates held height (height + zk_bits ops.opening.is_zk) trace error
+  fault_at error (inl memory) = inl memory
+  fault_at error (inr fault) =
+      inr (subst (λ n. ProverFault ops i coordinates held height n trace error) is_height (subst (λ n. ProverFault ops i coordinates held n degree_bits trace error) (same_height ops.opening.is_zk height degree_bits is_height) fault))
+
+  pub trace_refused : columns_fault ops i coordinates held height degree_bits trace ≡ None → domain_fault ops i coordinates held height (height + zk_bits ops.opening.is_zk) trace ≡ None → (error : ProvingError Y)
+      → (error ≡ ProvingError.OutOfMemory) ⊎ IsSchemeFault (codes "trace commitment") (ops.opening.scheme.RefusesCommit i.scheme (natural_coset ops.opening.fields.base degree_bits) trace.values trace.width) error
+      → (error ≡ ProvingError.OutOfMemory) ⊎ ProverFault ops i coordinates held height (height + zk_bits ops.opening.is_zk) trace error
+  trace_refused fitting clear error (inl memory) = inl memory
+  trace_refused fitting clear error (inr fault) =
+      inr (in_trace fitting clear (subst (λ n. IsSchemeFault (codes "trace commitment") (ops.opening.scheme.RefusesCommit i.scheme (natural_coset ops.opening.fields.base n) trace.values trace.width) error) is_height fault))
+
+  -- The same of a run's result, which says it for whatever was ready.
+  pub run_made : {R : Type 0} (view : R → ProofView K E P F) {columns fixed : List (List F)} {commitment : K} {prover_data : T} → IsReady ops i coordinates held (log_height ops.opening.is_zk degree_bits) degree_bits trace columns fixed commitment prover_data → (r : Result R (ProvingError Y))
+      → IfOk r (λ proof. (of : Trace F) (cs fs : List (List F)) → IsReady ops i coordinates held (log_height ops.opening.is_zk degree_bits) degree_bits of cs fs commitment prover_data → IsProofOfTrace ops i coordinates held (log_height ops.opening.is_zk degree_bits) of (view proof))
+      → IfOk r (λ proof. IsProofOfTrace ops i coordinates held height trace (view proof))
+  run_made view {columns = columns} {fixed = fixed} ready (Ok proof) made = proof_at (made trace columns fixed ready)
+  run_made view ready (Err error) made = tt
+
+  pub run_refused : {R : Type 0} {columns fixed : List (List F)} {commitment : K} {prover_data : T} → IsReady ops i coordinates held (log_height ops.opening.is_zk degree_bits) degree_bits trace columns fixed commitment prover_data → (r : Result R (ProvingError Y))
+      → IfErr r (λ error. (of : Trace F) (cs fs : List (List F)) → IsReady ops i coordinates held (log_height ops.opening.is_zk degree_bits) degree_bits of cs fs commitment prover_data → (error ≡ ProvingError.OutOfMemory) ⊎ ProverFault ops i coordinates held (log_height ops.opening.is_zk degree_bits) degree_bits of error)
+      → IfErr r (λ error. (error ≡ ProvingError.OutOfMemory) ⊎ ProverFault ops i coordinates held height (height + zk_bits ops.opening.is_zk) trace error)
+  run_refused ready (Ok proof) made = tt
+  run_refused {columns = columns} {fixed = fixed} ready (Err error) made = fault_at error (made trace columns fixed ready)
+
+pub sizes_refused : {S F E C K T P X Y : Type 0} {ops : ProtocolOps S F E C K T P X Y} {i : Instance S F C K} {coordinates : E → List F} {held : Option (PreprocessedProverData K T)} {height degree_bits : ℕ} {trace : Trace F} (error : ProvingError Y)
+    → (error ≡ ProvingError.OutOfMemory) ⊎ SizesFault (columns_fault ops i coordinates held height degree_bits trace) (domain_fault ops i coordinates held height degree_bits trace) error
+    → (error ≡ ProvingError.OutOfMemory) ⊎ ProverFault ops i coordinates held height degree_bits trace error
+sizes_refused error (inl memory) = inl memory
+sizes_refused error (inr fault) = inr (in_sizes fault)

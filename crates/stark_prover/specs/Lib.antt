@@ -1,0 +1,10 @@
+pub mod Sizes
+pub mod SchemeFaults
+pub mod CommittedColumns
+pub mod Rounds
+pub mod ProofOfTrace
+pub mod ProverFault
+pub mod BoundProof
+pub mod Work
+pub mod Acceptable
+pub mod SetUpFacts

@@ -107,11 +107,11 @@ module _ {S F E C K T P X Y : Type 0} (ops : ProtocolOps S F E C K T P X Y) (i :
 
 -- ---- a proof of a trace
 
-module _ {S F E C K T P X Y : Type 0} {ops : ProtocolOps S F E C K T P X Y} {i : Instance S F C K} {coordinates : E → List F} {held : Option (PreprocessedProverData K T)} {height : ℕ} {trace : Trace F} {p : ProofView K E P F}
-    (made : IsProofOfTrace ops i coordinates held height trace p) where
+module _ {S F E C K T P X Y : Type 0} {ops : ProtocolOps S F E C K T P X Y} {i : Instance S F C K} {coordinates : E → List F} {held : Option (PreprocessedProverData K T)} {height : ℕ} {trace : Trace F} {fixed : List (List F)} {p : ProofView K E P F}
+    (made : IsProofOfTrace ops i coordinates held height trace fixed p) where
   -- the opened values, as they truly are
   abbrev truly : OpeningsView E
-  truly = true_openings ops i made.columns made.fixed made.chunks made.random made.zeta (next_point ops.opening p.degree_bits made.zeta)
+  truly = true_openings ops i made.columns fixed made.chunks made.random made.zeta (next_point ops.opening p.degree_bits made.zeta)
 
   -- Each chunk has as many columns as the extension has coordinates.
   chunk_width : (k : ℕ) (chunk : QuotientChunk F) → slice_get made.chunks k ≡ Some chunk → (length (values_at ops i (committed_chunk ops.opening.fields.base ops.opening.is_zk chunk).columns made.zeta) == ops.opening.fields.dimension) ≡ true
@@ -159,8 +159,8 @@ module _ {S F E C K T P X Y : Type 0} {ops : ProtocolOps S F E C K T P X Y} {i :
           none_of _ _ (ap (λ fault. of_shape fault) heights_clear)
           (none_of _ _ (ap (λ fault. of_shape fault)
           (ap (λ key. preprocessed_fault key i.layout.preprocessed (opens_next_row i.preprocessed_next_columns) p.degree_bits p.opened_values.preprocessed) made.key ∙ ap (λ o. preprocessed_fault (option_map key_of held) i.layout.preprocessed (opens_next_row i.preprocessed_next_columns) p.degree_bits o.preprocessed) made.opened ∙
-          ap (λ key. preprocessed_fault (option_map key_of held) i.layout.preprocessed (opens_next_row i.preprocessed_next_columns) p.degree_bits (option_map (true_preprocessed ops i made.fixed made.zeta (next_point ops.opening p.degree_bits made.zeta)) key)) made.key ∙
-          fixed_clear ops i held made.fixed p.degree_bits made.zeta (next_point ops.opening p.degree_bits made.zeta) made.preprocessed there held_width held_degree))
+          ap (λ key. preprocessed_fault (option_map key_of held) i.layout.preprocessed (opens_next_row i.preprocessed_next_columns) p.degree_bits (option_map (true_preprocessed ops i fixed made.zeta (next_point ops.opening p.degree_bits made.zeta)) key)) made.key ∙
+          fixed_clear ops i held fixed p.degree_bits made.zeta (next_point ops.opening p.degree_bits made.zeta) made.preprocessed there held_width held_degree))
           (none_of _ _ (ap (λ fault. of_shape fault) made.sized)
           (none_of _ _ (ap (λ o. randomization_fault ops.opening.is_zk p.commitments.random o.random) made.opened ∙ (random_shape made.random made.randomization).0)
           (ap (λ fault. of_shape fault) (ap fault_of made.opened ∙ values_clear)))))
@@ -191,12 +191,13 @@ module _ {S F E C K T P X Y : Type 0} (ops : ProtocolOps S F E C K T P X Y) (i :
   is_height = sym (known heights.0 heights.1)
 
   -- Where the answer is a proof, and for each height that the trace has.
-  pub answer_acceptable : {R : Type 0} (view : R → ProofView K E P F) (r : Result R (ProvingError Y)) → IfOk r (λ proof. IsProofOfTrace ops i coordinates held log_height trace (view proof))
+  pub answer_acceptable : {R : Type 0} (view : R → ProofView K E P F) (r : Result R (ProvingError Y)) → IfOk r (λ proof. (fixed : List (List F)) → IsPreprocessedCommitment ops.opening.scheme i.scheme ops.opening.fields.base fixed held → IsProofOfTrace ops i coordinates held log_height trace fixed (view proof))
       → IfOk r (λ proof. (height : ℕ) → IsHeight height → ops.opening.scheme.log_min_trace_height i.scheme ≤ height → ops.opening.scheme.Whole i.scheme → IsAcceptable ops i (view proof))
-  answer_acceptable view (Ok proof) made =
+  answer_acceptable view (Ok proof) each =
+      let made = each stands.0 stands.1 in
       let held_width = width_of_columns ops i.scheme held stands.0 i.layout.preprocessed stands.1 stands.2 in
       let bits : (view proof).degree_bits ≡ heights.0 + zk_bits ops.opening.is_zk = made.degree_bits ∙ ap (λ n. n + zk_bits ops.opening.is_zk) (sym is_height) in
       λ height is_height least whole.
       acceptable made width_is publics_are there held_width (subst (λ n. IfSome held (λ h. h.degree_bits ≡ n)) (sym bits) heights.3) reflexive laws
       (omega (arith, least, known height is_height)) (omega (arith, bits, heights.2)) whole
-  answer_acceptable view (Err error) made = tt
+  answer_acceptable view (Err error) each = tt

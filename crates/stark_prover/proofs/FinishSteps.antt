@@ -35,9 +35,9 @@ place_again : {K T : Type 0} (is_zk : Bool) (held : Option (PreprocessedProverDa
 place_again is_zk None = refl
 place_again is_zk (Some of_held) = refl
 
-module _ {S F E C K T P X Y : Type 0} {ops : ProtocolOps S F E C K T P X Y} {i : Instance S F C K} {coordinates : E → List F} {held : Option (PreprocessedProverData K T)} {height degree_bits : ℕ} {trace : Trace F}
+module _ {S F E C K T P X Y : Type 0} {ops : ProtocolOps S F E C K T P X Y} {i : Instance S F C K} {coordinates : E → List F} {held : Option (PreprocessedProverData K T)} {height degree_bits : ℕ} {trace : Trace F} {fixed : List (List F)}
     {commitment : K} {prover_data : T} {alpha : E} {state : C} {quotient : K} {quotient_data : T} {random : Option K} {random_data : Option T}
-    (bound : IsBoundProof ops i coordinates held height degree_bits trace commitment prover_data alpha state quotient quotient_data random random_data)
+    (bound : IsBoundProof ops i coordinates held height degree_bits trace fixed commitment prover_data alpha state quotient quotient_data random random_data)
     {shape : StarkShape} (is_shape : shape ≡ described ops i degree_bits) {given : Option K} (is_given : given ≡ random) where
   -- No witness is found.
   pub work_refused : (error : GrindExhausted) → IsExhausted ops.sponge shape.ood_pow_bits quotient given state error → ProverFault ops i coordinates held height degree_bits trace (ProvingError.GrindExhausted error.bits)
@@ -83,14 +83,14 @@ module _ {S F E C K T P X Y : Type 0} {ops : ProtocolOps S F E C K T P X Y} {i :
       behind_list = (behind_rounds bound.made key_is zeta next_zeta bound.randomization).0
 
       stand_behind : StandBehind ops.opening.scheme ops.opening.fields.ring ops.opening.fields.embed i.scheme ops.opening.is_zk (rounds_of z (points_of z nz reads) (points_of z nz fixed_reads) count random_kept prover_data quotient_data fixed_kept)
-          behind_list (true_openings ops i bound.columns bound.fixed bound.chunks bound.random_columns zeta next_zeta)
+          behind_list (true_openings ops i bound.columns fixed bound.chunks bound.random_columns zeta next_zeta)
       stand_behind =
-          subst (λ r. StandBehind ops.opening.scheme ops.opening.fields.ring ops.opening.fields.embed i.scheme ops.opening.is_zk r behind_list (true_openings ops i bound.columns bound.fixed bound.chunks bound.random_columns zeta next_zeta)) (sym rounds_are)
+          subst (λ r. StandBehind ops.opening.scheme ops.opening.fields.ring ops.opening.fields.embed i.scheme ops.opening.is_zk r behind_list (true_openings ops i bound.columns fixed bound.chunks bound.random_columns zeta next_zeta)) (sym rounds_are)
           (behind_rounds bound.made key_is zeta next_zeta bound.randomization).1
 
       pub behind : (made : List (OpenedRound F E K T)) × (view : OpeningsView E) × StandBehind ops.opening.scheme ops.opening.fields.ring ops.opening.fields.embed i.scheme ops.opening.is_zk
           (rounds_of z (points_of z nz reads) (points_of z nz fixed_reads) count random_kept prover_data quotient_data fixed_kept) made view
-      behind = (behind_list, true_openings ops i bound.columns bound.fixed bound.chunks bound.random_columns zeta next_zeta, stand_behind)
+      behind = (behind_list, true_openings ops i bound.columns fixed bound.chunks bound.random_columns zeta next_zeta, stand_behind)
 
       module _ {drawn_state : C} {witness : F} (drawn : ood_outcome ops.sponge shape quotient given witness state ≡ succeeds zeta drawn_state Drawn) (no_work : shape.ood_pow_bits ≡ 0 → witness ≡ ops.opening.fields.base.zero) where
         -- what the opening answers
@@ -118,13 +118,12 @@ module _ {S F E C K T P X Y : Type 0} {ops : ProtocolOps S F E C K T P X Y} {i :
             subst (λ r. ood_outcome ops.sponge (described ops i degree_bits) quotient r witness state ≡ succeeds zeta drawn_state Drawn) is_given
             (subst (λ sh. ood_outcome ops.sponge sh quotient given witness state ≡ succeeds zeta drawn_state Drawn) is_shape drawn)
 
-        pub proof_made : (opened : OpeningsView E) (proof : P) → AreValues opened → IsAccepted proof → IsProofOfTrace ops i coordinates held height trace (proof_with opened proof)
+        pub proof_made : (opened : OpeningsView E) (proof : P) → AreValues opened → IsAccepted proof → IsProofOfTrace ops i coordinates held height trace fixed (proof_with opened proof)
         proof_made opened proof values whole =
-            let are = values behind_list (true_openings ops i bound.columns bound.fixed bound.chunks bound.random_columns zeta next_zeta) stand_behind in
+            let are = values behind_list (true_openings ops i bound.columns fixed bound.chunks bound.random_columns zeta next_zeta) stand_behind in
             let phases = both_phases ops.sponge (described ops i degree_bits) commitment (option_map (λ key. key.commitment) i.key) i.public_values quotient random witness (seeded ops i degree_bits) state drawn_state alpha zeta bound.made.bound.drawn both in
             record {
               columns = bound.columns;
-              fixed = bound.fixed;
               chunks = bound.chunks;
               random = bound.random_columns;
               trace_data = prover_data;
@@ -146,5 +145,5 @@ module _ {S F E C K T P X Y : Type 0} {ops : ProtocolOps S F E C K T P X Y} {i :
               whole = λ is_whole.
                   subst (λ st. ops.opening.scheme.Accepts i.scheme (claims_of (natural_coset ops.opening.fields.base degree_bits) zeta next_zeta i.key commitment quotient random opened) proof st (preprocessed_place ops.opening.is_zk i.key)) (sym (ap (λ outcome. outcome.state) phases))
                   (behind_accepts bound.made key_is zeta next_zeta extended same bound.randomization opened are proof drawn_state
-                  (subst (λ place. ops.opening.scheme.Accepts i.scheme (map (true_claim ops.opening.fields.ring ops.opening.fields.embed) behind_list) proof drawn_state place) (ap (place_of ops.opening.is_zk) is_held) (whole behind_list (true_openings ops i bound.columns bound.fixed bound.chunks bound.random_columns zeta next_zeta) stand_behind is_whole)));
+                  (subst (λ place. ops.opening.scheme.Accepts i.scheme (map (true_claim ops.opening.fields.ring ops.opening.fields.embed) behind_list) proof drawn_state place) (ap (place_of ops.opening.is_zk) is_held) (whole behind_list (true_openings ops i bound.columns fixed bound.chunks bound.random_columns zeta next_zeta) stand_behind is_whole)));
             }

@@ -27,8 +27,8 @@ random_clear shape other {there = there} is_shape same = none_where_same _ there
 
 module _ {S F E C K T P X Y : Type 0} {ops : ProtocolOps S F E C K T P X Y} {i : Instance S F C K} where
   -- What a proof is, is said of what it carries.
-  pub proof_by_view : {coordinates : E → List F} {held : Option (PreprocessedProverData K T)} {height : ℕ} {trace : Trace F} {proof carried : ProofView K E P F} → proof ≡ carried → IsProofOfTrace ops i coordinates held height trace carried → IsProofOfTrace ops i coordinates held height trace proof
-  proof_by_view {coordinates = coordinates} {held = held} {height = height} {trace = trace} same made = subst (λ p. IsProofOfTrace ops i coordinates held height trace p) (sym same) made
+  pub proof_by_view : {coordinates : E → List F} {held : Option (PreprocessedProverData K T)} {height : ℕ} {trace : Trace F} {fixed : List (List F)} {proof carried : ProofView K E P F} → proof ≡ carried → IsProofOfTrace ops i coordinates held height trace fixed carried → IsProofOfTrace ops i coordinates held height trace fixed proof
+  proof_by_view {coordinates = coordinates} {held = held} {height = height} {trace = trace} {fixed = fixed} same made = subst (λ p. IsProofOfTrace ops i coordinates held height trace fixed p) (sym same) made
 
   -- What is committed to for randomization.
   pub randomization_of : {degree_bits : ℕ} (random : Option (Committed K T)) → is_some random ≡ ops.opening.is_zk
@@ -39,5 +39,5 @@ module _ {S F E C K T P X Y : Type 0} {ops : ProtocolOps S F E C K T P X Y} {i :
 
   pub bound_made : {degree_bits : ℕ} {coordinates : E → List F} {held : Option (PreprocessedProverData K T)} {height : ℕ} {trace : Trace F} {columns fixed : List (List F)} {commitment : K} {prover_data : T} {alpha : E} {state : C} {quotient : K} {quotient_data : T} {random : Option K} {random_data : Option T}
       → ((chunks : List (QuotientChunk F)) × HasQuotient ops i coordinates held height degree_bits trace columns fixed commitment prover_data alpha state chunks quotient quotient_data)
-      → ((random_columns : Option (List (List F))) × IsRandomization ops i degree_bits random random_data random_columns) → IsBoundProof ops i coordinates held height degree_bits trace commitment prover_data alpha state quotient quotient_data random random_data
-  bound_made {columns = columns} {fixed = fixed} made randomized = record { columns = columns; fixed = fixed; chunks = made.0; random_columns = randomized.0; made = made.1; randomization = randomized.1 }
+      → ((random_columns : Option (List (List F))) × IsRandomization ops i degree_bits random random_data random_columns) → IsBoundProof ops i coordinates held height degree_bits trace fixed commitment prover_data alpha state quotient quotient_data random random_data
+  bound_made {columns = columns} made randomized = record { columns = columns; chunks = made.0; random_columns = randomized.0; made = made.1; randomization = randomized.1 }

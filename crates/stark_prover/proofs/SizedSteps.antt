@@ -36,8 +36,8 @@ module _ {S F E C K T P X Y : Type 0} {ops : ProtocolOps S F E C K T P X Y} {i :
     preprocessed = preprocessed;
   }
 
-  pub proof_at : {proof : ProofView K E P F} → IsProofOfTrace ops i coordinates held (log_height ops.opening.is_zk degree_bits) trace proof → IsProofOfTrace ops i coordinates held height trace proof
-  proof_at {proof = proof} made = subst (λ n. IsProofOfTrace ops i coordinates held n trace proof) (same_height ops.opening.is_zk height degree_bits is_height) made
+  pub proof_at : {fixed : List (List F)} {proof : ProofView K E P F} → IsProofOfTrace ops i coordinates held (log_height ops.opening.is_zk degree_bits) trace fixed proof → IsProofOfTrace ops i coordinates held height trace fixed proof
+  proof_at {fixed = fixed} {proof = proof} made = subst (λ n. IsProofOfTrace ops i coordinates held n trace fixed proof) (same_height ops.opening.is_zk height degree_bits is_height) made
 
   pub fault_at : (error : ProvingError Y) → (error ≡ ProvingError.OutOfMemory) ⊎ ProverFault ops i coordinates held (log_height ops.opening.is_zk degree_bits) degree_bits trace error
       → (error ≡ ProvingError.OutOfMemory) ⊎ ProverFault ops i coordinates held height (height + zk_bits ops.opening.is_zk) trace error
@@ -53,10 +53,11 @@ module _ {S F E C K T P X Y : Type 0} {ops : ProtocolOps S F E C K T P X Y} {i :
       inr (in_trace fitting clear (subst (λ n. IsSchemeFault (codes "trace commitment") (ops.opening.scheme.RefusesCommit i.scheme (natural_coset ops.opening.fields.base n) trace.values trace.width) error) is_height fault))
 
   -- The same of a run's result, which says it for whatever was ready.
-  pub run_made : {R : Type 0} (view : R → ProofView K E P F) {columns fixed : List (List F)} {commitment : K} {prover_data : T} → IsReady ops i coordinates held (log_height ops.opening.is_zk degree_bits) degree_bits trace columns fixed commitment prover_data → (r : Result R (ProvingError Y))
-      → IfOk r (λ proof. (of : Trace F) (cs fs : List (List F)) → IsReady ops i coordinates held (log_height ops.opening.is_zk degree_bits) degree_bits of cs fs commitment prover_data → IsProofOfTrace ops i coordinates held (log_height ops.opening.is_zk degree_bits) of (view proof))
-      → IfOk r (λ proof. IsProofOfTrace ops i coordinates held height trace (view proof))
-  run_made view {columns = columns} {fixed = fixed} ready (Ok proof) made = proof_at (made trace columns fixed ready)
+  pub run_made : {R : Type 0} (view : R → ProofView K E P F) {columns : List (List F)} {commitment : K} {prover_data : T}
+      → ((fixed : List (List F)) → IsPreprocessedCommitment ops.opening.scheme i.scheme ops.opening.fields.base fixed held → IsReady ops i coordinates held (log_height ops.opening.is_zk degree_bits) degree_bits trace columns fixed commitment prover_data) → (r : Result R (ProvingError Y))
+      → IfOk r (λ proof. (of : Trace F) (cs fs : List (List F)) → IsReady ops i coordinates held (log_height ops.opening.is_zk degree_bits) degree_bits of cs fs commitment prover_data → IsProofOfTrace ops i coordinates held (log_height ops.opening.is_zk degree_bits) of fs (view proof))
+      → IfOk r (λ proof. (fixed : List (List F)) → IsPreprocessedCommitment ops.opening.scheme i.scheme ops.opening.fields.base fixed held → IsProofOfTrace ops i coordinates held height trace fixed (view proof))
+  run_made view {columns = columns} ready (Ok proof) made = λ fixed stands. proof_at (made trace columns fixed (ready fixed stands))
   run_made view ready (Err error) made = tt
 
   pub run_refused : {R : Type 0} {columns fixed : List (List F)} {commitment : K} {prover_data : T} → IsReady ops i coordinates held (log_height ops.opening.is_zk degree_bits) degree_bits trace columns fixed commitment prover_data → (r : Result R (ProvingError Y))

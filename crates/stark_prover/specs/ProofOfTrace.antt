@@ -71,11 +71,10 @@ module _ {S F E C K T P X Y : Type 0} (ops : ProtocolOps S F E C K T P X Y) (i :
   abbrev pub quotient_rows : ℕ → List (List F) → List (List F) → RowsOnCoset F
   quotient_rows degree_bits columns fixed = rows_of_columns ops.opening.fields.base ops.opening.fields.root (quotient_domain degree_bits) columns fixed i.public_values
 
-  -- A proof of a trace of 2 ^ height rows, made with what is held of the preprocessed columns. The instance's key is the one
-  -- that corresponds to it.
-  pub record IsProofOfTrace (coordinates : E → List F) (held : Option (PreprocessedProverData K T)) (height : ℕ) (trace : Trace F) (p : ProofView K E P F) : Type 0 where
+  -- A proof of a trace of 2 ^ height rows, made with what is held of the preprocessed columns, which stands for these fixed ones.
+  -- The instance's key is the one that corresponds to it.
+  pub record IsProofOfTrace (coordinates : E → List F) (held : Option (PreprocessedProverData K T)) (height : ℕ) (trace : Trace F) (fixed : List (List F)) (p : ProofView K E P F) : Type 0 where
     pub columns : List (List F)
-    pub fixed : List (List F)
     pub chunks : List (QuotientChunk F)
     pub random : Option (List (List F))
     pub trace_data : T

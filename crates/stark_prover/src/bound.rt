@@ -13,10 +13,10 @@ use stark_support::GrindingChallenger;
 
 /// What a proof has before its point is drawn, and the proof by what it carries.
 pub trait StarkBinding<A>: StarkGenericConfig {
-    ghost is_bound: { Self → A → List Self.Pcs.Domain.Val → Option (PreprocessedProverData Self.Pcs.Commitment Self.Pcs.ProverData) → ℕ → ℕ → Trace Self.Pcs.Domain.Val
+    ghost is_bound: { Self → A → List Self.Pcs.Domain.Val → Option (PreprocessedProverData Self.Pcs.Commitment Self.Pcs.ProverData) → ℕ → ℕ → Trace Self.Pcs.Domain.Val → List (List Self.Pcs.Domain.Val)
         → Self.Pcs.Commitment → Self.Pcs.ProverData → Self.Challenge → Self.Challenger → Self.Pcs.Commitment → Self.Pcs.ProverData → Option Self.Pcs.Commitment → Option Self.Pcs.ProverData → Type 0 };
 
-    ghost is_proof_with: { Self → A → List Self.Pcs.Domain.Val → Option (PreprocessedProverData Self.Pcs.Commitment Self.Pcs.ProverData) → ℕ → Trace Self.Pcs.Domain.Val → ProofView Self.Pcs.Commitment Self.Challenge Self.Pcs.Proof Self.Pcs.Domain.Val → Type 0 };
+    ghost is_proof_with: { Self → A → List Self.Pcs.Domain.Val → Option (PreprocessedProverData Self.Pcs.Commitment Self.Pcs.ProverData) → ℕ → Trace Self.Pcs.Domain.Val → List (List Self.Pcs.Domain.Val) → ProofView Self.Pcs.Commitment Self.Challenge Self.Pcs.Proof Self.Pcs.Domain.Val → Type 0 };
 }
 
 impl<SC, A> StarkBinding<A> for SC
@@ -27,5 +27,5 @@ where
 {
     ghost is_bound = { λ config air public_values held height degree_bits trace. IsBoundProof ⟦<SC as StarkOperations>⟧.operations (⟦<SC as StarkInstance<A>>⟧.instance config air public_values (option_map key_of held)) SC.Challenge.coordinates held height degree_bits trace };
 
-    ghost is_proof_with = { λ config air public_values held height trace view. IsProofOfTrace ⟦<SC as StarkOperations>⟧.operations (⟦<SC as StarkInstance<A>>⟧.instance config air public_values (option_map key_of held)) SC.Challenge.coordinates held height trace view };
+    ghost is_proof_with = { λ config air public_values held height trace fixed view. IsProofOfTrace ⟦<SC as StarkOperations>⟧.operations (⟦<SC as StarkInstance<A>>⟧.instance config air public_values (option_map key_of held)) SC.Challenge.coordinates held height trace fixed view };
 }

@@ -30,7 +30,7 @@ pub trait StarkProving<A>: StarkGenericConfig {
 
     ghost fault: { Self → A → List Self.Pcs.Domain.Val → Option (PreprocessedProverData Self.Pcs.Commitment Self.Pcs.ProverData) → ℕ → ℕ → Trace Self.Pcs.Domain.Val → ProvingError Self.Pcs.ProverError → Type 0 };
 
-    ghost is_proof: { Self → A → List Self.Pcs.Domain.Val → Option (PreprocessedProverData Self.Pcs.Commitment Self.Pcs.ProverData) → ℕ → Trace Self.Pcs.Domain.Val → Proof Self.Pcs.Commitment Self.Challenge Self.Pcs.Proof Self.Pcs.Domain.Val → Type 0 };
+    ghost is_proof: { Self → A → List Self.Pcs.Domain.Val → Option (PreprocessedProverData Self.Pcs.Commitment Self.Pcs.ProverData) → ℕ → Trace Self.Pcs.Domain.Val → List (List Self.Pcs.Domain.Val) → Proof Self.Pcs.Commitment Self.Challenge Self.Pcs.Proof Self.Pcs.Domain.Val → Type 0 };
 
     ghost is_acceptable: { Self → A → List Self.Pcs.Domain.Val → Option (PreprocessedProverData Self.Pcs.Commitment Self.Pcs.ProverData) → Proof Self.Pcs.Commitment Self.Challenge Self.Pcs.Proof Self.Pcs.Domain.Val → Type 0 };
 }
@@ -51,7 +51,7 @@ where
 
     ghost fault = { λ config air public_values held height degree_bits trace. ProverFault ⟦<SC as StarkOperations>⟧.operations (⟦<SC as StarkInstance<A>>⟧.instance config air public_values (option_map key_of held)) SC.Challenge.coordinates held height degree_bits trace };
 
-    ghost is_proof = { λ config air public_values held height trace proof. IsProofOfTrace ⟦<SC as StarkOperations>⟧.operations (⟦<SC as StarkInstance<A>>⟧.instance config air public_values (option_map key_of held)) SC.Challenge.coordinates held height trace (proof_view proof) };
+    ghost is_proof = { λ config air public_values held height trace fixed proof. IsProofOfTrace ⟦<SC as StarkOperations>⟧.operations (⟦<SC as StarkInstance<A>>⟧.instance config air public_values (option_map key_of held)) SC.Challenge.coordinates held height trace fixed (proof_view proof) };
 
     ghost is_acceptable = { λ config air public_values held proof. IsAcceptable ⟦<SC as StarkOperations>⟧.operations (⟦<SC as StarkInstance<A>>⟧.instance config air public_values (option_map key_of held)) (proof_view proof) };
 }

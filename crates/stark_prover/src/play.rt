@@ -45,7 +45,7 @@ where
     requires same { IfSome (option_map (λ h. h.now) held) (λ h. h.degree_bits ≡ domains.degree_bits) }
     ensures made { IfOk result (λ proof. (trace : Trace SC.Pcs.Domain.Val) (columns fixed : List (List SC.Pcs.Domain.Val))
         → ⟦<SC as StarkProving<A>>⟧.is_ready config.now air.now public_values.now (option_map (λ h. h.now) held.entry) (log_height SC.Pcs.ZK domains.degree_bits) domains.degree_bits trace columns fixed committed.commitment committed.prover_data
-        → ⟦<SC as StarkProving<A>>⟧.is_proof config.now air.now public_values.now (option_map (λ h. h.now) held.entry) (log_height SC.Pcs.ZK domains.degree_bits) trace proof) }
+        → ⟦<SC as StarkProving<A>>⟧.is_proof config.now air.now public_values.now (option_map (λ h. h.now) held.entry) (log_height SC.Pcs.ZK domains.degree_bits) trace fixed proof) }
     ensures fault { IfErr result (λ error. (trace : Trace SC.Pcs.Domain.Val) (columns fixed : List (List SC.Pcs.Domain.Val))
         → ⟦<SC as StarkProving<A>>⟧.is_ready config.now air.now public_values.now (option_map (λ h. h.now) held.entry) (log_height SC.Pcs.ZK domains.degree_bits) domains.degree_bits trace columns fixed committed.commitment committed.prover_data
         → (error ≡ ProvingError.OutOfMemory) ⊎ ⟦<SC as StarkProving<A>>⟧.fault config.now air.now public_values.now (option_map (λ h. h.now) held.entry) (log_height SC.Pcs.ZK domains.degree_bits) domains.degree_bits trace error) }

@@ -72,28 +72,28 @@ where
     requires domains { AreDomains SC.Pcs.Domain.Val.ring SC.Pcs.Domain.Val.GENERATOR SC.Pcs.ZK domains.degree_bits (log_parts_of (A.constraints air.now) (A.degree_hint air.now) (zk_bits SC.Pcs.ZK)) domains.log_chunks
         (SC.Pcs.Domain.coset_of domains.trace) (SC.Pcs.Domain.coset_of domains.committed) (SC.Pcs.Domain.coset_of domains.quotient) }
     requires same { IfSome (option_map (λ h. h.now) held) (λ h. h.degree_bits ≡ domains.degree_bits) }
-    requires ready { (public_values : List SC.Pcs.Domain.Val) × (trace : Trace SC.Pcs.Domain.Val)
+    requires ready { (public_values : List SC.Pcs.Domain.Val) × (trace : Trace SC.Pcs.Domain.Val) × (fixed : List (List SC.Pcs.Domain.Val))
         × (transcript.old.shape ≡ ⟦<SC as StarkProving<A>>⟧.described config.now air.now public_values (option_map (λ h. h.now) held) domains.degree_bits)
-        × ⟦<SC as StarkBinding<A>>⟧.is_bound config.now air.now public_values (option_map (λ h. h.now) held) (log_height SC.Pcs.ZK domains.degree_bits) domains.degree_bits trace committed.now.commitment committed.now.prover_data
+        × ⟦<SC as StarkBinding<A>>⟧.is_bound config.now air.now public_values (option_map (λ h. h.now) held) (log_height SC.Pcs.ZK domains.degree_bits) domains.degree_bits trace fixed committed.now.commitment committed.now.prover_data
         bound.now.alpha transcript.old.challenger.now bound.now.quotient.commitment bound.now.quotient.prover_data (option_map (λ made. made.commitment) bound.now.random) (option_map (λ made. made.prover_data) bound.now.random) }
     requires phase { transcript.old.phase ≡ Bound }
     requires there { random_fault transcript.old.shape (is_some bound.now.random) ≡ None }
     ensures same_reference { transcript.new.challenger.ghost_name ≡ transcript.old.challenger.ghost_name }
     ensures phase { IfOk result (λ _. transcript.new.phase ≡ Delegated) }
-    ensures made { IfOk result (λ opened. (public_values : List SC.Pcs.Domain.Val) (trace : Trace SC.Pcs.Domain.Val)
+    ensures made { IfOk result (λ opened. (public_values : List SC.Pcs.Domain.Val) (trace : Trace SC.Pcs.Domain.Val) (fixed : List (List SC.Pcs.Domain.Val))
         → transcript.old.shape ≡ ⟦<SC as StarkProving<A>>⟧.described config.now air.now public_values (option_map (λ h. h.now) held.entry) domains.degree_bits
-        → ⟦<SC as StarkBinding<A>>⟧.is_bound config.now air.now public_values (option_map (λ h. h.now) held.entry) (log_height SC.Pcs.ZK domains.degree_bits) domains.degree_bits trace committed.now.commitment committed.now.prover_data
+        → ⟦<SC as StarkBinding<A>>⟧.is_bound config.now air.now public_values (option_map (λ h. h.now) held.entry) (log_height SC.Pcs.ZK domains.degree_bits) domains.degree_bits trace fixed committed.now.commitment committed.now.prover_data
         bound.now.alpha transcript.old.challenger.now bound.now.quotient.commitment bound.now.quotient.prover_data (option_map (λ made. made.commitment) bound.now.random) (option_map (λ made. made.prover_data) bound.now.random)
-        → ⟦<SC as StarkBinding<A>>⟧.is_proof_with config.now air.now public_values (option_map (λ h. h.now) held.entry) (log_height SC.Pcs.ZK domains.degree_bits) trace (record {
+        → ⟦<SC as StarkBinding<A>>⟧.is_proof_with config.now air.now public_values (option_map (λ h. h.now) held.entry) (log_height SC.Pcs.ZK domains.degree_bits) trace fixed (record {
           commitments = record { trace = committed.now.commitment; quotient_chunks = bound.now.quotient.commitment; random = option_map (λ made. made.commitment) bound.now.random };
           opened_values = openings_view opened.values;
           opening_proof = opened.argument;
           degree_bits = domains.degree_bits;
           ood_pow_witness = opened.witness;
         })) }
-    ensures fault { IfErr result (λ error. (public_values : List SC.Pcs.Domain.Val) (trace : Trace SC.Pcs.Domain.Val)
+    ensures fault { IfErr result (λ error. (public_values : List SC.Pcs.Domain.Val) (trace : Trace SC.Pcs.Domain.Val) (fixed : List (List SC.Pcs.Domain.Val))
         → transcript.old.shape ≡ ⟦<SC as StarkProving<A>>⟧.described config.now air.now public_values (option_map (λ h. h.now) held.entry) domains.degree_bits
-        → ⟦<SC as StarkBinding<A>>⟧.is_bound config.now air.now public_values (option_map (λ h. h.now) held.entry) (log_height SC.Pcs.ZK domains.degree_bits) domains.degree_bits trace committed.now.commitment committed.now.prover_data
+        → ⟦<SC as StarkBinding<A>>⟧.is_bound config.now air.now public_values (option_map (λ h. h.now) held.entry) (log_height SC.Pcs.ZK domains.degree_bits) domains.degree_bits trace fixed committed.now.commitment committed.now.prover_data
         bound.now.alpha transcript.old.challenger.now bound.now.quotient.commitment bound.now.quotient.prover_data (option_map (λ made. made.commitment) bound.now.random) (option_map (λ made. made.prover_data) bound.now.random)
         → (error ≡ ProvingError.OutOfMemory) ⊎ ⟦<SC as StarkProving<A>>⟧.fault config.now air.now public_values (option_map (λ h. h.now) held.entry) (log_height SC.Pcs.ZK domains.degree_bits) domains.degree_bits trace error) }
 {

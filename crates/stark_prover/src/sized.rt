@@ -35,7 +35,8 @@ where
     requires there { is_some held ≡ ltb 0 (A.layout air.now).preprocessed }
     requires same { IfSome (option_map (λ h. h.now) held) (λ h. h.degree_bits ≡ log_height + zk_bits SC.Pcs.ZK) }
     requires stands { (fixed : List (List SC.Pcs.Domain.Val)) × IsPreprocessedCommitment SC.Pcs.scheme (SC.config.scheme config.now) SC.Pcs.Domain.Val.ring fixed (option_map (λ h. h.now) held) × (length fixed ≡ (A.layout air.now).preprocessed) }
-    ensures made { IfOk result (λ proof. ⟦<SC as StarkProving<A>>⟧.is_proof config.now air.now public_values.now (option_map (λ h. h.now) held.entry) log_height (record { width = trace.width; values = trace.values.items }) proof) }
+    ensures made { IfOk result (λ proof. (fixed : List (List SC.Pcs.Domain.Val)) → IsPreprocessedCommitment SC.Pcs.scheme (SC.config.scheme config.now) SC.Pcs.Domain.Val.ring fixed (option_map (λ h. h.now) held.entry)
+        → ⟦<SC as StarkProving<A>>⟧.is_proof config.now air.now public_values.now (option_map (λ h. h.now) held.entry) log_height (record { width = trace.width; values = trace.values.items }) fixed proof) }
     ensures fault { IfErr result (λ error. (error ≡ ProvingError.OutOfMemory)
         ⊎ ⟦<SC as StarkProving<A>>⟧.fault config.now air.now public_values.now (option_map (λ h. h.now) held.entry) log_height (log_height + zk_bits SC.Pcs.ZK) (record { width = trace.width; values = trace.values.items }) error) }
 {

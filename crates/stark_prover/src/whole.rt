@@ -1,5 +1,5 @@
 //! The prover.
-ghost use Rattle.std.specs.Prelude.{None, ◌≡◌, ◌⊎◌, ℕ, ◌+◌, ◌*◌, ◌^◌, ◌<◌, ◌≤◌, IfErr, IfOk, IfSome, List, is_some, length, ltb, option_map};
+ghost use Rattle.std.specs.Prelude.{None, [], ◌≡◌, ◌⊎◌, ℕ, ◌+◌, ◌*◌, ◌^◌, ◌<◌, ◌≤◌, IfErr, IfOk, IfSome, List, is_some, length, ltb, option_map};
 ghost use Rattle.stark_support.specs.Scheme.{zk_bits};
 ghost use Rattle.stark_prover.specs.CommittedColumns.{IsPreprocessedCommitment};
 
@@ -46,7 +46,8 @@ where
     requires there { is_some preprocessed ≡ ltb 0 (A.layout air.now).preprocessed }
     requires stands { (fixed : List (List SC.Pcs.Domain.Val)) × IsPreprocessedCommitment SC.Pcs.scheme (SC.config.scheme config.now) SC.Pcs.Domain.Val.ring fixed (option_map (λ h. h.now) preprocessed) × (length fixed ≡ (A.layout air.now).preprocessed) }
     ensures made { IfOk result (λ proof. (height : ℕ) → length trace.values.items ≡ 2 ^ height * trace.width
-        → ⟦<SC as StarkProving<A>>⟧.is_proof config.now air.now public_values.now (option_map (λ h. h.now) preprocessed.entry) height (record { width = trace.width; values = trace.values.items }) proof) }
+        → (fixed : List (List SC.Pcs.Domain.Val)) → IsPreprocessedCommitment SC.Pcs.scheme (SC.config.scheme config.now) SC.Pcs.Domain.Val.ring fixed (option_map (λ h. h.now) preprocessed.entry)
+        → ⟦<SC as StarkProving<A>>⟧.is_proof config.now air.now public_values.now (option_map (λ h. h.now) preprocessed.entry) height (record { width = trace.width; values = trace.values.items }) fixed proof) }
     ensures acceptable { IfOk result (λ proof. (height : ℕ) → length trace.values.items ≡ 2 ^ height * trace.width → SC.Pcs.scheme.log_min_trace_height (SC.config.scheme config.now) ≤ height → SC.Pcs.scheme.Whole (SC.config.scheme config.now)
         → ⟦<SC as StarkProving<A>>⟧.is_acceptable config.now air.now public_values.now (option_map (λ h. h.now) preprocessed.entry) proof) }
     ensures fault { IfErr result (λ error. (height : ℕ) → length trace.values.items ≡ 2 ^ height * trace.width → (error ≡ ProvingError.OutOfMemory)
@@ -82,7 +83,7 @@ where
     requires publics { length public_values.now ≡ (A.layout air.now).publics }
     requires none { (A.layout air.now).preprocessed ≡ 0 }
     ensures made { IfOk result (λ proof. (height : ℕ) → length trace.values.items ≡ 2 ^ height * trace.width
-        → ⟦<SC as StarkProving<A>>⟧.is_proof config.now air.now public_values.now None height (record { width = trace.width; values = trace.values.items }) proof) }
+        → ⟦<SC as StarkProving<A>>⟧.is_proof config.now air.now public_values.now None height (record { width = trace.width; values = trace.values.items }) [] proof) }
     ensures acceptable { IfOk result (λ proof. (height : ℕ) → length trace.values.items ≡ 2 ^ height * trace.width → SC.Pcs.scheme.log_min_trace_height (SC.config.scheme config.now) ≤ height → SC.Pcs.scheme.Whole (SC.config.scheme config.now)
         → ⟦<SC as StarkProving<A>>⟧.is_acceptable config.now air.now public_values.now None proof) }
     ensures fault { IfErr result (λ error. (height : ℕ) → length trace.values.items ≡ 2 ^ height * trace.width → (error ≡ ProvingError.OutOfMemory)

@@ -15,7 +15,7 @@ pub returns-clause-made : goal.returns-clause-made
 returns-clause-made g c =
     let domains = c.in_ok-domains.ensures in
     let stands = c.in_ok-committed.ensures.stands in
-    run_made _ domains.bits proof_view (ready_at _ domains.bits domains.fitting domains.clear stands.1 c.requires.stands.1) _ c.play.ensures.made
+    run_made _ domains.bits proof_view (λ fixed held. ready_at _ domains.bits domains.fitting domains.clear stands.1 held) _ c.play.ensures.made
 
 pub returns-clause-fault : goal.returns-clause-fault
 returns-clause-fault g c =

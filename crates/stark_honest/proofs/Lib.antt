@@ -1,0 +1,5 @@
+pub mod FoldedQuotient
+pub mod PartPoints
+pub mod ChunkPolynomials
+pub mod OpenedColumns
+pub mod HonestEquation

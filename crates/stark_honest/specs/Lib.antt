@@ -1,0 +1,2 @@
+pub mod TrueOpenings
+pub mod HonestQuotient

@@ -3,3 +3,4 @@ pub mod PartPoints
 pub mod ChunkPolynomials
 pub mod OpenedColumns
 pub mod HonestEquation
+pub mod RowSatisfactionSteps

@@ -1,2 +1,3 @@
 pub mod TrueOpenings
 pub mod HonestQuotient
+pub mod RowSatisfaction

@@ -96,7 +96,7 @@ module _ {F E : Type 0} (i : AirInstance F E) (laws : FieldLaws i.base i.base_in
         value_leaf i.ring _ polynomials (next_point i i.ring (λ c. c) (point_above i rows k))
         (taken (next_row i rows k) (next_row_within k below) ∙ ap (row_at i.ring (λ c. c) polynomials) (next_point_is k)) c
 
-    leaves_agree : AgreeWithin l (leaves_at i rows k) (environment_at i i.ring (λ c. c) columns (point_above i rows k))
+    pub leaves_agree : AgreeWithin l (leaves_at i rows k) (environment_at i i.ring (λ c. c) columns (point_above i rows k))
     leaves_agree = record {
       main_current = λ c _. value_leaf i.ring _ columns.main (point_above i rows k) (are.main k below) c;
       main_next = λ c _. next_leaf rows.main columns.main are.main c;

@@ -1,6 +1,6 @@
 -- The chunks of a polynomial's values on a coset recompose to it everywhere, masked or not.
-use Rattle.std.proofs.Common.{◌≡◌, ◌∙◌, ap, sym, arith, refl, subst, ℕ, ◌+◌, ◌-◌, ◌*◌, ◌^◌, ◌<◌, ◌≤◌, Bool, List, [], ◌∷◌, map, length, Some, get_or}
-use Rattle.std.specs.List.{AllByRecursion, range_with_len, slice_get}
+use Rattle.std.proofs.Common.{◌≡◌, ◌∙◌, ap, sym, arith, refl, subst, ℕ, ◌+◌, ◌-◌, ◌*◌, ◌^◌, ◌<◌, ◌≤◌, Bool, List, [], ◌∷◌, map, length, get_or}
+use Rattle.std.specs.List.{AllByRecursion, range_with_len}
 use Rattle.std.proofs.lemmas.List.{get_or-map, length-map, same_lists}
 use Rattle.std.proofs.lemmas.List.Elements.{recursion_from_All}
 use Rattle.std.proofs.lemmas.List.FromFn.{length-map-range_with_len, get_or-map-range_with_len}
@@ -20,7 +20,7 @@ use Rattle.stark_support.specs.Polynomial.{value, HasDegreeBelow}
 use Rattle.stark_support.specs.Recomposition.{recomposition}
 use Rattle.stark_support.specs.RecompositionLaw.{AreChunksOf, ChunksAgree}
 use Rattle.stark_support.specs.RecompositionPolynomial.{ChunksFit, chunk_values}
-use Rattle.stark_support.specs.Scheme.{AreQuotientChunks, IsChunk, QuotientChunk, TakesRows, row_at}
+use Rattle.stark_support.specs.Scheme.{AreQuotientChunks, IsChunk, QuotientChunk, row_at}
 use Rattle.stark_quotient.specs.QuotientOfColumns.{embedded_rows}
 use Rattle.stark_security.proofs.ConstraintDegrees.{value_of_embedded}
 use Rattle.stark_honest.proofs.PartPoints.{part_valid, parts_in_order, place_within, point_of_part, whole_size}

@@ -2,8 +2,6 @@
 use Rattle.std.proofs.Common.{◌≡◌, ◌≢◌, ◌∙◌, ap, sym, arith, refl, subst, ℕ, ◌+◌, ◌-◌, ◌^◌, ◌<◌, ◌≤◌, Bool, true, false, List, [], ◌∷◌, map, length, Option}
 use Rattle.std.specs.List.{AllByRecursion, flat_map}
 use Rattle.std.proofs.lemmas.List.{length-map}
-use Rattle.std.proofs.lemmas.Option.{same_Some, slice_get_within}
-use Rattle.stark_support.specs.Ring.{RingOps, FieldLaws}
 use Rattle.stark_support.specs.RingFacts.{one_mul}
 use Rattle.stark_support.specs.FieldFacts.{quotient_is}
 use Rattle.stark_support.specs.Embedding.{embedded_two_adic}
@@ -15,7 +13,6 @@ use Rattle.stark_support.specs.CosetFacts.{root_has_order, shifted_is_disjoint}
 use Rattle.stark_support.specs.CosetValueFacts.{apart_outside}
 use Rattle.stark_support.specs.Subgroup.{subgroup_of}
 use Rattle.stark_support.specs.SubgroupFacts.{embedded_nonzero}
-use Rattle.stark_support.specs.PointFacts.{all_mapped}
 use Rattle.stark_support.specs.Polynomial.{value, HasDegreeBelow}
 use Rattle.stark_support.specs.Recomposition.{recomposition}
 use Rattle.stark_support.specs.Scheme.{QuotientChunk, matrix_row, natural_coset, row_at, zk_bits}
@@ -29,12 +26,12 @@ use Rattle.stark_protocol.specs.Equation.{EquationHolds, opened_environment}
 use Rattle.stark_protocol.specs.Instance.{FieldsOps, log_height, trace_coset}
 use Rattle.stark_protocol.specs.Sizes.{chunk_shifts, quotient_coset}
 use Rattle.stark_security.specs.ConstraintPolynomial.{AirInstance, Columns, environment_at, folded_at, group, height}
-use Rattle.stark_security.specs.DegreeBound.{greatest_bound}
 use Rattle.stark_security.specs.BadValues.{ColumnsFit, Satisfies}
 use Rattle.stark_quotient.specs.PointwiseQuotient.{RowsOnCoset, pointwise_quotient}
 use Rattle.stark_quotient.specs.QuotientOfColumns.{AreValuesOfColumns, embedded_rows, quotient_of_columns}
 use Rattle.stark_quotient.specs.SameLeaves.{same_constraints}
 use Rattle.stark_honest.specs.HonestQuotient.{AreLawful, AreRowsOfColumns, AreProofSizes, FitCommitted, AreChunksOfQuotient}
+use Rattle.stark_honest.specs.SizingLaw.{HasSmallBound}
 use Rattle.stark_honest.specs.TrueOpenings.{AreTrueOpenings, air_over, columns_above}
 use Rattle.stark_honest.proofs.ChunkPolynomials.{committed_recomposes}
 use Rattle.stark_honest.proofs.FoldedQuotient.{folded_divides, folded_quotient, quotient_degree}
@@ -54,7 +51,7 @@ chunks_fit : (is_zk : Bool) (height degree_bits log_parts : ℕ) → degree_bits
 chunks_fit true height degree_bits log_parts is = omega arith
 chunks_fit false height degree_bits log_parts is = omega arith
 
-own_height : (is_zk : Bool) (height degree_bits : ℕ) → degree_bits ≡ height + zk_bits is_zk → height ≡ log_height is_zk degree_bits
+pub own_height : (is_zk : Bool) (height degree_bits : ℕ) → degree_bits ≡ height + zk_bits is_zk → height ≡ log_height is_zk degree_bits
 own_height true height degree_bits is = omega arith
 own_height false height degree_bits is = omega arith
 
@@ -63,7 +60,7 @@ module _ {F E : Type 0} (fields : FieldsOps F E) (coordinates : E → List F) (l
     (is_zk : Bool) (log_size degree_bits log_parts : ℕ) (sizes : AreProofSizes fields.adicity is_zk log_size degree_bits log_parts)
     (main fixed : List (List F)) (publics : List F) (fit : FitCommitted degree_bits main fixed)
     (satisfied : Satisfies (air_over fields constraints periodic log_size) (columns_above fields.embed main fixed publics))
-    (small : greatest_bound (2 ^ degree_bits) (2 ^ log_size) constraints < 2 ^ log_size + 2 ^ (degree_bits + log_parts))
+    (small : HasSmallBound constraints log_size degree_bits log_parts)
     (rows : RowsOnCoset F) (are_rows : AreRowsOfColumns fields (quotient_coset fields.base fields.generator (natural_coset fields.base degree_bits) log_parts) main fixed publics rows)
     (alpha : E) (chunks : List (QuotientChunk F)) (committed : AreChunksOfQuotient fields coordinates (air_over fields constraints periodic log_size) is_zk degree_bits log_parts rows alpha chunks) where
   abbrev air : AirInstance F E

@@ -4,3 +4,5 @@ pub mod ChunkPolynomials
 pub mod OpenedColumns
 pub mod HonestEquation
 pub mod RowSatisfactionSteps
+pub mod SizingSteps
+pub mod HonestBalance

@@ -1,6 +1,5 @@
 -- The leaves of the equation over truly opened values are those of the columns.
-use Rattle.std.proofs.Common.{◌≡◌, ◌∙◌, ap, sym, arith, refl, ℕ, zero, suc, ◌^◌, ◌<◌, Bool, true, List, [], ◌∷◌, map, replicate, slice_index_or, unwrap_or, Option, None, Some}
-use Rattle.stark_support.specs.Ring.{RingOps}
+use Rattle.std.proofs.Common.{◌≡◌, ◌∙◌, ap, sym, arith, refl, ℕ, ◌^◌, ◌<◌, Bool, true, List, [], ◌∷◌, map, replicate, slice_index_or, unwrap_or, Option, None, Some}
 use Rattle.stark_support.specs.Periodic.{periodic_value}
 use Rattle.stark_support.specs.Polynomial.{value}
 use Rattle.stark_support.specs.Scheme.{QuotientChunk, row_at}
@@ -12,7 +11,7 @@ use Rattle.stark_proof.specs.ProofView.{OpeningsView, PreprocessedView}
 use Rattle.stark_protocol.specs.Acceptance.{periodic_values, preprocessed_local, preprocessed_next, rows_of}
 use Rattle.stark_protocol.specs.Equation.{opened_environment}
 use Rattle.stark_protocol.specs.Instance.{FieldsOps}
-use Rattle.stark_security.specs.ConstraintPolynomial.{environment_at, group, height}
+use Rattle.stark_security.specs.ConstraintPolynomial.{environment_at, group}
 use Rattle.stark_quotient.specs.QuotientOfColumns.{value_leaf, leaf_of_row}
 use Rattle.stark_quotient.specs.SameLeaves.{AgreeWithin}
 use Rattle.stark_honest.specs.TrueOpenings.{AreTrueOpenings, air_over, columns_above}

@@ -1,12 +1,12 @@
 -- The parts of a coset in order, and their points as those of the coset.
-use Rattle.std.proofs.Common.{◌≡◌, ◌∙◌, ap, sym, arith, refl, ℕ, ◌+◌, ◌-◌, ◌*◌, ◌/◌, ◌%◌, ◌^◌, ◌<◌, ◌≤◌, List, map, length, Some, get_or}
+use Rattle.std.proofs.Common.{◌≡◌, ◌∙◌, ap, arith, refl, ℕ, ◌+◌, ◌-◌, ◌*◌, ◌/◌, ◌%◌, ◌^◌, ◌<◌, ◌≤◌, map, length, Some}
 use Rattle.std.specs.List.{range_with_len}
 use Rattle.std.proofs.lemmas.List.FromFn.{length-map-range_with_len, get_or-map-range_with_len}
 use Rattle.std.proofs.lemmas.Nat.{mod-mul-add, div-mul-add, mul-add-lt, pow-add}
 use Rattle.std.proofs.lemmas.Option.{slice_get-get_or}
 use Rattle.stark_support.specs.Ring.{RingOps, FieldLaws}
 use Rattle.stark_support.specs.TwoAdic.{TwoAdicLaws}
-use Rattle.stark_support.specs.Coset.{TwoAdicCoset, IsTwoAdicCoset, AreParts, coset_part, coset_point, coset_size}
+use Rattle.stark_support.specs.Coset.{TwoAdicCoset, IsTwoAdicCoset, AreParts, coset_part, coset_point}
 use Rattle.stark_support.specs.CosetFacts.{point_nonzero, row_in_part}
 use Rattle.stark_support.specs.PartFacts.{all_parts}
 

@@ -1,5 +1,5 @@
 -- Columns satisfy an AIR exactly where the trace whose rows they take does, row by row.
-use Rattle.std.proofs.Common.{◌≡◌, ◌∙◌, ap, sym, arith, refl, subst, ℕ, zero, suc, ◌+◌, ◌/◌, ◌%◌, ◌^◌, ◌<◌, ◌≤◌, List, [], ◌∷◌, map, length, All, get_or, slice_index_or}
+use Rattle.std.proofs.Common.{◌≡◌, ◌∙◌, ap, sym, arith, refl, subst, ℕ, ◌+◌, ◌%◌, ◌<◌, ◌≤◌, List, [], ◌∷◌, map, length, All, slice_index_or}
 use Rattle.std.specs.List.{AllByRecursion}
 use Rattle.std.proofs.Math.Nat.{div_self}
 use Rattle.std.proofs.lemmas.List.Elements.{recursion_from_All}
@@ -11,7 +11,7 @@ use Rattle.stark_support.specs.Powers.{power}
 use Rattle.stark_support.specs.Embedding.{IsEmbedding}
 use Rattle.stark_support.specs.KeepsRing.{kept_power}
 use Rattle.stark_support.specs.TwoAdic.{HasOrder, TwoAdicLaws}
-use Rattle.stark_support.specs.Coset.{TwoAdicCoset, coset_point}
+use Rattle.stark_support.specs.Coset.{coset_point}
 use Rattle.stark_support.specs.CosetFacts.{root_has_order, root_nonzero}
 use Rattle.stark_support.specs.Periodic.{ColumnFits, periodic_value}
 use Rattle.stark_support.specs.PeriodicFacts.{power_of_two}
@@ -21,13 +21,13 @@ use Rattle.stark_air.specs.Layout.{Layout, LeavesWithin}
 use Rattle.stark_air.specs.Tree.{Constraint, base as over_base, extension as over_extension}
 use Rattle.stark_air.specs.Value.{Environment, constraint_values}
 use Rattle.stark_security.specs.ConstraintPolynomial.{AirInstance, Columns, constraints_at, environment_at, height}
-use Rattle.stark_security.specs.BadValues.{RowHolds, Satisfies, point}
+use Rattle.stark_security.specs.BadValues.{Satisfies, point}
 use Rattle.stark_quotient.specs.EmbeddedPoint.{embedded_first_row, embedded_last_row, embedded_transition}
 use Rattle.stark_quotient.specs.FoldedPlaces.{embedded, embedded_value}
-use Rattle.stark_quotient.specs.PointwiseQuotient.{RowsOnCoset, leaves_at, next_row, periodic_row, point_above}
+use Rattle.stark_quotient.specs.PointwiseQuotient.{leaves_at, next_row, point_above}
 use Rattle.stark_quotient.specs.QuotientOfColumns.{AreValuesOfColumns, leaf_of_row, leaves_agree}
 use Rattle.stark_quotient.specs.SameLeaves.{AgreeWithin, same_constraints}
-use Rattle.stark_honest.specs.RowSatisfaction.{TraceRows, HoldsInEachRow, HoldsInRow, leaves_in_row, periodic_entry, row_after, row_point, rows_on_group}
+use Rattle.stark_honest.specs.RowSatisfaction.{TraceRows, HoldsInEachRow, leaves_in_row, periodic_entry, row_after, row_point, rows_on_group}
 
 module _ {F E : Type 0} {base : RingOps F} {ring : RingOps E} (laws : RingLaws ring) {embed : F → E} (embeds : IsEmbedding base ring embed) (row : Environment F) where
   -- Constraints that are zero over a row are zero over the embedded one.

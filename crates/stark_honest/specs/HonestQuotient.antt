@@ -1,5 +1,5 @@
 -- What a prover commits to of a trace's quotient.
-use Rattle.std.specs.Prelude.{◌≡◌, ℕ, ◌+◌, ◌^◌, ◌<◌, ◌≤◌, Bool, List, length}
+use Rattle.std.specs.Prelude.{◌≡◌, ℕ, ◌+◌, ◌^◌, ◌≤◌, Bool, List, length}
 use Rattle.std.specs.List.{AllByRecursion, flat_map}
 use Rattle.stark_support.specs.Ring.{FieldLaws}
 use Rattle.stark_support.specs.Embedding.{IsEmbedding}

@@ -1,3 +1,4 @@
 pub mod TrueOpenings
 pub mod HonestQuotient
 pub mod RowSatisfaction
+pub mod SizingLaw

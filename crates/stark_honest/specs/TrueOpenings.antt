@@ -1,5 +1,5 @@
 -- What a prover opens: the values of the columns that it committed to.
-use Rattle.std.specs.Prelude.{◌≡◌, ℕ, Bool, true, List, [], map, Option, None, Some}
+use Rattle.std.specs.Prelude.{◌≡◌, ℕ, Bool, true, List, [], map, None, Some}
 use Rattle.stark_support.specs.Scheme.{QuotientChunk, committed_chunk, row_at}
 use Rattle.stark_air.specs.Tree.{Constraint}
 use Rattle.stark_parts.specs.Shape.{opens_next_row}

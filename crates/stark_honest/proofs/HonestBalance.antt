@@ -17,7 +17,7 @@ use Rattle.stark_security.specs.BadValues.{Satisfies}
 use Rattle.stark_quotient.specs.PointwiseQuotient.{RowsOnCoset}
 use Rattle.stark_quotient.specs.QuotientOfColumns.{AreValuesOfColumns, embedded_rows}
 use Rattle.stark_honest.specs.HonestQuotient.{AreLawful, AreRowsOfColumns, AreProofSizes, FitCommitted, AreChunksOfQuotient}
-use Rattle.stark_honest.specs.RowSatisfaction.{TraceRows, HoldsInEachRow, rows_on_group}
+use Rattle.stark_honest.specs.RowSatisfaction.{TraceRows, HoldsInEachRow, IsSatisfiedByRows, rows_on_group}
 use Rattle.stark_honest.specs.SizingLaw.{HasSmallBound}
 use Rattle.stark_honest.specs.TrueOpenings.{AreTrueOpenings, air_over, columns_above}
 use Rattle.stark_honest.proofs.HonestEquation.{honest_equation, own_height}
@@ -51,6 +51,14 @@ module _ {F E : Type 0} (fields : FieldsOps F E) (coordinates : E → List F) (l
     trace_of_satisfied =
         rows_of_satisfied (air_over fields constraints periodic log_size) lawful.base lawful.extension lawful.embeds fields.adicity fields.root fields.generator lawful.two_adic refl within l leaves fitting rows
         (columns_above fields.embed main fixed rows.publics) values_on_group
+
+-- Both at once, of all rows and columns.
+pub row_by_row : {F E : Type 0} (fields : FieldsOps F E) (coordinates : E → List F) → AreLawful fields coordinates → (constraints : List (Constraint F)) (periodic : List (List F)) (log_size : ℕ) (l : Layout)
+    → LeavesWithin l constraints → log_size ≤ fields.adicity → All (λ column. ColumnFits (2 ^ log_size) (length column)) periodic → IsSatisfiedByRows fields constraints periodic log_size
+row_by_row fields coordinates lawful constraints periodic log_size l leaves within fitting = λ rows main_width fixed_width main fixed main_takes fixed_takes. (
+  satisfied_by_trace fields coordinates lawful constraints periodic log_size rows main_width fixed_width main fixed main_takes fixed_takes l leaves within fitting,
+  trace_of_satisfied fields coordinates lawful constraints periodic log_size rows main_width fixed_width main fixed main_takes fixed_takes l leaves within fitting,
+)
 
 -- ---- the verifier's equation
 

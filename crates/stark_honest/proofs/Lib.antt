@@ -6,3 +6,5 @@ pub mod HonestEquation
 pub mod RowSatisfactionSteps
 pub mod SizingSteps
 pub mod HonestBalance
+pub mod SelectorRows
+pub mod SizingRows

@@ -3,12 +3,17 @@ use Rattle.std.specs.Prelude.{◌≡◌, ℕ, ◌+◌, ◌%◌, ◌<◌, List, m
 use Rattle.std.specs.List.{AllByRecursion}
 use Rattle.stark_support.specs.Operations.{ring_operations}
 use Rattle.stark_support.specs.Powers.{power}
+use Rattle.stark_support.specs.Scheme.{TakesRows, natural_coset}
 use Rattle.stark_support.specs.Selectors.{Subgroup, first_row_selector, last_row_selector, transition_selector}
 use Rattle.stark_support.specs.Subgroup.{group_of}
 use Rattle.stark_air.specs.Rows.{environment_of}
+use Rattle.stark_air.specs.Tree.{Constraint}
 use Rattle.stark_air.specs.Value.{Environment, constraint_values}
+use Rattle.stark_protocol.specs.Instance.{FieldsOps}
+use Rattle.stark_security.specs.BadValues.{Satisfies}
 use Rattle.stark_security.specs.ConstraintPolynomial.{AirInstance, height}
 use Rattle.stark_quotient.specs.PointwiseQuotient.{RowsOnCoset}
+use Rattle.stark_honest.specs.TrueOpenings.{air_over, columns_above}
 
 -- The rows of the main and the preprocessed trace, and the public values.
 pub record TraceRows (F : Type 0) : Type 0 where
@@ -51,3 +56,13 @@ module _ {F E : Type 0} (i : AirInstance F E) where
     -- Each constraint's tree is zero in each row.
     abbrev pub HoldsInEachRow : Type 0
     HoldsInEachRow = (k : ℕ) → k < height i → HoldsInRow k
+
+-- Columns that take the rows of a trace and of a preprocessed one satisfy the AIR exactly where each constraint's tree is zero in
+-- each row.
+abbrev pub IsSatisfiedByRows : {F E : Type 0} → FieldsOps F E → List (Constraint F) → List (List F) → ℕ → Type 0
+IsSatisfiedByRows {F = F} fields constraints periodic log_size =
+    (rows : TraceRows F) (main_width fixed_width : ℕ) (main fixed : List (List F))
+    → TakesRows fields.base fields.root (natural_coset fields.base log_size) main_width rows.main main
+    → TakesRows fields.base fields.root (natural_coset fields.base log_size) fixed_width rows.preprocessed fixed
+    → (HoldsInEachRow (air_over fields constraints periodic log_size) rows → Satisfies (air_over fields constraints periodic log_size) (columns_above fields.embed main fixed rows.publics))
+    × (Satisfies (air_over fields constraints periodic log_size) (columns_above fields.embed main fixed rows.publics) → HoldsInEachRow (air_over fields constraints periodic log_size) rows)

@@ -21,13 +21,10 @@ use Rattle.stark_support.specs.Recomposition.{recomposition}
 use Rattle.stark_support.specs.RecompositionLaw.{AreChunksOf, ChunksAgree}
 use Rattle.stark_support.specs.RecompositionPolynomial.{ChunksFit, chunk_values}
 use Rattle.stark_support.specs.Scheme.{AreQuotientChunks, IsChunk, QuotientChunk, row_at}
+use Rattle.stark_quotient.specs.FoldedPlaces.{mapped_same}
 use Rattle.stark_quotient.specs.QuotientOfColumns.{embedded_rows}
 use Rattle.stark_security.proofs.ConstraintDegrees.{value_of_embedded}
 use Rattle.stark_honest.proofs.PartPoints.{part_valid, parts_in_order, place_within, point_of_part, whole_size}
-
-same_at_each : {A B : Type 0} (f g : A → B) → ((x : A) → f x ≡ g x) → (xs : List A) → map f xs ≡ map g xs
-same_at_each f g same [] = refl
-same_at_each f g same (x ∷ xs) = ap (λ y. y ∷ map f xs) (same x) ∙ ap (λ ys. g x ∷ ys) (same_at_each f g same xs)
 
 -- A chunk's polynomials before masking, seen in the extension.
 abbrev pub plain_polynomials : {F E : Type 0} → (F → E) → QuotientChunk F → List (List E)
@@ -141,5 +138,5 @@ module _ {F E : Type 0} {base : RingOps F} {base_inverse : F → F} {ring : Ring
         ap (λ shifts. over shifts committed) (sym shifts_in_order) ∙
         quotient_unmasked base root ring inverse embed is_zk coset log_chunks width row chunks laws.of_ring are basis is_basis.size x ∙
         ap (λ shifts. over shifts unmasked) shifts_in_order ∙
-        ap (over _) (same_at_each _ _ (λ q. row_above ring embed (map (λ m. m.plain) q.columns) x) chunks ∙ sym (map-map (λ qs. row_at ring (λ c. c) qs x) (plain_polynomials embed) chunks)) ∙
+        ap (over _) (mapped_same _ _ (λ q. row_above ring embed (map (λ m. m.plain) q.columns) x) chunks ∙ sym (map-map (λ qs. row_at ring (λ c. c) qs x) (plain_polynomials embed) chunks)) ∙
         plain_recomposes x

@@ -1,5 +1,5 @@
 -- The chunks of a satisfying trace's quotient, opened truly, keep the verifier's equation at each point.
-use Rattle.std.proofs.Common.{◌≡◌, ◌≢◌, ◌∙◌, ap, sym, arith, refl, subst, ℕ, ◌+◌, ◌-◌, ◌^◌, ◌<◌, ◌≤◌, Bool, true, false, List, [], ◌∷◌, map, length, Option}
+use Rattle.std.proofs.Common.{◌≡◌, ◌≢◌, ◌∙◌, ap, sym, arith, refl, subst, ℕ, ◌+◌, ◌-◌, ◌^◌, ◌<◌, ◌≤◌, Bool, true, false, List, map, length, Option}
 use Rattle.std.specs.List.{AllByRecursion, flat_map}
 use Rattle.std.proofs.lemmas.List.{length-map}
 use Rattle.stark_support.specs.RingFacts.{one_mul}
@@ -13,6 +13,7 @@ use Rattle.stark_support.specs.CosetFacts.{root_has_order, shifted_is_disjoint}
 use Rattle.stark_support.specs.CosetValueFacts.{apart_outside}
 use Rattle.stark_support.specs.Subgroup.{subgroup_of}
 use Rattle.stark_support.specs.SubgroupFacts.{embedded_nonzero}
+use Rattle.stark_support.specs.PointFacts.{all_both, all_mapped}
 use Rattle.stark_support.specs.Polynomial.{value, HasDegreeBelow}
 use Rattle.stark_support.specs.Recomposition.{recomposition}
 use Rattle.stark_support.specs.Scheme.{QuotientChunk, matrix_row, natural_coset, row_at, zk_bits}
@@ -39,10 +40,11 @@ use Rattle.stark_honest.proofs.OpenedColumns.{opened_leaves}
 
 -- Embedding keeps degrees.
 embedded_fit : {F E : Type 0} (embed : F → E) (m : ℕ) (polynomials : List (List F)) → AllByRecursion (HasDegreeBelow m) polynomials → AllByRecursion (HasDegreeBelow m) (map (map embed) polynomials)
-embedded_fit embed m [] fit = tt
-embedded_fit embed m (p ∷ ps) fit = ((let same = length-map p embed in let degree = fit.0 in omega (arith, same, degree)), embedded_fit embed m ps fit.1)
+embedded_fit embed m polynomials fit =
+    all_mapped (map embed) (HasDegreeBelow m) polynomials
+    (all_both (HasDegreeBelow m) (HasDegreeBelow m) (λ p. HasDegreeBelow m (map embed p)) (λ p degree _. let same = length-map p embed in omega (arith, same, degree)) polynomials fit fit)
 
--- Two zeros more of a logarithm: the parts of the quotient's domain are as large as the trace.
+-- The parts of the quotient's domain are as large as the trace.
 part_size : (is_zk : Bool) (height degree_bits log_parts : ℕ) → degree_bits ≡ height + zk_bits is_zk → degree_bits + log_parts - (log_parts + zk_bits is_zk) ≡ height
 part_size true height degree_bits log_parts is = omega arith
 part_size false height degree_bits log_parts is = omega arith

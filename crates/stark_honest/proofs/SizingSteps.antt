@@ -1,7 +1,6 @@
 -- The sizing's degree multiples give a quotient's domain that is large enough.
 use Rattle.std.proofs.Common.{◌≡◌, ◌∙◌, ap, sym, arith, subst, inl, inr, ℕ, zero, suc, ◌+◌, ◌-◌, ◌*◌, ◌^◌, ◌<◌, ◌≤◌, Bool, true, false, List, [], ◌∷◌, max, if◌then◌else◌, Option, unwrap_or}
 use Rattle.std.specs.List.{AllByRecursion}
-use Rattle.std.proofs.Math.Nat.{pow-suc}
 use Rattle.std.proofs.lemmas.Bool.{le-leb, lt-leb}
 use Rattle.std.proofs.lemmas.Nat.{pow-add, pow_pos}
 use Rattle.stark_support.specs.LogarithmFacts.{at_most_or_above}
@@ -9,6 +8,7 @@ use Rattle.stark_support.specs.Scheme.{zk_bits}
 use Rattle.stark_air.specs.Degree.{degree, greatest_degree, saturated}
 use Rattle.stark_air.specs.Tree.{Tree, Constraint, base, extension, constant, main_current, main_next, preprocessed_current, preprocessed_next, public_value, periodic_value, first_row, last_row, transition, sum, difference, product, negation}
 use Rattle.stark_parts.specs.Sizing.{constraint_degree, quotient_multiple}
+use Rattle.stark_protocol.specs.QuotientFacts.{below_power}
 use Rattle.stark_protocol.specs.Sizes.{log_ceiling, log_ceiling_from, log_parts_of}
 use Rattle.stark_security.specs.DegreeBound.{greatest_bound, tree_bound}
 use Rattle.stark_security.proofs.ConstraintDegrees.{left_max, right_max}
@@ -174,13 +174,9 @@ covered_from (suc more) k n h = elim (at_most_or_above n (2 ^ k)) [
       (covered_from more (suc k) n (let same : k + suc more ≡ suc k + more = omega arith in subst (λ e. n ≤ 2 ^ e) same h))
 ]
 
-own_power : (n : ℕ) → n ≤ 2 ^ n
-own_power zero = omega arith
-own_power (suc n) = omega (arith, own_power n, pow-suc 2 n, pow_pos n)
-
 covered : (n : ℕ) → n ≤ 2 ^ log_ceiling n
 unfolding log_ceiling
-covered n = covered_from n 0 n (let same : 0 + n ≡ n = omega arith in subst (λ e. n ≤ 2 ^ e) (sym same) (own_power n))
+covered n = covered_from n 0 n (let same : 0 + n ≡ n = omega arith in subst (λ e. n ≤ 2 ^ e) (sym same) (omega (arith, below_power n)))
 
 -- The number of parts that an AIR's own constraints give is enough.
 pub own_parts_enough : {F : Type 0} (constraints : List (Constraint F)) → AreSizable constraints → (hint : Option ℕ) (is_zk : Bool) (height degree_bits : ℕ) → degree_bits ≡ height + zk_bits is_zk

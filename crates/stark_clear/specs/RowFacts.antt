@@ -1,14 +1,14 @@
 -- Rows of values that are given row after row.
-use Rattle.std.specs.Prelude.{◌≡◌, ℕ, zero, suc, ◌+◌, ◌-◌, ◌*◌, ◌^◌, ◌/◌, ◌%◌, ◌<◌, ◌≤◌, List, [], ◌∷◌, ◌++◌, length, take, Option, Some, option_map, refl}
+use Rattle.std.specs.Prelude.{◌≡◌, ℕ, zero, suc, ◌+◌, ◌-◌, ◌*◌, ◌^◌, ◌/◌, ◌%◌, ◌<◌, ◌≤◌, List, [], ◌∷◌, length, take, Option, Some, option_map, refl}
 use Rattle.std.specs.List.{AllByRecursion, flat_map, slice_get}
 use Rattle.std.proofs.Common.{sym, ap, ◌∙◌, arith, drop, get_or, pow-add, subst}
 use Rattle.std.proofs.Math.Nat.{add-mul, div-zero, mul_assoc, mul-mod_left}
-use Rattle.std.proofs.Math.Seq.{take-append_seam, drop-append-add}
 use Rattle.std.proofs.lemmas.List.{length-map, length-append}
 use Rattle.std.proofs.lemmas.List.Concat.{flat_map-cons}
-use Rattle.std.proofs.lemmas.Option.{slice_get-map, slice_get-get_or, slice_get_past, slice_get_within, same_Some}
+use Rattle.std.proofs.lemmas.Option.{slice_get-map, slice_get-get_or, slice_get_past, same_Some}
 use Rattle.stark_support.specs.Ring.{RingOps}
 use Rattle.stark_support.specs.Coset.{TwoAdicCoset, coset_point, coset_size}
+use Rattle.stark_support.specs.JoinedRows.{cut, row_of_joined}
 use Rattle.stark_support.specs.Polynomial.{value}
 use Rattle.stark_support.specs.Scheme.{HasRows, TakesRows, natural_coset, matrix_row, row_at}
 use Rattle.stark_support.specs.SchemeFacts.{natural_of_size}
@@ -21,31 +21,6 @@ none_below h = omega arith
 
 none_here : {A : Type 0} (i j : ℕ) → ◌≡◌ {A = Option A} (slice_get [] i) (slice_get [] j)
 none_here i j = slice_get_past [] i (omega arith) ∙ sym (slice_get_past [] j (omega arith))
-
-no_such : {A : Type 0} (r : ℕ) (x : A) → slice_get [] r ≡ Some x → ⊥
-no_such r x h = none_below (slice_get_within [] r x h)
-
-as_far_as : (r w : ℕ) → (r * w + w) - r * w ≡ w
-as_far_as r w = omega arith
-
-cut : {A : Type 0} (xs : List A) (w r : ℕ) → matrix_row xs w r ≡ take w (drop (r * w) xs)
-cut xs w r = ap (λ k. take k (drop (r * w) xs)) (as_far_as r w)
-
-nothing_before : (w : ℕ) → 0 * w ≡ 0
-nothing_before w = omega arith
-
-one_row_before : (r w : ℕ) → suc r * w ≡ w + r * w
-one_row_before r w = omega arith
-
--- Row r of joined rows is the r-th of them.
-row_of_joined : {A B : Type 0} (f : A → List B) (w : ℕ) → ((x : A) → length (f x) ≡ w) → (xs : List A) (r : ℕ) (x : A) → slice_get xs r ≡ Some x → take w (drop (r * w) (flat_map f xs)) ≡ f x
-row_of_joined f w each [] r x h = absurd (no_such r x h)
-row_of_joined f w each (y ∷ xs) zero x h =
-    ap (λ k. take w (drop k (flat_map f (y ∷ xs)))) (nothing_before w) ∙ ap (take w) (flat_map-cons f y xs) ∙ ap (λ k. take k (f y ++ flat_map f xs)) (sym (each y))
-    ∙ take-append_seam (f y) (flat_map f xs) ∙ ap f (same_Some y x h)
-row_of_joined f w each (y ∷ xs) (suc r) x h =
-    ap (λ k. take w (drop k (flat_map f (y ∷ xs)))) (one_row_before r w ∙ ap (λ k. k + r * w) (sym (each y))) ∙ ap (λ t. take w (drop (length (f y) + r * w) t)) (flat_map-cons f y xs)
-    ∙ ap (take w) (drop-append-add (f y) (flat_map f xs) (r * w)) ∙ row_of_joined f w each xs r x h
 
 joined_number : {A B : Type 0} (f : A → List B) (w : ℕ) → ((x : A) → length (f x) ≡ w) → (xs : List A) → length (flat_map f xs) ≡ length xs * w
 joined_number f w each [] = omega arith
@@ -60,7 +35,7 @@ has_rows ring root coset columns points values width are joined wide =
       takes = record {
         count = sym wide;
         rows = λ r below.
-            cut values width r ∙ ap (λ t. take width (drop (r * width) t)) joined
+            ap (λ t. matrix_row t width r) joined
             ∙ row_of_joined (row_at ring (λ c. c) columns) width each points r (coset_point ring root coset r) (ap (λ t. slice_get t r) are ∙ point_at ring root coset r below);
       };
       number = ap length joined ∙ joined_number (row_at ring (λ c. c) columns) width each points ∙ ap (λ n. n * width) (ap length are ∙ points_number ring root coset);

@@ -42,7 +42,7 @@ ceiling_from k n (suc more) j log above within = elim (at_most_or_above n (2 ^ j
       ceiling_from k n more (suc j) log (omega arith) (omega arith) ∙ sym (ap (λ b. if b then j else log_ceiling_from more (suc j) n) (lt-leb n (2 ^ j) past))
 ]
 
-below_power : (n : ℕ) → n < 2 ^ n
+pub below_power : (n : ℕ) → n < 2 ^ n
 below_power zero = omega arith
 below_power (suc n) = omega (arith, below_power n, pow-suc 2 n)
 

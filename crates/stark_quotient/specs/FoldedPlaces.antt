@@ -56,7 +56,7 @@ values_at_places : {A B : Type 0} (f : A → B) (xs : List A) (blank : A) → fi
 values_at_places f [] blank = refl
 values_at_places f (x ∷ xs) blank = ap (λ l. f x ∷ l) (values_at_places f xs blank)
 
-mapped_same : {A B : Type 0} (f g : A → B) (same : (x : A) → f x ≡ g x) (xs : List A) → map f xs ≡ map g xs
+pub mapped_same : {A B : Type 0} (f g : A → B) (same : (x : A) → f x ≡ g x) (xs : List A) → map f xs ≡ map g xs
 mapped_same f g same [] = refl
 mapped_same f g same (x ∷ xs) = ap (λ y. y ∷ map f xs) (same x) ∙ ap (λ l. g x ∷ l) (mapped_same f g same xs)
 

@@ -30,12 +30,12 @@ pub record AreValuesOfColumns {F E : Type 0} (i : AirInstance F E) (rows : RowsO
   pub publics : rows.publics ≡ columns.publics
 
 -- a leaf of a row; past its end stands what the filler is sent to
-leaf_of_row : {A B : Type 0} (f : A → B) (xs : List A) (c : ℕ) (a : A) (b : B) → f a ≡ b → slice_index_or (map f xs) c b ≡ f (slice_index_or xs c a)
+pub leaf_of_row : {A B : Type 0} (f : A → B) (xs : List A) (c : ℕ) (a : A) (b : B) → f a ≡ b → slice_index_or (map f xs) c b ≡ f (slice_index_or xs c a)
 leaf_of_row f [] c a b h = sym h
 leaf_of_row f (x ∷ xs) zero a b h = refl
 leaf_of_row f (x ∷ xs) (suc c) a b h = leaf_of_row f xs c a b h
 
-value_leaf : {E : Type 0} (ring : RingOps E) (row : List E) (polynomials : List (List E)) (x : E) → row ≡ row_at ring (λ c. c) polynomials x → (c : ℕ) → slice_index_or row c ring.zero ≡ value ring (slice_index_or polynomials c []) x
+pub value_leaf : {E : Type 0} (ring : RingOps E) (row : List E) (polynomials : List (List E)) (x : E) → row ≡ row_at ring (λ c. c) polynomials x → (c : ℕ) → slice_index_or row c ring.zero ≡ value ring (slice_index_or polynomials c []) x
 value_leaf ring row polynomials x is c = ap (λ r. slice_index_or r c ring.zero) is ∙ leaf_of_row (λ p. value ring p x) polynomials c [] ring.zero refl
 
 mapped_twice : {A B C D : Type 0} (f : B → D) (g : A → B) (h : A → C) (e : C → D) → ((x : A) → f (g x) ≡ e (h x)) → (xs : List A) → map f (map g xs) ≡ map e (map h xs)
@@ -96,7 +96,7 @@ module _ {F E : Type 0} (i : AirInstance F E) (laws : FieldLaws i.base i.base_in
         value_leaf i.ring _ polynomials (next_point i i.ring (λ c. c) (point_above i rows k))
         (taken (next_row i rows k) (next_row_within k below) ∙ ap (row_at i.ring (λ c. c) polynomials) (next_point_is k)) c
 
-    leaves_agree : AgreeWithin l (leaves_at i rows k) (environment_at i i.ring (λ c. c) columns (point_above i rows k))
+    pub leaves_agree : AgreeWithin l (leaves_at i rows k) (environment_at i i.ring (λ c. c) columns (point_above i rows k))
     leaves_agree = record {
       main_current = λ c _. value_leaf i.ring _ columns.main (point_above i rows k) (are.main k below) c;
       main_next = λ c _. next_leaf rows.main columns.main are.main c;

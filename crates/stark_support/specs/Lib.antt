@@ -51,3 +51,4 @@ pub mod PeriodicTable
 pub mod Scheme
 pub mod SchemeFacts
 pub mod MaskFacts
+pub mod JoinedRows

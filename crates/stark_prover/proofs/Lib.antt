@@ -15,3 +15,5 @@ pub mod PartsSteps
 pub mod SizedSteps
 pub mod HeightSteps
 pub mod AcceptableSteps
+pub mod HonestSteps
+pub mod HonestAnswer

@@ -8,3 +8,4 @@ pub mod BoundProof
 pub mod Work
 pub mod Acceptable
 pub mod SetUpFacts
+pub mod Honest

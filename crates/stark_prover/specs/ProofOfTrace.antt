@@ -5,6 +5,7 @@ use Rattle.stark_support.specs.Scheme.{QuotientChunk, committed_chunk, natural_c
 use Rattle.stark_air.specs.Declaration.{Trace}
 use Rattle.stark_parts.specs.Shape.{opens_next_row}
 use Rattle.stark_security.specs.ConstraintPolynomial.{AirInstance}
+use Rattle.stark_honest.specs.TrueOpenings.{air_over}
 use Rattle.stark_proof.specs.ProofView.{OpeningsView, PreprocessedView, ProofView}
 use Rattle.stark_protocol.specs.Acceptance.{challenges, columns_fault, domain_fault, log_parts}
 use Rattle.stark_protocol.specs.Instance.{Instance, ProtocolOps}
@@ -27,18 +28,7 @@ row_if false row = None
 module _ {S F E C K T P X Y : Type 0} (ops : ProtocolOps S F E C K T P X Y) (i : Instance S F C K) where
   -- The AIR over 2 ^ log_size rows.
   abbrev pub air_of : ℕ → AirInstance F E
-  air_of log_size = record {
-    base = ops.opening.fields.base;
-    base_inverse = ops.opening.fields.base_inverse;
-    ring = ops.opening.fields.ring;
-    inverse = ops.opening.fields.inverse;
-    embed = ops.opening.fields.embed;
-    basis = ops.opening.fields.basis;
-    generator = ops.opening.fields.root log_size;
-    log_size = log_size;
-    constraints = i.constraints;
-    periodic = i.periodic_columns;
-  }
+  air_of log_size = air_over ops.opening.fields i.constraints i.periodic_columns log_size
 
   -- A row of columns at a point.
   abbrev pub values_at : List (List F) → E → List E

@@ -8,6 +8,7 @@ ghost use Rattle.stark_proof.specs.ProofView.{proof_view};
 ghost use Rattle.stark_proof.specs.declared.values.Proof.{Proof};
 ghost use Rattle.stark_protocol.specs.declared.preprocessed.PreprocessedProverData.{PreprocessedProverData};
 ghost use Rattle.stark_prover.specs.Acceptable.{IsAcceptable};
+ghost use Rattle.stark_prover.specs.Honest.{IsAcceptedIfHonest};
 ghost use Rattle.stark_prover.specs.ProofOfTrace.{IsProofOfTrace, key_of};
 ghost use Rattle.stark_prover.specs.ProverFault.{HasQuotient, IsReady, ProverFault, described, seeded};
 
@@ -33,6 +34,8 @@ pub trait StarkProving<A>: StarkGenericConfig {
     ghost is_proof: { Self → A → List Self.Pcs.Domain.Val → Option (PreprocessedProverData Self.Pcs.Commitment Self.Pcs.ProverData) → ℕ → Trace Self.Pcs.Domain.Val → List (List Self.Pcs.Domain.Val) → Proof Self.Pcs.Commitment Self.Challenge Self.Pcs.Proof Self.Pcs.Domain.Val → Type 0 };
 
     ghost is_acceptable: { Self → A → List Self.Pcs.Domain.Val → Option (PreprocessedProverData Self.Pcs.Commitment Self.Pcs.ProverData) → Proof Self.Pcs.Commitment Self.Challenge Self.Pcs.Proof Self.Pcs.Domain.Val → Type 0 };
+
+    ghost accepted_if_honest: { Self → A → List Self.Pcs.Domain.Val → Option (PreprocessedProverData Self.Pcs.Commitment Self.Pcs.ProverData) → ℕ → Trace Self.Pcs.Domain.Val → Proof Self.Pcs.Commitment Self.Challenge Self.Pcs.Proof Self.Pcs.Domain.Val → Type 0 };
 }
 
 impl<SC, A> StarkProving<A> for SC
@@ -54,4 +57,6 @@ where
     ghost is_proof = { λ config air public_values held height trace fixed proof. IsProofOfTrace ⟦<SC as StarkOperations>⟧.operations (⟦<SC as StarkInstance<A>>⟧.instance config air public_values (option_map key_of held)) SC.Challenge.coordinates held height trace fixed (proof_view proof) };
 
     ghost is_acceptable = { λ config air public_values held proof. IsAcceptable ⟦<SC as StarkOperations>⟧.operations (⟦<SC as StarkInstance<A>>⟧.instance config air public_values (option_map key_of held)) (proof_view proof) };
+
+    ghost accepted_if_honest = { λ config air public_values held height trace proof. IsAcceptedIfHonest ⟦<SC as StarkOperations>⟧.operations (⟦<SC as StarkInstance<A>>⟧.instance config air public_values) (A.preprocessed_trace air) held height trace (proof_view proof) };
 }

@@ -50,6 +50,8 @@ where
         → ⟦<SC as StarkProving<A>>⟧.is_proof config.now air.now public_values.now (option_map (λ h. h.now) preprocessed.entry) height (record { width = trace.width; values = trace.values.items }) fixed proof) }
     ensures acceptable { IfOk result (λ proof. (height : ℕ) → length trace.values.items ≡ 2 ^ height * trace.width → SC.Pcs.scheme.log_min_trace_height (SC.config.scheme config.now) ≤ height → SC.Pcs.scheme.Whole (SC.config.scheme config.now)
         → ⟦<SC as StarkProving<A>>⟧.is_acceptable config.now air.now public_values.now (option_map (λ h. h.now) preprocessed.entry) proof) }
+    ensures honest { IfOk result (λ proof. (height : ℕ) → length trace.values.items ≡ 2 ^ height * trace.width → SC.Pcs.scheme.log_min_trace_height (SC.config.scheme config.now) ≤ height → SC.Pcs.scheme.Whole (SC.config.scheme config.now)
+        → ⟦<SC as StarkProving<A>>⟧.accepted_if_honest config.now air.now public_values.now (option_map (λ h. h.now) preprocessed.entry) height (record { width = trace.width; values = trace.values.items }) proof) }
     ensures fault { IfErr result (λ error. (height : ℕ) → length trace.values.items ≡ 2 ^ height * trace.width → (error ≡ ProvingError.OutOfMemory)
         ⊎ ⟦<SC as StarkProving<A>>⟧.fault config.now air.now public_values.now (option_map (λ h. h.now) preprocessed.entry) height (height + zk_bits SC.Pcs.ZK) (record { width = trace.width; values = trace.values.items }) error) }
 {
@@ -86,6 +88,8 @@ where
         → ⟦<SC as StarkProving<A>>⟧.is_proof config.now air.now public_values.now None height (record { width = trace.width; values = trace.values.items }) [] proof) }
     ensures acceptable { IfOk result (λ proof. (height : ℕ) → length trace.values.items ≡ 2 ^ height * trace.width → SC.Pcs.scheme.log_min_trace_height (SC.config.scheme config.now) ≤ height → SC.Pcs.scheme.Whole (SC.config.scheme config.now)
         → ⟦<SC as StarkProving<A>>⟧.is_acceptable config.now air.now public_values.now None proof) }
+    ensures honest { IfOk result (λ proof. (height : ℕ) → length trace.values.items ≡ 2 ^ height * trace.width → SC.Pcs.scheme.log_min_trace_height (SC.config.scheme config.now) ≤ height → SC.Pcs.scheme.Whole (SC.config.scheme config.now)
+        → ⟦<SC as StarkProving<A>>⟧.accepted_if_honest config.now air.now public_values.now None height (record { width = trace.width; values = trace.values.items }) proof) }
     ensures fault { IfErr result (λ error. (height : ℕ) → length trace.values.items ≡ 2 ^ height * trace.width → (error ≡ ProvingError.OutOfMemory)
         ⊎ ⟦<SC as StarkProving<A>>⟧.fault config.now air.now public_values.now None height (height + zk_bits SC.Pcs.ZK) (record { width = trace.width; values = trace.values.items }) error) }
 {

@@ -2,6 +2,7 @@
 #![tactic(auto)]
 
 mod clear;
+mod masked;
 mod samples;
 
 pub use clear::{ClearError, ClearPcs, ClearProof, ClearProverError};

@@ -1,0 +1,84 @@
+-- Masks that are read from a list round and round, and the masked columns of matrices and chunks.
+use Rattle.std.specs.Prelude.{◌≡◌, ℕ, zero, suc, ◌+◌, ◌*◌, ◌%◌, ◌<◌, List, [], ◌∷◌, ◌++◌, map, length, get_or, replicate}
+use Rattle.std.specs.List.{AllByRecursion}
+use Rattle.std.specs.Simd.Lanes.{zip2}
+use Rattle.stark_support.specs.Ring.{RingOps, difference}
+use Rattle.stark_support.specs.Powers.{power}
+use Rattle.stark_support.specs.Polynomial.{polynomial_ring, scaled}
+use Rattle.stark_support.specs.Coset.{TwoAdicCoset, coset_size}
+use Rattle.stark_support.specs.Scheme.{MaskedColumn, QuotientChunk}
+
+-- ---- the list, read round and round
+
+abbrev pub mask_number : {F : Type 0} → RingOps F → List F → ℕ → F
+mask_number field masks i = get_or masks (i % length masks) field.zero
+
+-- `size` numbers from the `first` on
+abbrev pub mask_list : {F : Type 0} → RingOps F → List F → ℕ → ℕ → List F
+mask_list field masks first zero = []
+mask_list field masks first (suc size) = mask_number field masks first ∷ mask_list field masks (suc first) size
+
+-- `count` lists of `size` numbers, one after the other
+abbrev pub mask_lists : {F : Type 0} → RingOps F → List F → ℕ → ℕ → ℕ → List (List F)
+mask_lists field masks first zero size = []
+mask_lists field masks first (suc count) size = mask_list field masks first size ∷ mask_lists field masks (first + size) count size
+
+-- for each of `count` chunks `width` such lists
+abbrev pub chunk_masks : {F : Type 0} → RingOps F → List F → ℕ → ℕ → ℕ → ℕ → List (List (List F))
+chunk_masks field masks first zero width size = []
+chunk_masks field masks first (suc count) width size = mask_lists field masks first width size ∷ chunk_masks field masks (first + width * size) count width size
+
+-- `width` masks of `size` coefficients
+abbrev pub HasMasks : {F : Type 0} → ℕ → ℕ → List (List F) → Type 0
+HasMasks width size masks = (length masks ≡ width) × AllByRecursion (λ mask. length mask ≡ size) masks
+
+-- column c has a mask, of `size` coefficients
+abbrev pub HasMaskAt : {F : Type 0} → ℕ → ℕ → List (List F) → Type 0
+HasMaskAt c size masks = (c < length masks) × (length (get_or masks c []) ≡ size)
+
+-- ---- the masks of a quotient, whose sum over the chunks is zero in each column
+
+-- a polynomial less all of these
+abbrev pub less_all : {F : Type 0} → RingOps F → List F → List (List F) → List F
+less_all field p [] = p
+less_all field p (q ∷ qs) = less_all field (difference (polynomial_ring field) p q) qs
+
+-- column c's mask of the last chunk, by those of the others
+abbrev pub balancing_mask : {F : Type 0} → RingOps F → List (List (List F)) → ℕ → ℕ → List F
+balancing_mask field chosen size c = less_all field (replicate size field.zero) (map (λ masks. get_or masks c []) chosen)
+
+-- the same of `width` columns, from the c-th on
+abbrev pub balancing_masks : {F : Type 0} → RingOps F → List (List (List F)) → ℕ → ℕ → ℕ → List (List F)
+balancing_masks field chosen size c zero = []
+balancing_masks field chosen size c (suc width) = balancing_mask field chosen size c ∷ balancing_masks field chosen size (suc c) width
+
+-- `count` chunks' masks from the list, and the last chunk's
+abbrev pub quotient_masks : {F : Type 0} → RingOps F → List F → ℕ → ℕ → ℕ → List (List (List F))
+quotient_masks field masks count width size =
+    chunk_masks field masks 0 count width size ++ balancing_masks field (chunk_masks field masks 0 count width size) size 0 width ∷ []
+
+-- ---- masked polynomials
+
+-- plain + mask * (scale * X ^ n - 1), where n is the number of coefficients of `plain`
+abbrev pub masked_polynomial : {F : Type 0} → RingOps F → F → List F → List F → List F
+masked_polynomial field scale plain mask = difference (polynomial_ring field) (plain ++ scaled field scale mask) mask
+
+-- what makes scale * X ^ n - 1 the coset's vanishing polynomial
+abbrev pub vanishing_scale : {F : Type 0} → RingOps F → (F → F) → TwoAdicCoset F → F
+vanishing_scale field inverse coset = power field (inverse coset.shift) (coset_size coset)
+
+abbrev pub masked_column : {F : Type 0} → RingOps F → F → List F → List F → MaskedColumn F
+masked_column field scale plain mask = record { plain = plain; mask = mask; column = masked_polynomial field scale plain mask }
+
+abbrev pub masked_chunk : {F : Type 0} → RingOps F → (F → F) → TwoAdicCoset F → List (List F) → List (List F) → QuotientChunk F
+masked_chunk field inverse part plain masks = record { part = part; columns = zip2 (masked_column field (vanishing_scale field inverse part)) plain masks }
+
+abbrev pub masked_chunks : {F : Type 0} → RingOps F → (F → F) → List (TwoAdicCoset F) → List (List (List F)) → List (List (List F)) → List (QuotientChunk F)
+masked_chunks field inverse [] plain masks = []
+masked_chunks field inverse (part ∷ parts) [] masks = []
+masked_chunks field inverse (part ∷ parts) (p ∷ plain) [] = []
+masked_chunks field inverse (part ∷ parts) (p ∷ plain) (m ∷ masks) = masked_chunk field inverse part p m ∷ masked_chunks field inverse parts plain masks
+
+-- what is committed of chunks
+abbrev pub chunk_columns : {F : Type 0} → List (QuotientChunk F) → List (List (List F))
+chunk_columns chunks = map (λ q. map (λ m. m.column) q.columns) chunks

@@ -1,0 +1,5 @@
+//! The scheme in the clear with masks.
+
+mod chunks;
+mod columns;
+mod list;

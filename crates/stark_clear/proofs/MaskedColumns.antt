@@ -5,6 +5,7 @@ use Rattle.std.proofs.lemmas.List.{append-nil, drop_all}
 use Rattle.stark_support.specs.Ring.{RingOps, difference}
 use Rattle.stark_support.specs.Polynomial.{polynomial_ring}
 use Rattle.stark_support.proofs.Places.{from_place}
+use Rattle.stark_clear.specs.Masks.{masked_polynomial}
 
 module _ {F : Type 0} (ring : RingOps F) where
   -- p less q from place i on
@@ -65,3 +66,12 @@ module _ {A B C V W : Type 0} (f : V → A) (g : W → B) (h : A → B → C) (x
         | inr w ↦ ap (λ t. zip2 h (map f (drop i xs)) (map g t)) (drop_all i ys w) ∙ none_to_join (map f (drop i xs))
       ] in
       sym (append-nil done) ∙ ap (λ t. done ++ t) (sym none) ∙ so_far
+
+-- Masked columns, from what is computed of them.
+pub joined_columns : {F V : Type 0} (ring : RingOps F) (list : V → List F) (columns : List (List F)) (seen plain seen_masks masks : List V) (numbers lists : List (List F)) (scale wanted : F)
+    → columns ≡ zip2 (masked_polynomial ring scale) (map list seen) (map list seen_masks) → seen ≡ plain → seen_masks ≡ masks → map list masks ≡ numbers → numbers ≡ lists → scale ≡ wanted
+    → columns ≡ zip2 (masked_polynomial ring wanted) (map list plain) lists
+joined_columns ring list columns seen plain seen_masks masks numbers lists scale wanted are is_plain is_masks number same one =
+    are ∙ ap (λ t. zip2 (masked_polynomial ring scale) (map list t) (map list seen_masks)) is_plain
+    ∙ ap (λ t. zip2 (masked_polynomial ring scale) (map list plain) t) (ap (map list) is_masks ∙ number ∙ same)
+    ∙ ap (λ s. zip2 (masked_polynomial ring s) (map list plain) lists) one

@@ -1,12 +1,13 @@
 -- Masks that are read from a list round and round, and the masked columns of matrices and chunks.
-use Rattle.std.specs.Prelude.{◌≡◌, ℕ, zero, suc, ◌+◌, ◌*◌, ◌%◌, ◌<◌, List, [], ◌∷◌, ◌++◌, map, length, get_or, replicate}
+use Rattle.std.specs.Prelude.{◌≡◌, ℕ, zero, suc, ◌+◌, ◌*◌, ◌%◌, ◌^◌, ◌<◌, List, [], ◌∷◌, ◌++◌, map, length, get_or, replicate}
 use Rattle.std.specs.List.{AllByRecursion}
 use Rattle.std.specs.Simd.Lanes.{zip2}
 use Rattle.stark_support.specs.Ring.{RingOps, difference}
 use Rattle.stark_support.specs.Powers.{power}
 use Rattle.stark_support.specs.Polynomial.{polynomial_ring, scaled}
-use Rattle.stark_support.specs.Coset.{TwoAdicCoset, coset_size}
+use Rattle.stark_support.specs.Coset.{TwoAdicCoset, coset_part, coset_size}
 use Rattle.stark_support.specs.Scheme.{MaskedColumn, QuotientChunk}
+use Rattle.stark_clear.specs.PlainChunks.{ArePlainChunks}
 
 -- ---- the list, read round and round
 
@@ -79,6 +80,22 @@ masked_chunks field inverse (part ∷ parts) [] masks = []
 masked_chunks field inverse (part ∷ parts) (p ∷ plain) [] = []
 masked_chunks field inverse (part ∷ parts) (p ∷ plain) (m ∷ masks) = masked_chunk field inverse part p m ∷ masked_chunks field inverse parts plain masks
 
+-- The columns of a matrix of this height, each a polynomial of as many coefficients plus its mask times X ^ height - 1.
+pub record AreMaskedBy {F : Type 0} (field : RingOps F) (height : ℕ) (masks columns : List (List F)) : Type 0 where
+  pub plain : List (List F)
+  pub bounded : AllByRecursion (λ column. length column ≡ height) plain
+  pub sum : columns ≡ zip2 (masked_polynomial field field.one) plain masks
+
+-- `count` parts of a coset from the i-th on
+abbrev pub parts_from : {F : Type 0} → RingOps F → (ℕ → F) → TwoAdicCoset F → ℕ → ℕ → ℕ → List (TwoAdicCoset F)
+parts_from field root coset log_parts i zero = []
+parts_from field root coset log_parts i (suc count) = coset_part field root coset log_parts i ∷ parts_from field root coset log_parts (suc i) count
+
 -- what is committed of chunks
 abbrev pub chunk_columns : {F : Type 0} → List (QuotientChunk F) → List (List (List F))
 chunk_columns chunks = map (λ q. map (λ m. m.column) q.columns) chunks
+
+-- Columns on each part that take their rows, each with its mask times the part's vanishing polynomial added.
+pub record AreMaskedChunks {F : Type 0} (field : RingOps F) (inverse : F → F) (root : ℕ → F) (coset : TwoAdicCoset F) (log_parts width : ℕ) (row : ℕ → List F) (masks plain matrices : List (List (List F))) : Type 0 where
+  pub takes : ArePlainChunks field root coset log_parts width (2 ^ log_parts) row plain
+  pub sum : matrices ≡ chunk_columns (masked_chunks field inverse (parts_from field root coset log_parts 0 (2 ^ log_parts)) plain masks)

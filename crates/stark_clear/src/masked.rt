@@ -2,4 +2,5 @@
 
 mod chunks;
 mod columns;
+mod commit;
 mod list;

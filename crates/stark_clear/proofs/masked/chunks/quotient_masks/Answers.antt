@@ -3,7 +3,6 @@ use Rattle.std.specs.List.{AllByRecursion}
 use Rattle.stark_clear.specs.Columns.{columns_list}
 use Rattle.stark_clear.specs.Masks.{HasMasks}
 use Rattle.stark_clear.proofs.MaskSteps.{chunks_have_masks}
-use Rattle.stark_clear.proofs.PartWeights.{weighted_zero}
 use Rattle.stark_clear.proofs.masked.chunks.quotient_masks.Goals as goal
 
 pub balancing_masks-requires : goal.balancing_masks-requires

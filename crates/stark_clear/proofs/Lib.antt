@@ -4,5 +4,6 @@ pub mod MaskSteps
 pub mod MaskValues
 pub mod MaskedChunkSteps
 pub mod MaskedColumns
+pub mod MaskedQuotient
 pub mod MaskedRows
 pub mod PartWeights

@@ -11,5 +11,6 @@ pub mod RowFacts
 pub mod PlainChunks
 pub mod PlainChunkFacts
 pub mod Masks
+pub mod SchemeClauses
 pub mod ClearJson
 pub mod SmallSamples

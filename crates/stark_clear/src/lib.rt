@@ -6,6 +6,7 @@ mod masked;
 mod samples;
 
 pub use clear::{ClearError, ClearPcs, ClearProof, ClearProverError};
+pub use masked::MaskedClearPcs;
 pub use samples::{
     Asked, CounterAir, CubicAir, FibonacciAir, PairAir, PeriodicAir, PreprocessedAir, SmallAir,
 };

@@ -4,3 +4,6 @@ mod chunks;
 mod columns;
 mod commit;
 mod list;
+mod pcs;
+
+pub use pcs::MaskedClearPcs;

@@ -1,10 +1,10 @@
 -- Masks that are read one after the other.
-use Rattle.std.proofs.Common.{◌≡◌, ◌∙◌, ℕ, zero, suc, ◌+◌, ◌*◌, ◌%◌, ◌<◌, List, [], ◌∷◌, ◌++◌, length, map, get_or, refl, sym, ap, arith, add-one}
+use Rattle.std.proofs.Common.{◌≡◌, ◌∙◌, ℕ, zero, suc, ◌+◌, ◌*◌, ◌%◌, ◌<◌, List, [], ◌∷◌, ◌++◌, length, get_or, refl, sym, ap, arith, add-one}
 use Rattle.std.specs.List.{AllByRecursion}
 use Rattle.std.proofs.Math.Nat.{mod-add-mod, mod-mod}
 use Rattle.std.proofs.lemmas.List.{get_or_default}
 use Rattle.stark_support.specs.Ring.{RingOps}
-use Rattle.stark_clear.specs.Masks.{HasMaskAt, HasMasks, chunk_masks, mask_list, mask_lists, mask_number}
+use Rattle.stark_clear.specs.Masks.{HasMasks, chunk_masks, mask_list, mask_lists, mask_number}
 
 no_more : (a : ℕ) → a ≡ a + 0
 no_more a = omega arith

@@ -1,8 +1,7 @@
 -- The values of masked polynomials, and of masks that are taken off.
-use Rattle.std.proofs.Common.{◌≡◌, ◌≢◌, ◌∙◌, ℕ, zero, suc, ◌+◌, List, [], ◌∷◌, ◌++◌, length, map, replicate, refl, sym, ap, arith}
+use Rattle.std.proofs.Common.{◌≡◌, ◌≢◌, ◌∙◌, ℕ, zero, suc, List, [], ◌∷◌, ◌++◌, length, map, replicate, refl, sym, ap}
 use Rattle.std.proofs.lemmas.List.{length-map, map-append}
 use Rattle.stark_support.specs.Ring.{RingOps, RingLaws, FieldLaws, difference}
-use Rattle.stark_support.specs.RingFacts.{same_if_no_difference}
 use Rattle.stark_support.specs.RingSolver.{solve, nothing, unit, ◌⊕◌, ◌⊖◌, ◌⊗◌, v0, v1, v2, v3, v4}
 use Rattle.stark_support.specs.FieldFacts.{cancel_left}
 use Rattle.stark_support.specs.KeepsRing.{KeepsRing, kept_power}

@@ -1,6 +1,6 @@
 -- Chunks with masks that sum to zero are chunks of the quotient.
 use Rattle.std.proofs.Common.{◌≡◌, ◌≢◌, ◌∙◌, ℕ, zero, suc, ◌+◌, ◌-◌, ◌*◌, ◌^◌, ◌<◌, ◌≤◌, true, List, [], ◌∷◌, ◌++◌, length, map, get_or, replicate, refl, sym, ap, arith, subst, add-one}
-use Rattle.std.specs.Prelude.{All, Some, slice_index_or}
+use Rattle.std.specs.Prelude.{Some, slice_index_or}
 use Rattle.std.specs.Int.{IsPowerOfTwo}
 use Rattle.std.specs.List.{AllByRecursion, slice_get}
 use Rattle.std.specs.Simd.Lanes.{zip2}
@@ -9,7 +9,7 @@ use Rattle.std.proofs.lemmas.List.{length-map, length-replicate, map-append}
 use Rattle.std.proofs.lemmas.List.Elements.{All-from_recursion}
 use Rattle.std.proofs.lemmas.Nat.{pow_pos}
 use Rattle.std.proofs.lemmas.Option.{same_Some, slice_get_within}
-use Rattle.stark_support.specs.Ring.{RingOps, RingLaws, FieldLaws, difference}
+use Rattle.stark_support.specs.Ring.{RingOps, FieldLaws, difference}
 use Rattle.stark_support.specs.Embedding.{IsEmbedding}
 use Rattle.stark_support.specs.KeepsRing.{kept_power}
 use Rattle.stark_support.specs.LogarithmFacts.{exponent_at_most, same_exponent}
@@ -23,11 +23,11 @@ use Rattle.stark_support.specs.SubgroupFacts.{embedded_nonzero}
 use Rattle.stark_support.specs.Recomposition.{weighted_sum}
 use Rattle.stark_support.specs.Scheme.{AreQuotientChunks, IsChunk, IsMasked, QuotientChunk, TakesRows, committed_chunk}
 use Rattle.stark_clear.specs.ClearScheme.{IsFull, columns_of}
-use Rattle.stark_clear.specs.Masks.{AreMaskedChunks, HasMasks, balancing_mask, balancing_masks, chunk_columns, chunk_masks, less_all, masked_chunk, masked_chunks, masked_column, masked_polynomial, parts_from, quotient_masks, vanishing_scale}
+use Rattle.stark_clear.specs.Masks.{AreMaskedChunks, HasMasks, balancing_mask, balancing_masks, chunk_columns, chunk_masks, less_all, masked_chunk, masked_chunks, masked_column, parts_from, quotient_masks, vanishing_scale}
 use Rattle.stark_clear.specs.PlainChunks.{ArePlainChunks}
 use Rattle.stark_clear.specs.RowFacts.{all_listed, size_in_parts}
 use Rattle.stark_clear.proofs.BalancingSteps.{masks_at}
-use Rattle.stark_clear.proofs.MaskSteps.{chunks_have_masks, chunks_length}
+use Rattle.stark_clear.proofs.MaskSteps.{chunks_have_masks}
 use Rattle.stark_clear.proofs.MaskValues.{balanced_value_over, masked_on_coset, total, total_of_append}
 use Rattle.stark_clear.proofs.MaskedChunkSteps.{columns_of_masked, quotient_length}
 use Rattle.stark_clear.proofs.MaskedColumns.{off_length}

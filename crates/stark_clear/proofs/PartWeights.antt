@@ -1,8 +1,8 @@
 -- The parts of a coset have equal weights in a recomposition.
-use Rattle.std.proofs.Common.{◌≡◌, ◌≢◌, ◌∙◌, ℕ, zero, suc, ◌+◌, ◌-◌, List, [], ◌∷◌, ◌++◌, length, refl, sym, ap, arith, append_assoc}
-use Rattle.stark_support.specs.Ring.{RingOps, RingLaws, FieldLaws, difference}
+use Rattle.std.proofs.Common.{◌≡◌, ◌≢◌, ◌∙◌, ℕ, zero, suc, ◌+◌, ◌-◌, List, [], ◌∷◌, ◌++◌, length, refl, sym, ap, arith}
+use Rattle.stark_support.specs.Ring.{RingOps, FieldLaws, difference}
 use Rattle.stark_support.specs.RingFacts.{mul_zero, one_mul}
-use Rattle.stark_support.specs.RingSolver.{solve, nothing, ◌⊕◌, ◌⊗◌, v0, v1, v2}
+use Rattle.stark_support.specs.RingSolver.{solve, ◌⊗◌, v0, v1, v2}
 use Rattle.stark_support.specs.Powers.{power}
 use Rattle.stark_support.specs.PowerFacts.{power-mul, power-one}
 use Rattle.stark_support.specs.Coset.{coset_vanishing}

@@ -1,8 +1,8 @@
-use Rattle.std.proofs.Common.{◌≡◌, ◌∙◌, ◌<◌, [], ap, sym, arith, get_or, length, map, replicate}
-use Rattle.std.proofs.lemmas.List.{length-map, length-replicate}
+use Rattle.std.proofs.Common.{◌≡◌, ◌∙◌, [], ap, arith, get_or, length}
+use Rattle.std.proofs.lemmas.List.{length-map}
 use Rattle.stark_clear.specs.Columns.{column_list, columns_list}
-use Rattle.stark_clear.specs.Masks.{HasMaskAt, less_all}
-use Rattle.stark_clear.proofs.BalancingSteps.{all_taken_off, mask_read, one_more_off, one_of_all}
+use Rattle.stark_clear.specs.Masks.{HasMaskAt}
+use Rattle.stark_clear.proofs.BalancingSteps.{mask_read, one_more_off, one_of_all}
 use Rattle.stark_clear.proofs.MaskedColumns.{off_length}
 use Rattle.stark_clear.proofs.masked.chunks.balancing_mask.Goals as goal
 

@@ -1,4 +1,4 @@
-use Rattle.std.proofs.Common.{◌∙◌, ◌+◌, ap, sym, arith, set, add-one}
+use Rattle.std.proofs.Common.{◌∙◌, ap, sym, arith, set, add-one}
 use Rattle.std.proofs.lemmas.List.{length-set}
 use Rattle.stark_clear.proofs.MaskedColumns.{all_off, less_from, one_less}
 use Rattle.stark_clear.proofs.masked.columns.take_off.Goals as goal

@@ -1,9 +1,9 @@
-use Rattle.std.proofs.Common.{◌≡◌, ◌≤◌, ◌-◌, ◌/◌, ◌^◌, ◌∙◌, ap, sym, arith, length, subst, map}
+use Rattle.std.proofs.Common.{◌≡◌, ◌≤◌, ◌-◌, ◌/◌, ◌^◌, ◌∙◌, ap, sym, arith, length, subst}
 use Rattle.std.specs.List.{AllByRecursion}
-use Rattle.stark_support.specs.LogarithmFacts.{exponent_at_most, same_exponent}
+use Rattle.stark_support.specs.LogarithmFacts.{exponent_at_most}
 use Rattle.stark_support.specs.Scheme.{TakesRows, matrix_row, natural_coset}
 use Rattle.stark_clear.specs.Columns.{column_list, columns_list}
-use Rattle.stark_clear.specs.Masks.{mask_lists, masked_polynomial}
+use Rattle.stark_clear.specs.Masks.{mask_lists}
 use Rattle.stark_clear.proofs.MaskSteps.{lists_full, lists_length}
 use Rattle.stark_clear.proofs.MaskedColumns.{joined_columns}
 use Rattle.stark_clear.proofs.MaskedRows.{masked_lengths, masked_rows}

@@ -1,4 +1,4 @@
-use Rattle.std.proofs.Common.{◌≡◌, ◌∙◌, ◌+◌, ◌<◌, ap, sym, arith, length}
+use Rattle.std.proofs.Common.{◌+◌, ◌<◌, arith, length}
 use Rattle.std.proofs.lemmas.Nat.{mod_below}
 use Rattle.stark_clear.proofs.MaskSteps.{next_number_place, one_more_number}
 use Rattle.stark_clear.proofs.masked.list.next_list.Goals as goal

@@ -1,20 +1,11 @@
 -- The masks of a quotient's last chunk, computed from the others.
-use Rattle.std.proofs.Common.{◌≡◌, ◌∙◌, ℕ, zero, suc, ◌+◌, ◌<◌, ◌≤◌, List, [], ◌∷◌, ◌++◌, length, map, drop, get_or, refl, sym, ap, arith, add-one, subst}
+use Rattle.std.proofs.Common.{◌≡◌, ◌∙◌, ℕ, zero, suc, ◌+◌, ◌<◌, ◌≤◌, List, [], ◌∷◌, length, map, drop, get_or, refl, sym, ap, arith, subst}
 use Rattle.std.specs.List.{AllByRecursion}
 use Rattle.std.proofs.lemmas.List.{drop_all, get_or-map}
 use Rattle.stark_support.specs.Ring.{RingOps, difference}
 use Rattle.stark_support.specs.Polynomial.{polynomial_ring}
 use Rattle.stark_support.proofs.Places.{from_place}
-use Rattle.stark_clear.specs.Masks.{HasMaskAt, HasMasks, balancing_mask, balancing_masks, less_all}
-
-first_place : (a : ℕ) → a ≡ a + 0
-first_place a = omega arith
-
-later_place : (a n : ℕ) → suc a + n ≡ a + suc n
-later_place a n = omega arith
-
-from_zero : (n : ℕ) → n ≡ 0 + n
-from_zero n = omega arith
+use Rattle.stark_clear.specs.Masks.{HasMaskAt, HasMasks, less_all}
 
 -- what holds of all holds of one
 pub one_of_all : {A B : Type 0} (f : A → B) (P : B → Type 0) (xs : List A) (i : ℕ) (x : A) → AllByRecursion P (map f xs) → i < length xs → x ≡ get_or xs i x → P (f x)
@@ -39,18 +30,6 @@ module _ {F : Type 0} where
   masks_at c width size (masks ∷ chosen) all h = (mask_at c width size masks all.0.0 all.0.1 h, masks_at c width size chosen all.1 h)
 
 module _ {F : Type 0} (field : RingOps F) where
-  next_masks : (chosen : List (List (List F))) (size a n : ℕ) → balancing_masks field chosen size a (suc n) ≡ balancing_masks field chosen size a n ++ balancing_mask field chosen size (a + n) ∷ []
-  next_masks chosen size a zero = ap (λ k. balancing_mask field chosen size k ∷ []) (first_place a)
-  next_masks chosen size a (suc n) =
-      ap (λ t. balancing_mask field chosen size a ∷ t) (next_masks chosen size (suc a) n)
-      ∙ ap (λ k. balancing_mask field chosen size a ∷ (balancing_masks field chosen size (suc a) n ++ balancing_mask field chosen size k ∷ [])) (later_place a n)
-
-  pub one_more_mask : (chosen : List (List (List F))) (size n : ℕ) (done after : List (List F)) (mask : List F) → mask ≡ balancing_mask field chosen size n → after ≡ done ++ mask ∷ []
-      → done ≡ balancing_masks field chosen size 0 n → after ≡ balancing_masks field chosen size 0 (n + 1)
-  one_more_mask chosen size n done after mask is pushed so_far =
-      pushed ∙ ap (λ t. t ++ mask ∷ []) so_far ∙ ap (λ m. balancing_masks field chosen size 0 n ++ m ∷ []) (is ∙ ap (balancing_mask field chosen size) (from_zero n))
-      ∙ sym (next_masks chosen size 0 n) ∙ ap (balancing_masks field chosen size 0) (sym (add-one n))
-
   module _ {A : Type 0} (f : A → List (List F)) (chosen : List A) (c size : ℕ) where
     -- one more chunk's mask taken off
     pub one_more_off : (i : ℕ) (x : A) (p after q whole : List F) → i < length chosen → x ≡ get_or chosen i x → q ≡ get_or (f x) c [] → after ≡ difference (polynomial_ring field) p q

@@ -7,3 +7,4 @@ pub mod MaskedColumns
 pub mod MaskedQuotient
 pub mod MaskedRows
 pub mod PartWeights
+pub mod Ranges

@@ -5,27 +5,10 @@ use Rattle.std.proofs.Math.Nat.{mod-add-mod, mod-mod}
 use Rattle.std.proofs.lemmas.List.{get_or_default}
 use Rattle.stark_support.specs.Ring.{RingOps}
 use Rattle.stark_clear.specs.Masks.{HasMasks, chunk_masks, mask_list, mask_lists, mask_number}
-
-no_more : (a : ℕ) → a ≡ a + 0
-no_more a = omega arith
-
-no_lists : (a size : ℕ) → a ≡ a + 0 * size
-no_lists a size = omega arith
-
-one_later : (a n : ℕ) → suc a + n ≡ a + suc n
-one_later a n = omega arith
-
-one_list_later : (a n size : ℕ) → (a + size) + n * size ≡ a + suc n * size
-one_list_later a n size = omega arith
-
-from_zero : (n : ℕ) → n ≡ 0 + n
-from_zero n = omega arith
+use Rattle.stark_clear.proofs.Ranges.{range_grown, range_length, strided_grown, strided_length}
 
 one_step_more : (first k steps : ℕ) → (first + k * steps) + steps ≡ first + (k + 1) * steps
 one_step_more first k steps = omega arith
-
-one_step_on : (k steps : ℕ) → k * steps + steps ≡ (k + 1) * steps
-one_step_on k steps = omega arith
 
 one_number_more : (first k : ℕ) → (first + k) + 1 ≡ first + (k + 1)
 one_number_more first k = omega arith
@@ -39,66 +22,40 @@ more_modulo n a b k e = sym (mod-add-mod a n k) ∙ ap (λ c. (c + k) % n) e ∙
 
 module _ {F : Type 0} (field : RingOps F) (masks : List F) where
   -- Only the place in the list counts.
-  pub same_list : (a b size : ℕ) → a % length masks ≡ b % length masks → mask_list field masks a size ≡ mask_list field masks b size
+  same_list : (a b size : ℕ) → a % length masks ≡ b % length masks → mask_list field masks a size ≡ mask_list field masks b size
   same_list a b zero e = refl
   same_list a b (suc size) e =
       ap (λ i. get_or masks i field.zero ∷ mask_list field masks (suc a) size) e
       ∙ ap (λ t. mask_number field masks b ∷ t) (same_list (suc a) (suc b) size (suc_modulo (length masks) a b e))
 
-  pub same_lists : (a b count size : ℕ) → a % length masks ≡ b % length masks → mask_lists field masks a count size ≡ mask_lists field masks b count size
+  same_lists : (a b count size : ℕ) → a % length masks ≡ b % length masks → mask_lists field masks a count size ≡ mask_lists field masks b count size
   same_lists a b zero size e = refl
   same_lists a b (suc count) size e =
       ap (λ t. t ∷ mask_lists field masks (a + size) count size) (same_list a b size e)
       ∙ ap (λ t. mask_list field masks b size ∷ t) (same_lists (a + size) (b + size) count size (more_modulo (length masks) a b size e))
 
-  -- ---- one more at the end
-  list_and_next : (a n : ℕ) → mask_list field masks a (suc n) ≡ mask_list field masks a n ++ mask_number field masks (a + n) ∷ []
-  list_and_next a zero = ap (λ k. mask_number field masks k ∷ []) (no_more a)
-  list_and_next a (suc n) =
-      ap (λ t. mask_number field masks a ∷ t) (list_and_next (suc a) n)
-      ∙ ap (λ k. mask_number field masks a ∷ (mask_list field masks (suc a) n ++ mask_number field masks k ∷ [])) (one_later a n)
-
-  lists_and_next : (a n size : ℕ) → mask_lists field masks a (suc n) size ≡ mask_lists field masks a n size ++ mask_list field masks (a + n * size) size ∷ []
-  lists_and_next a zero size = ap (λ k. mask_list field masks k size ∷ []) (no_lists a size)
-  lists_and_next a (suc n) size =
-      ap (λ t. mask_list field masks a size ∷ t) (lists_and_next (a + size) n size)
-      ∙ ap (λ k. mask_list field masks a size ∷ (mask_lists field masks (a + size) n size ++ mask_list field masks k size ∷ [])) (one_list_later a n size)
-
-  chunks_and_next : (a n width size : ℕ) → chunk_masks field masks a (suc n) width size ≡ chunk_masks field masks a n width size ++ mask_lists field masks (a + n * (width * size)) width size ∷ []
-  chunks_and_next a zero width size = ap (λ k. mask_lists field masks k width size ∷ []) (no_lists a (width * size))
-  chunks_and_next a (suc n) width size =
-      ap (λ t. mask_lists field masks a width size ∷ t) (chunks_and_next (a + width * size) n width size)
-      ∙ ap (λ k. mask_lists field masks a width size ∷ (chunk_masks field masks (a + width * size) n width size ++ mask_lists field masks k width size ∷ [])) (one_list_later a n (width * size))
-
   -- ---- steps of the loops, which know the place by its remainder
   pub one_more_number : (first place n : ℕ) (done after : List F) (x : F) → x ≡ get_or masks place x → place < length masks → place ≡ (first + n) % length masks
       → after ≡ done ++ x ∷ [] → done ≡ mask_list field masks first n → after ≡ mask_list field masks first (n + 1)
   one_more_number first place n done after x is below e pushed so_far =
-      pushed ∙ ap (λ t. t ++ x ∷ []) so_far ∙ ap (λ y. mask_list field masks first n ++ y ∷ []) (is ∙ get_or_default masks place x field.zero below ∙ ap (λ i. get_or masks i field.zero) e)
-      ∙ sym (list_and_next first n) ∙ ap (mask_list field masks first) (sym (add-one n))
+      range_grown (mask_number field masks) first n done after x (is ∙ get_or_default masks place x field.zero below ∙ ap (λ i. get_or masks i field.zero) e) pushed so_far
 
   pub one_more_list : (first place n size : ℕ) (done after : List (List F)) (list : List F) → list ≡ mask_list field masks place size → place ≡ (first + n * size) % length masks
       → after ≡ done ++ list ∷ [] → done ≡ mask_lists field masks first n size → after ≡ mask_lists field masks first (n + 1) size
   one_more_list first place n size done after list is e pushed so_far =
-      pushed ∙ ap (λ t. t ++ list ∷ []) so_far
-      ∙ ap (λ y. mask_lists field masks first n size ++ y ∷ []) (is ∙ same_list place (first + n * size) size (ap (λ k. k % length masks) e ∙ mod-mod (first + n * size) (length masks)))
-      ∙ sym (lists_and_next first n size) ∙ ap (λ k. mask_lists field masks first k size) (sym (add-one n))
+      strided_grown (λ a. mask_list field masks a size) first n size done after list
+      (is ∙ same_list place (first + n * size) size (ap (λ k. k % length masks) e ∙ mod-mod (first + n * size) (length masks))) pushed so_far
 
-  pub one_more_chunk : (place n width size : ℕ) (done after : List (List (List F))) (lists : List (List F)) → lists ≡ mask_lists field masks place width size → place ≡ (n * (width * size)) % length masks
-      → after ≡ done ++ lists ∷ [] → done ≡ chunk_masks field masks 0 n width size → after ≡ chunk_masks field masks 0 (n + 1) width size
-  one_more_chunk place n width size done after lists is e pushed so_far =
-      pushed ∙ ap (λ t. t ++ lists ∷ []) so_far
-      ∙ ap (λ y. chunk_masks field masks 0 n width size ++ y ∷ []) (is ∙ same_lists place (0 + n * (width * size)) width size (ap (λ k. k % length masks) e ∙ mod-mod (n * (width * size)) (length masks) ∙ ap (λ k. k % length masks) (from_zero (n * (width * size)))))
-      ∙ sym (chunks_and_next 0 n width size) ∙ ap (λ k. chunk_masks field masks 0 k width size) (sym (add-one n))
+  pub one_more_chunk : (first place n width size : ℕ) (done after : List (List (List F))) (lists : List (List F)) → lists ≡ mask_lists field masks place width size → place ≡ (first + n * (width * size)) % length masks
+      → after ≡ done ++ lists ∷ [] → done ≡ chunk_masks field masks first n width size → after ≡ chunk_masks field masks first (n + 1) width size
+  one_more_chunk first place n width size done after lists is e pushed so_far =
+      strided_grown (λ a. mask_lists field masks a width size) first n (width * size) done after lists
+      (is ∙ same_lists place (first + n * (width * size)) width size (ap (λ k. k % length masks) e ∙ mod-mod (first + n * (width * size)) (length masks))) pushed so_far
 
--- the place after one more step
+-- the place after more steps, and after one number
 pub next_place : (n first place k steps : ℕ) → place ≡ (first + k * steps) % n → (place + steps) % n ≡ (first + (k + 1) * steps) % n
 next_place n first place k steps e =
     ap (λ p. (p + steps) % n) e ∙ mod-add-mod (first + k * steps) n steps ∙ ap (λ t. t % n) (one_step_more first k steps)
-
-pub next_place_from_start : (n place k steps : ℕ) → place ≡ (k * steps) % n → (place + steps) % n ≡ ((k + 1) * steps) % n
-next_place_from_start n place k steps e =
-    ap (λ p. (p + steps) % n) e ∙ mod-add-mod (k * steps) n steps ∙ ap (λ t. t % n) (one_step_on k steps)
 
 pub next_number_place : (n first place k : ℕ) → place ≡ (first + k) % n → (place + 1) % n ≡ (first + (k + 1)) % n
 next_number_place n first place k e = ap (λ p. (p + 1) % n) e ∙ mod-add-mod (first + k) n 1 ∙ ap (λ t. t % n) (one_number_more first k)
@@ -106,21 +63,15 @@ next_number_place n first place k e = ap (λ p. (p + 1) % n) e ∙ mod-add-mod (
 -- ---- how many there are
 
 module _ {F : Type 0} (field : RingOps F) (masks : List F) where
-  pub list_length : (a size : ℕ) → length (mask_list field masks a size) ≡ size
-  list_length a zero = refl
-  list_length a (suc size) = ap suc (list_length (suc a) size)
-
   pub lists_length : (a count size : ℕ) → length (mask_lists field masks a count size) ≡ count
-  lists_length a zero size = refl
-  lists_length a (suc count) size = ap suc (lists_length (a + size) count size)
+  lists_length a count size = strided_length (λ k. mask_list field masks k size) a count size
 
   pub lists_full : (a count size : ℕ) → AllByRecursion (λ mask. length mask ≡ size) (mask_lists field masks a count size)
   lists_full a zero size = tt
-  lists_full a (suc count) size = (list_length a size, lists_full (a + size) count size)
+  lists_full a (suc count) size = (range_length (mask_number field masks) a size, lists_full (a + size) count size)
 
   pub chunks_length : (a count width size : ℕ) → length (chunk_masks field masks a count width size) ≡ count
-  chunks_length a zero width size = refl
-  chunks_length a (suc count) width size = ap suc (chunks_length (a + width * size) count width size)
+  chunks_length a count width size = strided_length (λ k. mask_lists field masks k width size) a count (width * size)
 
   pub chunks_have_masks : (a count width size : ℕ) → AllByRecursion (HasMasks width size) (chunk_masks field masks a count width size)
   chunks_have_masks a zero width size = tt

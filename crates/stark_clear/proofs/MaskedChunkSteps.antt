@@ -1,19 +1,18 @@
 -- Chunks that are masked one after the other.
-use Rattle.std.proofs.Common.{◌≡◌, ◌∙◌, ℕ, zero, suc, ◌+◌, ◌-◌, ◌/◌, ◌^◌, ◌<◌, ◌≤◌, List, [], ◌∷◌, ◌++◌, length, map, drop, get_or, refl, sym, ap, arith, append_assoc, subst}
+use Rattle.std.proofs.Common.{◌≡◌, ◌∙◌, ℕ, ◌+◌, ◌-◌, ◌/◌, ◌^◌, ◌<◌, ◌≤◌, List, [], ◌∷◌, ◌++◌, length, map, drop, get_or, refl, sym, ap, append_assoc, subst}
 use Rattle.std.specs.Prelude.{Some}
-use Rattle.std.specs.List.{slice_get}
 use Rattle.std.specs.Simd.Lanes.{zip2}
 use Rattle.std.proofs.Math.Nat.{mul-div_cancel}
 use Rattle.std.proofs.lemmas.List.{append-nil, drop_all, length-append}
 use Rattle.std.proofs.lemmas.Nat.{pow_pos}
-use Rattle.std.proofs.lemmas.Option.{same_Some}
 use Rattle.stark_support.specs.Ring.{RingOps}
 use Rattle.stark_support.specs.Coset.{AreParts, TwoAdicCoset, coset_part}
 use Rattle.stark_support.proofs.Places.{from_place}
-use Rattle.stark_clear.specs.Masks.{AreMaskedChunks, balancing_masks, chunk_columns, chunk_masks, masked_chunks, masked_column, masked_polynomial, parts_from, quotient_masks, vanishing_scale}
+use Rattle.stark_clear.specs.Masks.{AreMaskedChunks, balancing_masks, chunk_columns, chunk_masks, masked_chunks, masked_column, masked_polynomial, quotient_masks, range, vanishing_scale}
 use Rattle.stark_clear.specs.PlainChunks.{ArePlainChunks}
 use Rattle.stark_clear.specs.RowFacts.{size_in_parts}
 use Rattle.stark_clear.proofs.MaskSteps.{chunks_length}
+use Rattle.stark_clear.proofs.Ranges.{from_zero, listed_range}
 
 module _ {F : Type 0} (field : RingOps F) where
   -- what is committed of masked columns
@@ -44,29 +43,9 @@ module _ {F : Type 0} (field : RingOps F) where
 
 -- ---- what is made of computed parts
 
-part_later : (a i : ℕ) → suc a + i ≡ a + suc i
-part_later a i = omega arith
-
-from_first : (i : ℕ) → i ≡ 0 + i
-from_first i = omega arith
-
-part_first : (a : ℕ) → a + 0 ≡ a
-part_first a = omega arith
-
--- the parts that are given by their places
-pub listed_parts : {F : Type 0} (field : RingOps F) (root : ℕ → F) (coset : TwoAdicCoset F) (log_parts a n : ℕ) (parts : List (TwoAdicCoset F)) → length parts ≡ n
-    → ((i : ℕ) → i < n → slice_get parts i ≡ Some (coset_part field root coset log_parts (a + i))) → parts ≡ parts_from field root coset log_parts a n
-listed_parts field root coset log_parts a zero [] number each = refl
-listed_parts field root coset log_parts a zero (d ∷ parts) number each = absurd (omega arith)
-listed_parts field root coset log_parts a (suc n) [] number each = absurd (omega arith)
-listed_parts field root coset log_parts a (suc n) (d ∷ parts) number each =
-    ap (λ t. t ∷ parts) (same_Some d (coset_part field root coset log_parts a) (each 0 (omega arith) ∙ ap (λ k. Some (coset_part field root coset log_parts k)) (part_first a)))
-    ∙ ap (λ t. coset_part field root coset log_parts a ∷ t)
-    (listed_parts field root coset log_parts (suc a) n parts (omega arith) (λ i below. each (suc i) (omega arith) ∙ ap (λ k. Some (coset_part field root coset log_parts k)) (sym (part_later a i))))
-
 pub quotient_length : {F : Type 0} (field : RingOps F) (masks : List F) (count width size : ℕ) → length (quotient_masks field masks count width size) ≡ count + 1
 quotient_length field masks count width size =
-    length-append (chunk_masks field masks 0 count width size) (balancing_masks field (chunk_masks field masks 0 count width size) size 0 width ∷ []) ∙ ap (λ n. n + 1) (chunks_length field masks 0 count width size)
+    length-append (chunk_masks field masks 0 count width size) (balancing_masks field (chunk_masks field masks 0 count width size) size width ∷ []) ∙ ap (λ n. n + 1) (chunks_length field masks 0 count width size)
 
 -- the size of each part
 pub part_size : (k p num size : ℕ) → p ≤ k → 2 ^ p ≡ num → size ≡ 2 ^ k / num → size ≡ 2 ^ (k - p)
@@ -79,6 +58,6 @@ pub masked_made : {F : Type 0} (field : RingOps F) (inverse : F → F) (root : �
     → AreMaskedChunks field inverse root coset k width row (quotient_masks field numbers (num - 1) width (2 ^ (coset.log_size - k))) plain matrices
 masked_made field inverse root coset k num width size row numbers parts plain masks matrices within power are takes is_masks is_size made = record {
   takes = subst (λ n. ArePlainChunks field root coset k width n row plain) (sym power) takes;
-  sum = made ∙ ap (λ t. chunk_columns (masked_chunks field inverse t plain masks)) (listed_parts field root coset k 0 (2 ^ k) parts are.number (λ i below. are.part i below ∙ ap (λ j. Some (coset_part field root coset k j)) (from_first i)))
-      ∙ ap (λ t. chunk_columns (masked_chunks field inverse (parts_from field root coset k 0 (2 ^ k)) plain t)) (is_masks ∙ ap (quotient_masks field numbers (num - 1) width) (part_size coset.log_size k num size within power is_size));
+  sum = made ∙ ap (λ t. chunk_columns (masked_chunks field inverse t plain masks)) (listed_range (coset_part field root coset k) 0 (2 ^ k) parts are.number (λ i below. are.part i below ∙ ap (λ j. Some (coset_part field root coset k j)) (from_zero i)))
+      ∙ ap (λ t. chunk_columns (masked_chunks field inverse (range (coset_part field root coset k) 0 (2 ^ k)) plain t)) (is_masks ∙ ap (quotient_masks field numbers (num - 1) width) (part_size coset.log_size k num size within power is_size));
 }

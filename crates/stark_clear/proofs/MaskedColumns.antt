@@ -1,11 +1,12 @@
 -- Polynomials that are taken off others place by place, and columns that are masked one after the other.
-use Rattle.std.proofs.Common.{◌≡◌, ◌∙◌, ◌⊎◌, ℕ, zero, suc, ◌+◌, ◌<◌, ◌≤◌, List, [], ◌∷◌, ◌++◌, length, map, drop, set, get_or, min, refl, sym, ap, arith, inl, inr, append_assoc}
+use Rattle.std.proofs.Common.{◌≡◌, ◌∙◌, ℕ, zero, suc, ◌+◌, ◌<◌, ◌≤◌, List, [], ◌∷◌, ◌++◌, length, map, drop, set, get_or, min, refl, sym, ap, arith, inl, inr, append_assoc}
 use Rattle.std.specs.Simd.Lanes.{zip2}
 use Rattle.std.proofs.lemmas.List.{append-nil, drop_all}
 use Rattle.stark_support.specs.Ring.{RingOps, difference}
 use Rattle.stark_support.specs.Polynomial.{polynomial_ring}
 use Rattle.stark_support.proofs.Places.{from_place}
 use Rattle.stark_clear.specs.Masks.{masked_polynomial}
+use Rattle.stark_clear.specs.OpenedFacts.{one_is_done}
 
 module _ {F : Type 0} (ring : RingOps F) where
   -- p less q from place i on
@@ -42,9 +43,6 @@ off_length ring [] (d ∷ q) h = absurd (omega arith)
 off_length ring (c ∷ p) [] h = refl
 off_length ring (c ∷ p) (d ∷ q) h = ap suc (off_length ring p q (omega arith))
 
-one_is_done : (a b i : ℕ) → min a b ≤ i → (a ≤ i) ⊎ (b ≤ i)
-one_is_done a b i h = grind arith
-
 module _ {A B C V W : Type 0} (f : V → A) (g : W → B) (h : A → B → C) (xs : List V) (ys : List W) (i : ℕ) where
   -- one more of two lists that are joined place by place
   pub one_more_joined : (x : V) (y : W) (done after whole : List C) (z : C) → i < length xs → i < length ys → x ≡ get_or xs i x → y ≡ get_or ys i y → z ≡ h (f x) (g y) → after ≡ done ++ z ∷ []
@@ -61,7 +59,7 @@ module _ {A B C V W : Type 0} (f : V → A) (g : W → B) (h : A → B → C) (x
 
   pub all_joined : (done whole : List C) → min (length xs) (length ys) ≤ i → done ++ zip2 h (map f (drop i xs)) (map g (drop i ys)) ≡ whole → done ≡ whole
   all_joined done whole ended so_far =
-      let none : zip2 h (map f (drop i xs)) (map g (drop i ys)) ≡ [] = elim (one_is_done (length xs) (length ys) i ended) [
+      let none : zip2 h (map f (drop i xs)) (map g (drop i ys)) ≡ [] = elim (one_is_done i (length xs) (length ys) ended) [
         | inl w ↦ ap (λ t. zip2 h (map f t) (map g (drop i ys))) (drop_all i xs w)
         | inr w ↦ ap (λ t. zip2 h (map f (drop i xs)) (map g t)) (drop_all i ys w) ∙ none_to_join (map f (drop i xs))
       ] in

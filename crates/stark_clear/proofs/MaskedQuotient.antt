@@ -8,7 +8,7 @@ use Rattle.std.proofs.lemmas.Bool.{false≢true}
 use Rattle.std.proofs.lemmas.List.{length-map, length-replicate, map-append}
 use Rattle.std.proofs.lemmas.List.Elements.{All-from_recursion}
 use Rattle.std.proofs.lemmas.Nat.{pow_pos}
-use Rattle.std.proofs.lemmas.Option.{same_Some, slice_get_within}
+use Rattle.std.proofs.lemmas.Option.{same_Some}
 use Rattle.stark_support.specs.Ring.{RingOps, FieldLaws, difference}
 use Rattle.stark_support.specs.Embedding.{IsEmbedding}
 use Rattle.stark_support.specs.KeepsRing.{kept_power}
@@ -23,8 +23,9 @@ use Rattle.stark_support.specs.SubgroupFacts.{embedded_nonzero}
 use Rattle.stark_support.specs.Recomposition.{weighted_sum}
 use Rattle.stark_support.specs.Scheme.{AreQuotientChunks, IsChunk, IsMasked, QuotientChunk, TakesRows, committed_chunk}
 use Rattle.stark_clear.specs.ClearScheme.{IsFull, columns_of}
-use Rattle.stark_clear.specs.Masks.{AreMaskedChunks, HasMasks, balancing_mask, balancing_masks, chunk_columns, chunk_masks, less_all, masked_chunk, masked_chunks, masked_column, parts_from, quotient_masks, vanishing_scale}
+use Rattle.stark_clear.specs.Masks.{AreMaskedChunks, HasMasks, balancing_mask, balancing_masks, chunk_columns, chunk_masks, less_all, masked_chunk, masked_chunks, masked_column, quotient_masks, range, vanishing_scale}
 use Rattle.stark_clear.specs.PlainChunks.{ArePlainChunks}
+use Rattle.stark_clear.specs.PlainChunkFacts.{no_chunk}
 use Rattle.stark_clear.specs.RowFacts.{all_listed, size_in_parts}
 use Rattle.stark_clear.proofs.BalancingSteps.{masks_at}
 use Rattle.stark_clear.proofs.MaskSteps.{chunks_have_masks}
@@ -32,28 +33,14 @@ use Rattle.stark_clear.proofs.MaskValues.{balanced_value_over, masked_on_coset, 
 use Rattle.stark_clear.proofs.MaskedChunkSteps.{columns_of_masked, quotient_length}
 use Rattle.stark_clear.proofs.MaskedColumns.{off_length}
 use Rattle.stark_clear.proofs.MaskedRows.{masked_lengths}
-use Rattle.stark_clear.proofs.PartWeights.{range, weighted_zero}
+use Rattle.stark_clear.proofs.PartWeights.{weighted_zero}
+use Rattle.stark_clear.proofs.Ranges.{first_place, from_zero, later_place, range_at, range_length}
 
 twice : (k : ℕ) → 2 ^ k + 2 ^ k ≡ 2 ^ (k + 1)
 twice k = double k ∙ ap (λ n. 2 ^ n) (sym (add-one k))
 
 times_turned : (e n : ℕ) → e * n ≡ n * e
 times_turned e n = omega arith
-
-none_below : {j : ℕ} → j < 0 → ⊥
-none_below h = omega arith
-
-none_there : {A : Type 0} (j : ℕ) (q : A) → slice_get [] j ≡ Some q → ⊥
-none_there j q h = none_below (slice_get_within [] j q h)
-
-place_later : (a j : ℕ) → suc a + j ≡ a + suc j
-place_later a j = omega arith
-
-place_first : (a : ℕ) → a ≡ a + 0
-place_first a = omega arith
-
-from_first : (j : ℕ) → 0 + j ≡ j
-from_first j = omega arith
 
 -- ---- the masks of the last chunk
 
@@ -67,21 +54,12 @@ module _ {F : Type 0} (field : RingOps F) where
   chosen_lengths c size [] each = tt
   chosen_lengths c size (masks ∷ chosen) each = (each.0.1, chosen_lengths c size chosen each.1)
 
-  balancing_number : (chosen : List (List (List F))) (size c width : ℕ) → length (balancing_masks field chosen size c width) ≡ width
-  balancing_number chosen size c zero = refl
-  balancing_number chosen size c (suc width) = ap suc (balancing_number chosen size (suc c) width)
-
-  balancing_full : (chosen : List (List (List F))) (size c width whole : ℕ) → AllByRecursion (HasMasks whole size) chosen → c + width ≤ whole → AllByRecursion (λ mask. length mask ≡ size) (balancing_masks field chosen size c width)
+  balancing_full : (chosen : List (List (List F))) (size c width whole : ℕ) → AllByRecursion (HasMasks whole size) chosen → c + width ≤ whole → AllByRecursion (λ mask. length mask ≡ size) (range (balancing_mask field chosen size) c width)
   balancing_full chosen size c zero whole each h = tt
   balancing_full chosen size c (suc width) whole each h = (
     less_all_length size (replicate size field.zero) (map (λ masks. get_or masks c []) chosen) (length-replicate size field.zero) (chosen_lengths c size chosen (masks_at c whole size chosen each (omega (arith, h)))),
     balancing_full chosen size (suc c) width whole each (omega (arith, h)),
   )
-
-  balancing_at : (chosen : List (List (List F))) (size a width c : ℕ) → c < width → get_or (balancing_masks field chosen size a width) c [] ≡ balancing_mask field chosen size (a + c)
-  balancing_at chosen size a zero c h = absurd (omega arith)
-  balancing_at chosen size a (suc width) zero h = ap (balancing_mask field chosen size) (place_first a)
-  balancing_at chosen size a (suc width) (suc c) h = balancing_at chosen size (suc a) width c (omega arith) ∙ ap (balancing_mask field chosen size) (place_later a c)
 
   joined_have_masks : (width size : ℕ) (chosen : List (List (List F))) (last : List (List F)) → AllByRecursion (HasMasks width size) chosen → HasMasks width size last → AllByRecursion (HasMasks width size) (chosen ++ last ∷ [])
   joined_have_masks width size [] last each h = (h, tt)
@@ -90,8 +68,8 @@ module _ {F : Type 0} (field : RingOps F) where
   pub quotient_has_masks : (masks : List F) (count width size : ℕ) → AllByRecursion (HasMasks width size) (quotient_masks field masks count width size)
   quotient_has_masks masks count width size =
       let chosen = chunk_masks field masks 0 count width size in
-      joined_have_masks width size chosen (balancing_masks field chosen size 0 width) (chunks_have_masks field masks 0 count width size)
-      (balancing_number chosen size 0 width, balancing_full chosen size 0 width width (chunks_have_masks field masks 0 count width size) (omega arith))
+      joined_have_masks width size chosen (balancing_masks field chosen size width) (chunks_have_masks field masks 0 count width size)
+      (range_length (balancing_mask field chosen size) 0 width, balancing_full chosen size 0 width width (chunks_have_masks field masks 0 count width size) (omega arith))
 
 -- ---- columns that are masked
 
@@ -155,7 +133,7 @@ module _ {F E : Type 0} {field : RingOps F} {base_inverse : F → F} {ring : Rin
 
     -- ---- the chunks on the parts from the a-th on
     abbrev chunks_from : ℕ → ℕ → List (List (List F)) → List (List (List F)) → List (QuotientChunk F)
-    chunks_from a n plain masks = masked_chunks field base_inverse (parts_from field root coset log_parts a n) plain masks
+    chunks_from a n plain masks = masked_chunks field base_inverse (range (coset_part field root coset log_parts) a n) plain masks
 
     number_of_chunks : (a n : ℕ) (plain masks : List (List (List F))) → length plain ≡ n → length masks ≡ n → length (chunks_from a n plain masks) ≡ n
     number_of_chunks a zero plain masks h k = refl
@@ -192,28 +170,28 @@ module _ {F E : Type 0} {field : RingOps F} {base_inverse : F → F} {ring : Rin
       masks_sum_to_zero : (numbers : List F) (count : ℕ) → c < width → total ring (map at_column (quotient_masks field numbers count width size)) ≡ ring.zero
       masks_sum_to_zero numbers count inside =
           let chosen = chunk_masks field numbers 0 count width size in
-          let last = balancing_masks field chosen size 0 width in
+          let last = balancing_masks field chosen size width in
           let mask = balancing_mask field chosen size c in
           ap (total ring) (map-append at_column chosen (last ∷ []))
           ∙ total_of_append laws.of_ring (map at_column chosen) (at_column last ∷ [])
-          ∙ ap (ring.add (total ring (map at_column chosen))) (laws.of_ring.add_zero (at_column last) ∙ ap (λ q. value_over ring embed q x) (balancing_at field chosen size 0 width c inside ∙ ap (balancing_mask field chosen size) (from_first c)))
+          ∙ ap (ring.add (total ring (map at_column chosen))) (laws.of_ring.add_zero (at_column last) ∙ ap (λ q. value_over ring embed q x) (range_at (balancing_mask field chosen size) [] 0 width c inside ∙ ap (balancing_mask field chosen size) (sym (from_zero c))))
           ∙ ap (λ t. ring.add (total ring t) (value_over ring embed mask x)) (values_of_chosen chosen)
           ∙ balanced_value_over embeds.keeps laws.of_ring size (map (λ masks. get_or masks c []) chosen) x
 
     -- Chunk j is that of the lists at its place.
     chunk_there : (a n : ℕ) (plain masks : List (List (List F))) (j : ℕ) (q : QuotientChunk F) → slice_get (chunks_from a n plain masks) j ≡ Some q
         → (p m : List (List F)) × (slice_get plain j ≡ Some p) × (slice_get masks j ≡ Some m) × (q ≡ masked_chunk field base_inverse (coset_part field root coset log_parts (a + j)) p m)
-    chunk_there a zero plain masks j q there = absurd (none_there j q there)
-    chunk_there a (suc n) [] masks j q there = absurd (none_there j q there)
-    chunk_there a (suc n) (p ∷ plain) [] j q there = absurd (none_there j q there)
+    chunk_there a zero plain masks j q there = absurd (no_chunk j q there)
+    chunk_there a (suc n) [] masks j q there = absurd (no_chunk j q there)
+    chunk_there a (suc n) (p ∷ plain) [] j q there = absurd (no_chunk j q there)
     chunk_there a (suc n) (p ∷ plain) (m ∷ masks) zero q there =
-        (p, m, refl, refl, sym (same_Some _ _ there) ∙ ap (λ k. masked_chunk field base_inverse (coset_part field root coset log_parts k) p m) (place_first a))
+        (p, m, refl, refl, sym (same_Some _ _ there) ∙ ap (λ k. masked_chunk field base_inverse (coset_part field root coset log_parts k) p m) (first_place a))
     chunk_there a (suc n) (p ∷ plain) (m ∷ masks) (suc j) q there =
         let later = chunk_there (suc a) n plain masks j q there in
-        (later.0, later.1, later.2, later.3, later.4 ∙ ap (λ k. masked_chunk field base_inverse (coset_part field root coset log_parts k) later.0 later.1) (place_later a j))
+        (later.0, later.1, later.2, later.3, later.4 ∙ ap (λ k. masked_chunk field base_inverse (coset_part field root coset log_parts k) later.0 later.1) (later_place a j))
 
     all_at : {A : Type 0} (P : A → Type 0) (xs : List A) (j : ℕ) (y : A) → AllByRecursion P xs → slice_get xs j ≡ Some y → P y
-    all_at P [] j y each there = absurd (none_there j y there)
+    all_at P [] j y each there = absurd (no_chunk j y there)
     all_at P (z ∷ xs) zero y each there = subst P (same_Some z y there) each.0
     all_at P (z ∷ xs) (suc j) y each there = all_at P xs j y each.1 there
 
@@ -227,7 +205,7 @@ module _ {F E : Type 0} {field : RingOps F} {base_inverse : F → F} {ring : Rin
           let m : List (List F) = w.1 in
           let here = takes.takes i p w.2 in
           let lists = all_at (HasMasks width (2 ^ (coset.log_size - log_parts))) masks i m fit w.3 in
-          subst (IsChunk field root ring inverse embed true coset log_parts width row i) (sym (w.4 ∙ ap (λ k. masked_chunk field base_inverse (coset_part field root coset log_parts k) w.0 w.1) (from_first i)))
+          subst (IsChunk field root ring inverse embed true coset log_parts width row i) (sym (w.4 ∙ ap (λ k. masked_chunk field base_inverse (coset_part field root coset log_parts k) w.0 w.1) (sym (from_zero i))))
           (record {
             part = refl;
             masked = All-from_recursion (IsMasked field ring inverse embed true part) (zip2 (masked_column field (vanishing_scale field base_inverse part)) p m)
@@ -281,7 +259,7 @@ module _ {F E : Type 0} {field : RingOps F} {base_inverse : F → F} {ring : Rin
       let masks = quotient_masks field numbers (num - 1) width n in
       let here = made k (sym power) in
       let within : k ≤ coset.log_size = exponent_at_most k coset.log_size (omega (arith, power, fits)) in
-      let chunks = masked_chunks field base_inverse (parts_from field root coset k 0 (2 ^ k)) plain masks in
+      let chunks = masked_chunks field base_inverse (range (coset_part field root coset k) 0 (2 ^ k)) plain masks in
       let columns : matrices ≡ columns_of (map (committed_chunk field true) chunks) = here.sum ∙ sym (committed_columns coset valid k within chunks) in
       let positive = pow_pos k in
       let count : length masks ≡ 2 ^ k = let number = quotient_length field numbers (num - 1) width n in omega (arith, number, positive, power) in

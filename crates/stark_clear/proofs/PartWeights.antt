@@ -7,27 +7,15 @@ use Rattle.stark_support.specs.Powers.{power}
 use Rattle.stark_support.specs.PowerFacts.{power-mul, power-one}
 use Rattle.stark_support.specs.Coset.{coset_vanishing}
 use Rattle.stark_support.specs.Recomposition.{lagrange_weight, weighted_sum, weighted_sum_from}
+use Rattle.stark_clear.specs.Masks.{range}
 use Rattle.stark_clear.proofs.MaskValues.{total}
-
--- n elements of a sequence from the a-th on
-abbrev pub range : {A : Type 0} → (ℕ → A) → ℕ → ℕ → List A
-range s a zero = []
-range s a (suc n) = s a ∷ range s (suc a) n
-
-later_place : (a n : ℕ) → suc a + n ≡ a + suc n
-later_place a n = omega arith
-
-first_place : (a : ℕ) → a ≡ a + 0
-first_place a = omega arith
+use Rattle.stark_clear.proofs.Ranges.{first_place, from_zero, later_place, range_and_next}
 
 one_later : (a n e : ℕ) → suc a + n + e ≡ a + suc n + e
 one_later a n e = omega arith
 
 gap : (a n e : ℕ) → a + suc n + e ≡ a + suc (e + n)
 gap a n e = omega arith
-
-from_zero : (k : ℕ) → k ≡ 0 + k
-from_zero k = omega arith
 
 zero_before : (m : ℕ) → 0 + m ≡ m
 zero_before m = omega arith
@@ -43,10 +31,6 @@ all_but_one j k m h = omega arith
 
 none_between : (i : ℕ) → 0 + i + 0 ≡ i
 none_between i = omega arith
-
-pub range_and_next : {A : Type 0} (s : ℕ → A) (a n : ℕ) → range s a n ++ s (a + n) ∷ [] ≡ range s a (suc n)
-range_and_next s a zero = ap (λ k. s k ∷ []) (sym (first_place a))
-range_and_next s a (suc n) = ap (λ k. s a ∷ (range s (suc a) n ++ s k ∷ [])) (sym (later_place a n)) ∙ ap (λ t. s a ∷ t) (range_and_next s (suc a) n)
 
 module _ {K : Type 0} {ring : RingOps K} {inverse : K → K} (laws : FieldLaws ring inverse) (n m : ℕ) (s : ℕ → K) (w : K)
     (nonzero : (j : ℕ) → s j ≢ ring.zero) (step : (j e : ℕ) → power ring (s (j + e)) n ≡ ring.mul (power ring (s j) n) (power ring w e)) (round : (i : ℕ) → power ring (s (i + m)) n ≡ power ring (s i) n) where
@@ -101,7 +85,7 @@ module _ {K : Type 0} {ring : RingOps K} {inverse : K → K} (laws : FieldLaws r
   sum_from i (suc r) weight [] whole number equal = absurd (omega arith)
   sum_from i (suc r) weight (v ∷ values) whole number equal =
       ap (λ t. ring.add (ring.mul t v) (weighted_sum_from ring inverse n (range s 0 i ++ (s i ∷ [])) (range s (suc i) r) values)) (one_weight i r whole ∙ equal i r whole)
-      ∙ ap (λ t. ring.add (ring.mul weight v) (weighted_sum_from ring inverse n t (range s (suc i) r) values)) (ap (λ k. range s 0 i ++ (s k ∷ [])) (from_zero i) ∙ range_and_next s 0 i)
+      ∙ ap (λ t. ring.add (ring.mul weight v) (weighted_sum_from ring inverse n t (range s (suc i) r) values)) (ap (λ k. range s 0 i ++ (s k ∷ [])) (from_zero i) ∙ sym (range_and_next s 0 i))
       ∙ ap (ring.add (ring.mul weight v)) (sum_from (suc i) r weight values (later_place i r ∙ whole) (omega arith) equal)
       ∙ sym (laws.of_ring.mul_add weight v (total ring values))
 

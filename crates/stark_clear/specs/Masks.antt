@@ -9,6 +9,16 @@ use Rattle.stark_support.specs.Coset.{TwoAdicCoset, coset_part, coset_size}
 use Rattle.stark_support.specs.Scheme.{MaskedColumn, QuotientChunk}
 use Rattle.stark_clear.specs.PlainChunks.{ArePlainChunks}
 
+-- `count` elements of a sequence from the `first` on
+abbrev pub range : {A : Type 0} → (ℕ → A) → ℕ → ℕ → List A
+range f first zero = []
+range f first (suc count) = f first ∷ range f (suc first) count
+
+-- the same in steps
+abbrev pub strided : {A : Type 0} → (ℕ → A) → ℕ → ℕ → ℕ → List A
+strided f first step zero = []
+strided f first step (suc count) = f first ∷ strided f (first + step) step count
+
 -- ---- the list, read round and round
 
 abbrev pub mask_number : {F : Type 0} → RingOps F → List F → ℕ → F
@@ -16,18 +26,15 @@ mask_number field masks i = get_or masks (i % length masks) field.zero
 
 -- `size` numbers from the `first` on
 abbrev pub mask_list : {F : Type 0} → RingOps F → List F → ℕ → ℕ → List F
-mask_list field masks first zero = []
-mask_list field masks first (suc size) = mask_number field masks first ∷ mask_list field masks (suc first) size
+mask_list field masks first size = range (mask_number field masks) first size
 
 -- `count` lists of `size` numbers, one after the other
 abbrev pub mask_lists : {F : Type 0} → RingOps F → List F → ℕ → ℕ → ℕ → List (List F)
-mask_lists field masks first zero size = []
-mask_lists field masks first (suc count) size = mask_list field masks first size ∷ mask_lists field masks (first + size) count size
+mask_lists field masks first count size = strided (λ a. mask_list field masks a size) first size count
 
 -- for each of `count` chunks `width` such lists
 abbrev pub chunk_masks : {F : Type 0} → RingOps F → List F → ℕ → ℕ → ℕ → ℕ → List (List (List F))
-chunk_masks field masks first zero width size = []
-chunk_masks field masks first (suc count) width size = mask_lists field masks first width size ∷ chunk_masks field masks (first + width * size) count width size
+chunk_masks field masks first count width size = strided (λ a. mask_lists field masks a width size) first (width * size) count
 
 -- `width` masks of `size` coefficients
 abbrev pub HasMasks : {F : Type 0} → ℕ → ℕ → List (List F) → Type 0
@@ -48,15 +55,14 @@ less_all field p (q ∷ qs) = less_all field (difference (polynomial_ring field)
 abbrev pub balancing_mask : {F : Type 0} → RingOps F → List (List (List F)) → ℕ → ℕ → List F
 balancing_mask field chosen size c = less_all field (replicate size field.zero) (map (λ masks. get_or masks c []) chosen)
 
--- the same of `width` columns, from the c-th on
-abbrev pub balancing_masks : {F : Type 0} → RingOps F → List (List (List F)) → ℕ → ℕ → ℕ → List (List F)
-balancing_masks field chosen size c zero = []
-balancing_masks field chosen size c (suc width) = balancing_mask field chosen size c ∷ balancing_masks field chosen size (suc c) width
+-- those of the first `width` columns
+abbrev pub balancing_masks : {F : Type 0} → RingOps F → List (List (List F)) → ℕ → ℕ → List (List F)
+balancing_masks field chosen size width = range (balancing_mask field chosen size) 0 width
 
 -- `count` chunks' masks from the list, and the last chunk's
 abbrev pub quotient_masks : {F : Type 0} → RingOps F → List F → ℕ → ℕ → ℕ → List (List (List F))
 quotient_masks field masks count width size =
-    chunk_masks field masks 0 count width size ++ balancing_masks field (chunk_masks field masks 0 count width size) size 0 width ∷ []
+    chunk_masks field masks 0 count width size ++ balancing_masks field (chunk_masks field masks 0 count width size) size width ∷ []
 
 -- ---- masked polynomials
 
@@ -86,11 +92,6 @@ pub record AreMaskedBy {F : Type 0} (field : RingOps F) (height : ℕ) (masks co
   pub bounded : AllByRecursion (λ column. length column ≡ height) plain
   pub sum : columns ≡ zip2 (masked_polynomial field field.one) plain masks
 
--- `count` parts of a coset from the i-th on
-abbrev pub parts_from : {F : Type 0} → RingOps F → (ℕ → F) → TwoAdicCoset F → ℕ → ℕ → ℕ → List (TwoAdicCoset F)
-parts_from field root coset log_parts i zero = []
-parts_from field root coset log_parts i (suc count) = coset_part field root coset log_parts i ∷ parts_from field root coset log_parts (suc i) count
-
 -- what is committed of chunks
 abbrev pub chunk_columns : {F : Type 0} → List (QuotientChunk F) → List (List (List F))
 chunk_columns chunks = map (λ q. map (λ m. m.column) q.columns) chunks
@@ -98,4 +99,4 @@ chunk_columns chunks = map (λ q. map (λ m. m.column) q.columns) chunks
 -- Columns on each part that take their rows, each with its mask times the part's vanishing polynomial added.
 pub record AreMaskedChunks {F : Type 0} (field : RingOps F) (inverse : F → F) (root : ℕ → F) (coset : TwoAdicCoset F) (log_parts width : ℕ) (row : ℕ → List F) (masks plain matrices : List (List (List F))) : Type 0 where
   pub takes : ArePlainChunks field root coset log_parts width (2 ^ log_parts) row plain
-  pub sum : matrices ≡ chunk_columns (masked_chunks field inverse (parts_from field root coset log_parts 0 (2 ^ log_parts)) plain masks)
+  pub sum : matrices ≡ chunk_columns (masked_chunks field inverse (range (coset_part field root coset log_parts) 0 (2 ^ log_parts)) plain masks)

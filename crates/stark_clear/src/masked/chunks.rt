@@ -51,7 +51,7 @@ fn balancing_masks<F: Field>(
     size: usize,
 ) -> Result<Vec<Vec<F>>, AllocError>
     requires { AllByRecursion (HasMasks width size) (map columns_list chosen.now) }
-    ensures { IfOk result (λ masks. columns_list masks ≡ balancing_masks F.ring (map columns_list chosen.now) size 0 width) }
+    ensures { IfOk result (λ masks. columns_list masks ≡ balancing_masks F.ring (map columns_list chosen.now) size width) }
 {
     let mut masks = Vec::new(alloc);
     for column in 0..width {

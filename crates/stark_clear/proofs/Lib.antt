@@ -1,1 +1,10 @@
+pub mod BalancingSteps
 pub mod Loops
+pub mod MaskSteps
+pub mod MaskValues
+pub mod MaskedChunkSteps
+pub mod MaskedColumns
+pub mod MaskedQuotient
+pub mod MaskedRows
+pub mod PartWeights
+pub mod Ranges

@@ -10,5 +10,7 @@ pub mod ClearFacts
 pub mod RowFacts
 pub mod PlainChunks
 pub mod PlainChunkFacts
+pub mod Masks
+pub mod SchemeClauses
 pub mod ClearJson
 pub mod SmallSamples

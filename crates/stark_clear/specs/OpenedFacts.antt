@@ -9,6 +9,10 @@ use Rattle.stark_support.specs.Scheme.{row_at}
 use Rattle.stark_support.proofs.Places.{from_place}
 use Rattle.stark_clear.specs.Opened.{matrices_at}
 
+-- Where all places of both lists are past the end of one, that one is done.
+pub one_is_done : (i a b : ℕ) → min a b ≤ i → (a ≤ i) ⊎ (b ≤ i)
+one_is_done i a b h = grind arith
+
 module _ {F E A C : Type 0} (ring : RingOps E) (embed : F → E) (f : A → List (List F)) (g : C → List E) (xs : List A) (ys : List C) (i : ℕ) where
   pub one_more_matrix : (x : A) (y : C) (done after : List (List (List E))) (rows : List (List E)) (whole : List (List (List E))) → i < length xs → i < length ys → x ≡ get_or xs i x → y ≡ get_or ys i y
       → rows ≡ map (row_at ring embed (f x)) (g y) → after ≡ done ++ rows ∷ []
@@ -32,12 +36,9 @@ module _ {F E A C : Type 0} (ring : RingOps E) (embed : F → E) (f : A → List
   none_of_points : length ys ≤ i → matrices_at ring embed (map f (drop i xs)) (map g (drop i ys)) ≡ []
   none_of_points h = ap (λ t. matrices_at ring embed (map f (drop i xs)) (map g t)) (drop_all i ys h) ∙ no_points (map f (drop i xs))
 
-  one_is_done : (a b : ℕ) → min a b ≤ i → (a ≤ i) ⊎ (b ≤ i)
-  one_is_done a b h = grind arith
-
   pub all_matrices : (done whole : List (List (List E))) → min (length xs) (length ys) ≤ i → done ++ matrices_at ring embed (map f (drop i xs)) (map g (drop i ys)) ≡ whole → done ≡ whole
   all_matrices done whole h so_far =
-      let none : matrices_at ring embed (map f (drop i xs)) (map g (drop i ys)) ≡ [] = elim (one_is_done (length xs) (length ys) h) [
+      let none : matrices_at ring embed (map f (drop i xs)) (map g (drop i ys)) ≡ [] = elim (one_is_done i (length xs) (length ys) h) [
         | inl w ↦ none_of_matrices w
         | inr w ↦ none_of_points w
       ] in

@@ -22,7 +22,7 @@ use Rattle.stark_clear.specs.PlainChunks.{ArePlainChunks, plain_chunk, plain_chu
 none_below : {j : ℕ} → j < 0 → ⊥
 none_below h = omega arith
 
-no_chunk : {A : Type 0} (j : ℕ) (q : A) → slice_get [] j ≡ Some q → ⊥
+pub no_chunk : {A : Type 0} (j : ℕ) (q : A) → slice_get [] j ≡ Some q → ⊥
 no_chunk j q h = none_below (slice_get_within [] j q h)
 
 module _ {F E : Type 0} (field : RingOps F) {ring : RingOps E} (laws : RingLaws ring) (inverse : E → E) (embed : F → E) where

@@ -8,4 +8,5 @@ mod opening;
 mod pcs;
 
 pub use check::ClearError;
+pub use commit::{chunks_of, columns_of, committed, committed_alone};
 pub use pcs::{ClearPcs, ClearProof, ClearProverError};

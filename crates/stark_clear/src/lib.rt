@@ -2,9 +2,11 @@
 #![tactic(auto)]
 
 mod clear;
+mod masked;
 mod samples;
 
 pub use clear::{ClearError, ClearPcs, ClearProof, ClearProverError};
+pub use masked::MaskedClearPcs;
 pub use samples::{
     Asked, CounterAir, CubicAir, FibonacciAir, PairAir, PeriodicAir, PreprocessedAir, SmallAir,
 };

@@ -1,15 +1,16 @@
 //! The scheme in the clear.
-ghost use Rattle.std.specs.Prelude.{◌≡◌, ◌≢◌, ◌≤◌, ◌/◌, ◌*◌, ◌^◌, ℕ, List, [], ◌∷◌, false, map, length, IfErr, IfOk};
+ghost use Rattle.std.specs.Prelude.{◌≡◌, ◌≢◌, ◌≤◌, ◌/◌, ◌*◌, ◌^◌, false, map, length, IfErr, IfOk};
 ghost use Rattle.std.specs.Int.{IsPowerOfTwo};
 ghost use Rattle.std.specs.List.{AllByRecursion};
 ghost use Rattle.stark_support.specs.Claims.{IfRefused, claim_view, opened_view, round_view};
 ghost use Rattle.stark_support.specs.Coset.{coset_size};
 ghost use Rattle.stark_support.specs.PeriodicTable.{HasPeriodicValues};
-ghost use Rattle.stark_support.specs.Scheme.{AreQuotientChunks, OpenedRound, QuotientChunk, RoundStands, TakesRows, committed_chunk, handed, matrix_row, natural_coset, true_claim, true_values, zk_bits};
+ghost use Rattle.stark_support.specs.Scheme.{zk_bits};
 ghost use Rattle.stark_support.specs.Polynomial.{value};
 ghost use Rattle.stark_clear.specs.ClearFacts.{clear_laws};
 ghost use Rattle.stark_clear.specs.ClearScheme.{clear_pcs, clear_scheme};
 ghost use Rattle.stark_clear.specs.ColumnPoints.{IsPolynomialBelow};
+ghost use Rattle.stark_clear.specs.SchemeClauses.{CommitsChunks, CommitsRows, OpensTrueValues, ProvesTrueClaims};
 
 use crate::clear::check::{ClearError, check_claims};
 use crate::clear::commit::{chunks_of, columns_of, committed, committed_alone, copied};
@@ -95,9 +96,7 @@ impl<F: TwoAdicField, EF: ExtensionField<F>, C> Pcs<EF, C> for ClearPcs<F> {
         requires power { IsPowerOfTwo (length matrix.values.items / matrix.width) }
         requires within { coset_size (⟦<Coset<F> as PolynomialSpace>⟧.coset_of domain) ≤ 2 ^ F.TWO_ADICITY }
         requires room { length matrix.values.items / matrix.width ≤ coset_size (⟦<Coset<F> as PolynomialSpace>⟧.coset_of domain) }
-        ensures stands { IfOk result (λ made. (columns : List (List F)) × ⟦<ClearPcs<F> as Pcs<EF, C>>⟧.scheme.Stands self.now made.0 made.1 (record { domain = ⟦<Coset<F> as PolynomialSpace>⟧.coset_of domain; columns = columns } ∷ [])
-            × ((log_height : ℕ) → 2 ^ log_height ≡ length matrix.values.items / matrix.width
-            → TakesRows F.ring F.root (natural_coset F.ring log_height) matrix.width (matrix_row matrix.values.items matrix.width) columns)) }
+        ensures stands { IfOk result (CommitsRows ⟦<ClearPcs<F> as Pcs<EF, C>>⟧.scheme F.ring F.root self.now (⟦<Coset<F> as PolynomialSpace>⟧.coset_of domain) matrix.values.items matrix.width) }
         ensures refused { IfErr result (λ fault. IfRefused fault (⟦<ClearPcs<F> as Pcs<EF, C>>⟧.scheme.RefusesCommit self.now (⟦<Coset<F> as PolynomialSpace>⟧.coset_of domain) matrix.values.items matrix.width)) }
         ensures plain { IfOk result (λ made. AllByRecursion (AllByRecursion (λ column. IsPolynomialBelow F.ring (length matrix.values.items / matrix.width) (value F.ring column))) made.0) }
     {
@@ -136,9 +135,7 @@ impl<F: TwoAdicField, EF: ExtensionField<F>, C> UnivariateStarkPcs<EF, C> for Cl
         requires power { IsPowerOfTwo (length matrix.values.items / matrix.width) }
         requires within { coset_size (⟦<Coset<F> as PolynomialSpace>⟧.coset_of domain) ≤ 2 ^ F.TWO_ADICITY }
         requires room { length matrix.values.items / matrix.width ≤ coset_size (⟦<Coset<F> as PolynomialSpace>⟧.coset_of domain) }
-        ensures stands { IfOk result (λ made. (columns : List (List F)) × ⟦<ClearPcs<F> as Pcs<EF, C>>⟧.scheme.Stands self.now made.0 made.1 (record { domain = ⟦<Coset<F> as PolynomialSpace>⟧.coset_of domain; columns = columns } ∷ [])
-            × ((log_height : ℕ) → 2 ^ log_height ≡ length matrix.values.items / matrix.width
-            → TakesRows F.ring F.root (natural_coset F.ring log_height) matrix.width (matrix_row matrix.values.items matrix.width) columns)) }
+        ensures stands { IfOk result (CommitsRows ⟦<ClearPcs<F> as Pcs<EF, C>>⟧.scheme F.ring F.root self.now (⟦<Coset<F> as PolynomialSpace>⟧.coset_of domain) matrix.values.items matrix.width) }
         ensures refused { IfErr result (λ fault. IfRefused fault (⟦<ClearPcs<F> as Pcs<EF, C>>⟧.scheme.RefusesPreprocessing self.now (⟦<Coset<F> as PolynomialSpace>⟧.coset_of domain) matrix.values.items matrix.width)) }
         ensures plain { IfOk result (λ made. AllByRecursion (AllByRecursion (λ column. IsPolynomialBelow F.ring (length matrix.values.items / matrix.width) (value F.ring column))) made.0) }
     {
@@ -158,10 +155,7 @@ impl<F: TwoAdicField, EF: ExtensionField<F>, C> UnivariateStarkPcs<EF, C> for Cl
         requires power { IsPowerOfTwo num_chunks }
         requires parts { num_chunks ≤ coset_size (⟦<Coset<F> as PolynomialSpace>⟧.coset_of domain) }
         requires within { coset_size (⟦<Coset<F> as PolynomialSpace>⟧.coset_of domain) * 2 ^ zk_bits false ≤ num_chunks * 2 ^ F.TWO_ADICITY }
-        ensures stands { IfOk result (λ made. (chunks : List (QuotientChunk F))
-            × ⟦<ClearPcs<F> as Pcs<EF, C>>⟧.scheme.Stands self.now made.0 made.1 (map (committed_chunk F.ring false) chunks)
-            × ((log_parts : ℕ) → 2 ^ log_parts ≡ num_chunks
-            → AreQuotientChunks F.ring F.root EF.ring EF.inverse_of EF.embed false (⟦<Coset<F> as PolynomialSpace>⟧.coset_of domain) log_parts flat.width (matrix_row flat.values.items flat.width) chunks)) }
+        ensures stands { IfOk result (CommitsChunks ⟦<ClearPcs<F> as Pcs<EF, C>>⟧.scheme F.ring F.root EF.ring EF.inverse_of EF.embed false self.now (⟦<Coset<F> as PolynomialSpace>⟧.coset_of domain) flat.values.items flat.width num_chunks) }
         ensures refused { IfErr result (λ fault. IfRefused fault (⟦<ClearPcs<F> as Pcs<EF, C>>⟧.scheme.RefusesQuotient self.now (⟦<Coset<F> as PolynomialSpace>⟧.coset_of domain) flat.values.items flat.width num_chunks)) }
     {
         let chunks = chunks_of(alloc, &domain, &flat, num_chunks)?;
@@ -210,11 +204,8 @@ impl<F: TwoAdicField, EF: ExtensionField<F>, C> UnivariateStarkPcs<EF, C> for Cl
         _challenger: &mut C,
         _preprocessed_index: Option<usize>,
     ) -> Result<(OpenedRounds<EF>, ClearProof), SchemeFault<ClearProverError>>
-        ensures true_values { IfOk result (λ opened. (made : List (OpenedRound F EF (List (List (List F))) (List (List (List F))))) → AllByRecursion (RoundStands ⟦<ClearPcs<F> as Pcs<EF, C>>⟧.scheme self.now) made
-            → map round_view rounds.entry.items ≡ map handed made → opened_view opened.0 ≡ map (true_values EF.ring EF.embed) made) }
-        ensures whole { IfOk result (λ opened. (made : List (OpenedRound F EF (List (List (List F))) (List (List (List F))))) → AllByRecursion (RoundStands ⟦<ClearPcs<F> as Pcs<EF, C>>⟧.scheme self.now) made
-            → map round_view rounds.entry.items ≡ map handed made → ⟦<ClearPcs<F> as Pcs<EF, C>>⟧.scheme.Whole self.now
-            → ⟦<ClearPcs<F> as Pcs<EF, C>>⟧.scheme.Accepts self.now (map (true_claim EF.ring EF.embed) made) opened.1 _challenger.old _preprocessed_index) }
+        ensures true_values { IfOk result (λ opened. OpensTrueValues ⟦<ClearPcs<F> as Pcs<EF, C>>⟧.scheme EF.ring EF.embed self.now (map round_view rounds.entry.items) (opened_view opened.0)) }
+        ensures whole { IfOk result (λ opened. ProvesTrueClaims ⟦<ClearPcs<F> as Pcs<EF, C>>⟧.scheme EF.ring EF.embed self.now (map round_view rounds.entry.items) opened.1 _challenger.old _preprocessed_index) }
         ensures refused { IfErr result (λ fault. IfRefused fault (⟦<ClearPcs<F> as Pcs<EF, C>>⟧.scheme.RefusesOpening self.now (map round_view rounds.entry.items) _challenger.old _preprocessed_index)) }
     {
         let opened = open_rounds::<F, EF>(alloc, &rounds)?;

@@ -1,0 +1,44 @@
+//! The masked columns of a matrix.
+ghost use Rattle.std.specs.Prelude.{◌≡◌, ◌≤◌, ◌<◌, ◌-◌, ◌/◌, ◌^◌, ℕ, IfOk, length};
+ghost use Rattle.std.specs.Int.{IsPowerOfTwo};
+ghost use Rattle.std.specs.List.{AllByRecursion};
+ghost use Rattle.stark_support.specs.Coset.{coset_size};
+ghost use Rattle.stark_support.specs.Scheme.{TakesRows, matrix_row, natural_coset};
+ghost use Rattle.stark_clear.specs.Columns.{columns_list};
+ghost use Rattle.stark_clear.specs.Masks.{AreMaskedBy, mask_lists};
+
+use crate::clear::columns_of;
+use crate::masked::columns::masked_columns;
+use crate::masked::list::next_lists;
+use stark_bench::Coset;
+use stark_support::{
+    DomainShape, PolynomialSpace, RowMajorMatrix, TwoAdicField, log2_strict_usize,
+};
+use std::alloc::{AllocError, Global};
+
+/// The columns of a matrix that take its rows on the natural domain of its height, each with a multiple of that domain's
+/// vanishing polynomial added, so that it has as many coefficients as the domain points. The multiples' coefficients are
+/// the list's numbers, from its start on, column after column.
+pub fn masked_columns_of<F: TwoAdicField>(
+    alloc: Global,
+    masks: &[F],
+    domain: &Coset<F>,
+    matrix: &RowMajorMatrix<F>,
+) -> Result<Vec<Vec<F>>, AllocError>
+    requires masks { 0 < length masks.now }
+    requires power { IsPowerOfTwo (length matrix.now.values.items / matrix.now.width) }
+    requires room { length matrix.now.values.items / matrix.now.width ≤ coset_size (⟦<Coset<F> as PolynomialSpace>⟧.coset_of domain.now) }
+    ensures full { IfOk result (λ columns. AllByRecursion (λ column. length column ≡ coset_size (⟦<Coset<F> as PolynomialSpace>⟧.coset_of domain.now)) (columns_list columns)) }
+    ensures rows { IfOk result (λ columns. (log_height : ℕ) → 2 ^ log_height ≡ length matrix.now.values.items / matrix.now.width
+        → TakesRows F.ring F.root (natural_coset F.ring log_height) matrix.now.width (matrix_row matrix.now.values.items matrix.now.width) (columns_list columns)) }
+    ensures masked { IfOk result (λ columns. AreMaskedBy F.ring (length matrix.now.values.items / matrix.now.width)
+        (mask_lists F.ring masks.now 0 matrix.now.width (coset_size (⟦<Coset<F> as PolynomialSpace>⟧.coset_of domain.now) - length matrix.now.values.items / matrix.now.width)) (columns_list columns)) }
+{
+    let natural = Coset::subgroup(log2_strict_usize(matrix.height()));
+    let plain = columns_of(alloc, &natural, matrix)?;
+    let mut place = 0;
+    let size = domain.size() - matrix.height();
+    let lists = next_lists(alloc, masks, &mut place, matrix.width, size)?;
+    let columns = masked_columns(alloc, &plain, &lists, F::ONE)?;
+    Ok(columns)
+}

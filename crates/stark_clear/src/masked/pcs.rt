@@ -1,0 +1,271 @@
+//! The scheme in the clear with masks.
+ghost use Rattle.std.specs.Prelude.{◌≡◌, ◌≢◌, ◌≤◌, ◌<◌, ◌-◌, ◌/◌, ◌*◌, ◌^◌, ℕ, List, [], ◌∷◌, true, is_some, length, map, IfErr, IfOk, IfSome};
+ghost use Rattle.std.specs.Int.{IsPowerOfTwo};
+ghost use Rattle.std.specs.List.{AllByRecursion};
+ghost use Rattle.stark_support.specs.Claims.{IfRefused, claim_view, opened_view, round_view};
+ghost use Rattle.stark_support.specs.Coset.{coset_size};
+ghost use Rattle.stark_support.specs.Scheme.{matrix_row, zk_bits};
+ghost use Rattle.stark_support.specs.Polynomial.{value};
+ghost use Rattle.stark_clear.specs.ClearFacts.{clear_laws};
+ghost use Rattle.stark_clear.specs.ClearScheme.{clear_scheme};
+ghost use Rattle.stark_clear.specs.ColumnPoints.{IsPolynomialBelow};
+ghost use Rattle.stark_clear.specs.SchemeClauses.{CommitsChunks, CommitsRows, OpensTrueValues, ProvesTrueClaims};
+ghost use Rattle.stark_clear.specs.Masks.{AreMaskedBy, AreMaskedChunks, mask_lists, quotient_masks};
+
+use crate::clear::{
+    ClearError, ClearPcs, ClearProof, ClearProverError, committed, committed_alone,
+};
+use crate::masked::chunks::masked_chunks_of;
+use crate::masked::commit::masked_columns_of;
+use crate::masked::list::next_lists;
+use stark_bench::{ClearCommitment, Coset};
+use stark_support::{
+    DomainShape, ExtensionField, OpenedRounds, OpeningClaim, OpeningRound, Pcs, PeriodicColumns,
+    PeriodicLdeTable, PolynomialSpace, RowMajorMatrix, SchemeFault, TwoAdicField,
+    UnivariateStarkPcs,
+};
+use std::alloc::{AllocError, Global};
+use std::marker::Model;
+
+/// The scheme in the clear with masks from a list, which it reads round and round, from its start at each call. It masks
+/// as a scheme that hides does, so that all that is to be done for one is done, and hides nothing: its commitments list
+/// the masked columns, and who made the scheme knows the masks.
+#[derive(Clone, Debug, Drop)]
+pub struct MaskedClearPcs<F> {
+    masks: Vec<F>,
+}
+
+impl<F> Model for MaskedClearPcs<F> {
+    ghost use Rattle.std.specs.Prelude.{List, length, ◌<◌};
+
+    ghost Value = { List F };
+
+    ghost view = { λ s. s.masks.items };
+
+    ghost invariant = { λ s. 0 < length s.masks.items };
+}
+
+impl<F> MaskedClearPcs<F> {
+    /// The scheme whose masks are from a list that isn't empty.
+    pub fn new(masks: Vec<F>) -> MaskedClearPcs<F>
+        requires { 0 < length masks.items }
+        ensures { result ≡ masks.items }
+    {
+        MaskedClearPcs { masks }
+    }
+}
+
+impl<F: TwoAdicField, EF: ExtensionField<F>, C> Pcs<EF, C> for MaskedClearPcs<F> {
+    type Domain = Coset<F>;
+
+    type Commitment = ClearCommitment<F>;
+
+    type ProverData = ClearCommitment<F>;
+
+    type Proof = ClearProof;
+
+    type Error = ClearError;
+
+    type ProverError = ClearProverError;
+
+    ghost ZK = { true };
+
+    ghost scheme = { clear_scheme EF.ring EF.embed F.TWO_ADICITY };
+
+    const ZK: bool = true;
+
+    fn natural_domain_for_degree(&self, degree: usize) -> Coset<F> {
+        <ClearPcs<F> as Pcs<EF, C>>::natural_domain_for_degree(&ClearPcs::new(), degree)
+    }
+
+    fn copy_commitment(
+        &self,
+        alloc: Global,
+        commitment: &ClearCommitment<F>,
+    ) -> Result<ClearCommitment<F>, AllocError> {
+        <ClearPcs<F> as Pcs<EF, C>>::copy_commitment(&ClearPcs::new(), alloc, commitment)
+    }
+
+    fn commit(
+        &self,
+        alloc: Global,
+        domain: Coset<F>,
+        matrix: RowMajorMatrix<F>,
+    ) -> Result<(ClearCommitment<F>, ClearCommitment<F>), SchemeFault<ClearProverError>>
+        requires power { IsPowerOfTwo (length matrix.values.items / matrix.width) }
+        requires within { coset_size (⟦<Coset<F> as PolynomialSpace>⟧.coset_of domain) ≤ 2 ^ F.TWO_ADICITY }
+        requires room { length matrix.values.items / matrix.width ≤ coset_size (⟦<Coset<F> as PolynomialSpace>⟧.coset_of domain) }
+        ensures stands { IfOk result (CommitsRows ⟦<MaskedClearPcs<F> as Pcs<EF, C>>⟧.scheme F.ring F.root self.now (⟦<Coset<F> as PolynomialSpace>⟧.coset_of domain) matrix.values.items matrix.width) }
+        ensures refused { IfErr result (λ fault. IfRefused fault (⟦<MaskedClearPcs<F> as Pcs<EF, C>>⟧.scheme.RefusesCommit self.now (⟦<Coset<F> as PolynomialSpace>⟧.coset_of domain) matrix.values.items matrix.width)) }
+        ensures masked { IfOk result (λ made. AllByRecursion (AreMaskedBy F.ring (length matrix.values.items / matrix.width)
+            (mask_lists F.ring self.now 0 matrix.width (coset_size (⟦<Coset<F> as PolynomialSpace>⟧.coset_of domain) - length matrix.values.items / matrix.width))) made.0) }
+    {
+        let columns = masked_columns_of(alloc, &self.masks, &domain, &matrix)?;
+        let made = committed_alone(alloc, columns)?;
+        Ok(made)
+    }
+
+    fn get_evaluations_on_domain(
+        &self,
+        alloc: Global,
+        prover_data: &ClearCommitment<F>,
+        index: usize,
+        domain: Coset<F>,
+    ) -> Result<RowMajorMatrix<F>, AllocError> {
+        <ClearPcs<F> as Pcs<EF, C>>::get_evaluations_on_domain(
+            &ClearPcs::new(),
+            alloc,
+            prover_data,
+            index,
+            domain,
+        )
+    }
+}
+
+impl<F: TwoAdicField, EF: ExtensionField<F>, C> UnivariateStarkPcs<EF, C> for MaskedClearPcs<F> {
+    fn log_min_trace_height(&self) -> usize {
+        <ClearPcs<F> as UnivariateStarkPcs<EF, C>>::log_min_trace_height(&ClearPcs::new())
+    }
+
+    fn log_max_trace_height(&self) -> usize {
+        <ClearPcs<F> as UnivariateStarkPcs<EF, C>>::log_max_trace_height(&ClearPcs::new())
+    }
+
+    fn commit_preprocessing(
+        &self,
+        alloc: Global,
+        domain: Coset<F>,
+        matrix: RowMajorMatrix<F>,
+    ) -> Result<(ClearCommitment<F>, ClearCommitment<F>), SchemeFault<ClearProverError>>
+        requires power { IsPowerOfTwo (length matrix.values.items / matrix.width) }
+        requires within { coset_size (⟦<Coset<F> as PolynomialSpace>⟧.coset_of domain) ≤ 2 ^ F.TWO_ADICITY }
+        requires room { length matrix.values.items / matrix.width ≤ coset_size (⟦<Coset<F> as PolynomialSpace>⟧.coset_of domain) }
+        ensures stands { IfOk result (CommitsRows ⟦<MaskedClearPcs<F> as Pcs<EF, C>>⟧.scheme F.ring F.root self.now (⟦<Coset<F> as PolynomialSpace>⟧.coset_of domain) matrix.values.items matrix.width) }
+        ensures refused { IfErr result (λ fault. IfRefused fault (⟦<MaskedClearPcs<F> as Pcs<EF, C>>⟧.scheme.RefusesPreprocessing self.now (⟦<Coset<F> as PolynomialSpace>⟧.coset_of domain) matrix.values.items matrix.width)) }
+        ensures plain { IfOk result (λ made. AllByRecursion (AllByRecursion (λ column. IsPolynomialBelow F.ring (length matrix.values.items / matrix.width) (value F.ring column))) made.0) }
+    {
+        <ClearPcs<F> as UnivariateStarkPcs<EF, C>>::commit_preprocessing(
+            &ClearPcs::new(),
+            alloc,
+            domain,
+            matrix,
+        )
+    }
+
+    fn commit_quotient(
+        &self,
+        alloc: Global,
+        domain: Coset<F>,
+        flat: RowMajorMatrix<F>,
+        num_chunks: usize,
+    ) -> Result<(ClearCommitment<F>, ClearCommitment<F>), SchemeFault<ClearProverError>>
+        requires height { length flat.values.items ≡ coset_size (⟦<Coset<F> as PolynomialSpace>⟧.coset_of domain) * flat.width }
+        requires power { IsPowerOfTwo num_chunks }
+        requires parts { num_chunks ≤ coset_size (⟦<Coset<F> as PolynomialSpace>⟧.coset_of domain) }
+        requires within { coset_size (⟦<Coset<F> as PolynomialSpace>⟧.coset_of domain) * 2 ^ zk_bits true ≤ num_chunks * 2 ^ F.TWO_ADICITY }
+        ensures stands { IfOk result (CommitsChunks ⟦<MaskedClearPcs<F> as Pcs<EF, C>>⟧.scheme F.ring F.root EF.ring EF.inverse_of EF.embed true self.now (⟦<Coset<F> as PolynomialSpace>⟧.coset_of domain) flat.values.items flat.width num_chunks) }
+        ensures refused { IfErr result (λ fault. IfRefused fault (⟦<MaskedClearPcs<F> as Pcs<EF, C>>⟧.scheme.RefusesQuotient self.now (⟦<Coset<F> as PolynomialSpace>⟧.coset_of domain) flat.values.items flat.width num_chunks)) }
+        ensures masked { IfOk result (λ made. (plain : List (List (List F))) × ((log_parts : ℕ) → 2 ^ log_parts ≡ num_chunks
+            → AreMaskedChunks F.ring F.inverse_of F.root (⟦<Coset<F> as PolynomialSpace>⟧.coset_of domain) log_parts flat.width (matrix_row flat.values.items flat.width)
+            (quotient_masks F.ring self.now (num_chunks - 1) flat.width (2 ^ ((⟦<Coset<F> as PolynomialSpace>⟧.coset_of domain).log_size - log_parts))) plain made.0)) }
+    {
+        let chunks = masked_chunks_of(alloc, &self.masks, &domain, &flat, num_chunks)?;
+        let made = committed(alloc, chunks)?;
+        Ok(made)
+    }
+
+    fn get_opt_randomization_poly_commitment(
+        &self,
+        alloc: Global,
+        domain: Coset<F>,
+    ) -> Result<Option<(ClearCommitment<F>, ClearCommitment<F>)>, SchemeFault<ClearProverError>>
+        requires within { coset_size (⟦<Coset<F> as PolynomialSpace>⟧.coset_of domain) ≤ 2 ^ F.TWO_ADICITY }
+        ensures there { IfOk result (λ made. is_some made ≡ true) }
+        ensures stands { IfOk result (λ made. IfSome made (λ made. (columns : List (List F))
+            × ⟦<MaskedClearPcs<F> as Pcs<EF, C>>⟧.scheme.Stands self.now made.0 made.1 (record { domain = ⟦<Coset<F> as PolynomialSpace>⟧.coset_of domain; columns = columns } ∷ [])
+            × (length columns ≡ EF.DIMENSION))) }
+        ensures refused { IfErr result (λ fault. IfRefused fault (⟦<MaskedClearPcs<F> as Pcs<EF, C>>⟧.scheme.RefusesRandomization self.now (⟦<Coset<F> as PolynomialSpace>⟧.coset_of domain))) }
+        ensures numbers { IfOk result (λ made. IfSome made (λ made. made.0 ≡ mask_lists F.ring self.now 0 EF.DIMENSION (coset_size (⟦<Coset<F> as PolynomialSpace>⟧.coset_of domain)) ∷ [])) }
+    {
+        let mut place = 0;
+        let columns = next_lists(alloc, &self.masks, &mut place, EF::DIMENSION, domain.size())?;
+        let made = committed_alone(alloc, columns)?;
+        Ok(Some(made))
+    }
+
+    fn get_evaluations_on_domain_no_random(
+        &self,
+        alloc: Global,
+        prover_data: &ClearCommitment<F>,
+        index: usize,
+        domain: Coset<F>,
+    ) -> Result<RowMajorMatrix<F>, AllocError> {
+        <ClearPcs<F> as UnivariateStarkPcs<EF, C>>::get_evaluations_on_domain_no_random(
+            &ClearPcs::new(),
+            alloc,
+            prover_data,
+            index,
+            domain,
+        )
+    }
+
+    fn build_periodic_lde_table(
+        &self,
+        alloc: Global,
+        columns: &PeriodicColumns<'_, F>,
+        trace_domain: Coset<F>,
+        quotient_domain: Coset<F>,
+    ) -> Result<PeriodicLdeTable<F>, AllocError> {
+        <ClearPcs<F> as UnivariateStarkPcs<EF, C>>::build_periodic_lde_table(
+            &ClearPcs::new(),
+            alloc,
+            columns,
+            trace_domain,
+            quotient_domain,
+        )
+    }
+
+    fn open_with_preprocessing(
+        &self,
+        alloc: Global,
+        rounds: Vec<OpeningRound<'_, EF, ClearCommitment<F>>>,
+        challenger: &mut C,
+        preprocessed_index: Option<usize>,
+    ) -> Result<(OpenedRounds<EF>, ClearProof), SchemeFault<ClearProverError>>
+        ensures true_values { IfOk result (λ opened. OpensTrueValues ⟦<MaskedClearPcs<F> as Pcs<EF, C>>⟧.scheme EF.ring EF.embed self.now (map round_view rounds.entry.items) (opened_view opened.0)) }
+        ensures whole { IfOk result (λ opened. ProvesTrueClaims ⟦<MaskedClearPcs<F> as Pcs<EF, C>>⟧.scheme EF.ring EF.embed self.now (map round_view rounds.entry.items) opened.1 challenger.old preprocessed_index) }
+        ensures refused { IfErr result (λ fault. IfRefused fault (⟦<MaskedClearPcs<F> as Pcs<EF, C>>⟧.scheme.RefusesOpening self.now (map round_view rounds.entry.items) challenger.old preprocessed_index)) }
+    {
+        <ClearPcs<F> as UnivariateStarkPcs<EF, C>>::open_with_preprocessing(
+            &ClearPcs::new(),
+            alloc,
+            rounds,
+            challenger,
+            preprocessed_index,
+        )
+    }
+
+    fn verify_with_preprocessing(
+        &self,
+        alloc: Global,
+        claims: Vec<OpeningClaim<'_, EF, ClearCommitment<F>, Coset<F>>>,
+        proof: &ClearProof,
+        challenger: &mut C,
+        preprocessed_index: Option<usize>,
+    ) -> Result<(), SchemeFault<ClearError>>
+        ensures accepted { IfOk result (λ _. ⟦<MaskedClearPcs<F> as Pcs<EF, C>>⟧.scheme.Accepts self.now (map (claim_view ⟦<Coset<F> as PolynomialSpace>⟧.coset_of) claims.entry.items) proof.now challenger.old preprocessed_index) }
+        ensures refused { IfErr result (λ fault. IfRefused fault (⟦<MaskedClearPcs<F> as Pcs<EF, C>>⟧.scheme.Refuses self.now (map (claim_view ⟦<Coset<F> as PolynomialSpace>⟧.coset_of) claims.entry.items) proof.now challenger.old preprocessed_index)) }
+        ensures no_memory { IfErr result (λ fault. fault ≢ SchemeFault.OutOfMemory) }
+    {
+        <ClearPcs<F> as UnivariateStarkPcs<EF, C>>::verify_with_preprocessing(
+            &ClearPcs::new(),
+            alloc,
+            claims,
+            proof,
+            challenger,
+            preprocessed_index,
+        )
+    }
+
+    ghost scheme_laws = { clear_laws EF.ring EF.embed F.TWO_ADICITY F.two_adic.bounded };
+}

@@ -1,31 +1,34 @@
 //! The library's calls that the rows make of a configuration. At closed types such a call has the evidence of all its types
 //! written out, which takes a minute to prove. So each stands here once: over any base field and extension, then over any base
 //! field and its extension. The rows make it at one field, where only that field's evidence is left.
-ghost use Rattle.std.specs.Prelude.{◌≡◌, ◌↔◌, ◌≤◌, ◌<◌, All, IfOk, IsTrue, [], length, vec_len};
+ghost use Rattle.std.specs.Prelude.{◌≡◌, ◌↔◌, ◌+◌, ◌*◌, ◌^◌, ◌≤◌, ◌<◌, All, IfOk, IsTrue, [], length, vec_len};
 ghost use Rattle.stark_air.specs.Layout.{Covers};
 ghost use Rattle.stark_air.specs.Rows.{layout_of};
 ghost use Rattle.stark_support.specs.Coset.{coset_size, coset_vanishing};
+ghost use Rattle.stark_support.specs.Scheme.{zk_bits};
 ghost use Rattle.stark_protocol.specs.Equation.{OpenedRows, opened_layout, row_or_empty};
 ghost use Rattle.stark_protocol.specs.Preprocessing.{HasHeight, IsCommittedWithin};
 
 use crate::elements::Base;
 use p3_uni_stark::{
-    PreprocessedProverData, PreprocessedVerifierKey, Proof, StarkProof,
-    recompose_quotient_from_chunks, setup_preprocessed, verify, verify_constraints,
-    verify_with_preprocessed,
+    PcsProof, PreprocessedProverData, PreprocessedVerifierKey, Proof, StarkProof, prove,
+    prove_with_preprocessed, recompose_quotient_from_chunks, setup_preprocessed, verify,
+    verify_constraints, verify_with_preprocessed,
 };
 use stark_air::{Air, AirBuilder, BaseAir, RowWindow, SubAirBuilder, WindowAccess};
 use stark_bench::{ClearCommitment, Coset, Ext4, F12289};
-use stark_clear::{ClearPcs, ClearProof, CounterAir};
+use stark_clear::{ClearPcs, ClearProof, CounterAir, MaskedClearPcs};
 use stark_parts::{
-    Com, Domain, PcsError, StarkConfig, StarkGenericConfig, Val, VerificationError,
+    Com, Domain, PcsError, PcsProverError, StarkConfig, StarkGenericConfig, Val, VerificationError,
     VerifierConstraintFolder, fold_constraints,
 };
 use stark_support::{
     CanObserve, DomainShape, Element, ExtensionChallenger, ExtensionField, Field, FieldChallenger,
-    GrindingChallenger, LagrangeSelectors, PackedExtensionField, PolynomialSpace, PrimeField64,
-    QuarticBase, RowMajorMatrixView, TwoAdicField, VerticalPair,
+    GrindingChallenger, JsonCodec, LagrangeSelectors, NeverNull, PackedExtensionField, Pcs,
+    PolynomialSpace, PrimeField64, QuarticBase, RowMajorMatrix, RowMajorMatrixView, TwoAdicField,
+    UnivariateStarkPcs, VerticalPair, value_from_bytes,
 };
+use stark_protocol::power_of_two;
 use std::alloc::{AllocError, Global};
 use std::fmt::Debug;
 
@@ -526,3 +529,224 @@ where
 {
     set_up_above::<F, F::Above, C, A>(alloc, config, air, degree_bits)
 }
+
+/// Whether a trace of `2^log_height` rows and these public values are of an AIR's widths and counts, and the configuration has
+/// room for such a trace.
+fn fits<SC: StarkGenericConfig, A: BaseAir<Val<SC>>>(
+    config: &SC,
+    air: &A,
+    log_height: usize,
+    trace: &RowMajorMatrix<Val<SC>>,
+    publics: &[Val<SC>],
+) -> bool
+    ensures columns { IsTrue result → 0 < trace.now.width }
+    ensures width { IsTrue result → trace.now.width ≡ (A.layout air.now).main }
+    ensures height { IsTrue result → length trace.now.values.items ≡ 2 ^ log_height * trace.now.width }
+    ensures within { IsTrue result → log_height + zk_bits SC.Pcs.ZK ≤ SC.Pcs.scheme.log_max_trace_height (SC.config.scheme config.now) }
+    ensures publics { IsTrue result → length publics.now ≡ (A.layout air.now).publics }
+{
+    if log_height > 12 || log_height + config.is_zk() > config.pcs().log_max_trace_height() {
+        return false;
+    }
+    trace.width > 0
+        && trace.width == air.width()
+        && Some(trace.values.len()) == power_of_two(log_height).checked_mul(trace.width)
+        && publics.len() == air.num_public_values()
+}
+
+/// The text of a proof of a trace and what any verifier answers of it, or the prover's error; none where the trace doesn't fit.
+fn proved_by<SC, A>(
+    alloc: Global,
+    config: &SC,
+    air: &A,
+    log_height: usize,
+    trace: RowMajorMatrix<Val<SC>>,
+    publics: &[Val<SC>],
+) -> Result<Option<String>, AllocError>
+where
+    SC: StarkGenericConfig,
+    SC::Challenger: GrindingChallenger<Witness = Val<SC>>,
+    SC::Challenge: JsonCodec,
+    Val<SC>: JsonCodec,
+    Com<SC>: NeverNull,
+    PcsProof<SC>: JsonCodec,
+    PcsError<SC>: Debug,
+    PcsProverError<SC>: Debug,
+    A: Air<Val<SC>>,
+    requires none { (A.layout air.now).preprocessed ≡ 0 }
+{
+    if !fits(config, air, log_height, &trace, publics) {
+        return Ok(None);
+    }
+    match prove(alloc, config, air, trace, publics) {
+        Ok(proof) => {
+            let text = proof.to_json(alloc)?.to_string(alloc)?;
+            let answer = verified(alloc, config, air, &proof, publics, None)?;
+            Ok(Some(format!(in alloc; "{text} {answer}")?))
+        }
+        Err(error) => Ok(Some(format!(in alloc; "{error:?}")?)),
+    }
+}
+
+fn proved_above<F, EF, C, A>(
+    alloc: Global,
+    config: &ClearConfig<F, EF, C>,
+    air: &A,
+    log_height: usize,
+    trace: RowMajorMatrix<F>,
+    publics: &[F],
+) -> Result<Option<String>, AllocError>
+where
+    F: TwoAdicField + PrimeField64 + JsonCodec,
+    EF: PackedExtensionField<F> + JsonCodec,
+    C: FieldChallenger<F>
+        + CanObserve<ClearCommitment<F>>
+        + ExtensionChallenger<F, EF>
+        + GrindingChallenger<Witness = F>
+        + Clone,
+    A: Air<F>,
+    requires none { (A.layout air.now).preprocessed ≡ 0 }
+{
+    proved_by::<ClearConfig<F, EF, C>, A>(alloc, config, air, log_height, trace, publics)
+}
+
+/// The text of a proof of a trace of `2^log_height` rows and what the verifier answers of it, or the prover's error; none where
+/// the trace or the public values don't fit the AIR.
+pub fn proved<F, C, A>(
+    alloc: Global,
+    config: &ClearConfig<F, F::Above, C>,
+    air: &A,
+    log_height: usize,
+    trace: RowMajorMatrix<F>,
+    publics: &[F],
+) -> Result<Option<String>, AllocError>
+where
+    F: RowField + JsonCodec,
+    F::Above: JsonCodec,
+    C: FieldChallenger<F>
+        + CanObserve<ClearCommitment<F>>
+        + ExtensionChallenger<F, F::Above>
+        + GrindingChallenger<Witness = F>
+        + Clone,
+    A: Air<F>,
+    requires none { (A.layout air.now).preprocessed ≡ 0 }
+{
+    proved_above::<F, F::Above, C, A>(alloc, config, air, log_height, trace, publics)
+}
+
+/// The configuration with the masked scheme.
+pub type MaskedConfig<F, EF, C> = StarkConfig<MaskedClearPcs<F>, EF, C>;
+
+fn masked_above<F, EF, C, A>(
+    alloc: Global,
+    config: &MaskedConfig<F, EF, C>,
+    air: &A,
+    log_height: usize,
+    trace: RowMajorMatrix<F>,
+    publics: &[F],
+) -> Result<Option<String>, AllocError>
+where
+    F: TwoAdicField + PrimeField64 + JsonCodec,
+    EF: PackedExtensionField<F> + JsonCodec,
+    C: FieldChallenger<F>
+        + CanObserve<ClearCommitment<F>>
+        + ExtensionChallenger<F, EF>
+        + GrindingChallenger<Witness = F>
+        + Clone,
+    A: Air<F>,
+    requires none { (A.layout air.now).preprocessed ≡ 0 }
+{
+    proved_by::<MaskedConfig<F, EF, C>, A>(alloc, config, air, log_height, trace, publics)
+}
+
+/// What `proved` answers, with the masked scheme.
+pub fn masked<F, C, A>(
+    alloc: Global,
+    config: &MaskedConfig<F, F::Above, C>,
+    air: &A,
+    log_height: usize,
+    trace: RowMajorMatrix<F>,
+    publics: &[F],
+) -> Result<Option<String>, AllocError>
+where
+    F: RowField + JsonCodec,
+    F::Above: JsonCodec,
+    C: FieldChallenger<F>
+        + CanObserve<ClearCommitment<F>>
+        + ExtensionChallenger<F, F::Above>
+        + GrindingChallenger<Witness = F>
+        + Clone,
+    A: Air<F>,
+    requires none { (A.layout air.now).preprocessed ≡ 0 }
+{
+    masked_above::<F, F::Above, C, A>(alloc, config, air, log_height, trace, publics)
+}
+
+/// What any verifier answers of a proof's text; none where the text is no proof.
+fn reread_by<SC, A>(
+    alloc: Global,
+    config: &SC,
+    air: &A,
+    text: &str,
+    publics: &[Val<SC>],
+) -> Result<Option<String>, AllocError>
+where
+    SC: StarkGenericConfig,
+    SC::Challenger: GrindingChallenger<Witness = Val<SC>>,
+    SC::Challenge: JsonCodec,
+    Val<SC>: JsonCodec,
+    Com<SC>: NeverNull,
+    PcsProof<SC>: JsonCodec,
+    PcsError<SC>: Debug,
+    A: Air<Val<SC>>,
+{
+    let Ok(json) = value_from_bytes(alloc, text.as_bytes()) else {
+        return Ok(None);
+    };
+    let Ok(proof) = StarkProof::<SC>::from_json(alloc, &json) else {
+        return Ok(None);
+    };
+    Ok(Some(verified(alloc, config, air, &proof, publics, None)?))
+}
+
+fn masked_reread_above<F, EF, C, A>(
+    alloc: Global,
+    config: &MaskedConfig<F, EF, C>,
+    air: &A,
+    text: &str,
+    publics: &[F],
+) -> Result<Option<String>, AllocError>
+where
+    F: TwoAdicField + PrimeField64 + JsonCodec,
+    EF: PackedExtensionField<F> + JsonCodec,
+    C: FieldChallenger<F>
+        + CanObserve<ClearCommitment<F>>
+        + ExtensionChallenger<F, EF>
+        + GrindingChallenger<Witness = F>
+        + Clone,
+    A: Air<F>,
+{
+    reread_by::<MaskedConfig<F, EF, C>, A>(alloc, config, air, text, publics)
+}
+
+/// What the verifier answers of a proof's text, with the masked scheme; none where the text is no proof.
+pub fn masked_reread<F, C, A>(
+    alloc: Global,
+    config: &MaskedConfig<F, F::Above, C>,
+    air: &A,
+    text: &str,
+    publics: &[F],
+) -> Result<Option<String>, AllocError>
+where
+    F: RowField + JsonCodec,
+    F::Above: JsonCodec,
+    C: FieldChallenger<F>
+        + CanObserve<ClearCommitment<F>>
+        + ExtensionChallenger<F, F::Above>
+        + GrindingChallenger<Witness = F>
+        + Clone,
+    A: Air<F>,
+{
+    masked_reread_above::<F, F::Above, C, A>(alloc, config, air, text, publics)
+}
+

@@ -33,6 +33,8 @@ mod preprocessing;
 #[cfg(test)]
 mod proofs;
 #[cfg(test)]
+mod provers;
+#[cfg(test)]
 mod quotients;
 #[cfg(test)]
 mod rows;

@@ -158,3 +158,82 @@ fn assert_square<AB: AirBuilder>(builder: &mut AB, stepped: bool) -> Result<(), 
         builder.assert_zero(AB::Expr::from(x) * AB::Expr::from(x) * AB::Expr::from(x))
     }
 }
+
+/// Another AIR, with a bound of its own on the degree multiple.
+#[derive(Drop)]
+pub struct BoundedAir<A> {
+    pub air: A,
+    pub hint: Option<usize>,
+}
+
+impl<F, A: BaseAir<F>> BaseAir<F> for BoundedAir<A> {
+    ghost layout = { λ bounded. A.layout bounded.air };
+
+    ghost preprocessed_trace = { λ bounded. A.preprocessed_trace bounded.air };
+
+    ghost periodic_columns = { λ bounded. A.periodic_columns bounded.air };
+
+    ghost main_next_row_columns = { λ bounded. A.main_next_row_columns bounded.air };
+
+    ghost preprocessed_next_row_columns = { λ bounded. A.preprocessed_next_row_columns bounded.air };
+
+    ghost degree_hint = { λ bounded. bounded.hint };
+
+    ghost num_constraints = { λ bounded. A.num_constraints bounded.air };
+
+    ghost public_boundary_io = { λ bounded. A.public_boundary_io bounded.air };
+
+    ghost as_declared = { λ bounded. A.as_declared bounded.air };
+
+    fn width(&self) -> usize {
+        self.air.width()
+    }
+
+    fn preprocessed_width(&self) -> usize {
+        self.air.preprocessed_width()
+    }
+
+    fn preprocessed_trace(&self, alloc: Global) -> Result<Option<RowMajorMatrix<F>>, AllocError> {
+        self.air.preprocessed_trace(alloc)
+    }
+
+    fn num_public_values(&self) -> usize {
+        self.air.num_public_values()
+    }
+
+    fn periodic_columns(&self) -> &[Vec<F>] {
+        self.air.periodic_columns()
+    }
+
+    fn main_next_row_columns(&self, alloc: Global) -> Result<Vec<usize>, AllocError> {
+        self.air.main_next_row_columns(alloc)
+    }
+
+    fn preprocessed_next_row_columns(&self, alloc: Global) -> Result<Vec<usize>, AllocError> {
+        self.air.preprocessed_next_row_columns(alloc)
+    }
+
+    fn max_constraint_degree(&self) -> Option<usize> {
+        self.hint
+    }
+
+    fn num_constraints(&self) -> Option<usize> {
+        self.air.num_constraints()
+    }
+
+    fn public_boundary_io(&self) -> &[usize] {
+        self.air.public_boundary_io()
+    }
+}
+
+impl<F: Field, A: Air<F>> Air<F> for BoundedAir<A> {
+    ghost constraints = { λ bounded. A.constraints bounded.air };
+
+    ghost takes_memory = { λ bounded. A.takes_memory bounded.air };
+
+    ghost leaves_within = { λ bounded. A.leaves_within bounded.air };
+
+    fn eval<AB: ExtensionBuilder<F = F>>(&self, builder: &mut AB) -> Result<(), AllocError> {
+        self.air.eval(builder)
+    }
+}

@@ -44,7 +44,8 @@ HasMasks width size masks = (length masks ≡ width) × AllByRecursion (λ mask.
 abbrev pub HasMaskAt : {F : Type 0} → ℕ → ℕ → List (List F) → Type 0
 HasMaskAt c size masks = (c < length masks) × (length (get_or masks c []) ≡ size)
 
--- ---- the masks of a quotient, whose sum over the chunks is zero in each column
+-- ---- the masks of a quotient, whose sum over the chunks is zero in each column: since the parts of one coset have equal
+-- weights in a recomposition, the weighted sum is zero too
 
 -- a polynomial less all of these
 abbrev pub less_all : {F : Type 0} → RingOps F → List F → List (List F) → List F

@@ -16,6 +16,7 @@ use stark_support::{
 };
 use std::alloc::{AllocError, Global};
 
+/// The polynomial zero, of `size` coefficients.
 fn zeros<F: Field>(alloc: Global, size: usize) -> Result<Vec<F>, AllocError>
     ensures { IfOk result (λ list. list.items ≡ replicate size F.ring.zero) }
 {
@@ -62,6 +63,7 @@ fn balancing_masks<F: Field>(
 }
 
 /// The masks of `count` chunks from the list, and those of the last chunk, which make the sum of each column's masks zero.
+/// The parts of one coset have equal weights in a recomposition, so that the weighted sum is zero too.
 fn quotient_masks<F: Field>(
     alloc: Global,
     masks: &[F],

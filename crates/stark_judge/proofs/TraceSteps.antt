@@ -53,22 +53,28 @@ pub only_memory : {S F E C K T P X Y : Type 0} (scheme : SchemeOps S F E C K T P
 only_memory scheme s field is_zk n name declared error sets_up (inl memory) = memory
 only_memory scheme s field is_zk n name declared error sets_up (inr fault) = absurd (sets_up _ _ _ _ fault.refuses)
 
+-- What holds beside all columns for which something stands, holds beside these.
+pub at_columns : {R X B : Type 0} (Stands : B → Type 0) (IsHeight : ℕ → Type 0) (Holds : ℕ → B → R → Type 0) (fixed : B) → Stands fixed → (answer : Result R X)
+    → IfOk answer (λ proof. (h : ℕ) → IsHeight h → (columns : B) → Stands columns → Holds h columns proof) → IfOk answer (λ proof. (h : ℕ) → IsHeight h → Holds h fixed proof)
+at_columns Stands IsHeight Holds fixed stands (Ok proof) made = λ h is. made h is fixed stands
+at_columns Stands IsHeight Holds fixed stands (Err error) made = tt
+
 module _ {S F E C K T P X Y : Type 0} (ops : ProtocolOps S F E C K T P X Y) (coordinates : E → List F) (scheme : S) (declared : Option (Trace F)) (instance : Option (PreprocessedProverData K T) → Instance S F C K) (height : ℕ) (trace : Trace F) where
   pub lacks_memory : (answer : Result (Proof K E P F) (ProvingError Y)) (error : ProvingError Y) → answer ≡ Err error → error ≡ ProvingError.OutOfMemory → AnswersWithHeld ops coordinates scheme declared instance height trace answer
   unfolding AnswersWithHeld
   lacks_memory answer error is memory = inl (is ∙ ap (λ e. Err e) memory)
 
   -- The answer with what is held is the AIR's.
-  pub answers : (held : Option (PreprocessedProverData K T)) → IsHeld ops scheme declared held → ops.opening.scheme.log_min_trace_height scheme ≡ 0 → ops.opening.scheme.Whole scheme → length trace.values ≡ 2 ^ height * trace.width
+  pub answers : (held : Option (PreprocessedProverData K T)) (fixed : List (List F)) → IsHeld ops scheme declared held → ops.opening.scheme.log_min_trace_height scheme ≡ 0 → ops.opening.scheme.Whole scheme → length trace.values ≡ 2 ^ height * trace.width
       → (answer : Result (Proof K E P F) (ProvingError Y))
-      → IfOk answer (λ proof. (h : ℕ) → length trace.values ≡ 2 ^ h * trace.width → IsProofOfTrace ops (instance held) coordinates held h trace (proof_view proof))
+      → IfOk answer (λ proof. (h : ℕ) → length trace.values ≡ 2 ^ h * trace.width → IsProofOfTrace ops (instance held) coordinates held h trace fixed (proof_view proof))
       → IfOk answer (λ proof. (h : ℕ) → length trace.values ≡ 2 ^ h * trace.width → ops.opening.scheme.log_min_trace_height scheme ≤ h → ops.opening.scheme.Whole scheme
       → IsAcceptable ops (instance held) (proof_view proof))
       → IfErr answer (λ error. (h : ℕ) → length trace.values ≡ 2 ^ h * trace.width → (error ≡ ProvingError.OutOfMemory) ⊎ IsCause ops coordinates (instance held) held h trace error)
       → AnswersWithHeld ops coordinates scheme declared instance height trace answer
   unfolding AnswersWithHeld
-  answers held is lowest whole rows (Ok proof) made acceptable fault = inr (held, is, record { of_trace = made height rows; acceptable = acceptable height rows (omega arith) whole })
-  answers held is lowest whole rows (Err error) made acceptable fault = elim (fault height rows) [
+  answers held fixed is lowest whole rows (Ok proof) made acceptable fault = inr (held, is, record { fixed = fixed; of_trace = made height rows; acceptable = acceptable height rows (omega arith) whole })
+  answers held fixed is lowest whole rows (Err error) made acceptable fault = elim (fault height rows) [
     | inl memory ↦ inl (ap (λ e. Err e) memory)
     | inr cause ↦ inr (held, is, cause)
   ]

@@ -50,10 +50,11 @@ module _ {S F E C K T P X Y : Type 0} (ops : ProtocolOps S F E C K T P X Y) wher
       × IsSetUp ops.opening.scheme scheme ops.opening.fields.base ops.opening.fields.root ops.opening.is_zk 2 trace held key
 
 module _ {S F E C K T P X Y : Type 0} (ops : ProtocolOps S F E C K T P X Y) (coordinates : E → List F) where
-  -- A proof of a trace of 2 ^ height rows, made with what is held, of which all of acceptance holds but that zeta may lie in H and
+  -- A proof of a trace of 2 ^ height rows, made with what is held, which stands for these fixed columns, of which all of acceptance holds but that zeta may lie in H and
   -- the equation may fail.
   pub record IsMadeOf (i : Instance S F C K) (held : Option (PreprocessedProverData K T)) (height : ℕ) (trace : Trace F) (p : ProofView K E P F) : Type 0 where
-    pub of_trace : IsProofOfTrace ops i coordinates held height trace p
+    pub fixed : List (List F)
+    pub of_trace : IsProofOfTrace ops i coordinates held height trace fixed p
     pub acceptable : IsAcceptable ops i p
 
   -- The first cause why there is none.

@@ -1,7 +1,7 @@
-use Rattle.std.proofs.Common.{None, Some, ap, is_some, refl, sym, ◌∙◌}
-use Rattle.stark_prover.specs.SetUpFacts.{held_of_set_up}
+use Rattle.std.proofs.Common.{None, Some, [], ap, is_some, refl, sym, ◌∙◌}
+use Rattle.stark_prover.specs.SetUpFacts.{held_of_set_up, stands_for_set_up}
 use Rattle.stark_judge.proofs.Judged.{of_some}
-use Rattle.stark_judge.proofs.TraceSteps.{answers, lacks_memory, no_columns, only_memory, same_columns, same_degree, some_columns, width_of}
+use Rattle.stark_judge.proofs.TraceSteps.{answers, at_columns, lacks_memory, no_columns, only_memory, same_columns, same_degree, some_columns, width_of}
 use Rattle.stark_judge.proofs.prove.prove_with.Goals as goal
 
 pub setup_preprocessed-requires-clause-within : goal.setup_preprocessed-requires-clause-within
@@ -29,14 +29,14 @@ prove_with_preprocessed-requires-clause-stands g c =
 
 pub returns-in-Ok-None : goal.returns-in-Ok-None
 returns-in-Ok-None g c = λ height rows.
-    answers _ _ (g.SC.StarkGenericConfig.config.scheme c.args.config.now) (g.A.BaseAir.preprocessed_trace c.args.air.now) _ height _ None (sym c.in-Ok-None.ensures.there ∙ ap is_some c.in-Ok-None.field-0-is)
+    answers _ _ (g.SC.StarkGenericConfig.config.scheme c.args.config.now) (g.A.BaseAir.preprocessed_trace c.args.air.now) _ height _ None [] (sym c.in-Ok-None.ensures.there ∙ ap is_some c.in-Ok-None.field-0-is)
     c.requires.any_height c.requires.whole rows _ c.prove.ensures.made c.prove.ensures.acceptable c.prove.ensures.fault
 
 pub returns-in-Ok-Some : goal.returns-in-Ok-Some
 returns-in-Ok-Some g c = λ height rows.
     let made = of_some _ c.in-Ok-Some.field-0 (c.in-Ok-Some.data, c.in-Ok-Some._key) c.in-Ok-Some.field-0-is c.in-Ok-Some.ensures.set_up in
-    answers _ _ (g.SC.StarkGenericConfig.config.scheme c.args.config.now) (g.A.BaseAir.preprocessed_trace c.args.air.now) _ height _ (Some c.in-Ok-Some.data) (made.0, made.1, c.in-Ok-Some._key, made.2)
-    c.requires.any_height c.requires.whole rows _ c.prove_with_preprocessed.ensures.made c.prove_with_preprocessed.ensures.acceptable c.prove_with_preprocessed.ensures.fault
+    answers _ _ (g.SC.StarkGenericConfig.config.scheme c.args.config.now) (g.A.BaseAir.preprocessed_trace c.args.air.now) _ height _ (Some c.in-Ok-Some.data) made.2.columns (made.0, made.1, c.in-Ok-Some._key, made.2)
+    c.requires.any_height c.requires.whole rows _ (at_columns _ _ _ made.2.columns (stands_for_set_up made.2) _ c.prove_with_preprocessed.ensures.made) c.prove_with_preprocessed.ensures.acceptable c.prove_with_preprocessed.ensures.fault
 
 pub returns-in-Err : goal.returns-in-Err
 returns-in-Err g c = λ height rows. lacks_memory _ _ _ _ _ height _ _ _ refl (only_memory _ _ _ _ _ _ _ _ c.requires.sets_up c.in-Err.ensures.fault)

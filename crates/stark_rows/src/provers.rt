@@ -1,5 +1,7 @@
 //! Proofs that are made of a trace, and what the verifier answers of them. A row gives the logarithm of the height, zeta and the bits of
 //! work | the trace, row after row | the public values; alpha is 4.
+ghost use Rattle.std.specs.Prelude.{◌≡◌};
+
 use crate::calls::{ClearConfig, MaskedConfig, RowField, masked, masked_reread, proved};
 use crate::rows::{all_rows, apart, list_in, numbers_in};
 use crate::sized_airs::BoundedAir;

@@ -136,7 +136,52 @@ fn verdict_of(text: String, alloc: Global) -> Result<String, Fail> {
     Ok(text)
 }
 
-/// The verdict on the proof of a named AIR's trace: the logarithm of the height | the trace | the public values.
+/// The verdict on the proof of an AIR's trace: the logarithm of the height | the trace | the public values.
+fn verdict_on<F, C, A>(
+    alloc: Global,
+    config: &ClearConfig<F, F::Above, C>,
+    air: &A,
+    text: &str,
+) -> Result<String, Fail>
+where
+    F: RowField + JsonCodec,
+    F::Above: JsonCodec,
+    C: FieldChallenger<F>
+        + CanObserve<ClearCommitment<F>>
+        + ExtensionChallenger<F, F::Above>
+        + GrindingChallenger<Witness = F>
+        + Clone,
+    A: Air<F>,
+    requires none { (A.layout air.now).preprocessed ≡ 0 }
+{
+    let (number, rest) = apart(text)?;
+    let (trace, publics) = apart(rest)?;
+    let [log_height] = numbers_in::<1>(number)?;
+    let trace = list_in(alloc, trace)?;
+    let publics = list_in(alloc, publics)?;
+    let text = text_of(alloc, config, air, log_height as usize, &trace, &publics)?;
+    verdict_of(text, alloc)
+}
+
+fn periodic_verdict<F, C>(
+    alloc: Global,
+    config: &ClearConfig<F, F::Above, C>,
+    text: &str,
+) -> Result<String, Fail>
+where
+    F: RowField + JsonCodec,
+    F::Above: JsonCodec,
+    C: FieldChallenger<F>
+        + CanObserve<ClearCommitment<F>>
+        + ExtensionChallenger<F, F::Above>
+        + GrindingChallenger<Witness = F>
+        + Clone,
+{
+    let air = PeriodicAir::<F>::new(alloc)?;
+    verdict_on(alloc, config, &air, text)
+}
+
+/// The same of a named AIR's.
 fn verdict_by_name<F, C>(
     alloc: Global,
     config: &ClearConfig<F, F::Above, C>,
@@ -152,23 +197,13 @@ where
         + Clone,
 {
     let (name, rest) = apart(text)?;
-    let (number, rest) = apart(rest)?;
-    let (trace, publics) = apart(rest)?;
-    let [log_height] = numbers_in::<1>(number)?;
-    let log_height = log_height as usize;
-    let trace = list_in(alloc, trace)?;
-    let publics = list_in(alloc, publics)?;
-    let text = match name {
-        "counter" => text_of(alloc, config, &CounterAir, log_height, &trace, &publics)?,
-        "cubic" => text_of(alloc, config, &CubicAir, log_height, &trace, &publics)?,
-        "fibonacci" => text_of(alloc, config, &FibonacciAir, log_height, &trace, &publics)?,
-        "pair" => text_of(alloc, config, &PairAir, log_height, &trace, &publics)?,
-        _ => {
-            let air = PeriodicAir::<F>::new(alloc)?;
-            text_of(alloc, config, &air, log_height, &trace, &publics)?
-        }
-    };
-    verdict_of(text, alloc)
+    match name {
+        "counter" => verdict_on(alloc, config, &CounterAir, rest),
+        "cubic" => verdict_on(alloc, config, &CubicAir, rest),
+        "fibonacci" => verdict_on(alloc, config, &FibonacciAir, rest),
+        "pair" => verdict_on(alloc, config, &PairAir, rest),
+        _ => periodic_verdict(alloc, config, rest),
+    }
 }
 
 // Satisfying traces of one, two and eight rows; the periodic column has two. At these heights no drawn zeta lies in H.

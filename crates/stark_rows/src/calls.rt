@@ -22,13 +22,13 @@ use stark_parts::{
     Com, Domain, PcsError, PcsProverError, StarkConfig, StarkGenericConfig, Val, VerificationError,
     VerifierConstraintFolder, fold_constraints,
 };
+use stark_protocol::power_of_two;
 use stark_support::{
     CanObserve, DomainShape, Element, ExtensionChallenger, ExtensionField, Field, FieldChallenger,
     GrindingChallenger, JsonCodec, LagrangeSelectors, NeverNull, PackedExtensionField, Pcs,
     PolynomialSpace, PrimeField64, QuarticBase, RowMajorMatrix, RowMajorMatrixView, TwoAdicField,
     UnivariateStarkPcs, VerticalPair, value_from_bytes,
 };
-use stark_protocol::power_of_two;
 use std::alloc::{AllocError, Global};
 use std::fmt::Debug;
 
@@ -581,8 +581,8 @@ where
     match prove(alloc, config, air, trace, publics) {
         Ok(proof) => {
             let text = proof.to_json(alloc)?.to_string(alloc)?;
-            let answer = verified(alloc, config, air, &proof, publics, None)?;
-            Ok(Some(format!(in alloc; "{text} {answer}")?))
+            let answer = verify(alloc, config, air, &proof, publics);
+            Ok(Some(format!(in alloc; "{text} {answer:?}")?))
         }
         Err(error) => Ok(Some(format!(in alloc; "{error:?}")?)),
     }
@@ -706,7 +706,8 @@ where
     let Ok(proof) = StarkProof::<SC>::from_json(alloc, &json) else {
         return Ok(None);
     };
-    Ok(Some(verified(alloc, config, air, &proof, publics, None)?))
+    let answer = verify(alloc, config, air, &proof, publics);
+    Ok(Some(format!(in alloc; "{answer:?}")?))
 }
 
 fn masked_reread_above<F, EF, C, A>(
@@ -749,4 +750,3 @@ where
 {
     masked_reread_above::<F, F::Above, C, A>(alloc, config, air, text, publics)
 }
-

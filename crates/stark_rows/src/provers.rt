@@ -36,10 +36,10 @@ fn matrix<F: PrimeField64>(
     numbers: &[u32],
     width: usize,
 ) -> Result<Option<RowMajorMatrix<F>>, AllocError> {
-    if width == 0 || numbers.len() % width != 0 {
+    let values = elements::<F>(alloc, numbers)?;
+    if width == 0 || values.len() % width != 0 {
         return Ok(None);
     }
-    let values = elements::<F>(alloc, numbers)?;
     Ok(Some(RowMajorMatrix::new(values, width)))
 }
 
@@ -69,6 +69,15 @@ where
     Ok(text.ok_or("a trace that doesn't fit")?)
 }
 
+/// The challenger that draws alpha 4 and this zeta.
+fn script(alloc: Global, zeta: u32) -> Result<ScriptChallenger<S12289>, Fail> {
+    let list = elements::<S12289>(alloc, &[4, 0, 0, 0, zeta, 0, 0, 0])?;
+    if list.is_empty() {
+        return Err(Fail::from("no numbers"));
+    }
+    Ok(ScriptChallenger::new(list))
+}
+
 type Script = ClearConfig<S12289, <S12289 as RowField>::Above, ScriptChallenger<S12289>>;
 
 /// The same over the challenger that draws alpha 4 and the row's zeta.
@@ -78,8 +87,7 @@ fn scripted<A: Air<S12289>>(alloc: Global, air: &A, text: &str) -> Result<String
     let (numbers, rest) = apart(text)?;
     let (trace, publics) = apart(rest)?;
     let [log_height, zeta, bits] = numbers_in::<3>(numbers)?;
-    let list = elements::<S12289>(alloc, &[4, 0, 0, 0, zeta, 0, 0, 0])?;
-    let config: Script = StarkConfig::new(ClearPcs::new(), ScriptChallenger::new(list));
+    let config: Script = StarkConfig::new(ClearPcs::new(), script(alloc, zeta)?);
     let config = config.with_ood_proof_of_work_bits(bits as usize);
     let trace = list_in(alloc, trace)?;
     let publics = list_in(alloc, publics)?;
@@ -248,8 +256,7 @@ fn masked_script(alloc: Global, masks: &[u32]) -> Result<MaskedScript, Fail> {
     if masks.is_empty() {
         return Err(Fail::from("no masks"));
     }
-    let list = elements::<S12289>(alloc, &[4, 0, 0, 0, 3, 0, 0, 0])?;
-    Ok(StarkConfig::new(MaskedClearPcs::new(masks), ScriptChallenger::new(list)))
+    Ok(StarkConfig::new(MaskedClearPcs::new(masks), script(alloc, 3)?))
 }
 
 /// The text of a masked proof and the verifier's answer: the logarithm of the height | masks | trace | public values.
@@ -293,7 +300,8 @@ fn masked_cubic(alloc: Global, text: &str) -> Result<String, Fail> {
 }
 
 // The masked counter's proof, and what is put in its place.
-const MASKED_PROOF: &str = "{\"commitments\":{\"quotient_chunks\":[[[244,5,1625,1625],[12288,12288,1625,1625],[12288,12288,1625,1625],[12288,12288,1625,1625]],[[1539,5,5269,5269],[12288,12288,5269,5269],[12288,12288,5269,5269],[12288,12288,5269,5269]],[[12049,5,10664,10664],[12288,12288,10664,10664],[12288,12288,10664,10664],[12288,12288,10664,10664]],[[10758,9,3518,3518],[3,3,3518,3518],[3,3,3518,3518],[3,3,3518,3518]]],\"random\":[[[1,1,1,1],[1,1,1,1],[1,1,1,1],[1,1,1,1]]],\"trace\":[[[6149,6143,1,1]]]},\"degree_bits\":2,\"ood_pow_witness\":0,\"opened_values\":{\"preprocessed_local\":null,\"preprocessed_next\":null,\"quotient_chunks\":[[[9603,0,0,0],[9340,0,0,0],[9340,0,0,0],[9340,0,0,0]],[[6903,0,0,0],[5345,0,0,0],[5345,0,0,0],[5345,0,0,0]],[[2720,0,0,0],[2941,0,0,0],[2941,0,0,0],[2941,0,0,0]],[[2254,0,0,0],[3770,0,0,0],[3770,0,0,0],[3770,0,0,0]]],\"random\":[[40,0,0,0],[40,0,0,0],[40,0,0,0],[40,0,0,0]],\"trace_local\":[[36,0,0,0]],\"trace_next\":[[12280,0,0,0]]},\"opening_proof\":null}";
+const MASKED_PROOF: &str =
+    "{\"commitments\":{\"quotient_chunks\":[[[244,5,1625,1625],[12288,12288,1625,1625],[12288,12288,1625,1625],[12288,12288,1625,1625]],[[1539,5,5269,5269],[12288,12288,5269,5269],[12288,12288,5269,5269],[12288,12288,5269,5269]],[[12049,5,10664,10664],[12288,12288,10664,10664],[12288,12288,10664,10664],[12288,12288,10664,10664]],[[10758,9,3518,3518],[3,3,3518,3518],[3,3,3518,3518],[3,3,3518,3518]]],\"random\":[[[1,1,1,1],[1,1,1,1],[1,1,1,1],[1,1,1,1]]],\"trace\":[[[6149,6143,1,1]]]},\"degree_bits\":2,\"ood_pow_witness\":0,\"opened_values\":{\"preprocessed_local\":null,\"preprocessed_next\":null,\"quotient_chunks\":[[[9603,0,0,0],[9340,0,0,0],[9340,0,0,0],[9340,0,0,0]],[[6903,0,0,0],[5345,0,0,0],[5345,0,0,0],[5345,0,0,0]],[[2720,0,0,0],[2941,0,0,0],[2941,0,0,0],[2941,0,0,0]],[[2254,0,0,0],[3770,0,0,0],[3770,0,0,0],[3770,0,0,0]]],\"random\":[[40,0,0,0],[40,0,0,0],[40,0,0,0],[40,0,0,0]],\"trace_local\":[[36,0,0,0]],\"trace_next\":[[12280,0,0,0]]},\"opening_proof\":null}";
 
 const CHANGED_MASKED: &str = "\
 \"degree_bits\":2 | \"degree_bits\":2 => Ok(())

@@ -554,6 +554,38 @@ fn fits<SC: StarkGenericConfig, A: BaseAir<Val<SC>>>(
         && publics.len() == air.num_public_values()
 }
 
+/// A proof's JSON.
+fn json_of<K: NeverNull + Drop, EF: JsonCodec + Drop, P: JsonCodec + Drop, F: JsonCodec + Drop>(
+    alloc: Global,
+    proof: &Proof<K, EF, P, F>,
+) -> Result<String, AllocError> {
+    let json = proof.to_json(alloc)?;
+    json.to_string(alloc)
+}
+
+/// A proof's text, and what any verifier answers of it.
+fn shown_by<SC, A>(
+    alloc: Global,
+    config: &SC,
+    air: &A,
+    proof: &StarkProof<SC>,
+    publics: &[Val<SC>],
+) -> Result<String, AllocError>
+where
+    SC: StarkGenericConfig,
+    SC::Challenger: GrindingChallenger<Witness = Val<SC>>,
+    SC::Challenge: JsonCodec,
+    Val<SC>: JsonCodec,
+    Com<SC>: NeverNull,
+    PcsProof<SC>: JsonCodec,
+    PcsError<SC>: Debug,
+    A: Air<Val<SC>>,
+{
+    let answer = verify(alloc, config, air, proof, publics);
+    let text = json_of(alloc, proof)?;
+    format!(in alloc; "{text} {answer:?}")
+}
+
 /// The text of a proof of a trace and what any verifier answers of it, or the prover's error; none where the trace doesn't fit.
 fn proved_by<SC, A>(
     alloc: Global,
@@ -578,14 +610,11 @@ where
     if !fits(config, air, log_height, &trace, publics) {
         return Ok(None);
     }
-    match prove(alloc, config, air, trace, publics) {
-        Ok(proof) => {
-            let text = proof.to_json(alloc)?.to_string(alloc)?;
-            let answer = verify(alloc, config, air, &proof, publics);
-            Ok(Some(format!(in alloc; "{text} {answer:?}")?))
-        }
-        Err(error) => Ok(Some(format!(in alloc; "{error:?}")?)),
-    }
+    let text = match prove(alloc, config, air, trace, publics) {
+        Ok(proof) => shown_by(alloc, config, air, &proof, publics),
+        Err(error) => format!(in alloc; "{error:?}"),
+    };
+    Ok(Some(text?))
 }
 
 fn proved_above<F, EF, C, A>(
@@ -682,6 +711,15 @@ where
     masked_above::<F, F::Above, C, A>(alloc, config, air, log_height, trace, publics)
 }
 
+/// The proof of a text; none where it is no proof.
+fn proof_in<K: NeverNull + Drop, EF: JsonCodec + Drop, P: JsonCodec + Drop, F: JsonCodec + Drop>(
+    alloc: Global,
+    text: &str,
+) -> Option<Proof<K, EF, P, F>> {
+    let json = value_from_bytes(alloc, text.as_bytes()).ok()?;
+    Proof::from_json(alloc, &json).ok()
+}
+
 /// What any verifier answers of a proof's text; none where the text is no proof.
 fn reread_by<SC, A>(
     alloc: Global,
@@ -700,14 +738,13 @@ where
     PcsError<SC>: Debug,
     A: Air<Val<SC>>,
 {
-    let Ok(json) = value_from_bytes(alloc, text.as_bytes()) else {
-        return Ok(None);
-    };
-    let Ok(proof) = StarkProof::<SC>::from_json(alloc, &json) else {
-        return Ok(None);
-    };
-    let answer = verify(alloc, config, air, &proof, publics);
-    Ok(Some(format!(in alloc; "{answer:?}")?))
+    match proof_in::<Com<SC>, SC::Challenge, PcsProof<SC>, Val<SC>>(alloc, text) {
+        Some(proof) => {
+            let answer = verify(alloc, config, air, &proof, publics);
+            Ok(Some(format!(in alloc; "{answer:?}")?))
+        }
+        None => Ok(None),
+    }
 }
 
 fn masked_reread_above<F, EF, C, A>(

@@ -4,5 +4,3 @@ pub mod EquationFaults
 pub mod EquationParts
 pub mod PointSteps
 pub mod Judged
-pub mod Proved
-pub mod TraceSteps

@@ -9,3 +9,4 @@ pub mod EquationSteps
 pub mod TakenValueSteps
 pub mod SoundAcceptanceSteps
 pub mod Carried
+pub mod HonestVerdict

@@ -1,2 +1,3 @@
 pub mod TakenValues
 pub mod SoundAcceptance
+pub mod Completeness

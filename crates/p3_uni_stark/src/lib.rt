@@ -1,9 +1,11 @@
 //! The univariate STARK of Plonky3's `p3-uni-stark`, with its contracts proved.
 #![tactic(auto)]
 
+mod completeness;
 mod constraints;
 mod verifier;
 
+pub use completeness::{StarkCompleteness, VerifiedProof, prove_and_verify};
 pub use constraints::verify_constraints;
 pub use stark_air::{
     AirLayout, BaseEntry, ConstraintLayout, SubAirBuilder, SubSliced, SymbolicAirBuilder,

@@ -1,14 +1,16 @@
 //! The two-adic cosets of a field, as domains.
-ghost use Rattle.std.specs.Prelude.{◌≡◌, ◌≢◌, ◌≤◌, ℕ, ⊤, ◌^◌, refl};
-ghost use Rattle.stark_support.specs.Coset.{TwoAdicCoset, coset_size, subgroup_vanishing};
+ghost use Rattle.std.specs.Prelude.{◌≡◌, ◌≢◌, ◌<◌, ◌≤◌, ◌-◌, ℕ, ⊤, ◌^◌, All, IfOk, length, map, refl};
+ghost use Rattle.stark_support.specs.Coset.{AreDisjoint, AreValuesOn, TwoAdicCoset, coset_size, subgroup_vanishing};
 ghost use Rattle.stark_support.specs.Ring.{difference};
 ghost use Rattle.stark_support.specs.SelectorFacts.{IsSubgroup};
 ghost use Rattle.stark_support.specs.Selectors.{first_row_selector, last_row_selector, transition_selector};
 ghost use Rattle.stark_support.specs.Subgroup.{group_of};
+ghost use Rattle.stark_bench.specs.PointLists.{AreQuotients, AreRepeated};
 
 use stark_support::{
     DomainShape, Element, ExtensionField, Field, LagrangeSelectors, PeriodicColumns,
-    PolynomialSpace, TwoAdicField, log2_ceil_usize, log2_strict_usize, squared_times,
+    PolynomialSpace, TwoAdicField, batch_multiplicative_inverse, log2_ceil_usize,
+    log2_strict_usize, squared_times,
 };
 use std::alloc::{AllocError, Global};
 
@@ -87,6 +89,112 @@ fn group_selectors<E: Field>(generator: E, log_size: usize, point: E) -> Lagrang
     }
 }
 
+/// What is left of each element where `c` is taken away.
+fn differences<F: Field>(alloc: Global, elements: &[F], c: F) -> Result<Vec<F>, AllocError>
+    ensures { IfOk result (λ left. left.items ≡ map (λ x. difference F.ring x c) elements.now) }
+{
+    let mut left = Vec::with_capacity(alloc, elements.len())?;
+    for x in elements {
+        left.push(*x - c)?;
+    }
+    Ok(left)
+}
+
+/// Each element over the one at its place in the other list, which is as long.
+fn quotients<F: Field>(alloc: Global, elements: &[F], divisors: &[F]) -> Result<Vec<F>, AllocError>
+    requires number { length elements.now ≡ length divisors.now }
+    requires nonzero { All (λ d. d ≢ F.ring.zero) divisors.now }
+    ensures { IfOk result (λ over. AreQuotients F.ring F.inverse_of elements.now divisors.now (length divisors.now) over.items) }
+{
+    let inverses = batch_multiplicative_inverse(alloc, divisors)?;
+    let mut over = Vec::with_capacity(alloc, elements.len())?;
+    for index in 0..elements.len() {
+        over.push(elements[index] * inverses[index])?;
+    }
+    Ok(over)
+}
+
+/// So many elements, which are those of a list over and over.
+fn repeated<F: Field>(alloc: Global, list: &[F], count: usize) -> Result<Vec<F>, AllocError>
+    requires { 0 < length list.now }
+    ensures { IfOk result (λ all. AreRepeated list.now count all.items) }
+{
+    let mut all = Vec::with_capacity(alloc, count)?;
+    for index in 0..count {
+        all.push(list[index % list.len()])?;
+    }
+    Ok(all)
+}
+
+/// `x^(2^log_size) - 1` for each element.
+fn vanishing_values<F: Field>(
+    alloc: Global,
+    elements: &[F],
+    log_size: usize,
+) -> Result<Vec<F>, AllocError>
+    ensures { IfOk result (λ values. values.items ≡ map (λ x. subgroup_vanishing F.ring (2 ^ log_size) x) elements.now) }
+{
+    let mut values = Vec::with_capacity(alloc, elements.len())?;
+    for x in elements {
+        values.push(subgroup_vanishing(*x, log_size))?;
+    }
+    Ok(values)
+}
+
+/// How many points there are for each of a group's, in logarithms; at least one.
+fn points_for_each(log_size: usize, log_of_group: usize) -> usize
+    requires { log_size < 64 }
+    ensures { result ≡ 2 ^ (log_size - log_of_group) }
+{
+    1 << log_size.saturating_sub(log_of_group)
+}
+
+/// The vanishing values of a subgroup at points, and their inverses.
+#[derive(Drop)]
+struct Vanishing<F> {
+    values: Vec<F>,
+    inverses: Vec<F>,
+}
+
+impl<F: TwoAdicField> Coset<F> {
+    /// The points, in row order.
+    fn points(&self, alloc: Global) -> Result<Vec<F>, AllocError>
+        ensures { IfOk result (λ points. AreValuesOn F.ring F.root (record { shift = self.now.shift; log_size = self.now.log_size }) (2 ^ self.now.log_size) (λ x. x) points.items) }
+    {
+        let step = F::two_adic_generator(self.log_size);
+        let mut points = Vec::with_capacity(alloc, self.size())?;
+        let mut point = self.shift;
+        for _row in 0..self.size() {
+            points.push(point)?;
+            point = point * step;
+        }
+        Ok(points)
+    }
+
+    /// A subgroup's vanishing values at the points of a coset apart from it, and their inverses. They are taken once for each
+    /// coset of the subgroup, as they repeat.
+    fn vanishing_on(
+        &self,
+        alloc: Global,
+        coset: &Coset<F>,
+        points: &[F],
+    ) -> Result<Vanishing<F>, AllocError>
+        requires subgroup { self.now.shift ≡ F.ring.one }
+        requires disjoint { AreDisjoint F.ring F.root (record { shift = self.now.shift; log_size = self.now.log_size }) (record { shift = coset.now.shift; log_size = coset.now.log_size }) }
+        requires points { AreValuesOn F.ring F.root (record { shift = coset.now.shift; log_size = coset.now.log_size }) (2 ^ coset.now.log_size) (λ x. x) points.now }
+        ensures values { IfOk result (λ v. AreValuesOn F.ring F.root (record { shift = coset.now.shift; log_size = coset.now.log_size }) (2 ^ coset.now.log_size) (λ x. subgroup_vanishing F.ring (2 ^ self.now.log_size) x) v.values.items) }
+        ensures inverses { IfOk result (λ v. AreValuesOn F.ring F.root (record { shift = coset.now.shift; log_size = coset.now.log_size }) (2 ^ coset.now.log_size) (λ x. F.inverse_of (subgroup_vanishing F.ring (2 ^ self.now.log_size) x)) v.inverses.items) }
+    {
+        let period = points_for_each(coset.log_size, self.log_size);
+        let values = vanishing_values(alloc, &points[..period], self.log_size)?;
+        let inverses = batch_multiplicative_inverse(alloc, values.as_slice())?;
+        Ok(Vanishing {
+            values: repeated(alloc, values.as_slice(), points.len())?,
+            inverses: repeated(alloc, inverses.as_slice(), points.len())?,
+        })
+    }
+}
+
 impl<F: TwoAdicField> DomainShape for Coset<F> {
     ghost size_of = { λ c. 2 ^ c.log_size };
 
@@ -153,26 +261,19 @@ impl<F: TwoAdicField> PolynomialSpace for Coset<F> {
         alloc: Global,
         coset: &Coset<F>,
     ) -> Result<LagrangeSelectors<Vec<F>>, AllocError> {
+        let points = coset.points(alloc)?;
+        let vanishing = self.vanishing_on(alloc, coset, points.as_slice())?;
         let generator = F::two_adic_generator(self.log_size);
-        let step = F::two_adic_generator(coset.log_size);
-        let mut is_first_row = Vec::new(alloc);
-        let mut is_last_row = Vec::new(alloc);
-        let mut is_transition = Vec::new(alloc);
-        let mut inv_vanishing = Vec::new(alloc);
-        let mut point = coset.shift;
-        for _row in 0..coset.size() {
-            let selectors = group_selectors(generator, self.log_size, point);
-            is_first_row.push(selectors.is_first_row)?;
-            is_last_row.push(selectors.is_last_row)?;
-            is_transition.push(selectors.is_transition)?;
-            inv_vanishing.push(selectors.inv_vanishing)?;
-            point = point * step;
-        }
+        let to_first = differences(alloc, points.as_slice(), F::ONE)?;
+        let is_transition = differences(alloc, points.as_slice(), generator.inverse())?;
+        let values = vanishing.values.as_slice();
+        let is_first_row = quotients(alloc, values, to_first.as_slice())?;
+        let is_last_row = quotients(alloc, values, is_transition.as_slice())?;
         Ok(LagrangeSelectors {
             is_first_row,
             is_last_row,
             is_transition,
-            inv_vanishing,
+            inv_vanishing: vanishing.inverses,
         })
     }
 

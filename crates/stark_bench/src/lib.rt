@@ -6,11 +6,16 @@ mod circle;
 mod commitment_json;
 mod coset;
 mod ext4;
+mod extension_lanes;
 mod json;
+mod lanes;
+mod packing;
 mod residue;
 
 pub use challenger::{ClearCommitment, ScriptChallenger, Sha256Challenger};
 pub use circle::CircleShape;
 pub use coset::Coset;
 pub use ext4::Ext4;
+pub use extension_lanes::ExtensionLanes;
+pub use lanes::Lanes;
 pub use residue::{F12289, Lockstep, P12289, Packed, Residue, S12289, Scalar};

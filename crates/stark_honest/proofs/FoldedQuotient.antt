@@ -11,7 +11,7 @@ use Rattle.stark_support.specs.DivisionFacts.{VanishingQuotient, vanishing_quoti
 use Rattle.stark_support.specs.Polynomial.{value, HasDegreeBelow}
 use Rattle.stark_parts.specs.Folded.{folded}
 use Rattle.stark_security.specs.ConstraintPolynomial.{AirInstance, Columns, height, constraints_at, folded_at, folded_polynomial}
-use Rattle.stark_security.specs.DegreeBound.{greatest_bound}
+use Rattle.stark_parts.specs.ConstraintBound.{greatest_bound}
 use Rattle.stark_security.specs.BadValues.{ColumnsFit, Satisfies, point}
 use Rattle.stark_security.proofs.ConstraintSteps.{value_of_folded}
 use Rattle.stark_security.proofs.ConstraintDegrees.{degree_of_folded}

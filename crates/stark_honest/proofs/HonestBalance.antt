@@ -18,7 +18,7 @@ use Rattle.stark_quotient.specs.PointwiseQuotient.{RowsOnCoset}
 use Rattle.stark_quotient.specs.QuotientOfColumns.{AreValuesOfColumns, embedded_rows}
 use Rattle.stark_honest.specs.HonestQuotient.{AreLawful, AreRowsOfColumns, AreProofSizes, FitCommitted, AreChunksOfQuotient}
 use Rattle.stark_honest.specs.RowSatisfaction.{TraceRows, HoldsInEachRow, IsSatisfiedByRows, rows_on_group}
-use Rattle.stark_honest.specs.SizingLaw.{HasSmallBound}
+use Rattle.stark_parts.specs.SizingLaw.{HasSmallBound}
 use Rattle.stark_honest.specs.TrueOpenings.{AreTrueOpenings, air_over, columns_above}
 use Rattle.stark_honest.proofs.HonestEquation.{honest_equation, own_height}
 use Rattle.stark_honest.proofs.RowSatisfactionSteps.{satisfied_by_rows, rows_of_satisfied}

@@ -32,7 +32,7 @@ use Rattle.stark_quotient.specs.PointwiseQuotient.{RowsOnCoset, pointwise_quotie
 use Rattle.stark_quotient.specs.QuotientOfColumns.{AreValuesOfColumns, embedded_rows, quotient_of_columns}
 use Rattle.stark_quotient.specs.SameLeaves.{same_constraints}
 use Rattle.stark_honest.specs.HonestQuotient.{AreLawful, AreRowsOfColumns, AreProofSizes, FitCommitted, AreChunksOfQuotient}
-use Rattle.stark_honest.specs.SizingLaw.{HasSmallBound}
+use Rattle.stark_parts.specs.SizingLaw.{HasSmallBound}
 use Rattle.stark_honest.specs.TrueOpenings.{AreTrueOpenings, air_over, columns_above}
 use Rattle.stark_honest.proofs.ChunkPolynomials.{committed_recomposes}
 use Rattle.stark_honest.proofs.FoldedQuotient.{folded_divides, folded_quotient, quotient_degree}

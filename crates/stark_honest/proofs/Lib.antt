@@ -1,6 +1,6 @@
 -- FoldedQuotient: folded_divides, quotient_degree. PartPoints, ChunkPolynomials: plain_recomposes, committed_recomposes. OpenedColumns:
 -- opened_leaves. HonestEquation: recomposed, honest_equation. RowSatisfactionSteps: satisfied_by_rows, rows_of_satisfied. SelectorRows:
--- first_elsewhere, last_elsewhere, transition_at_end. SizingSteps: sized_enough, own_parts_enough. SizingRows: two constraints. HonestBalance:
+-- first_elsewhere, last_elsewhere, transition_at_end. HonestBalance:
 -- satisfied_by_trace, trace_of_satisfied, row_by_row, honest_is_balanced.
 pub mod FoldedQuotient
 pub mod PartPoints
@@ -9,6 +9,4 @@ pub mod OpenedColumns
 pub mod HonestEquation
 pub mod RowSatisfactionSteps
 pub mod SelectorRows
-pub mod SizingSteps
-pub mod SizingRows
 pub mod HonestBalance

@@ -5,4 +5,4 @@
 
 mod laws;
 
-pub use laws::{satisfaction_is_row_by_row, sizing_is_enough};
+pub use laws::satisfaction_is_row_by_row;

@@ -1,39 +1,52 @@
--- Only one line begins with `accepted`.
-use Rattle.std.proofs.Common.{◌≡◌, ◌≢◌, ◌++◌, ℕ, zero, suc, List, [], ◌∷◌, Option, None, Some, IfSome, take, codes, refl, sym, subst, ◌∙◌, inl, inr, arith, append-nil}
+-- By its first letter a line is told from others.
+use Rattle.std.proofs.Common.{◌≡◌, ◌≢◌, ℕ, zero, suc, List, [], ◌∷◌, Option, None, Some, IfSome, take, length, codes, refl, sym, subst, ap, ◌∙◌, inl, inr, arith, append-nil}
+use Rattle.std.proofs.Math.Seq.{take-length}
 use Rattle.std.proofs.lemmas.List.{append_cancel_left}
 use Rattle.std.specs.Io.KnownBytes.{Appends, Keeps}
-use Rattle.stark_input.specs.Verdict.{name_of, line_of}
-use Rattle.stark_input.specs.Running.{Says, SaysOf, Wrote}
+use Rattle.stark_input.specs.Finding.{IsProof, OpensIfProof, finding_line}
+use Rattle.stark_input.specs.Running.{IsFrontOfProof, Says, SaysOf, Wrote}
 use Rattle.stark_input.specs.declared.words.Command.{Command}
-use Rattle.stark_input.specs.declared.verdict.Verdict.{Verdict}
+use Rattle.stark_input.specs.declared.finding.Finding.{Finding}
+use Rattle.stark_input.specs.declared.finding.Finding.TheVariants as finding
 use Rattle.stark_input.specs.declared.verdict.Verdict.TheVariants as verdict
 use Rattle.stark_input.specs.declared.verdict.Refusal.TheVariants as refusal
 use Rattle.stark_input.specs.declared.verdict.RunEnd.{RunEnd}
 use Rattle.stark_input.specs.declared.verdict.RunEnd.TheVariants.{Accepted, Refused, BadInput, InputFailed, OutputFailed}
 
--- a front of a line that begins with another letter
-other_front : (c : ℕ) (rest : List ℕ) (count : ℕ) → c ≢ 97 → take 8 (take count (c ∷ rest)) ≡ codes "accepted" → ⊥
-other_front c rest zero other e = cc
-other_front c rest (suc count) other e = other (let h : c ∷ take 7 (take count rest) ≡ 97 ∷ codes "ccepted" = e in cc)
-
 abbrev first_of : List ℕ → ℕ
 first_of [] = 0
 first_of (x ∷ xs) = x
 
--- the first letter of a line is not that of `accepted`
-other_line : (c : ℕ) (line : List ℕ) → first_of line ≡ c → c ≢ 97 → take 8 line ≡ codes "accepted" → ⊥
-other_line c [] h other e = cc
-other_line c (x ∷ xs) h other e = other (let g : x ∷ take 7 xs ≡ 97 ∷ codes "ccepted" = e in cc)
+first_of_accepted : (bytes : List ℕ) → take 8 bytes ≡ codes "accepted" → first_of bytes ≡ 97
+first_of_accepted [] e = absurd (cc)
+first_of_accepted (x ∷ xs) e = let h : x ∷ take 7 xs ≡ 97 ∷ codes "ccepted" = e in cc
 
-accepted_line : (v : Verdict) → take 8 (line_of v) ≡ codes "accepted" → v ≡ verdict.Accepted
-accepted_line verdict.Accepted e = refl
-accepted_line (verdict.Refused why) e = absurd (other_line 114 (line_of (verdict.Refused why)) refl (omega arith) e)
-accepted_line verdict.BadInput e = absurd (other_line 98 (line_of verdict.BadInput) refl (omega arith) e)
+first_of_object : (bytes : List ℕ) → take 1 bytes ≡ codes "{" → first_of bytes ≡ 123
+first_of_object [] e = absurd (cc)
+first_of_object (x ∷ xs) e = let h : x ∷ take 0 xs ≡ 123 ∷ [] = e in cc
 
-accepted_front : (v : Verdict) (count : ℕ) → take 8 (take count (line_of v)) ≡ codes "accepted" → v ≡ verdict.Accepted
-accepted_front verdict.Accepted count e = refl
-accepted_front (verdict.Refused why) count e = absurd (other_front 114 (codes "efused " ++ (name_of why ++ codes "\n")) count (omega arith) e)
-accepted_front verdict.BadInput count e = absurd (other_front _ _ count (omega arith) e)
+-- a front of a line begins as the line does
+first_of_front : (count : ℕ) (line : List ℕ) (c : ℕ) → c ≢ 0 → first_of (take count line) ≡ c → first_of line ≡ c
+first_of_front zero [] c some e = e
+first_of_front zero (x ∷ xs) c some e = absurd (some (sym e))
+first_of_front (suc count) [] c some e = e
+first_of_front (suc count) (x ∷ xs) c some e = e
+
+accepted_finding : (f : Finding) → OpensIfProof f → first_of (finding_line f) ≡ 97 → f ≡ finding.Verdict verdict.Accepted
+accepted_finding (finding.Verdict verdict.Accepted) opens e = refl
+accepted_finding (finding.Verdict (verdict.Refused why)) opens e = absurd (let h : 114 ≡ 97 = e in omega arith)
+accepted_finding (finding.Verdict verdict.BadInput) opens e = absurd (let h : 98 ≡ 97 = e in omega arith)
+accepted_finding (finding.Proof line) opens e = absurd (let h : 123 ≡ 97 = sym (first_of_object _ opens) ∙ e in omega arith)
+
+proof_finding : (f : Finding) → first_of (finding_line f) ≡ 123 → IsProof f
+proof_finding (finding.Verdict verdict.Accepted) e = absurd (let h : 97 ≡ 123 = e in omega arith)
+proof_finding (finding.Verdict (verdict.Refused why)) e = absurd (let h : 114 ≡ 123 = e in omega arith)
+proof_finding (finding.Verdict verdict.BadInput) e = absurd (let h : 98 ≡ 123 = e in omega arith)
+proof_finding (finding.Proof line) e = tt
+
+-- the line for want of memory begins otherwise
+first_of_no_memory : (f : Finding) (c : ℕ) → f ≡ finding.Verdict (verdict.Refused refusal.OutOfMemory) → first_of (finding_line f) ≡ c → c ≢ 114 → ⊥
+first_of_no_memory f c memory e other = other (sym e ∙ ap (λ g. first_of (finding_line g)) memory)
 
 -- what a run wrote is what it appended
 wrote : (old new : Option (List ℕ)) (bytes line : List ℕ) → Wrote old new bytes → Appends old new line → bytes ≡ line
@@ -46,27 +59,53 @@ wrote_nothing None new bytes w k = absurd w
 wrote_nothing (Some xs) None bytes w k = absurd w
 wrote_nothing (Some xs) (Some ys) bytes w k = append_cancel_left xs bytes [] (sym w ∙ k ∙ sym (append-nil xs))
 
-found : (end : RunEnd) (v : Verdict) (old new : Option (List ℕ)) (bytes : List ℕ) → Says end v old new → Wrote old new bytes → take 8 bytes ≡ codes "accepted" → v ≡ verdict.Accepted
-found InputFailed v old new bytes s w e = absurd (let n = wrote_nothing old new bytes w s in let h : take 8 [] ≡ codes "accepted" = rw n at e in cc)
-found OutputFailed v old new bytes s w e = accepted_front v s.0 (rw (wrote old new bytes _ w s.1) at e)
-found Accepted v old new bytes s w e = accepted_line v (rw (wrote old new bytes _ w s.1) at e)
-found Refused v old new bytes s w e = accepted_line v (rw (wrote old new bytes _ w s.1) at e)
-found BadInput v old new bytes s w e = accepted_line v (rw (wrote old new bytes _ w s.1) at e)
+whole : (bytes line : List ℕ) → bytes ≡ line → bytes ≡ take (length line) line
+whole bytes line e = e ∙ sym (take-length line)
 
-module _ (IsFound : Option Command → List ℕ → Verdict → Type 0) where
+-- what a run wrote is the front of the line of what it found
+front : (end : RunEnd) (f : Finding) (old new : Option (List ℕ)) (bytes : List ℕ) → Says end f old new → Wrote old new bytes → (count : ℕ) × (bytes ≡ take count (finding_line f))
+front InputFailed f old new bytes s w = (0, wrote_nothing old new bytes w s)
+front OutputFailed f old new bytes s w = (s.0, wrote old new bytes _ w s.1)
+front Accepted f old new bytes s w = (length (finding_line f), whole bytes (finding_line f) (wrote old new bytes _ w s.1))
+front Refused f old new bytes s w = (length (finding_line f), whole bytes (finding_line f) (wrote old new bytes _ w s.1))
+front BadInput f old new bytes s w = (length (finding_line f), whole bytes (finding_line f) (wrote old new bytes _ w s.1))
+
+begins : (end : RunEnd) (f : Finding) (old new : Option (List ℕ)) (bytes : List ℕ) (c : ℕ) → c ≢ 0 → Says end f old new → Wrote old new bytes → first_of bytes ≡ c → first_of (finding_line f) ≡ c
+begins end f old new bytes c some s w e =
+    let part = front end f old new bytes s w in
+    first_of_front part.0 (finding_line f) c some (ap first_of (sym part.1) ∙ e)
+
+module _ (IsFound : Option Command → List ℕ → Finding → Type 0) (opens : (command : Option Command) (input : List ℕ) (f : Finding) → IsFound command input f → OpensIfProof f) where
   -- In every run, what begins with `accepted` is written only where that is found.
-  pub accepted_only : (command : Option Command) (input : List ℕ) (end : RunEnd) (old new : Option (List ℕ)) (bytes : List ℕ)
-      → SaysOf IsFound command input end old new → Wrote old new bytes → take 8 bytes ≡ codes "accepted" → IsFound command input verdict.Accepted
+  accepted_only : (command : Option Command) (input : List ℕ) (end : RunEnd) (old new : Option (List ℕ)) (bytes : List ℕ)
+      → SaysOf IsFound command input end old new → Wrote old new bytes → take 8 bytes ≡ codes "accepted" → IsFound command input (finding.Verdict verdict.Accepted)
   accepted_only command input end old new bytes s w e =
-      let v = found end s.0 old new bytes s.2 w e in
+      let first = begins end s.0 old new bytes 97 (omega arith) s.2 w (first_of_accepted bytes e) in
       elim s.1 [
-        | inl here ↦ subst (λ u. IsFound command input u) v here
-        | inr memory ↦ absurd (let h : verdict.Refused refusal.OutOfMemory ≡ verdict.Accepted = sym memory ∙ v in cc)
+        | inl here ↦ subst (λ u. IsFound command input u) (accepted_finding s.0 (opens command input s.0 here) first) here
+        | inr memory ↦ absurd (first_of_no_memory s.0 97 memory first (omega arith))
+      ]
+
+  -- What begins as an object does is the front of a proof's line.
+  proved_only : (command : Option Command) (input : List ℕ) (end : RunEnd) (old new : Option (List ℕ)) (bytes : List ℕ)
+      → SaysOf IsFound command input end old new → Wrote old new bytes → take 1 bytes ≡ codes "{" → IsFrontOfProof IsFound command input bytes
+  proved_only command input end old new bytes s w e =
+      let first = begins end s.0 old new bytes 123 (omega arith) s.2 w (first_of_object bytes e) in
+      let part = front end s.0 old new bytes s.2 w in
+      elim s.1 [
+        | inl here ↦ (s.0, proof_finding s.0 first, here, part.0, part.1)
+        | inr memory ↦ absurd (first_of_no_memory s.0 123 memory first (omega arith))
       ]
 
   -- the same for a reader that may not tell its bytes
   pub accepted_only_known : (command : Option Command) (known : Option (List ℕ)) (end : RunEnd) (old new : Option (List ℕ))
       → IfSome known (λ input. SaysOf IsFound command input end old new)
-      → IfSome known (λ input. (bytes : List ℕ) → Wrote old new bytes → take 8 bytes ≡ codes "accepted" → IsFound command input verdict.Accepted)
+      → IfSome known (λ input. (bytes : List ℕ) → Wrote old new bytes → take 8 bytes ≡ codes "accepted" → IsFound command input (finding.Verdict verdict.Accepted))
   accepted_only_known command None end old new s = tt
   accepted_only_known command (Some input) end old new s = λ bytes w e. accepted_only command input end old new bytes s w e
+
+  pub proved_only_known : (command : Option Command) (known : Option (List ℕ)) (end : RunEnd) (old new : Option (List ℕ))
+      → IfSome known (λ input. SaysOf IsFound command input end old new)
+      → IfSome known (λ input. (bytes : List ℕ) → Wrote old new bytes → take 1 bytes ≡ codes "{" → IsFrontOfProof IsFound command input bytes)
+  proved_only_known command None end old new s = tt
+  proved_only_known command (Some input) end old new s = λ bytes w e. proved_only command input end old new bytes s w e

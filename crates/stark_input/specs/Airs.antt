@@ -1,5 +1,5 @@
 -- The AIRs of which a check can be made, and what a check takes of each.
-use Rattle.std.specs.Prelude.{ℕ, ◌+◌, List, [], ◌∷◌, Option, None, Some}
+use Rattle.std.specs.Prelude.{ℕ, List, [], ◌∷◌, Option, None, Some}
 use Rattle.stark_air.specs.Declaration.{Trace}
 use Rattle.stark_air.specs.Layout.{Layout}
 use Rattle.stark_air.specs.Tree.{Constraint}

@@ -3,6 +3,8 @@ pub mod Airs
 pub mod Input
 pub mod Numbers
 pub mod ProofInput
+pub mod TraceInput
 pub mod Refusals
 pub mod Verdict
+pub mod Finding
 pub mod Running

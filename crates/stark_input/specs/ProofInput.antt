@@ -1,5 +1,5 @@
 -- What the bytes of an input of `verify` are.
-use Rattle.std.specs.Prelude.{ℕ, ◌^◌, ◌<◌, List, [], ◌∷◌, length, if◌then◌else◌, nat_lt, is_some, Option, None, Some, option_map, Result, Ok, Err, codes}
+use Rattle.std.specs.Prelude.{ℕ, ◌^◌, ◌<◌, List, [], ◌∷◌, length, if◌then◌else◌, nat_lt, is_some, Option, None, Some, Result, Ok, Err, codes}
 use Rattle.std.specs.Option.{option_or}
 use Rattle.std.specs.Str.{bytes_eq}
 use Rattle.serde_json.specs.Data.{Data}
@@ -7,7 +7,7 @@ use Rattle.serde_json.specs.Find.{get, as_null, as_str}
 use Rattle.stark_support.specs.Json.{◌>>=◌, json_of, whole_at, array_at}
 use Rattle.stark_bench.specs.ElementJson.{base_at, element_at}
 use Rattle.stark_proof.specs.ProofView.{ProofView, proof_view}
-use Rattle.stark_proof.specs.ProofJson.{ProofFault, proof_reading}
+use Rattle.stark_proof.specs.ProofJson.{proof_reading}
 use Rattle.stark_input.specs.Input.{Base, Extension}
 use Rattle.stark_input.specs.declared.proof_input.ChosenChallenger.{ChosenChallenger}
 use Rattle.stark_input.specs.declared.proof_input.ChosenChallenger.TheVariants.{Sha256, Script}

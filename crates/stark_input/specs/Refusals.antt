@@ -1,15 +1,17 @@
--- Why a proof is refused, by name.
+-- Why a proof is refused, or none is made, by name.
 use Rattle.std.specs.Prelude.{ℕ, List, codes, Result, Ok, Err}
 use Rattle.stark_parts.specs.declared.error.InvalidProofShapeError.{InvalidProofShapeError}
 use Rattle.stark_parts.specs.declared.error.InvalidProofShapeError.TheVariants as shape
 use Rattle.stark_parts.specs.declared.error.VerificationError.{VerificationError}
 use Rattle.stark_parts.specs.declared.error.VerificationError.TheVariants as error
+use Rattle.stark_parts.specs.declared.error.ProvingError.{ProvingError}
+use Rattle.stark_parts.specs.declared.error.ProvingError.TheVariants as proving
 use Rattle.stark_input.specs.declared.refusal.ProofRefusal.{ProofRefusal}
 use Rattle.stark_input.specs.declared.refusal.ProofRefusal.TheVariants as proof
 use Rattle.stark_input.specs.declared.verdict.Refusal.{Refusal}
 use Rattle.stark_input.specs.declared.verdict.Verdict.{Verdict}
 use Rattle.stark_input.specs.declared.verdict.Verdict.TheVariants.{Accepted, Refused}
-use Rattle.stark_input.specs.declared.verdict.Refusal.TheVariants.{OodEvaluationMismatch, OodPointInDomain, PeriodicColumn, QuotientDomainTooLarge, OutOfMemory, Proof}
+use Rattle.stark_input.specs.declared.verdict.Refusal.TheVariants.{OodEvaluationMismatch, OodPointInDomain, PeriodicColumn, QuotientDomainTooLarge, Pcs, GrindExhausted, OutOfMemory, Proof}
 
 abbrev pub proof_name_of : ProofRefusal → List ℕ
 proof_name_of proof.InvalidOpeningArgument = codes "InvalidOpeningArgument"
@@ -76,3 +78,11 @@ refusal_of error.OutOfMemory = OutOfMemory
 abbrev pub verdict_of_answer : {X : Type 0} → Result (Unit {0}) (VerificationError X) → Verdict
 verdict_of_answer (Ok answer) = Accepted
 verdict_of_answer (Err error) = Refused (refusal_of error)
+
+-- the name of a prover's error
+abbrev pub prover_refusal_of : {X : Type 0} → ProvingError X → Refusal
+prover_refusal_of (proving.Pcs phase source) = Pcs
+prover_refusal_of (proving.GrindExhausted bits) = GrindExhausted
+prover_refusal_of (proving.QuotientDomainTooLarge maximum got) = QuotientDomainTooLarge
+prover_refusal_of (proving.PeriodicColumn fault) = PeriodicColumn
+prover_refusal_of proving.OutOfMemory = OutOfMemory

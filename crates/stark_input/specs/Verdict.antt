@@ -1,9 +1,9 @@
--- What the program finds, and the line that says so.
+-- What the program says of an input, and the line that says so.
 use Rattle.std.specs.Prelude.{ℕ, List, ◌++◌, codes}
 use Rattle.stark_input.specs.declared.verdict.RunEnd.{RunEnd}
 use Rattle.stark_input.specs.declared.verdict.RunEnd.TheVariants as ends
 use Rattle.stark_input.specs.declared.verdict.Refusal.{Refusal}
-use Rattle.stark_input.specs.declared.verdict.Refusal.TheVariants.{OodEvaluationMismatch, OodPointInDomain, PeriodicColumn, QuotientDomainTooLarge, OutOfMemory, Proof}
+use Rattle.stark_input.specs.declared.verdict.Refusal.TheVariants.{OodEvaluationMismatch, OodPointInDomain, PeriodicColumn, QuotientDomainTooLarge, Pcs, GrindExhausted, OutOfMemory, Proof}
 use Rattle.stark_input.specs.Refusals.{proof_name_of}
 use Rattle.stark_input.specs.declared.verdict.Verdict.{Verdict}
 use Rattle.stark_input.specs.declared.verdict.Verdict.TheVariants.{Accepted, Refused, BadInput}
@@ -13,6 +13,8 @@ name_of OodEvaluationMismatch = codes "OodEvaluationMismatch"
 name_of OodPointInDomain = codes "OodPointInDomain"
 name_of PeriodicColumn = codes "PeriodicColumn"
 name_of QuotientDomainTooLarge = codes "QuotientDomainTooLarge"
+name_of Pcs = codes "Pcs"
+name_of GrindExhausted = codes "GrindExhausted"
 name_of OutOfMemory = codes "OutOfMemory"
 name_of (Proof why) = proof_name_of why
 

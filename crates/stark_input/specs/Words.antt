@@ -2,7 +2,7 @@
 use Rattle.std.specs.Prelude.{ℕ, List, [], ◌∷◌, if◌then◌else◌, Option, None, Some, option_map, codes}
 use Rattle.std.specs.Str.{bytes_eq}
 use Rattle.stark_input.specs.declared.words.Command.{Command}
-use Rattle.stark_input.specs.declared.words.Command.TheVariants.{Check, Verify}
+use Rattle.stark_input.specs.declared.words.Command.TheVariants.{Check, Prove, Verify}
 use Rattle.stark_input.specs.declared.words.SampleAir.{SampleAir}
 use Rattle.stark_input.specs.declared.words.SampleAir.TheVariants.{Counter, Cubic, Fibonacci, Periodic, Preprocessed, Pair}
 
@@ -24,5 +24,6 @@ command_of (verb ∷ []) = None
 command_of (verb ∷ air ∷ []) =
     if bytes_eq verb (codes "check") then option_map Check (named_air air)
     else if bytes_eq verb (codes "verify") then option_map Verify (named_air air)
+    else if bytes_eq verb (codes "prove") then option_map Prove (named_air air)
     else None
 command_of (verb ∷ air ∷ more ∷ rest) = None

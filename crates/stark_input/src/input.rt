@@ -74,16 +74,16 @@ impl CheckInput {
             && self.local.len() == shape.width
             && self.next.len() == shape.width
             && self.preprocessed_local.len() == shape.preprocessed_width
-            && are_of_four(&self.chunks)
+            && have_length(&self.chunks, 4)
     }
 }
 
-/// Whether each list has four members.
-fn are_of_four(lists: &[Vec<Extension>]) -> bool
-    ensures { result ≡ list_all (λ list. length list == 4) (map (λ list. list.items) lists.now) }
+/// Whether each list has so many members.
+pub(crate) fn have_length<T>(lists: &[Vec<T>], count: usize) -> bool
+    ensures { result ≡ list_all (λ list. length list == count) (map (λ list. list.items) lists.now) }
 {
     for list in lists {
-        if list.len() != 4 {
+        if list.len() != count {
             return false;
         }
     }

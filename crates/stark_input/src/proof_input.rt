@@ -16,7 +16,7 @@ use stark_proof::{Proof, ProofDecodeError};
 use stark_support::{JsonCodec, JsonFault, NeverNull, field_of, list_from_json, value_from_bytes};
 use std::alloc::Global;
 
-/// The challenger from which a verifier draws.
+/// The challenger from which a verifier or a prover draws.
 #[derive(Debug, Drop)]
 pub enum ChosenChallenger {
     /// The one that hashes what it observes.
@@ -37,7 +37,10 @@ pub struct ProofInput<Com, PcsProof> {
 
 /// A challenger by its name, or by its numbers, of which there are some.
 #[tactic(auto, unfolding(crate::specs::ProofInput::challenger_at))]
-fn challenger_from_json(alloc: Global, value: &Value) -> Result<ChosenChallenger, JsonFault>
+pub(crate) fn challenger_from_json(
+    alloc: Global,
+    value: &Value,
+) -> Result<ChosenChallenger, JsonFault>
     ensures reads { Gives named_challenger result (challenger_at (view value.now)) }
     ensures some { IfOk result HasSomeNumber }
 {
@@ -53,7 +56,7 @@ fn challenger_from_json(alloc: Global, value: &Value) -> Result<ChosenChallenger
 
 /// A number of bits, 0 where it is missing or null.
 #[tactic(auto, unfolding(crate::specs::ProofInput::bits_at))]
-fn bits_from_json(value: Option<&Value>) -> Result<usize, JsonFault>
+pub(crate) fn bits_from_json(value: Option<&Value>) -> Result<usize, JsonFault>
     ensures { Gives (λ n. n) result (bits_at (option_map (λ v. view v.now) value.entry)) }
 {
     let Some(value) = value else {

@@ -1,10 +1,10 @@
-//! Why a proof is refused, by name.
+//! Why a proof is refused, or none is made, by name.
 
 ghost use Rattle.std.specs.Prelude.{◌≡◌, ◌++◌, codes};
-ghost use Rattle.stark_input.specs.Refusals.{proof_name_of, refusal_of, shape_refusal_of, verdict_of_answer};
+ghost use Rattle.stark_input.specs.Refusals.{proof_name_of, prover_refusal_of, refusal_of, shape_refusal_of, verdict_of_answer};
 
 use crate::verdict::{Refusal, Verdict};
-use stark_parts::{InvalidProofShapeError, VerificationError};
+use stark_parts::{InvalidProofShapeError, ProvingError, VerificationError};
 
 /// Why a proof is refused, beside what a check of numbers finds.
 #[derive(Clone, Copy, Debug, PartialEq, Eq)]
@@ -196,5 +196,18 @@ pub fn told<PcsErr>(answer: &Result<(), VerificationError<PcsErr>>) -> Verdict
     match answer {
         Ok(()) => Verdict::Accepted,
         Err(error) => Verdict::Refused(refusal_of(error)),
+    }
+}
+
+/// Why a prover makes no proof: the name of its error.
+pub fn refusal_of_prover<PcsErr>(error: &ProvingError<PcsErr>) -> Refusal
+    ensures { result ≡ prover_refusal_of error.now }
+{
+    match error {
+        ProvingError::Pcs { .. } => Refusal::Pcs,
+        ProvingError::GrindExhausted { .. } => Refusal::GrindExhausted,
+        ProvingError::QuotientDomainTooLarge { .. } => Refusal::QuotientDomainTooLarge,
+        ProvingError::PeriodicColumn(_) => Refusal::PeriodicColumn,
+        ProvingError::OutOfMemory => Refusal::OutOfMemory,
     }
 }

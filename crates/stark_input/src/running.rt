@@ -1,59 +1,63 @@
-//! A run over anything that finds a verdict, from bytes to bytes.
+//! A run over anything that finds a verdict or a proof, from bytes to bytes.
 
 ghost use Rattle.std.specs.Prelude.{◌≡◌, ◌↔◌, ◌⊎◌, ℕ, List, Option, map, string_bytes, true, false, None, Some, Ok, IfOk, IfSome, IfErr, is_err};
-ghost use Rattle.std.specs.Io.KnownBytes.{Appends};
-ghost use Rattle.stark_input.specs.Running.{AcceptsSome, Found, IsFoundOrLacksMemory, IsVerdictEnd, Says, SaysFound, SaysOf, WhereAccepted};
+ghost use Rattle.stark_input.specs.Finding.{OpensIfProof};
+ghost use Rattle.stark_input.specs.Running.{AcceptsOrProves, Found, IsFindingEnd, IsFoundOrLacksMemory, IsFrontOfProof, Says, SaysFound, SaysOf, WhereAccepted, WhereObject};
 ghost use Rattle.stark_input.specs.Words.{command_of};
-ghost use Rattle.stark_input.specs.Verdict.{line_of};
+ghost use Rattle.stark_input.specs.declared.finding.Finding.{Finding};
 ghost use Rattle.stark_input.specs.declared.verdict.Verdict.{Verdict};
 ghost use Rattle.stark_input.specs.declared.words.Command.{Command};
 
+use crate::finding::Finding;
 use crate::streams::{InputFault, Sink, Source, read_to_end, write_all};
 use crate::verdict::{Refusal, RunEnd, Verdict};
 use crate::words::{Command, named_command};
 use std::alloc::Global;
 
-/// What finds a verdict on the bytes of an input.
+/// What finds a verdict, or a proof, of the bytes of an input.
 pub trait Judge {
     /// This is what is found of an input, under the command that the words name.
-    ghost is_found: { Option Command → List ℕ → Verdict → Type 0 };
+    ghost is_found: { Option Command → List ℕ → Finding → Type 0 };
 
     /// What is found under a command.
-    fn judge(&self, alloc: Global, command: Command, bytes: &[u8]) -> Verdict
+    fn judge(&self, alloc: Global, command: Command, bytes: &[u8]) -> Finding
         ensures { IsFoundOrLacksMemory is_found (Some command) bytes.now result };
 
     /// Under no command any input is bad.
-    ghost without_command: { (input : List ℕ) → is_found None input Verdict.BadInput };
+    ghost without_command: { (input : List ℕ) → is_found None input (Finding.Verdict Verdict.BadInput) };
+
+    /// A proof's line begins as an object does.
+    ghost proofs_open: { (command : Option Command) (input : List ℕ) (f : Finding) → is_found command input f → OpensIfProof f };
 }
 
 /// What is found of an input that wasn't read.
-fn unread_input(fault: InputFault) -> Result<Verdict, RunEnd>
-    ensures memory { IfOk result (λ verdict. verdict ≡ Verdict.Refused Refusal.OutOfMemory) }
+fn unread_input(fault: InputFault) -> Result<Finding, RunEnd>
+    ensures memory { IfOk result (λ f. f ≡ Finding.Verdict (Verdict.Refused Refusal.OutOfMemory)) }
     ensures kind { IfErr result (λ e. e ≡ RunEnd.InputFailed) }
     ensures failed { (is_err result ≡ true) ↔ (fault ≡ InputFault.Failed) }
 {
     match fault {
-        InputFault::OutOfMemory => Ok(Verdict::Refused(Refusal::OutOfMemory)),
+        InputFault::OutOfMemory => Ok(Finding::Verdict(Verdict::Refused(Refusal::OutOfMemory))),
         InputFault::Failed => Err(RunEnd::InputFailed),
     }
 }
 
-/// Finds the verdict, or fails by the reader alone.
+/// Finds a verdict or a proof, or fails by the reader alone.
 fn find<J: Judge, R: Source>(
     alloc: Global,
     judge: &J,
     words: &[String],
     reader: &mut R,
-) -> Result<Verdict, RunEnd>
+) -> Result<Finding, RunEnd>
     requires { R.has_failed reader.old ≡ false }
     ensures found { IfOk result (Found J.is_found (command_of (map string_bytes words.now)) (R.remaining reader.old)) }
-    ensures other_words { command_of (map string_bytes words.now) ≡ None → result ≡ Ok Verdict.BadInput }
+    ensures other_words { command_of (map string_bytes words.now) ≡ None → result ≡ Ok (Finding.Verdict Verdict.BadInput) }
     ensures kind { IfErr result (λ e. e ≡ RunEnd.InputFailed) }
     ensures failed { (is_err result ≡ true) ↔ (R.has_failed reader.new ≡ true) }
     ensures unread { command_of (map string_bytes words.now) ≡ None → reader.new ≡ reader.old }
 {
     let Some(command) = named_command(words) else {
-        return Ok(Verdict::BadInput);
+        return Ok(Finding::Verdict(Verdict::BadInput));
     };
     match read_to_end(alloc, reader) {
         Ok(input) => Ok(judge.judge(alloc, command, &input)),
@@ -61,15 +65,15 @@ fn find<J: Judge, R: Source>(
     }
 }
 
-/// Writes the line of a verdict.
-pub fn tell<W: Sink>(verdict: Verdict, writer: &mut W) -> RunEnd
+/// Writes the line of what is found.
+pub fn tell<W: Sink>(finding: &Finding, writer: &mut W) -> RunEnd
     requires { W.has_failed writer.old ≡ false }
-    ensures says { Says result verdict (W.contents writer.old) (W.contents writer.new) }
+    ensures says { Says result finding.now (W.contents writer.old) (W.contents writer.new) }
     ensures input_read { result ≡ RunEnd.InputFailed → ⊥ }
     ensures output_failed { (result ≡ RunEnd.OutputFailed) ↔ (W.has_failed writer.new ≡ true) }
 {
-    match write_all(writer, verdict.line().as_bytes()) {
-        Ok(()) => verdict.end(),
+    match write_all(writer, finding.line().as_bytes()) {
+        Ok(()) => finding.end(),
         Err(_) => RunEnd::OutputFailed,
     }
 }
@@ -89,15 +93,15 @@ fn ran<J: Judge, R: Source, W: Sink>(
     ensures input_failed { (result ≡ RunEnd.InputFailed) ↔ (R.has_failed reader.new ≡ true) }
     ensures output_failed { (result ≡ RunEnd.OutputFailed) ↔ (W.has_failed writer.new ≡ true) }
     ensures unread { command_of (map string_bytes words.now) ≡ None → reader.new ≡ reader.old }
-    ensures other_words { command_of (map string_bytes words.now) ≡ None → Says result Verdict.BadInput (W.contents writer.old) (W.contents writer.new) }
+    ensures other_words { command_of (map string_bytes words.now) ≡ None → Says result (Finding.Verdict Verdict.BadInput) (W.contents writer.old) (W.contents writer.new) }
 {
     match find(alloc, judge, words, reader) {
-        Ok(verdict) => tell(verdict, writer),
+        Ok(finding) => tell(&finding, writer),
         Err(end) => end,
     }
 }
 
-/// A run on the words after the program's name, with what finds a verdict.
+/// A run on the words after the program's name, with what finds a verdict or a proof.
 pub fn run_with<J: Judge, R: Source, W: Sink>(
     alloc: Global,
     judge: &J,
@@ -110,20 +114,22 @@ pub fn run_with<J: Judge, R: Source, W: Sink>(
     // What is written, and how the run ends.
     ensures says { IfSome (R.remaining reader.old) (λ input. SaysOf J.is_found (command_of (map string_bytes words.now)) input result (W.contents writer.old) (W.contents writer.new)) }
     // With other words it says `bad input`, and nothing is read.
-    ensures other_words { command_of (map string_bytes words.now) ≡ None → Says result Verdict.BadInput (W.contents writer.old) (W.contents writer.new) }
+    ensures other_words { command_of (map string_bytes words.now) ≡ None → Says result (Finding.Verdict Verdict.BadInput) (W.contents writer.old) (W.contents writer.new) }
     ensures unread { command_of (map string_bytes words.now) ≡ None → reader.new ≡ reader.old }
     // These two ends come from a failed read and a failed write, and from nothing else.
     ensures input_failed { (result ≡ RunEnd.InputFailed) ↔ (R.has_failed reader.new ≡ true) }
     ensures output_failed { (result ≡ RunEnd.OutputFailed) ↔ (W.has_failed writer.new ≡ true) }
-    // Where neither failed, the end is that of a verdict.
-    ensures ends { R.has_failed reader.new ≡ false → W.has_failed writer.new ≡ false → IsVerdictEnd result }
+    // Where neither failed, the end is that of what is found.
+    ensures ends { R.has_failed reader.new ≡ false → W.has_failed writer.new ≡ false → IsFindingEnd result }
     // After a failed read nothing is written.
     ensures silent { result ≡ RunEnd.InputFailed → writer.new ≡ writer.old }
     // In every run `accepted` is written only where that is found.
-    ensures accepted { WhereAccepted (R.remaining reader.old) (W.contents writer.old) (W.contents writer.new) (λ input. J.is_found (command_of (map string_bytes words.now)) input Verdict.Accepted) }
-    // A run ends so only where that is found of an input, whether or not the reader tells its bytes.
-    ensures accepted_end { result ≡ RunEnd.Accepted
-        → AcceptsSome J.is_found (command_of (map string_bytes words.now)) (R.remaining reader.old) × Appends (W.contents writer.old) (W.contents writer.new) (line_of Verdict.Accepted) }
+    ensures accepted { WhereAccepted (R.remaining reader.old) (W.contents writer.old) (W.contents writer.new) (λ input. J.is_found (command_of (map string_bytes words.now)) input (Finding.Verdict Verdict.Accepted)) }
+    // In every run what begins as an object does is the front of the line of a proof that is found.
+    ensures proved { WhereObject (R.remaining reader.old) (W.contents writer.old) (W.contents writer.new) (IsFrontOfProof J.is_found (command_of (map string_bytes words.now))) }
+    // A run ends so only where an input is accepted or a proof is found of it, whether or not the reader tells its bytes; and that
+    // is written.
+    ensures accepted_end { result ≡ RunEnd.Accepted → AcceptsOrProves J.is_found (command_of (map string_bytes words.now)) (R.remaining reader.old) (W.contents writer.old) (W.contents writer.new) }
 {
     ran(alloc, judge, words, reader, writer)
 }

@@ -1,4 +1,4 @@
-//! What the program finds, and the line that says so.
+//! What the program says of an input, and the line that says so.
 
 ghost use Rattle.std.specs.Prelude.{◌≡◌};
 ghost use Rattle.stark_input.specs.Verdict.{line_of, end_of, status_of};
@@ -8,7 +8,7 @@ use crate::refusal::ProofRefusal;
 /// How a run ends.
 #[derive(Clone, Copy, Debug, PartialEq, Eq)]
 pub enum RunEnd {
-    /// The line `accepted` is written.
+    /// The line `accepted`, or the line of a proof, is written.
     Accepted,
     /// A line that begins with `refused` is written.
     Refused,
@@ -33,7 +33,7 @@ impl RunEnd {
     }
 }
 
-/// Why what was read is refused.
+/// Why what was read is refused, or not proved.
 #[derive(Clone, Copy, Debug, PartialEq, Eq)]
 pub enum Refusal {
     /// The folded constraints differ from the vanishing value times the quotient.
@@ -44,13 +44,17 @@ pub enum Refusal {
     PeriodicColumn,
     /// The field has no group as large as the quotient's domain.
     QuotientDomainTooLarge,
+    /// The commitment scheme refuses to commit or to open.
+    Pcs,
+    /// No element is a witness of the work that is asked for.
+    GrindExhausted,
     /// A growth of memory was refused.
     OutOfMemory,
     /// A proof is refused for a reason that no check of numbers finds.
     Proof(ProofRefusal),
 }
 
-/// What is found of an input.
+/// What is said of an input.
 #[derive(Clone, Copy, Debug, PartialEq, Eq)]
 pub enum Verdict {
     /// The checks hold.
@@ -72,6 +76,8 @@ impl Verdict {
             Verdict::Refused(Refusal::OodPointInDomain) => "refused OodPointInDomain\n",
             Verdict::Refused(Refusal::PeriodicColumn) => "refused PeriodicColumn\n",
             Verdict::Refused(Refusal::QuotientDomainTooLarge) => "refused QuotientDomainTooLarge\n",
+            Verdict::Refused(Refusal::Pcs) => "refused Pcs\n",
+            Verdict::Refused(Refusal::GrindExhausted) => "refused GrindExhausted\n",
             Verdict::Refused(Refusal::OutOfMemory) => "refused OutOfMemory\n",
             Verdict::Refused(Refusal::Proof(why)) => why.line(),
             Verdict::BadInput => "bad input\n",

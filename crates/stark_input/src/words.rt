@@ -27,6 +27,8 @@ pub enum Command {
     Check(SampleAir),
     /// To verify a proof for an AIR.
     Verify(SampleAir),
+    /// To prove a trace for an AIR.
+    Prove(SampleAir),
 }
 
 /// The AIR of a name, compared whole.
@@ -58,6 +60,10 @@ pub fn named_command(words: &[String]) -> Option<Command>
         [verb, air] if verb.as_str() == "verify" => {
             let air = named_air(air.as_str())?;
             Some(Command::Verify(air))
+        }
+        [verb, air] if verb.as_str() == "prove" => {
+            let air = named_air(air.as_str())?;
+            Some(Command::Prove(air))
         }
         _ => None,
     }

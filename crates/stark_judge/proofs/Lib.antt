@@ -4,3 +4,5 @@ pub mod EquationFaults
 pub mod EquationParts
 pub mod PointSteps
 pub mod Judged
+pub mod Proved
+pub mod TraceSteps

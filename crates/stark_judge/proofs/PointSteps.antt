@@ -20,7 +20,7 @@ use Rattle.stark_air.specs.Declaration.{Trace, IsDeclared, next_width}
 use Rattle.stark_bench.specs.Residues.{residue, residue_ring, residue_inverse, residue_laws}
 use Rattle.stark_bench.specs.Roots.{root, two_adic_laws}
 use Rattle.stark_bench.specs.Ext4Field.{basis_of, embedded_is_embedding}
-use Rattle.stark_protocol.specs.Equation.{OpenedRows, EquationHolds, opened_layout}
+use Rattle.stark_protocol.specs.Equation.{OpenedRows, opened_layout}
 use Rattle.stark_input.specs.Airs.{CheckedAir, shape_of}
 use Rattle.stark_judge.specs.Check.{IsBalanced, checked, element_of, found_at_point, folded, inverse_of, if_none, judged, laws_of_elements, opened_rows, periodic_fault, periodic_values, quotient, trace_coset, vanishing}
 use Rattle.stark_input.specs.Input.{CheckNumbers, Base, Extension, elements, has_shape, numbers_in, zeros}
@@ -29,7 +29,7 @@ use Rattle.stark_judge.specs.Point.{EquationVerdict, IsOutsideCoset, PointVerdic
 use Rattle.stark_input.specs.declared.input.CheckShape.{CheckShape}
 use Rattle.stark_input.specs.declared.verdict.Verdict.{Verdict}
 use Rattle.stark_input.specs.declared.verdict.Verdict.TheVariants.{Accepted, Refused, BadInput}
-use Rattle.stark_input.specs.declared.verdict.Refusal.TheVariants.{OodPointInDomain, OodEvaluationMismatch, PeriodicColumn, QuotientDomainTooLarge, OutOfMemory, Proof}
+use Rattle.stark_input.specs.declared.verdict.Refusal.TheVariants.{OodPointInDomain, OodEvaluationMismatch, PeriodicColumn, QuotientDomainTooLarge, Pcs, GrindExhausted, OutOfMemory, Proof}
 
 -- A verdict that tells an equation is the function of its sides, or memory is wanting.
 module _ {K : Type 0} {ring : RingOps K} {inverse : K → K} (laws : FieldLaws ring inverse) (left right : K) where
@@ -39,6 +39,8 @@ module _ {K : Type 0} {ring : RingOps K} {inverse : K → K} (laws : FieldLaws r
   told_by (Refused OodEvaluationMismatch) h = inl (sym (if_same-other laws left right Accepted (Refused OodEvaluationMismatch) h))
   told_by (Refused PeriodicColumn) h = absurd h
   told_by (Refused QuotientDomainTooLarge) h = absurd h
+  told_by (Refused Pcs) h = absurd h
+  told_by (Refused GrindExhausted) h = absurd h
   told_by (Refused OutOfMemory) h = inr refl
   told_by (Refused (Proof why)) h = absurd h
   told_by BadInput h = absurd h

@@ -11,8 +11,7 @@ use Rattle.stark_protocol.specs.Equation.{OpenedRows, EquationHolds}
 use Rattle.stark_protocol.specs.Sizes.{chunk_shifts}
 use Rattle.stark_input.specs.declared.verdict.Verdict.{Verdict}
 use Rattle.stark_input.specs.declared.verdict.Verdict.TheVariants.{Accepted, Refused, BadInput}
-use Rattle.stark_input.specs.declared.verdict.Refusal.{Refusal}
-use Rattle.stark_input.specs.declared.verdict.Refusal.TheVariants.{OodPointInDomain, OodEvaluationMismatch, PeriodicColumn, QuotientDomainTooLarge, OutOfMemory, Proof}
+use Rattle.stark_input.specs.declared.verdict.Refusal.TheVariants.{OodPointInDomain, OodEvaluationMismatch, PeriodicColumn, QuotientDomainTooLarge, Pcs, GrindExhausted, OutOfMemory, Proof}
 
 -- The verdict says whether a fact holds, unless memory is wanting.
 abbrev pub TellsEquation : Type 0 → Verdict → Type 0
@@ -21,6 +20,8 @@ TellsEquation Holds (Refused OodPointInDomain) = ⊥
 TellsEquation Holds (Refused OodEvaluationMismatch) = Holds → ⊥
 TellsEquation Holds (Refused PeriodicColumn) = ⊥
 TellsEquation Holds (Refused QuotientDomainTooLarge) = ⊥
+TellsEquation Holds (Refused Pcs) = ⊥
+TellsEquation Holds (Refused GrindExhausted) = ⊥
 TellsEquation Holds (Refused OutOfMemory) = Unit {0}
 TellsEquation Holds (Refused (Proof why)) = ⊥
 TellsEquation Holds BadInput = ⊥

@@ -1,10 +1,12 @@
-//! What is found of an input: by the check of an AIR's numbers, or by its verifier.
+//! What is found of an input: by the check of an AIR's numbers, by its verifier, or by its prover.
 #![tactic(auto)]
 
 mod check;
 mod judge;
 mod point;
+mod prove;
 mod verify;
 
 pub use judge::judge_sample;
+pub use prove::{ProvedInput, prove_sample};
 pub use verify::{ProgramConfig, VerifiedInput, verify_sample};

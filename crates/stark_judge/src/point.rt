@@ -15,8 +15,8 @@ use stark_input::{Refusal, Verdict};
 use stark_parts::{Domain, StarkConfig, StarkGenericConfig, Val, VerificationError};
 use stark_protocol::quotient_at;
 use stark_support::{
-    CanObserve, ExtensionChallenger, ExtensionField, Field, FieldChallenger, PackedExtensionField,
-    PeriodicColumns, PolynomialSpace, PrimeField64, TwoAdicField, checked_log_size_sum,
+    CanObserve, ExtensionChallenger, ExtensionField, Field, FieldChallenger, PeriodicColumns,
+    PolynomialSpace, PrimeField64, TwoAdicField, checked_log_size_sum,
 };
 use std::alloc::Global;
 
@@ -168,7 +168,7 @@ pub fn equation_over<F, EF, C, A>(
 ) -> Verdict
 where
     F: PrimeField64 + TwoAdicField,
-    EF: PackedExtensionField<F>,
+    EF: ExtensionField<F>,
     C: FieldChallenger<F> + CanObserve<ClearCommitment<F>> + ExtensionChallenger<F, EF> + Clone,
     A: Air<F>,
     requires trace_len { columns.now.trace_len ≡ coset_size (⟦<Coset<F> as PolynomialSpace>⟧.coset_of trace_domain) }

@@ -28,8 +28,8 @@ use stark_input::{
 };
 use stark_parts::{StarkConfig, StarkGenericConfig, Val};
 use stark_support::{
-    CanObserve, ExtensionChallenger, FieldChallenger, GrindingChallenger, JsonCodec, JsonFault,
-    PackedExtensionField, PrimeField64, TwoAdicField,
+    CanObserve, ExtensionChallenger, ExtensionField, FieldChallenger, GrindingChallenger,
+    JsonCodec, JsonFault, PrimeField64, TwoAdicField,
 };
 use std::alloc::Global;
 
@@ -101,7 +101,7 @@ fn judge_over<F, EF, C, A>(
 ) -> Verdict
 where
     F: PrimeField64 + TwoAdicField,
-    EF: PackedExtensionField<F>,
+    EF: ExtensionField<F>,
     C: FieldChallenger<F>
         + GrindingChallenger<Witness = F>
         + CanObserve<ClearCommitment<F>>

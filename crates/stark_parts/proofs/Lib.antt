@@ -1,2 +1,4 @@
 pub mod Windows
 pub mod FinalizedSteps
+pub mod SizingSteps
+pub mod SizingRows

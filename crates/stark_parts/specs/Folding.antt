@@ -12,24 +12,24 @@ use Rattle.stark_parts.specs.Folded.{accumulated, accumulated_append}
 use Rattle.stark_parts.specs.declared.folder.VerifierConstraintFolder.{VerifierConstraintFolder}
 
 -- The folder's types, in its declared order: configuration, scheme, extension, challenger, domain, commitment, prover's data, opening
--- proof, the verifier's and the prover's error, base field, and three packed types. F is the base field and E the extension.
-module _ {S P E C D K T A X Y F Q R U : Type 0} (base : RingOps F) (ring : RingOps E) (embed : F → E) where
+-- proof, the verifier's and the prover's error, and base field. F is the base field and E the extension.
+module _ {S P E C D K T A X Y F : Type 0} (base : RingOps F) (ring : RingOps E) (embed : F → E) where
   -- The rows that the folder borrows; past their ends stands zero.
-  abbrev pub folder_environment : VerifierConstraintFolder S P E C D K T A X Y F Q R U → Environment E
+  abbrev pub folder_environment : VerifierConstraintFolder S P E C D K T A X Y F → Environment E
   folder_environment s = environment_of (ring_operations ring embed) base.zero ring.zero s.main.top.values.now s.main.bottom.values.now s.preprocessed_window.current.now s.preprocessed_window.next.now s.public_values.now s.periodic_values.now s.is_first_row s.is_last_row s.is_transition
 
-  abbrev pub folder_layout : VerifierConstraintFolder S P E C D K T A X Y F Q R U → Layout
+  abbrev pub folder_layout : VerifierConstraintFolder S P E C D K T A X Y F → Layout
   folder_layout s = layout_of s.main.top.values.now s.main.bottom.values.now s.preprocessed_window.current.now s.preprocessed_window.next.now s.public_values.now s.periodic_values.now
 
   -- Nothing but the accumulator is changed, and it carries the constraints' values on.
-  abbrev pub after_folding : VerifierConstraintFolder S P E C D K T A X Y F Q R U → List (Constraint F) → VerifierConstraintFolder S P E C D K T A X Y F Q R U → Type 0
+  abbrev pub after_folding : VerifierConstraintFolder S P E C D K T A X Y F → List (Constraint F) → VerifierConstraintFolder S P E C D K T A X Y F → Type 0
   after_folding s cs t = t ≡ record s { accumulator = accumulated ring s.alpha s.accumulator (constraint_values (ring_operations ring embed) (folder_environment s) cs) }
 
   pub folding_laws : EmissionLaws folder_environment folder_layout after_folding
   folding_laws = record {
     nothing = λ s. refl;
     both = λ s t u cs ds h k.
-        let moved = subst (λ (z : VerifierConstraintFolder S P E C D K T A X Y F Q R U). u ≡ record z { accumulator = accumulated ring z.alpha z.accumulator (constraint_values (ring_operations ring embed) (folder_environment z) ds) }) h k in
+        let moved = subst (λ (z : VerifierConstraintFolder S P E C D K T A X Y F). u ≡ record z { accumulator = accumulated ring z.alpha z.accumulator (constraint_values (ring_operations ring embed) (folder_environment z) ds) }) h k in
         moved ∙ ap (λ (x : E). record s { accumulator = x }) (sym (accumulated_append ring s.alpha s.accumulator (constraint_value (ring_operations ring embed) (folder_environment s)) cs ds));
     same_environment = λ s t cs h. ap folder_environment h;
     same_layout = λ s t cs h. ap folder_layout h;

@@ -3,6 +3,8 @@ pub mod Folding
 pub mod Shape
 pub mod Replay
 pub mod Sizing
+pub mod ConstraintBound
+pub mod SizingLaw
 pub mod Config
 pub mod Errors
 pub mod PackedFacts

@@ -4,8 +4,8 @@ ghost use Rattle.stark_support.specs.Scheme.{zk_bits};
 ghost use Rattle.stark_parts.specs.Config.{ConfigOps};
 
 use stark_support::{
-    CanObserve, DomainVal, ExtensionChallenger, Field, FieldChallenger, PackedExtensionField, Pcs,
-    PolynomialSpace, PrimeField64, UnivariateStarkPcs,
+    CanObserve, DomainVal, ExtensionChallenger, ExtensionField, FieldChallenger,
+    PackedExtensionField, PackedField, Pcs, PolynomialSpace, PrimeField64, UnivariateStarkPcs,
 };
 use std::alloc::{AllocError, Global};
 use std::marker::PhantomData;
@@ -38,7 +38,7 @@ pub type Com<SC> = <<SC as StarkGenericConfig>::Pcs as Pcs<
 >>::Commitment;
 
 /// Packed values of a configuration's base field.
-pub type PackedVal<SC> = <Val<SC> as Field>::Packing;
+pub type PackedVal<SC> = <Val<SC> as PackedField>::Packing;
 
 /// Packed values of a configuration's extension field.
 pub type PackedChallenge<SC> = <<SC as StarkGenericConfig>::Challenge as PackedExtensionField<
@@ -53,7 +53,7 @@ pub trait StarkGenericConfig: Clone {
         Domain: PolynomialSpace<Val: PrimeField64>,
     >;
 
-    type Challenge: PackedExtensionField<Val<Self>>;
+    type Challenge: ExtensionField<Val<Self>>;
 
     type Challenger: FieldChallenger<Val<Self>>
         + CanObserve<Com<Self>>
@@ -141,7 +141,7 @@ impl<P, Challenge, Challenger> StarkGenericConfig for StarkConfig<P, Challenge, 
 where
     P: UnivariateStarkPcs<Challenge, Challenger, Domain: PolynomialSpace<Val: PrimeField64>>
         + Clone,
-    Challenge: PackedExtensionField<DomainVal<P::Domain>>,
+    Challenge: ExtensionField<DomainVal<P::Domain>>,
     Challenger: FieldChallenger<DomainVal<P::Domain>>
         + CanObserve<P::Commitment>
         + ExtensionChallenger<DomainVal<P::Domain>, Challenge>

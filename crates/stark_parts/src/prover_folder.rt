@@ -10,14 +10,19 @@ ghost use Rattle.stark_parts.specs.PackedFacts.{embedded_product};
 use crate::config::{PackedChallenge, PackedVal, StarkGenericConfig, Val};
 use stark_air::{AirBuilder, ExtensionBuilder, RowWindow};
 use stark_support::{
-    ExtensionField, Field, PackedValue, RowMajorMatrixView, batched_linear_combination,
+    ExtensionField, Field, PackedExtensionField, PackedField, PackedValue, RowMajorMatrixView,
+    batched_linear_combination,
 };
 use std::alloc::AllocError;
 
 /// Evaluates an AIR's constraints at packed rows, and keeps their values: those of base constraints and those of
 /// constraints over the extension, each in their order.
 #[derive(Drop)]
-pub struct ProverConstraintFolder<'a, SC: StarkGenericConfig> {
+pub struct ProverConstraintFolder<'a, SC: StarkGenericConfig>
+where
+    Val<SC>: PackedField,
+    SC::Challenge: PackedExtensionField<Val<SC>>,
+{
     /// The main columns' two rows.
     pub main: RowMajorMatrixView<'a, PackedVal<SC>>,
     /// The preprocessed columns' two rows, of width 0 where there is none.
@@ -43,7 +48,11 @@ pub struct ProverConstraintFolder<'a, SC: StarkGenericConfig> {
     pub ghost counted: { constraint_index ≡ min (length base_constraints.items + length ext_constraints.items) (2 ^ 64 - 1) },
 }
 
-impl<'a, SC: StarkGenericConfig> AirBuilder for ProverConstraintFolder<'a, SC> {
+impl<'a, SC: StarkGenericConfig> AirBuilder for ProverConstraintFolder<'a, SC>
+where
+    Val<SC>: PackedField,
+    SC::Challenge: PackedExtensionField<Val<SC>>,
+{
     type F = Val<SC>;
 
     type Expr = PackedVal<SC>;
@@ -116,7 +125,11 @@ impl<'a, SC: StarkGenericConfig> AirBuilder for ProverConstraintFolder<'a, SC> {
     }
 }
 
-impl<'a, SC: StarkGenericConfig> ExtensionBuilder for ProverConstraintFolder<'a, SC> {
+impl<'a, SC: StarkGenericConfig> ExtensionBuilder for ProverConstraintFolder<'a, SC>
+where
+    Val<SC>: PackedField,
+    SC::Challenge: PackedExtensionField<Val<SC>>,
+{
     type EF = SC::Challenge;
 
     type ExprEF = PackedChallenge<SC>;
@@ -138,7 +151,11 @@ impl<'a, SC: StarkGenericConfig> ExtensionBuilder for ProverConstraintFolder<'a,
     }
 }
 
-impl<SC: StarkGenericConfig> ProverConstraintFolder<'_, SC> {
+impl<SC: StarkGenericConfig> ProverConstraintFolder<'_, SC>
+where
+    Val<SC>: PackedField,
+    SC::Challenge: PackedExtensionField<Val<SC>>,
+{
     /// The sum of the kept values, each times its power of alpha, lane by lane: for each coordinate the basis element times
     /// the base constraints' sum, and the sum over the extension. It takes no memory.
     pub fn finalize_constraints(&self) -> PackedChallenge<SC>
@@ -181,6 +198,9 @@ fn plus_coordinate<SC: StarkGenericConfig>(
     coordinate: PackedVal<SC>,
     rest: PackedChallenge<SC>,
 ) -> PackedChallenge<SC>
+where
+    Val<SC>: PackedField,
+    SC::Challenge: PackedExtensionField<Val<SC>>,
     ensures { (i : ℕ) → i < SC.Challenge.ExtensionPacking.WIDTH → slice_index_or (SC.Challenge.ExtensionPacking.lanes result) i SC.Challenge.ring.zero
         ≡ SC.Challenge.ExtensionPacking.lane_ring.add (SC.Challenge.ExtensionPacking.lane_ring.mul element (slice_index_or (map SC.Challenge.embed (SC.Pcs.Domain.Val.Packing.lanes coordinate)) i SC.Challenge.ring.zero)) (slice_index_or (SC.Challenge.ExtensionPacking.lanes rest) i SC.Challenge.ring.zero) }
 {

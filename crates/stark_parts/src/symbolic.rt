@@ -1,9 +1,10 @@
 //! How many chunks a quotient is cut into, by the degrees of an AIR's constraints.
-ghost use Rattle.std.specs.Prelude.{◌≡◌, ◌≤◌, max, unwrap_or, IfOk};
+ghost use Rattle.std.specs.Prelude.{◌≡◌, ◌≤◌, ◌+◌, ℕ, max, unwrap_or, IfOk};
 ghost use Rattle.stark_support.specs.Logarithm.{IsCeilingOfLog};
 ghost use Rattle.stark_air.specs.Layout.{Covers};
 ghost use Rattle.stark_air.specs.SymbolicLayout.{symbolic_layout};
 ghost use Rattle.stark_parts.specs.Sizing.{constraint_degree, quotient_multiple};
+ghost use Rattle.stark_parts.specs.SizingLaw.{AreSizable, HasSmallBound};
 
 use stark_air::{
     Air, AirLayout, BaseAir, get_max_constraint_degree_extension,
@@ -60,7 +61,10 @@ pub fn get_log_num_quotient_chunks<F: Field, A: Air<F>>(
     get_log_quotient_degree_extension::<F, F, A>(alloc, air, layout, trace_len, is_zk)
 }
 
-/// The same over any domain, whose `transition_degree_multiple` is the degree of the transition selector.
+/// The same over any domain, whose `transition_degree_multiple` is the degree of the transition selector. Where each term of
+/// each constraint has at most one transition factor and no degree multiple saturates, a quotient's domain of so many
+/// chunks is large enough: the greatest degree bound of a constraint, over columns of degree below the committed height, is
+/// below the trace's height plus the size of that domain.
 pub fn get_log_num_quotient_chunks_for_domain<F: Field, A: Air<F>, D: DomainShape>(
     alloc: Global,
     air: &A,
@@ -70,7 +74,8 @@ pub fn get_log_num_quotient_chunks_for_domain<F: Field, A: Air<F>, D: DomainShap
 ) -> Result<usize, AllocError>
     requires covered { Covers (symbolic_layout layout) (A.layout air.now) }
     requires flag { is_zk ≤ 1 }
-    ensures { IfOk result (λ log. IsCeilingOfLog log (quotient_multiple (constraint_degree (D.transition_multiple domain.now) (A.constraints air.now) (A.degree_hint air.now)) is_zk)) }
+    ensures log { IfOk result (λ log. IsCeilingOfLog log (quotient_multiple (constraint_degree (D.transition_multiple domain.now) (A.constraints air.now) (A.degree_hint air.now)) is_zk)) }
+    ensures enough { IfOk result (λ log. AreSizable (A.constraints air.now) → (height : ℕ) → HasSmallBound (A.constraints air.now) height (height + is_zk) log) }
 {
     let transition_degree = domain.transition_degree_multiple();
     let degree = get_max_constraint_degree_with_transition::<F, F, A>(

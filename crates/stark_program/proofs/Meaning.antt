@@ -1,5 +1,5 @@
 -- What an accepted input means.
-use Rattle.std.proofs.Common.{◌≡◌, ◌⊎◌, inl, inr, sym, ◌∙◌, ap, ℕ, ◌-◌, ◌+◌, ◌≤◌, ◌<◌, ◌^◌, ◌≢◌, ◌==◌, length, nat_le, List, Option, Some, None, IfSome, Bool, true, false, if◌then◌else◌, arith, refl}
+use Rattle.std.proofs.Common.{◌≡◌, inl, inr, sym, subst, ◌∙◌, ap, ℕ, ◌-◌, ◌+◌, ◌^◌, ◌≢◌, ◌==◌, length, nat_le, List, Option, Some, None, IfSome, Bool, true, false, if◌then◌else◌, arith, refl}
 use Rattle.std.proofs.lemmas.Bool.{eqb-true, leb-true}
 use Rattle.stark_support.specs.Ring.{RingOps, FieldLaws, difference}
 use Rattle.stark_support.specs.FieldFacts.{if_same}
@@ -7,19 +7,21 @@ use Rattle.stark_support.specs.Powers.{power, squarings}
 use Rattle.stark_support.specs.PowerFacts.{power-power, power-one, squarings_is_power}
 use Rattle.stark_support.specs.LogarithmFacts.{at_most_or_above}
 use Rattle.stark_support.specs.KeepsRing.{kept_power}
-use Rattle.stark_support.specs.CosetFacts.{root_has_order, squarings_more, whole_order}
+use Rattle.stark_support.specs.CosetFacts.{squarings_more, whole_order}
 use Rattle.stark_bench.specs.Residues.{residue, residue_ring, residue_laws}
 use Rattle.stark_bench.specs.Roots.{root, two_adic_laws}
 use Rattle.stark_bench.specs.Ext4Field.{embedded_is_embedding}
 use Rattle.stark_input.specs.Airs.{CheckedAir, IsCutInto, log_chunks_of, sample, shape_of}
 use Rattle.stark_judge.specs.Check.{checked, CheckHolds, IsBalanced, IsPointOfH, element_of, found_at_point, folded, if_none, laws_of_elements, periodic_fault, quotient, vanishing}
 use Rattle.stark_input.specs.Input.{CheckNumbers, elements, has_shape, numbers_in}
-use Rattle.stark_program.specs.Run.{CheckHoldsOf, HoldsOf, IsVerdict}
+use Rattle.stark_program.specs.Run.{CheckHoldsOf, HoldsOf, IsFinding}
 use Rattle.stark_judge.specs.Check.{judged}
 use Rattle.stark_judge.proofs.Sizes.{cut_of_sample}
 use Rattle.stark_input.specs.declared.words.Command.{Command}
-use Rattle.stark_input.specs.declared.words.Command.TheVariants.{Check, Verify}
+use Rattle.stark_input.specs.declared.words.Command.TheVariants.{Check, Prove, Verify}
 use Rattle.stark_input.specs.declared.words.SampleAir.{SampleAir}
+use Rattle.stark_input.specs.declared.finding.Finding.{Finding}
+use Rattle.stark_input.specs.declared.finding.Finding.TheVariants as finding
 use Rattle.stark_input.specs.declared.verdict.Verdict.{Verdict}
 use Rattle.stark_input.specs.declared.verdict.Verdict.TheVariants.{Accepted, Refused, BadInput}
 use Rattle.stark_input.specs.declared.verdict.Refusal.{Refusal}
@@ -108,15 +110,19 @@ spelled air input (Some m) is h =
     let shaped = true_if_accepted (has_shape (shape_of (sample air)) m) (checked (sample air) (log_chunks_of air) m) BadInput bad_input_clash h in
     (air, refl, m, is, shaped.0, holds_if_accepted (sample air) (log_chunks_of air) m (cut_of_sample air) shaped.1)
 
-module _ (verified : SampleAir → List ℕ → Verdict → Type 0) where
-  holds_of_verdict : (command : Option Command) (input : List ℕ) → IsVerdict verified command input Accepted → HoldsOf verified command input
-  unfolding IsVerdict
-  holds_of_verdict None input h = absurd (bad_input_clash (sym h))
-  holds_of_verdict (Some (Check air)) input h = inl (spelled air input (numbers_in (shape_of (sample air)) input) refl (sym h))
-  holds_of_verdict (Some (Verify air)) input h = inr (air, refl, h)
+same_verdict : (v w : Verdict) → finding.Verdict v ≡ finding.Verdict w → v ≡ w
+same_verdict v w e = cc
+
+module _ (verified : SampleAir → List ℕ → Verdict → Type 0) (proved : SampleAir → List ℕ → Finding → Type 0) (accepts_none : (air : SampleAir) (input : List ℕ) → proved air input (finding.Verdict Accepted) → ⊥) where
+  holds_of_finding : (command : Option Command) (input : List ℕ) → IsFinding verified proved command input (finding.Verdict Accepted) → HoldsOf verified proved command input
+  unfolding IsFinding
+  holds_of_finding None input h = absurd (bad_input_clash (sym (same_verdict _ _ h)))
+  holds_of_finding (Some (Check air)) input h = inl (spelled air input (numbers_in (shape_of (sample air)) input) refl (sym (same_verdict _ _ h)))
+  holds_of_finding (Some (Verify air)) input h = inr (air, refl, subst (λ v. verified air input v) (sym (same_verdict _ _ h.1)) h.2)
+  holds_of_finding (Some (Prove air)) input h = absurd (accepts_none air input h)
 
   pub holds_known : (command : Option Command) (known : Option (List ℕ)) (P Q : List ℕ → Type 0)
-      → IfSome known (λ input. (bytes : List ℕ) → P bytes → Q bytes → IsVerdict verified command input Accepted)
-      → IfSome known (λ input. (bytes : List ℕ) → P bytes → Q bytes → HoldsOf verified command input)
+      → IfSome known (λ input. (bytes : List ℕ) → P bytes → Q bytes → IsFinding verified proved command input (finding.Verdict Accepted))
+      → IfSome known (λ input. (bytes : List ℕ) → P bytes → Q bytes → HoldsOf verified proved command input)
   holds_known command None P Q h = tt
-  holds_known command (Some input) P Q h = λ bytes p q. holds_of_verdict command input (h bytes p q)
+  holds_known command (Some input) P Q h = λ bytes p q. holds_of_finding command input (h bytes p q)

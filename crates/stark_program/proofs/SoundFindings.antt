@@ -1,5 +1,5 @@
 -- Where an AIR's verifier accepts what an input spells, the columns that the proof lists are sound.
-use Rattle.std.proofs.Common.{◌≡◌, refl, rules, subst, ℕ, List, Option, None, Some, IfSome}
+use Rattle.std.proofs.Common.{◌≡◌, refl, rules, subst, sym, ℕ, List, Option, None, Some, IfSome}
 use Rattle.stark_air.specs.Declaration.{IsDeclared}
 use Rattle.stark_air.specs.Layout.{LeavesWithin}
 use Rattle.stark_proof.specs.ProofView.{ProofView}
@@ -7,13 +7,15 @@ use Rattle.stark_protocol.specs.Instance.{ProtocolOps}
 use Rattle.stark_input.specs.Airs.{sample}
 use Rattle.stark_input.specs.Input.{Base, Extension}
 use Rattle.stark_input.specs.ProofInput.{NamedChallenger, ProofNumbers, hashing, scripted}
-use Rattle.stark_program.specs.Run.{IsVerdict, OfVerified}
+use Rattle.stark_program.specs.Run.{IsFinding, OfVerified}
 use Rattle.stark_judge.specs.SoundRun.{IsSoundBy, IsSoundWithKey, IsSoundlyRead, Listed}
 use Rattle.stark_judge.specs.Verify.{IsJudged, IsJudgedBy, IsVerified, instance_of}
+use Rattle.stark_input.specs.declared.finding.Finding.{Finding}
+use Rattle.stark_input.specs.declared.finding.Finding.TheVariants as finding
 use Rattle.stark_input.specs.declared.verdict.Verdict.{Verdict}
 use Rattle.stark_input.specs.declared.verdict.Verdict.TheVariants as verdict
 use Rattle.stark_input.specs.declared.words.Command.{Command}
-use Rattle.stark_input.specs.declared.words.Command.TheVariants.{Check, Verify}
+use Rattle.stark_input.specs.declared.words.Command.TheVariants.{Check, Prove, Verify}
 use Rattle.stark_input.specs.declared.words.SampleAir.{SampleAir}
 use Rattle.stark_input.specs.declared.words.SampleAir.TheVariants.{Counter, Cubic, Fibonacci, Periodic, Preprocessed, Pair}
 use Rattle.stark_program.proofs.SoundSteps.{InTheClear, accepted_columns_are_sound}
@@ -62,18 +64,20 @@ module _ {S H R T P X Y : Type 0} (hashing_ops : ProtocolOps S Base Extension H 
   verified_soundly name None verified = absurd (bad_input_clash verified)
   verified_soundly name (Some m) verified = judged_soundly_by name m m.challenger verified
 
-module _ (verified : SampleAir → List ℕ → Verdict → Type 0) (sound : SampleAir → List ℕ → Type 0) (soundly : (air : SampleAir) (input : List ℕ) → verified air input verdict.Accepted → sound air input) where
-  sound_of_verdict : (command : Option Command) (input : List ℕ) → IsVerdict verified command input verdict.Accepted → (air : SampleAir) → command ≡ Some (Verify air) → sound air input
-  unfolding IsVerdict
-  sound_of_verdict None input h air named = absurd (cc)
-  sound_of_verdict (Some (Check other)) input h air named = absurd (let clash : Check other ≡ Verify air = cc in cc)
-  sound_of_verdict (Some (Verify other)) input h air named =
+module _ (verified : SampleAir → List ℕ → Verdict → Type 0) (proved : SampleAir → List ℕ → Finding → Type 0) (sound : SampleAir → List ℕ → Type 0) (soundly : (air : SampleAir) (input : List ℕ) → verified air input verdict.Accepted → sound air input) where
+  sound_of_finding : (command : Option Command) (input : List ℕ) → IsFinding verified proved command input (finding.Verdict verdict.Accepted) → (air : SampleAir) → command ≡ Some (Verify air) → sound air input
+  unfolding IsFinding
+  sound_of_finding None input h air named = absurd (cc)
+  sound_of_finding (Some (Check other)) input h air named = absurd (let clash : Check other ≡ Verify air = cc in cc)
+  sound_of_finding (Some (Prove other)) input h air named = absurd (let clash : Prove other ≡ Verify air = cc in cc)
+  sound_of_finding (Some (Verify other)) input h air named =
       let same : other ≡ air = cc in
-      soundly air input (subst (λ a. verified a input verdict.Accepted) same h)
+      let accepted : verdict.Accepted ≡ h.0 = let e : finding.Verdict verdict.Accepted ≡ finding.Verdict h.0 = h.1 in cc in
+      soundly air input (subst (λ a. verified a input verdict.Accepted) same (subst (λ v. verified other input v) (sym accepted) h.2))
 
   -- What is accepted of a proof is sound, for a reader that may not tell its bytes.
   pub sound_known : (command : Option Command) (known : Option (List ℕ)) (P Q : List ℕ → Type 0)
-      → IfSome known (λ input. (bytes : List ℕ) → P bytes → Q bytes → IsVerdict verified command input verdict.Accepted)
+      → IfSome known (λ input. (bytes : List ℕ) → P bytes → Q bytes → IsFinding verified proved command input (finding.Verdict verdict.Accepted))
       → IfSome known (λ input. (bytes : List ℕ) → P bytes → Q bytes → OfVerified sound command input)
   sound_known command None P Q h = tt
-  sound_known command (Some input) P Q h = λ bytes p q. sound_of_verdict command input (h bytes p q)
+  sound_known command (Some input) P Q h = λ bytes p q. sound_of_finding command input (h bytes p q)

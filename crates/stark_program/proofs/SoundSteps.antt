@@ -1,5 +1,5 @@
 -- An accepted proof in the clear lists columns that break no constraint, unless alpha or zeta is bad.
-use Rattle.std.proofs.Common.{◌≡◌, ◌⊎◌, ◌∙◌, ◌==◌, inl, inr, ap, refl, sym, subst, arith, ℕ, zero, suc, ◌^◌, ◌+◌, ◌-◌, ◌*◌, ◌<◌, ◌≤◌, Bool, true, false, not, nat_le, nat_lt, List, [], ◌∷◌, drop, length, take, Option, None, Some}
+use Rattle.std.proofs.Common.{◌≡◌, ◌⊎◌, ◌∙◌, ◌==◌, inl, inr, ap, refl, sym, subst, arith, ℕ, ◌^◌, ◌+◌, ◌-◌, ◌*◌, ◌≤◌, Bool, true, false, nat_le, nat_lt, List, [], ◌∷◌, drop, length, take, Option, None, Some}
 use Rattle.std.proofs.lemmas.Bool.{eqb-true}
 use Rattle.std.proofs.lemmas.List.FromFn.{length-map-range_with_len}
 use Rattle.std.specs.List.{AllByRecursion}
@@ -15,12 +15,11 @@ use Rattle.stark_support.specs.Scheme.{CommittedMatrix, matrix_row, natural_cose
 use Rattle.stark_air.specs.Declaration.{IsDeclared, Trace}
 use Rattle.stark_air.specs.Layout.{LeavesWithin}
 use Rattle.stark_parts.specs.Shape.{opens_next_row}
-use Rattle.stark_parts.specs.declared.error.InvalidProofShapeError.{InvalidProofShapeError}
 use Rattle.stark_proof.specs.ProofView.{PreprocessedView, ProofView}
 use Rattle.stark_clear.specs.ClearClaims.{ClaimsAreTrue}
 use Rattle.stark_clear.specs.ClearScheme.{IsFull, columns_of}
-use Rattle.stark_security.specs.ConstraintPolynomial.{AirInstance, Columns, constraints_at, height, next_point}
-use Rattle.stark_security.specs.BadValues.{RowHolds, Satisfies, point}
+use Rattle.stark_security.specs.ConstraintPolynomial.{AirInstance, Columns, height, next_point}
+use Rattle.stark_security.specs.BadValues.{Satisfies}
 use Rattle.stark_protocol.specs.Acceptance.{Accepted, domain_fault, height_fault, key_fault, log_parts, of_shape}
 use Rattle.stark_protocol.specs.Instance.{Instance, ProtocolOps, log_height}
 use Rattle.stark_protocol.specs.OpenedClaims.{claims_of}

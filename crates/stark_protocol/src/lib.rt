@@ -10,6 +10,8 @@ mod recomposition;
 
 pub use heights::{natural_domain, power_of_two};
 pub use operations::{PcsProof, StarkInstance, StarkOperations, StarkProof, StarkRun};
-pub use preprocessed::{PreprocessedProverData, PreprocessedVerifierKey, setup_preprocessed};
+pub use preprocessed::{
+    PcsProverData, PreprocessedProverData, PreprocessedVerifierKey, setup_preprocessed,
+};
 pub use quotient::{log_parts_of, quotient_domain_of};
 pub use recomposition::{quotient_at, recompose_quotient_from_chunks};

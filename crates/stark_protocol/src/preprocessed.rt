@@ -11,7 +11,7 @@ use stark_support::{Pcs, RowMajorMatrix, UnivariateStarkPcs};
 use std::alloc::Global;
 
 /// What a configuration's scheme keeps of a commitment, to open it.
-type PcsProverData<SC> = <<SC as StarkGenericConfig>::Pcs as Pcs<
+pub type PcsProverData<SC> = <<SC as StarkGenericConfig>::Pcs as Pcs<
     <SC as StarkGenericConfig>::Challenge,
     <SC as StarkGenericConfig>::Challenger,
 >>::ProverData;

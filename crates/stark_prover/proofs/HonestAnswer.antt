@@ -16,7 +16,7 @@ use Rattle.stark_protocol.specs.Instance.{Instance, OpeningOps, ProtocolOps, log
 use Rattle.stark_protocol.specs.Preprocessing.{has_columns}
 use Rattle.stark_protocol.specs.declared.preprocessed.PreprocessedProverData.{PreprocessedProverData}
 use Rattle.stark_protocol.specs.declared.preprocessed.PreprocessedVerifierKey.{PreprocessedVerifierKey}
-use Rattle.stark_honest.specs.SizingLaw.{HasSmallBound}
+use Rattle.stark_parts.specs.SizingLaw.{HasSmallBound}
 use Rattle.stark_quotient.specs.PointwiseQuotient.{matrix_or_empty}
 use Rattle.stark_prover.specs.Acceptable.{IsAcceptable}
 use Rattle.stark_prover.specs.CommittedColumns.{IsPreprocessedCommitment}

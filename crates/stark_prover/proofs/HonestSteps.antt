@@ -22,7 +22,7 @@ use Rattle.stark_protocol.specs.declared.preprocessed.PreprocessedVerifierKey.{P
 use Rattle.stark_security.specs.BadValues.{Satisfies}
 use Rattle.stark_honest.specs.HonestQuotient.{AreLawful}
 use Rattle.stark_honest.specs.RowSatisfaction.{HoldsInEachRow, TraceRows}
-use Rattle.stark_honest.specs.SizingLaw.{HasSmallBound}
+use Rattle.stark_parts.specs.SizingLaw.{HasSmallBound}
 use Rattle.stark_honest.specs.TrueOpenings.{AreTrueOpenings, columns_above}
 use Rattle.stark_honest.proofs.HonestBalance.{honest_is_balanced, satisfied_by_trace}
 use Rattle.stark_honest.proofs.HonestEquation.{own_height}

@@ -3,7 +3,7 @@ use Rattle.std.specs.Prelude.{◌≡◌, ℕ, ◌+◌, false, List, Option, None
 use Rattle.stark_support.specs.Scheme.{matrix_row, zk_bits}
 use Rattle.stark_air.specs.Declaration.{Trace}
 use Rattle.stark_honest.specs.RowSatisfaction.{HoldsInEachRow}
-use Rattle.stark_honest.specs.SizingLaw.{HasSmallBound}
+use Rattle.stark_parts.specs.SizingLaw.{HasSmallBound}
 use Rattle.stark_proof.specs.ProofView.{ProofView}
 use Rattle.stark_protocol.specs.Acceptance.{Accepted, IsPointOfH, challenges}
 use Rattle.stark_protocol.specs.Instance.{Instance, OpeningOps, ProtocolOps, log_height}

@@ -9,7 +9,7 @@ ghost use Rattle.stark_protocol.specs.Sizes.{log_parts_of};
 ghost use Rattle.stark_prover.specs.CommittedColumns.{IsRandomCommitment};
 ghost use Rattle.stark_prover.specs.Sizes.{AreDomains};
 
-use crate::commit::{Committed, PcsProverData, commit_random};
+use crate::commit::{Committed, commit_random};
 use crate::operations::StarkProving;
 use crate::quotient::commit_quotient;
 use crate::sizes::ProverDomains;
@@ -18,8 +18,11 @@ use stark_air::Air;
 use stark_parts::{
     Com, Domain, PcsProverError, ProvingError, StarkGenericConfig, StarkProverTranscript, Val,
 };
-use stark_protocol::PreprocessedProverData;
-use stark_support::{ExtensionField, GrindingChallenger, Pcs, PolynomialSpace, UnivariateStarkPcs};
+use stark_protocol::{PcsProverData, PreprocessedProverData};
+use stark_support::{
+    ExtensionField, GrindingChallenger, PackedExtensionField, PackedField, Pcs, PolynomialSpace,
+    UnivariateStarkPcs,
+};
 use std::alloc::Global;
 
 /// What a proof has before its point is drawn.
@@ -43,6 +46,8 @@ pub(crate) fn bind<SC, A>(
 ) -> Result<BoundProof<Com<SC>, PcsProverData<SC>, SC::Challenge>, ProvingError<PcsProverError<SC>>>
 where
     SC: StarkGenericConfig,
+    Val<SC>: PackedField,
+    SC::Challenge: PackedExtensionField<Val<SC>>,
     SC::Challenger: GrindingChallenger<Witness = Val<SC>>,
     A: Air<Val<SC>>,
     requires domains { AreDomains SC.Pcs.Domain.Val.ring SC.Pcs.Domain.Val.GENERATOR SC.Pcs.ZK domains.degree_bits (log_parts_of (A.constraints air.now) (A.degree_hint air.now) (zk_bits SC.Pcs.ZK)) domains.log_chunks

@@ -7,15 +7,9 @@ ghost use Rattle.stark_prover.specs.CommittedColumns.{IsRandomCommitment, IsTrac
 ghost use Rattle.stark_prover.specs.SchemeFaults.{IsSchemeFault};
 
 use stark_parts::{Com, Domain, PcsProverError, ProvingError, StarkGenericConfig, Val};
-use stark_protocol::power_of_two;
+use stark_protocol::{PcsProverData, power_of_two};
 use stark_support::{Pcs, RowMajorMatrix, UnivariateStarkPcs};
 use std::alloc::Global;
-
-/// What a configuration's scheme keeps of a commitment, to open it.
-pub(crate) type PcsProverData<SC> = <<SC as StarkGenericConfig>::Pcs as Pcs<
-    <SC as StarkGenericConfig>::Challenge,
-    <SC as StarkGenericConfig>::Challenger,
->>::ProverData;
 
 /// A commitment, and what the scheme keeps of it.
 #[derive(Drop)]

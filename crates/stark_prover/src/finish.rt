@@ -10,7 +10,7 @@ ghost use Rattle.stark_protocol.specs.Sizes.{log_parts_of};
 ghost use Rattle.stark_prover.specs.Sizes.{AreDomains};
 
 use crate::bind::{BoundProof, bind};
-use crate::commit::{Committed, PcsProverData};
+use crate::commit::Committed;
 use crate::operations::StarkProving;
 use crate::point::{OpenedProof, open_bound};
 use crate::sizes::ProverDomains;
@@ -19,8 +19,11 @@ use stark_parts::{
     Com, Domain, PcsProverError, ProvingError, StarkGenericConfig, StarkProverTranscript, Val,
 };
 use stark_proof::{Commitments, Proof};
-use stark_protocol::{PreprocessedProverData, StarkProof};
-use stark_support::{ExtensionField, GrindingChallenger, Pcs, PolynomialSpace, UnivariateStarkPcs};
+use stark_protocol::{PcsProverData, PreprocessedProverData, StarkProof};
+use stark_support::{
+    ExtensionField, GrindingChallenger, PackedExtensionField, PackedField, Pcs, PolynomialSpace,
+    UnivariateStarkPcs,
+};
 use std::alloc::Global;
 
 /// The commitment, where there is one.
@@ -98,6 +101,8 @@ pub(crate) fn finish<SC, A>(
 ) -> Result<StarkProof<SC>, ProvingError<PcsProverError<SC>>>
 where
     SC: StarkGenericConfig,
+    Val<SC>: PackedField,
+    SC::Challenge: PackedExtensionField<Val<SC>>,
     SC::Challenger: GrindingChallenger<Witness = Val<SC>>,
     A: Air<Val<SC>>,
     requires domains { AreDomains SC.Pcs.Domain.Val.ring SC.Pcs.Domain.Val.GENERATOR SC.Pcs.ZK domains.degree_bits (log_parts_of (A.constraints air.now) (A.degree_hint air.now) (zk_bits SC.Pcs.ZK)) domains.log_chunks

@@ -7,12 +7,11 @@ ghost use Rattle.stark_support.specs.Claims.{opened_view};
 ghost use Rattle.stark_parts.specs.declared.shape.TranscriptPhase.TheVariants.{Delegated, Drawn};
 ghost use Rattle.stark_prover.specs.Rounds.{IsOpeningAnswer, StandBehind, place_of, points_of, rounds_of};
 
-use crate::commit::PcsProverData;
 use crate::opened::values_of;
 use crate::rounds::{OpeningPoints, place_of, rounds_of};
 use stark_parts::{PcsProverError, ProvingError, StarkGenericConfig, StarkProverTranscript, Val};
 use stark_proof::OpenedValues;
-use stark_protocol::PcsProof;
+use stark_protocol::{PcsProof, PcsProverData};
 use stark_support::{ExtensionField, OpenedRounds, Pcs, UnivariateStarkPcs};
 use std::alloc::Global;
 

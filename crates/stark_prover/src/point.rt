@@ -11,7 +11,7 @@ ghost use Rattle.stark_prover.specs.Sizes.{AreDomains};
 
 use crate::bind::BoundProof;
 use crate::bound::StarkBinding;
-use crate::commit::{Committed, PcsProverData};
+use crate::commit::Committed;
 use crate::opening::{OpenedData, open_values};
 use crate::operations::StarkProving;
 use crate::points::opening_points;
@@ -22,7 +22,7 @@ use stark_parts::{
     Com, Domain, PcsProverError, ProvingError, StarkGenericConfig, StarkProverTranscript, Val,
 };
 use stark_proof::OpenedValues;
-use stark_protocol::{PcsProof, PreprocessedProverData};
+use stark_protocol::{PcsProof, PcsProverData, PreprocessedProverData};
 use stark_support::{ExtensionField, GrindingChallenger, Pcs, PolynomialSpace, UnivariateStarkPcs};
 use std::alloc::Global;
 

@@ -8,13 +8,16 @@ ghost use Rattle.stark_quotient.specs.PointwiseQuotient.{ArePointwiseQuotients, 
 ghost use Rattle.stark_prover.specs.CommittedColumns.{IsPreprocessedCommitment, IsQuotientCommitment, IsQuotientRefusal, StandsForColumns, rows_of_columns};
 ghost use Rattle.stark_prover.specs.Sizes.{AreDomains};
 
-use crate::commit::{Committed, PcsProverData, commit_flat};
+use crate::commit::{Committed, commit_flat};
 use crate::sizes::ProverDomains;
 use stark_air::{Air, AirLayout};
 use stark_parts::{Com, Domain, PcsProverError, ProvingError, StarkGenericConfig, Val};
-use stark_protocol::PreprocessedProverData;
+use stark_protocol::{PcsProverData, PreprocessedProverData};
 use stark_quotient::{QuotientOperations, quotient_values};
-use stark_support::{ExtensionField, Pcs, PolynomialSpace, RowMajorMatrix, UnivariateStarkPcs};
+use stark_support::{
+    ExtensionField, PackedExtensionField, PackedField, Pcs, PolynomialSpace, RowMajorMatrix,
+    UnivariateStarkPcs,
+};
 use std::alloc::{AllocError, Global};
 
 /// The values of the preprocessed columns on the quotient's domain, where there are any.
@@ -69,6 +72,8 @@ fn quotient_on<SC, A>(
 ) -> Result<Vec<SC::Challenge>, AllocError>
 where
     SC: StarkGenericConfig,
+    Val<SC>: PackedField,
+    SC::Challenge: PackedExtensionField<Val<SC>>,
     A: Air<Val<SC>>,
     requires domains { AreDomains SC.Pcs.Domain.Val.ring SC.Pcs.Domain.Val.GENERATOR SC.Pcs.ZK domains.degree_bits (log_parts_of (A.constraints air.now) (A.degree_hint air.now) (zk_bits SC.Pcs.ZK)) domains.log_chunks
         (SC.Pcs.Domain.coset_of domains.trace) (SC.Pcs.Domain.coset_of domains.committed) (SC.Pcs.Domain.coset_of domains.quotient) }
@@ -113,6 +118,8 @@ pub(crate) fn commit_quotient<SC, A>(
 ) -> Result<Committed<Com<SC>, PcsProverData<SC>>, ProvingError<PcsProverError<SC>>>
 where
     SC: StarkGenericConfig,
+    Val<SC>: PackedField,
+    SC::Challenge: PackedExtensionField<Val<SC>>,
     A: Air<Val<SC>>,
     requires domains { AreDomains SC.Pcs.Domain.Val.ring SC.Pcs.Domain.Val.GENERATOR SC.Pcs.ZK domains.degree_bits (log_parts_of (A.constraints air.now) (A.degree_hint air.now) (zk_bits SC.Pcs.ZK)) domains.log_chunks
         (SC.Pcs.Domain.coset_of domains.trace) (SC.Pcs.Domain.coset_of domains.committed) (SC.Pcs.Domain.coset_of domains.quotient) }

@@ -3,14 +3,17 @@ ghost use Rattle.std.specs.Prelude.{◌≡◌, ◌⊎◌, ◌+◌, ◌*◌, ◌^
 ghost use Rattle.stark_support.specs.Scheme.{zk_bits};
 ghost use Rattle.stark_prover.specs.CommittedColumns.{IsPreprocessedCommitment};
 
-use crate::commit::{PcsProverData, commit_trace};
+use crate::commit::commit_trace;
 use crate::operations::StarkProving;
 use crate::play::play;
 use crate::sizes::fitting_domains;
 use stark_air::Air;
 use stark_parts::{Com, PcsProverError, ProvingError, StarkGenericConfig, Val};
-use stark_protocol::{PreprocessedProverData, StarkProof};
-use stark_support::{ExtensionField, GrindingChallenger, Pcs, RowMajorMatrix, UnivariateStarkPcs};
+use stark_protocol::{PcsProverData, PreprocessedProverData, StarkProof};
+use stark_support::{
+    ExtensionField, GrindingChallenger, PackedExtensionField, PackedField, Pcs, RowMajorMatrix,
+    UnivariateStarkPcs,
+};
 use std::alloc::Global;
 
 /// The proof of a trace of `2^log_height` rows.
@@ -25,6 +28,8 @@ pub(crate) fn prove_sized<SC, A>(
 ) -> Result<StarkProof<SC>, ProvingError<PcsProverError<SC>>>
 where
     SC: StarkGenericConfig,
+    Val<SC>: PackedField,
+    SC::Challenge: PackedExtensionField<Val<SC>>,
     SC::Challenger: GrindingChallenger<Witness = Val<SC>>,
     A: Air<Val<SC>>,
     requires columns { 0 < trace.width }

@@ -9,12 +9,11 @@ ghost use Rattle.stark_protocol.specs.ShapeFaults.{width_in_force};
 ghost use Rattle.stark_prover.specs.ProofOfTrace.{key_of};
 ghost use Rattle.stark_prover.specs.Work.{IsExhausted};
 
-use crate::commit::PcsProverData;
 use stark_air::BaseAir;
 use stark_parts::{
     Com, GrindExhausted, StarkGenericConfig, StarkProverTranscript, StarkShape, Val,
 };
-use stark_protocol::{PreprocessedProverData, power_of_two};
+use stark_protocol::{PcsProverData, PreprocessedProverData, power_of_two};
 use stark_support::{
     CanObserve, CanSample, ExtensionField, Field, GrindingChallenger, Pcs, PrimeField64,
     TranscriptSponge, UnivariateStarkPcs,

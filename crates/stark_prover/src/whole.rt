@@ -3,14 +3,16 @@ ghost use Rattle.std.specs.Prelude.{None, [], ◌≡◌, ◌⊎◌, ℕ, ◌+◌
 ghost use Rattle.stark_support.specs.Scheme.{zk_bits};
 ghost use Rattle.stark_prover.specs.CommittedColumns.{IsPreprocessedCommitment};
 
-use crate::commit::PcsProverData;
 use crate::height::log_height_of;
 use crate::operations::StarkProving;
 use crate::sized::prove_sized;
 use stark_air::Air;
 use stark_parts::{Com, PcsProverError, ProvingError, StarkGenericConfig, Val};
-use stark_protocol::{PreprocessedProverData, StarkProof};
-use stark_support::{ExtensionField, GrindingChallenger, Pcs, RowMajorMatrix, UnivariateStarkPcs};
+use stark_protocol::{PcsProverData, PreprocessedProverData, StarkProof};
+use stark_support::{
+    ExtensionField, GrindingChallenger, PackedExtensionField, PackedField, Pcs, RowMajorMatrix,
+    UnivariateStarkPcs,
+};
 use std::alloc::Global;
 
 /// A proof that a trace satisfies an AIR, with what is held of the AIR's preprocessed columns.
@@ -36,6 +38,8 @@ pub fn prove_with_preprocessed<SC, A>(
 ) -> Result<StarkProof<SC>, ProvingError<PcsProverError<SC>>>
 where
     SC: StarkGenericConfig,
+    Val<SC>: PackedField,
+    SC::Challenge: PackedExtensionField<Val<SC>>,
     SC::Challenger: GrindingChallenger<Witness = Val<SC>>,
     A: Air<Val<SC>>,
     requires columns { 0 < trace.width }
@@ -77,6 +81,8 @@ pub fn prove<'p, SC, A>(
 ) -> Result<StarkProof<SC>, ProvingError<PcsProverError<SC>>>
 where
     SC: StarkGenericConfig,
+    Val<SC>: PackedField,
+    SC::Challenge: PackedExtensionField<Val<SC>>,
     SC::Challenger: GrindingChallenger<Witness = Val<SC>>,
     A: Air<Val<SC>>,
     requires columns { 0 < trace.width }

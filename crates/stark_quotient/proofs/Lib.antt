@@ -1,3 +1,4 @@
 pub mod PowerCounts
+pub mod LaneRows
 pub mod PackedRows
 pub mod PointSteps

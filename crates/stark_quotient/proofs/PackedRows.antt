@@ -1,55 +1,75 @@
--- A row that is broadcast to packed values folds to the row's own folded sum.
-use Rattle.std.proofs.Common.{◌≡◌, ◌∙◌, ◌++◌, ◌<◌, ℕ, List, map, length, take, drop, ap, sym}
+-- In each lane packed rows fold to the folded sum over the row that stands in that lane.
+use Rattle.std.proofs.Common.{◌≡◌, ◌∙◌, ◌++◌, ◌<◌, ℕ, ◌*◌, ◌≤◌, List, map, length, take, drop, slice_index_or, ap, sym, arith}
 use Rattle.std.proofs.Math.Seq.{take-append_seam, drop-append_seam}
-use Rattle.std.proofs.lemmas.List.{length-map}
+use Rattle.std.proofs.lemmas.List.{get_or-map, length-drop, length-map, length-take-le, take-map, drop-map}
 use Rattle.stark_support.specs.Ring.{RingOps}
 use Rattle.stark_support.specs.Operations.{Operations, ring_operations}
 use Rattle.stark_support.specs.Lanes.{IsLaneByLane}
 use Rattle.stark_air.specs.Tree.{Constraint}
-use Rattle.stark_air.specs.LaneValues.{lane_environment}
+use Rattle.stark_air.specs.LaneValues.{lane_environment, lane_embedded}
 use Rattle.stark_air.specs.Layout.{Layout, Covers, LeavesWithin}
-use Rattle.stark_air.specs.Rows.{environment_of}
 use Rattle.stark_air.specs.Value.{constraint_values}
+use Rattle.stark_parts.specs.Finalized.{lane_values}
 use Rattle.stark_parts.specs.Folded.{folded}
 use Rattle.stark_quotient.specs.FoldedPlaces.{embedded}
-use Rattle.stark_quotient.specs.SameLeaves.{broadcast_agrees, same_constraints}
-use Rattle.stark_quotient.specs.BaseRows.{folded_over, packed_environment, row_environment, row_layout}
-use Rattle.stark_quotient.specs.declared.plain_eval.BaseRow.{BaseRow}
+use Rattle.stark_quotient.specs.SameLeaves.{AgreeWithin, same_constraints}
+use Rattle.stark_quotient.specs.PointRows.{IsLaneRow, PointRow, folded_over, packed_environment, packed_layout, row_environment}
 
-module _ {F P : Type 0} (e : F → P) where
-  first_part : (xs ys : List F) (packed : List P) → packed ≡ map e xs ++ map e ys → take (length xs) packed ≡ map e xs
-  first_part xs ys packed is = ap (λ n. take n packed) (sym (length-map xs e)) ∙ ap (take (length (map e xs))) is ∙ take-append_seam (map e xs) (map e ys)
+module _ {F P : Type 0} (lanes : P → List F) (i : ℕ) (blank : F) where
+  first_part : (xs ys : List F) (packed : List P) (width : ℕ) → lane_values lanes i blank packed ≡ xs ++ ys → length xs ≡ width → lane_values lanes i blank (take width packed) ≡ xs
+  first_part xs ys packed width is number = sym (take-map (λ v. slice_index_or (lanes v) i blank) width packed) ∙ ap (take width) is ∙ ap (λ n. take n (xs ++ ys)) (sym number) ∙ take-append_seam xs ys
 
-  second_part : (xs ys : List F) (packed : List P) → packed ≡ map e xs ++ map e ys → drop (length xs) packed ≡ map e ys
-  second_part xs ys packed is = ap (λ n. drop n packed) (sym (length-map xs e)) ∙ ap (drop (length (map e xs))) is ∙ drop-append_seam (map e xs) (map e ys)
+  second_part : (xs ys : List F) (packed : List P) (width : ℕ) → lane_values lanes i blank packed ≡ xs ++ ys → length xs ≡ width → lane_values lanes i blank (drop width packed) ≡ ys
+  second_part xs ys packed width is number = sym (drop-map (λ v. slice_index_or (lanes v) i blank) width packed) ∙ ap (drop width) is ∙ ap (λ n. drop n (xs ++ ys)) (sym number) ∙ drop-append_seam xs ys
 
-module _ {F E P : Type 0} (base : RingOps F) (ring : RingOps E) (embed : F → E) {packed_base : RingOps F} {o : Operations F P} {width : ℕ} {lanes : P → List F} (by_lane : IsLaneByLane packed_base o width lanes) (i : ℕ) (within : i < width)
-    (row : BaseRow F) (main preprocessed periodic : List P)
-    (main_is : main ≡ map o.embed row.main_current.now ++ map o.embed row.main_next.now)
-    (preprocessed_is : preprocessed ≡ map o.embed row.preprocessed_current.now ++ map o.embed row.preprocessed_next.now)
-    (periodic_is : periodic ≡ map o.embed row.periodic_values.now) where
-  -- the packed row, folded in lane i, as a function of its rows
-  abbrev folded_of : E → List (Constraint F) → List P → List P → List P → List P → List P → E
-  folded_of alpha cs current next fixed_current fixed_next repeated =
-      folded ring alpha (constraint_values (ring_operations ring embed) (embedded embed (lane_environment lanes i base.zero
-      (environment_of o base.zero (o.embed row.is_first_row) current next fixed_current fixed_next row.public_values.now repeated (o.embed row.is_first_row) (o.embed row.is_last_row) (o.embed row.is_transition)))) cs)
+-- Two rows of the widths that a layout has cover it.
+pub halves_cover : {F P : Type 0} (l : Layout) (columns fixed_columns : ℕ) (main preprocessed periodic : List P) (publics : List F) → length main ≡ 2 * columns → columns ≡ l.main → length preprocessed ≡ 2 * fixed_columns → fixed_columns ≡ l.preprocessed
+    → length publics ≡ l.publics → length periodic ≡ l.periodics → l.main_next ≤ l.main → l.preprocessed_next ≤ l.preprocessed → Covers (packed_layout columns fixed_columns main preprocessed periodic publics) l
+halves_cover l columns fixed_columns main preprocessed periodic publics is_main is_columns is_fixed is_fixed_columns is_publics is_periodic next fixed_next =
+    let first = length-take-le columns main (omega arith) in
+    let second = length-drop columns main in
+    let fixed_first = length-take-le fixed_columns preprocessed (omega arith) in
+    let fixed_second = length-drop fixed_columns preprocessed in
+    record {
+      main = omega (arith, first);
+      main_next = omega (arith, second);
+      preprocessed = omega (arith, fixed_first);
+      preprocessed_next = omega (arith, fixed_second);
+      publics = omega arith;
+      periodics = omega arith;
+    }
 
-  pub packed_folded : (l : Layout) (alpha : E) (cs : List (Constraint F)) → Covers (row_layout row) l → LeavesWithin l cs
-      → folded ring alpha (constraint_values (ring_operations ring embed) (embedded embed (lane_environment lanes i base.zero (packed_environment main preprocessed periodic row o base.zero))) cs)
+module _ {F E P : Type 0} (base : RingOps F) (ring : RingOps E) (embed : F → E) {packed_base : RingOps F} {o : Operations F P} {width : ℕ} {lanes : P → List F} (by_lane : IsLaneByLane packed_base o width lanes) (i : ℕ) (within : i < width) where
+  -- a leaf of a packed row
+  lane_leaf : (filler : P) (packed : List P) (row : List F) (c : ℕ) → lane_values lanes i base.zero packed ≡ row → c < length packed
+      → embed (slice_index_or (lanes (slice_index_or packed c filler)) i base.zero) ≡ slice_index_or (map embed row) c ring.zero
+  lane_leaf filler packed row c is below =
+      let at = λ (v : P). slice_index_or (lanes v) i base.zero in
+      let number = sym (length-map packed at) ∙ ap length is in
+      ap embed (sym (get_or-map at packed c filler base.zero below) ∙ ap (λ l. slice_index_or l c base.zero) is) ∙ sym (get_or-map embed row c base.zero ring.zero (omega (arith, below, number)))
+
+  -- Lane i of packed rows, embedded, is the row there, as far as a layout within them reads.
+  lanes_agree : (l : Layout) (columns fixed_columns : ℕ) (main preprocessed periodic : List P) (publics : List F) (first last change : P) (row : PointRow F)
+      → IsLaneRow lanes base.zero main preprocessed periodic first last change i row → length row.main_current ≡ columns → length row.preprocessed_current ≡ fixed_columns → row.publics ≡ publics
+      → Covers (packed_layout columns fixed_columns main preprocessed periodic publics) l
+      → AgreeWithin l (embedded embed (lane_environment lanes i base.zero (packed_environment columns fixed_columns main preprocessed periodic publics o base.zero first last change))) (row_environment base ring embed row)
+  lanes_agree l columns fixed_columns main preprocessed periodic publics first last change row is number fixed_number same covers = record {
+    main_current = λ c below. lane_leaf first (take columns main) row.main_current c (first_part lanes i base.zero row.main_current row.main_next main columns is.main_rows number) (omega (arith, covers.main));
+    main_next = λ c below. lane_leaf first (drop columns main) row.main_next c (second_part lanes i base.zero row.main_current row.main_next main columns is.main_rows number) (omega (arith, covers.main_next));
+    preprocessed_current = λ c below. lane_leaf first (take fixed_columns preprocessed) row.preprocessed_current c (first_part lanes i base.zero row.preprocessed_current row.preprocessed_next preprocessed fixed_columns is.preprocessed_rows fixed_number) (omega (arith, covers.preprocessed));
+    preprocessed_next = λ c below. lane_leaf first (drop fixed_columns preprocessed) row.preprocessed_next c (second_part lanes i base.zero row.preprocessed_current row.preprocessed_next preprocessed fixed_columns is.preprocessed_rows fixed_number) (omega (arith, covers.preprocessed_next));
+    public_value = λ k below. ap embed (lane_embedded by_lane i base.zero within (slice_index_or publics k base.zero)) ∙ ap (λ l. embed (slice_index_or l k base.zero)) (sym same);
+    periodic_value = λ c below. lane_leaf first periodic row.periodic c is.periodic_row (omega (arith, covers.periodics));
+    first_row = ap embed is.first_row;
+    last_row = ap embed is.last_row;
+    transition = ap embed is.transition;
+  }
+
+  pub packed_folded : (l : Layout) (columns fixed_columns : ℕ) (main preprocessed periodic : List P) (publics : List F) (first last change : P) (row : PointRow F)
+      → IsLaneRow lanes base.zero main preprocessed periodic first last change i row → length row.main_current ≡ columns → length row.preprocessed_current ≡ fixed_columns → row.publics ≡ publics
+      → Covers (packed_layout columns fixed_columns main preprocessed periodic publics) l → (alpha : E) (cs : List (Constraint F)) → LeavesWithin l cs
+      → folded ring alpha (constraint_values (ring_operations ring embed) (embedded embed (lane_environment lanes i base.zero (packed_environment columns fixed_columns main preprocessed periodic publics o base.zero first last change))) cs)
       ≡ folded_over base ring embed row alpha cs
-  packed_folded l alpha cs covers leaves =
-      let e = o.embed in
-      let current = row.main_current.now in
-      let next = row.main_next.now in
-      let fixed_current = row.preprocessed_current.now in
-      let fixed_next = row.preprocessed_next.now in
-      let fixed_first = take (length fixed_current) preprocessed in
-      let fixed_second = drop (length fixed_current) preprocessed in
-      ap (λ r. folded_of alpha cs r (drop (length current) main) fixed_first fixed_second periodic) (first_part e current next main main_is) ∙
-      ap (λ r. folded_of alpha cs (map e current) r fixed_first fixed_second periodic) (second_part e current next main main_is) ∙
-      ap (λ r. folded_of alpha cs (map e current) (map e next) r fixed_second periodic) (first_part e fixed_current fixed_next preprocessed preprocessed_is) ∙
-      ap (λ r. folded_of alpha cs (map e current) (map e next) (map e fixed_current) r periodic) (second_part e fixed_current fixed_next preprocessed preprocessed_is) ∙
-      ap (λ r. folded_of alpha cs (map e current) (map e next) (map e fixed_current) (map e fixed_next) r) periodic_is ∙
+  packed_folded l columns fixed_columns main preprocessed periodic publics first last change row is number fixed_number same covers alpha cs leaves =
       ap (folded ring alpha)
-      (same_constraints ring embed l _ (row_environment base ring embed row)
-      (broadcast_agrees base ring embed by_lane i within l (e row.is_first_row) current next fixed_current fixed_next row.public_values.now row.periodic_values.now row.is_first_row row.is_last_row row.is_transition covers) cs leaves)
+      (same_constraints ring embed l _ (row_environment base ring embed row) (lanes_agree l columns fixed_columns main preprocessed periodic publics first last change row is number fixed_number same covers) cs leaves)

@@ -1,9 +1,10 @@
 -- Steps to the quotient at a point.
-use Rattle.std.proofs.Common.{◌≡◌, ◌∙◌, ◌<◌, ◌≤◌, ℕ, suc, refl, List, [], ◌∷◌, ◌++◌, ◌+◌, All, Some, map, length, ap, subst, sym, arith}
+use Rattle.std.proofs.Common.{◌≡◌, ◌∙◌, ◌<◌, ◌≤◌, ℕ, zero, suc, refl, min, ◌-◌, ◌^◌, take, slice_index_or, inl, inr, length-append, List, [], ◌∷◌, ◌++◌, ◌+◌, All, Some, map, length, ap, subst, sym, arith}
 use Rattle.std.specs.List.{slice_get}
-use Rattle.std.proofs.lemmas.Option.{same_Some, slice_get_within}
+use Rattle.std.proofs.lemmas.Option.{same_Some, slice_get-get_or, slice_get_within}
+use Rattle.std.proofs.lemmas.List.{length-take}
+use Rattle.stark_support.specs.LogarithmFacts.{at_most_or_above, exponent_below, two_power_at_most}
 use Rattle.std.proofs.lemmas.List.Elements.{All-cons}
-use Rattle.stark_support.specs.ListFacts.{one_more_listed, one_more_number}
 use Rattle.stark_support.specs.Ring.{RingOps, FieldLaws}
 use Rattle.stark_support.specs.Operations.{ring_operations}
 use Rattle.stark_support.specs.Embedding.{IsEmbedding}
@@ -16,8 +17,7 @@ use Rattle.stark_support.specs.PeriodicTable.{table_at}
 use Rattle.stark_support.specs.Scheme.{matrix_row}
 use Rattle.stark_air.specs.Tree.{Constraint}
 use Rattle.stark_air.specs.Declaration.{Trace, next_width}
-use Rattle.stark_air.specs.Layout.{Layout, Covers}
-use Rattle.stark_air.specs.Rows.{environment_of, layout_of}
+use Rattle.stark_air.specs.Rows.{environment_of}
 use Rattle.stark_air.specs.Value.{constraint_values}
 use Rattle.stark_parts.specs.Folded.{folded}
 use Rattle.stark_security.specs.ConstraintPolynomial.{AirInstance}
@@ -46,18 +46,6 @@ pub over_same_rows : {E A : Type 0} (f : List A → List A → List A → List A
     → total ≡ f current next fixed_current fixed_next
 over_same_rows f total {r} {s} {t} {u} {current} {next} {fixed_current} {fixed_next} is same_r same_s same_t same_u =
     is ∙ ap (λ x. f x s t u) same_r ∙ ap (λ x. f current x t u) same_s ∙ ap (λ x. f current next x u) same_t ∙ ap (λ x. f current next fixed_current x) same_u
-
--- Rows of the widths that a layout has.
-pub rows_cover : {F E : Type 0} (l : Layout) (current next fixed_current fixed_next : List E) (publics : List F) (periodic : List E) → length current ≡ l.main → length next ≡ l.main → length fixed_current ≡ l.preprocessed → length fixed_next ≡ l.preprocessed
-    → length publics ≡ l.publics → length periodic ≡ l.periodics → l.main_next ≤ l.main → l.preprocessed_next ≤ l.preprocessed → Covers (layout_of current next fixed_current fixed_next publics periodic) l
-rows_cover l current next fixed_current fixed_next publics periodic is_main is_next is_fixed is_fixed_next is_publics is_periodic next_leaves fixed_next_leaves = record {
-  main = omega arith;
-  main_next = omega arith;
-  preprocessed = omega arith;
-  preprocessed_next = omega arith;
-  publics = omega arith;
-  periodics = omega arith;
-}
 
 module _ {F E : Type 0} {base : RingOps F} {base_inverse : F → F} {ring : RingOps E} {inverse : E → E} {embed : F → E} (base_laws : FieldLaws base base_inverse) (laws : FieldLaws ring inverse) (embeds : IsEmbedding base ring embed)
     (adicity : ℕ) (root : ℕ → F) (generator : F) (two_adic : TwoAdicLaws base adicity root generator) (trace coset : TwoAdicCoset F) (valid : IsTwoAdicCoset base adicity trace) (unshifted : trace.shift ≡ base.one) (disjoint : AreDisjoint base root trace coset)
@@ -106,15 +94,51 @@ module _ {F E : Type 0} {base : RingOps F} {base_inverse : F → F} {ring : Ring
         (same_Some inverted _ (sym inverted_is ∙ prepared.inv_vanishing.at_row k within) ∙ ap base_inverse (unshifted_vanishing base_laws adicity root generator two_adic trace valid unshifted x))
         (apart_outside base_laws adicity root generator two_adic trace valid unshifted coset disjoint k x refl)
 
+-- A power of two that is a number of 64 bits is at most half of what doesn't fit, and isn't 0.
+pub power_room : (width exponent : ℕ) → width ≡ 2 ^ exponent → width < 2 ^ 64 → width ≤ 2 ^ 63
+power_room width exponent is fits = let small = exponent_below exponent 64 (omega (arith, is, fits)) in let most = two_power_at_most exponent 63 (omega (arith, small)) in omega (arith, is, most)
+
+pub some_power : (width exponent : ℕ) → width ≡ 2 ^ exponent → 0 < width
+some_power width exponent is = let least = two_power_at_most 0 exponent (omega arith) in omega (arith, is, least)
+
+front_at : {A : Type 0} (xs ys : List A) (k : ℕ) → k < length xs → slice_get (xs ++ ys) k ≡ slice_get xs k
+front_at [] ys k below = absurd (omega arith)
+front_at (x ∷ xs) ys zero below = refl
+front_at (x ∷ xs) ys (suc k) below = front_at xs ys k (omega arith)
+
+behind_at : {A : Type 0} (xs ys : List A) (k : ℕ) → slice_get (xs ++ ys) (length xs + k) ≡ slice_get ys k
+behind_at [] ys k = ap (slice_get ys) (let e : 0 + k ≡ k = omega arith in e)
+behind_at (x ∷ xs) ys k = ap (slice_get (x ∷ xs ++ ys)) (let e : suc (length xs) + k ≡ suc (length xs + k) = omega arith in e) ∙ behind_at xs ys k
+
+taken_at : {A : Type 0} (n : ℕ) (xs : List A) (k : ℕ) → k < n → slice_get (take n xs) k ≡ slice_get xs k
+taken_at zero xs k below = absurd (omega arith)
+taken_at (suc n) [] k below = refl
+taken_at (suc n) (x ∷ xs) zero below = refl
+taken_at (suc n) (x ∷ xs) (suc k) below = taken_at n xs k (omega arith)
+
 module _ {F E : Type 0} (i : AirInstance F E) (rows : RowsOnCoset F) (alpha : E) where
   pub no_quotients : (values : List E) → values ≡ [] → AreFirstQuotients i rows alpha 0 values
   no_quotients values none = record { number = ap length none; at_point = λ k below. absurd (omega arith) }
 
-  pub one_more_quotient : (n : ℕ) (before after : List E) (value : E) → AreFirstQuotients i rows alpha n before → value ≡ pointwise_quotient i rows alpha n → after ≡ before ++ value ∷ [] → AreFirstQuotients i rows alpha (n + 1) after
-  one_more_quotient n before after value first is grown = record {
-    number = one_more_number before after value n first.number grown;
-    at_point = one_more_listed (λ k. Some (pointwise_quotient i rows alpha k)) before after value n first.number first.at_point (ap Some (sym is)) grown;
-  }
+  -- The lanes that exist, behind the quotients so far.
+  pub more_quotients : (start width : ℕ) (before after lanes : List E) (blank : E) → start < rows.size → AreFirstQuotients i rows alpha (min start rows.size) before → length lanes ≡ width
+      → ((j : ℕ) → j < width → start + j < rows.size → slice_index_or lanes j blank ≡ pointwise_quotient i rows alpha (start + j)) → after ≡ before ++ take (rows.size - start) lanes
+      → AreFirstQuotients i rows alpha (min (start + width) rows.size) after
+  more_quotients start width before after lanes blank some first wide each grown =
+      let shorter = length-take (rows.size - start) lanes in
+      let so_far : length before ≡ start = omega (arith, first.number) in
+      record {
+        number = ap length grown ∙ length-append before (take (rows.size - start) lanes) ∙ omega (arith, shorter, so_far);
+        at_point = λ k below. ap (λ l. slice_get l k) grown ∙ elim (at_most_or_above start k) [
+          | inl behind ↦
+              let j = k - start in
+              let place : k ≡ length before + j = omega (arith, so_far) in
+              let same : start + j ≡ k = omega arith in
+              ap (slice_get (before ++ take (rows.size - start) lanes)) place ∙ behind_at before (take (rows.size - start) lanes) j ∙ taken_at (rows.size - start) lanes j (omega (arith, below)) ∙
+              slice_get-get_or lanes j blank (omega (arith, below, wide)) ∙ ap Some (each j (omega (arith, below)) (omega (arith, below))) ∙ ap (λ n. Some (pointwise_quotient i rows alpha n)) same
+          | inr earlier ↦ front_at before (take (rows.size - start) lanes) k (omega (arith, so_far)) ∙ first.at_point k (omega arith)
+        ];
+      }
 
   pub all_quotients : (n : ℕ) (values : List E) → AreFirstQuotients i rows alpha n values → n ≡ rows.size → ArePointwiseQuotients i rows alpha values
   all_quotients n values first is = subst (λ m. AreFirstQuotients i rows alpha m values) is first

@@ -1,16 +1,10 @@
 -- What is computed ahead for all points of a coset.
-use Rattle.std.specs.Prelude.{◌≡◌, ℕ, List, length}
+use Rattle.std.specs.Prelude.{ℕ, List}
 use Rattle.stark_support.specs.Ring.{RingOps}
 use Rattle.stark_support.specs.Coset.{TwoAdicCoset, AreValuesOn, coset_size, coset_vanishing}
 use Rattle.stark_support.specs.PeriodicTable.{HasPeriodicValues}
-use Rattle.stark_support.specs.Scheme.{matrix_row}
 use Rattle.stark_support.specs.Selectors.{first_row_selector, last_row_selector, transition_selector}
 use Rattle.stark_support.specs.Subgroup.{subgroup_of}
-
--- Row r of a matrix that is given row after row, of its width.
-pub record IsRow {F : Type 0} (values : List F) (width r : ℕ) (row : List F) : Type 0 where
-  pub is : row ≡ matrix_row values width r
-  pub number : length row ≡ width
 
 -- The selectors of the trace's subgroup and the inverses of its vanishing value at the coset's points, and a table of the
 -- periodic columns' values there.

@@ -81,3 +81,7 @@ rows_of_matrices base root coset main preprocessed publics = record {
   preprocessed = matrix_row preprocessed.values preprocessed.width;
   publics = publics;
 }
+
+-- A row of a matrix, round the end.
+abbrev pub round_row : {F : Type 0} → Trace F → ℕ → List F
+round_row matrix r = matrix_row matrix.values matrix.width (r % (length matrix.values / matrix.width))

@@ -1,7 +1,7 @@
 //! The prover's quotient: the constraints' folded values over a trace's rows, over the vanishing polynomial of its domain.
 #![tactic(auto)]
 
-mod matrices;
+mod packed_rows;
 mod plain_eval;
 mod quotient;
 mod row;

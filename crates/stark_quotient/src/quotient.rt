@@ -1,25 +1,29 @@
-//! Quotient values on a coset, point by point.
-ghost use Rattle.std.specs.Prelude.{◌≡◌, ◌<◌, ◌≤◌, ◌/◌, ◌%◌, ◌+◌, ◌*◌, ◌^◌, All, IfOk, Some, List, length, map, option_map};
+//! Quotient values on a coset, a group of points at a time.
+ghost use Rattle.std.specs.Prelude.{◌≡◌, ◌≢◌, ◌<◌, ◌≤◌, ◌/◌, ◌+◌, ◌*◌, ◌^◌, ◌++◌, ℕ, All, IfOk, IfSome, OnOk, Some, List, length, map, option_map, slice_index_or};
 ghost use Rattle.std.specs.List.{slice_get};
 ghost use Rattle.std.specs.Vec.{vec_items};
 ghost use Rattle.stark_support.specs.Coset.{AreDisjoint, coset_size};
 ghost use Rattle.stark_support.specs.Periodic.{ColumnFits};
-ghost use Rattle.stark_support.specs.PeriodicTable.{HasPeriodicValues};
+ghost use Rattle.stark_support.specs.PeriodicTable.{HasPeriodicValues, table_at};
 ghost use Rattle.stark_air.specs.Declaration.{Trace};
 ghost use Rattle.stark_air.specs.Layout.{Covers};
 ghost use Rattle.stark_air.specs.SymbolicLayout.{symbolic_layout};
 ghost use Rattle.stark_security.specs.ConstraintPolynomial.{AirInstance};
 ghost use Rattle.stark_quotient.specs.FoldedPlaces.{AreFoldingPowers};
-ghost use Rattle.stark_quotient.specs.OnCoset.{ArePrepared, IsRow};
-ghost use Rattle.stark_quotient.specs.PointwiseQuotient.{ArePointwiseQuotients, HasShape, RowsOnCoset, matrix_or_empty, pointwise_quotient, rows_of_matrices};
+ghost use Rattle.stark_parts.specs.Finalized.{lane_values};
+ghost use Rattle.stark_quotient.specs.OnCoset.{ArePrepared};
+ghost use Rattle.stark_quotient.specs.PointwiseQuotient.{ArePointwiseQuotients, HasShape, RowsOnCoset, matrix_or_empty, pointwise_quotient, round_row, rows_of_matrices};
 
-use crate::matrices::{row_after, row_at, table_row, value_at, view_or_empty};
-use crate::plain_eval::{AlphaPowers, BaseRow, PlainEval, fold_row};
+use crate::packed_rows::{
+    packed_pair_or_none, packed_selectors, packed_table_row, push_lanes, row_in_period,
+};
+use crate::plain_eval::{AlphaPowers, PlainEval, fold_group};
 use stark_air::{Air, AirLayout, BaseAir, get_constraint_layout};
-use stark_parts::{Domain, StarkGenericConfig, Val};
+use stark_parts::{Domain, PackedChallenge, PackedVal, StarkGenericConfig, Val};
 use stark_support::{
-    DomainShape, ExtensionField, Field, LagrangeSelectors, Pcs, PeriodicColumns, PeriodicLdeTable,
-    PolynomialSpace, RowMajorMatrix, RowMajorMatrixView, TwoAdicField, UnivariateStarkPcs,
+    DomainShape, ExtensionField, Field, LagrangeSelectors, PackedExtensionField, PackedField,
+    PackedValue, Pcs, PeriodicColumns, PeriodicLdeTable, PolynomialSpace, RowMajorMatrix,
+    TwoAdicField, UnivariateStarkPcs,
 };
 use std::alloc::{AllocError, Global};
 
@@ -84,8 +88,8 @@ fn alpha_powers<SC: StarkGenericConfig, A: Air<Val<SC>>>(
 struct OnCoset<'a, SC: StarkGenericConfig> {
     trace_domain: Domain<SC>,
     quotient_domain: Domain<SC>,
-    main: RowMajorMatrixView<'a, Val<SC>>,
-    preprocessed: RowMajorMatrixView<'a, Val<SC>>,
+    main: &'a RowMajorMatrix<Val<SC>>,
+    preprocessed: Option<&'a RowMajorMatrix<Val<SC>>>,
     public_values: &'a [Val<SC>],
     selectors: LagrangeSelectors<Vec<Val<SC>>>,
     periodic: PeriodicLdeTable<Val<SC>>,
@@ -96,88 +100,115 @@ struct OnCoset<'a, SC: StarkGenericConfig> {
     step: usize,
 }
 
-/// What constraints read at point `k`, but for the periodic columns' values, of which there are none.
-fn base_row<'a, SC: StarkGenericConfig>(on: &OnCoset<'a, SC>, k: usize) -> BaseRow<'a, Val<SC>>
-    requires within { k < on.now.size }
-    requires room { k + on.now.step < 2 ^ 64 }
-    requires main { length on.now.main.values.now ≡ on.now.size * on.now.main.width }
-    requires preprocessed { length on.now.preprocessed.values.now ≡ on.now.size * on.now.preprocessed.width }
-    requires first_row { length on.now.selectors.is_first_row.items ≡ on.now.size }
-    requires last_row { length on.now.selectors.is_last_row.items ≡ on.now.size }
-    requires transition { length on.now.selectors.is_transition.items ≡ on.now.size }
-    ensures main_current { IsRow on.now.main.values.now on.now.main.width k result.main_current.now }
-    ensures main_next { IsRow on.now.main.values.now on.now.main.width ((k + on.now.step) % on.now.size) result.main_next.now }
-    ensures preprocessed_current { IsRow on.now.preprocessed.values.now on.now.preprocessed.width k result.preprocessed_current.now }
-    ensures preprocessed_next { IsRow on.now.preprocessed.values.now on.now.preprocessed.width ((k + on.now.step) % on.now.size) result.preprocessed_next.now }
-    ensures publics { result.public_values.now ≡ on.now.public_values.now }
-    ensures is_first_row { slice_get on.now.selectors.is_first_row.items k ≡ Some result.is_first_row }
-    ensures is_last_row { slice_get on.now.selectors.is_last_row.items k ≡ Some result.is_last_row }
-    ensures is_transition { slice_get on.now.selectors.is_transition.items k ≡ Some result.is_transition }
+/// The number of columns; 0 where there is no matrix.
+fn width_of<T>(matrix: Option<&RowMajorMatrix<T>>) -> usize
+    ensures { result ≡ (matrix_or_empty (option_map (λ m. record { width = m.now.width; values = m.now.values.items }) matrix.entry)).width }
 {
-    let next = row_after(k, on.step, on.size);
-    BaseRow {
-        main_current: row_at(&on.main, on.size, k),
-        main_next: row_at(&on.main, on.size, next),
-        preprocessed_current: row_at(&on.preprocessed, on.size, k),
-        preprocessed_next: row_at(&on.preprocessed, on.size, next),
-        periodic_values: &[],
-        public_values: on.public_values,
-        is_first_row: value_at(on.selectors.is_first_row.as_slice(), k),
-        is_last_row: value_at(on.selectors.is_last_row.as_slice(), k),
-        is_transition: value_at(on.selectors.is_transition.as_slice(), k),
+    match matrix {
+        Some(matrix) => matrix.width,
+        None => 0,
     }
 }
 
-/// An element of the extension times one of the base field.
-fn times_base<F: Field, EF: ExtensionField<F>>(x: EF, factor: F) -> EF
-    ensures { result ≡ EF.ring.mul x (EF.embed factor) }
-{
-    x * EF::from_base(factor)
-}
-
-/// A sum over the vanishing value at point `k`.
-fn over_vanishing<SC: StarkGenericConfig>(
+/// Puts the rows of the points from `start` on in the evaluator's buffers, a point a lane.
+fn fill_rows<SC: StarkGenericConfig>(
     on: &OnCoset<'_, SC>,
-    sum: SC::Challenge,
-    k: usize,
-) -> SC::Challenge
-    requires { k < length on.now.selectors.inv_vanishing.items }
-    ensures { (inverse : SC.Pcs.Domain.Val) → slice_get on.now.selectors.inv_vanishing.items k ≡ Some inverse → result ≡ SC.Challenge.ring.mul sum (SC.Challenge.embed inverse) }
+    start: usize,
+    eval: &mut PlainEval<SC>,
+) -> Result<(), AllocError>
+where
+    Val<SC>: PackedField,
+    SC::Challenge: PackedExtensionField<Val<SC>>,
+    requires room { start + on.now.step < 2 ^ 64 }
+    requires main { on.now.main.now.width ≢ 0 → 0 < length on.now.main.now.values.items / on.now.main.now.width }
+    requires preprocessed { IfSome (option_map (λ m. m.now) on.now.preprocessed) (λ m. m.width ≢ 0 → 0 < length m.values.items / m.width) }
+    ensures main_width { eval.new.rows.main_width ≡ eval.old.rows.main_width }
+    ensures preprocessed_width { eval.new.rows.preprocessed_width ≡ eval.old.rows.preprocessed_width }
+    ensures main_number { OnOk result (length eval.new.rows.main.items ≡ 2 * on.now.main.now.width) }
+    ensures main { OnOk result ((i : ℕ) → i < SC.Pcs.Domain.Val.Packing.WIDTH → lane_values SC.Pcs.Domain.Val.Packing.lanes i SC.Pcs.Domain.Val.ring.zero eval.new.rows.main.items
+        ≡ round_row (record { width = on.now.main.now.width; values = on.now.main.now.values.items }) (start + i) ++ round_row (record { width = on.now.main.now.width; values = on.now.main.now.values.items }) (start + on.now.step + i)) }
+    ensures preprocessed_number { OnOk result (length eval.new.rows.preprocessed.items ≡ 2 * (matrix_or_empty (option_map (λ m. record { width = m.now.width; values = m.now.values.items }) on.now.preprocessed)).width) }
+    ensures preprocessed { OnOk result ((i : ℕ) → i < SC.Pcs.Domain.Val.Packing.WIDTH → lane_values SC.Pcs.Domain.Val.Packing.lanes i SC.Pcs.Domain.Val.ring.zero eval.new.rows.preprocessed.items
+        ≡ round_row (matrix_or_empty (option_map (λ m. record { width = m.now.width; values = m.now.values.items }) on.now.preprocessed)) (start + i) ++ round_row (matrix_or_empty (option_map (λ m. record { width = m.now.width; values = m.now.values.items }) on.now.preprocessed)) (start + on.now.step + i)) }
+    ensures periodic_number { OnOk result (length eval.new.rows.periodic_values.items ≡ on.now.periodic.width) }
+    ensures periodic { OnOk result ((c : ℕ) (p : SC.Pcs.Domain.Val.Packing) → slice_get eval.new.rows.periodic_values.items c ≡ Some p → (i : ℕ) → i < SC.Pcs.Domain.Val.Packing.WIDTH → start + i < 2 ^ 64
+        → slice_get (SC.Pcs.Domain.Val.Packing.lanes p) i ≡ table_at on.now.periodic.values.items on.now.periodic.width on.now.periodic.period (start + i) c) }
 {
-    times_base(sum, value_at(on.selectors.inv_vanishing.as_slice(), k))
+    let rows = &mut eval.rows;
+    packed_pair_or_none(
+        Some(on.main),
+        start,
+        on.step,
+        &mut rows.main,
+        &mut eval.next,
+    )?;
+    packed_pair_or_none(
+        on.preprocessed,
+        start,
+        on.step,
+        &mut rows.preprocessed,
+        &mut eval.next,
+    )?;
+    let periodic_start = row_in_period(&on.periodic, start, PackedVal::<SC>::WIDTH);
+    packed_table_row(&on.periodic, periodic_start, &mut rows.periodic_values)
 }
 
-/// The quotient at point `k`.
-fn quotient_at<SC: StarkGenericConfig, A: Air<Val<SC>>>(
+/// Packed sums over vanishing values, whose inverses are given.
+fn over_vanishing<SC: StarkGenericConfig>(
+    sums: PackedChallenge<SC>,
+    inverses: PackedVal<SC>,
+) -> PackedChallenge<SC>
+where
+    Val<SC>: PackedField,
+    SC::Challenge: PackedExtensionField<Val<SC>>,
+    ensures { (i : ℕ) → i < SC.Challenge.ExtensionPacking.WIDTH → slice_index_or (SC.Challenge.ExtensionPacking.lanes result) i SC.Challenge.ring.zero
+        ≡ SC.Challenge.ring.mul (slice_index_or (SC.Challenge.ExtensionPacking.lanes sums) i SC.Challenge.ring.zero) (SC.Challenge.embed (slice_index_or (SC.Pcs.Domain.Val.Packing.lanes inverses) i SC.Pcs.Domain.Val.ring.zero)) }
+{
+    sums * PackedChallenge::<SC>::from(inverses)
+}
+
+/// The quotients at the points from `start` on, a point a lane, as far as there are points.
+fn quotients_of_group<SC: StarkGenericConfig, A: Air<Val<SC>>>(
     alloc: Global,
     air: &A,
     on: &OnCoset<'_, SC>,
     eval: &mut PlainEval<SC>,
-    periodic_row: &mut Vec<Val<SC>>,
-    k: usize,
-) -> Result<SC::Challenge, AllocError>
+    start: usize,
+) -> Result<PackedChallenge<SC>, AllocError>
+where
+    Val<SC>: PackedField,
+    SC::Challenge: PackedExtensionField<Val<SC>>,
+    requires main_width { eval.old.rows.main_width ≡ (A.layout air.now).main }
+    requires preprocessed_width { eval.old.rows.preprocessed_width ≡ (A.layout air.now).preprocessed }
     requires size { on.now.size ≡ coset_size (SC.Pcs.Domain.coset_of on.now.quotient_domain) }
     requires step { on.now.step ≡ on.now.size / coset_size (SC.Pcs.Domain.coset_of on.now.trace_domain) }
     requires room { on.now.size ≤ 2 ^ 63 }
-    requires within { k < on.now.size }
+    requires within { start < on.now.size }
     requires subgroup { (SC.Pcs.Domain.coset_of on.now.trace_domain).shift ≡ SC.Pcs.Domain.Val.ring.one }
     requires disjoint { AreDisjoint SC.Pcs.Domain.Val.ring SC.Pcs.Domain.Val.root (SC.Pcs.Domain.coset_of on.now.trace_domain) (SC.Pcs.Domain.coset_of on.now.quotient_domain) }
-    requires main { HasShape (A.layout air.now).main on.now.size (record { width = on.now.main.width; values = on.now.main.values.now }) }
-    requires preprocessed { HasShape (A.layout air.now).preprocessed on.now.size (record { width = on.now.preprocessed.width; values = on.now.preprocessed.values.now }) }
+    requires main { HasShape (A.layout air.now).main on.now.size (record { width = on.now.main.now.width; values = on.now.main.now.values.items }) }
+    requires preprocessed { HasShape (A.layout air.now).preprocessed on.now.size (matrix_or_empty (option_map (λ m. record { width = m.now.width; values = m.now.values.items }) on.now.preprocessed)) }
     requires publics { length on.now.public_values.now ≡ (A.layout air.now).publics }
     requires powers { AreFoldingPowers SC.Challenge.ring SC.Challenge.coordinates SC.Challenge.DIMENSION on.now.powers.alpha (A.constraints air.now) (map vec_items on.now.powers.base.items) on.now.powers.ext.items }
     requires prepared { ArePrepared SC.Pcs.Domain.Val.ring SC.Pcs.Domain.Val.inverse_of SC.Pcs.Domain.Val.root (SC.Pcs.Domain.coset_of on.now.trace_domain) (SC.Pcs.Domain.coset_of on.now.quotient_domain) (A.periodic_columns air.now)
         on.now.selectors.is_first_row.items on.now.selectors.is_last_row.items on.now.selectors.is_transition.items on.now.selectors.inv_vanishing.items on.now.periodic.values.items on.now.periodic.width on.now.periodic.period }
-    ensures { IfOk result (λ value. value ≡ pointwise_quotient (⟦<SC as QuotientOperations<A>>⟧.air_over air.now on.now.trace_domain)
-        (⟦<SC as QuotientOperations<A>>⟧.rows_on on.now.quotient_domain (record { width = on.now.main.width; values = on.now.main.values.now }) (record { width = on.now.preprocessed.width; values = on.now.preprocessed.values.now }) on.now.public_values.now) on.now.powers.alpha k) }
+    ensures main_width { eval.new.rows.main_width ≡ eval.old.rows.main_width }
+    ensures preprocessed_width { eval.new.rows.preprocessed_width ≡ eval.old.rows.preprocessed_width }
+    ensures quotients { IfOk result (λ packed. (i : ℕ) → i < SC.Challenge.ExtensionPacking.WIDTH → start + i < on.now.size → slice_index_or (SC.Challenge.ExtensionPacking.lanes packed) i SC.Challenge.ring.zero ≡ pointwise_quotient (⟦<SC as QuotientOperations<A>>⟧.air_over air.now on.now.trace_domain)
+        (⟦<SC as QuotientOperations<A>>⟧.rows_on on.now.quotient_domain (record { width = on.now.main.now.width; values = on.now.main.now.values.items }) (matrix_or_empty (option_map (λ m. record { width = m.now.width; values = m.now.values.items }) on.now.preprocessed)) on.now.public_values.now) on.now.powers.alpha (start + i)) }
 {
-    table_row(&on.periodic, k, periodic_row)?;
-    let row = BaseRow {
-        periodic_values: periodic_row.as_slice(),
-        ..base_row::<SC>(on, k)
-    };
-    let sum = fold_row::<SC, A>(alloc, air, eval, &row, &on.powers)?;
-    Ok(over_vanishing::<SC>(on, sum, k))
+    fill_rows::<SC>(on, start, eval)?;
+    let selectors = packed_selectors(&on.selectors, start);
+    let sums = fold_group::<SC, A>(
+        alloc,
+        air,
+        &eval.rows,
+        &selectors,
+        on.public_values,
+        &on.powers,
+        &mut eval.kept,
+    )?;
+    Ok(over_vanishing::<SC>(sums, selectors.inv_vanishing))
 }
 
 /// The quotients at all points.
@@ -186,26 +217,30 @@ fn values_on<SC: StarkGenericConfig, A: Air<Val<SC>>>(
     air: &A,
     on: &OnCoset<'_, SC>,
 ) -> Result<Vec<SC::Challenge>, AllocError>
+where
+    Val<SC>: PackedField,
+    SC::Challenge: PackedExtensionField<Val<SC>>,
     requires size { on.now.size ≡ coset_size (SC.Pcs.Domain.coset_of on.now.quotient_domain) }
     requires step { on.now.step ≡ on.now.size / coset_size (SC.Pcs.Domain.coset_of on.now.trace_domain) }
     requires room { on.now.size ≤ 2 ^ 63 }
     requires subgroup { (SC.Pcs.Domain.coset_of on.now.trace_domain).shift ≡ SC.Pcs.Domain.Val.ring.one }
     requires disjoint { AreDisjoint SC.Pcs.Domain.Val.ring SC.Pcs.Domain.Val.root (SC.Pcs.Domain.coset_of on.now.trace_domain) (SC.Pcs.Domain.coset_of on.now.quotient_domain) }
-    requires main { HasShape (A.layout air.now).main on.now.size (record { width = on.now.main.width; values = on.now.main.values.now }) }
-    requires preprocessed { HasShape (A.layout air.now).preprocessed on.now.size (record { width = on.now.preprocessed.width; values = on.now.preprocessed.values.now }) }
+    requires main { HasShape (A.layout air.now).main on.now.size (record { width = on.now.main.now.width; values = on.now.main.now.values.items }) }
+    requires preprocessed { HasShape (A.layout air.now).preprocessed on.now.size (matrix_or_empty (option_map (λ m. record { width = m.now.width; values = m.now.values.items }) on.now.preprocessed)) }
     requires publics { length on.now.public_values.now ≡ (A.layout air.now).publics }
     requires powers { AreFoldingPowers SC.Challenge.ring SC.Challenge.coordinates SC.Challenge.DIMENSION on.now.powers.alpha (A.constraints air.now) (map vec_items on.now.powers.base.items) on.now.powers.ext.items }
     requires prepared { ArePrepared SC.Pcs.Domain.Val.ring SC.Pcs.Domain.Val.inverse_of SC.Pcs.Domain.Val.root (SC.Pcs.Domain.coset_of on.now.trace_domain) (SC.Pcs.Domain.coset_of on.now.quotient_domain) (A.periodic_columns air.now)
         on.now.selectors.is_first_row.items on.now.selectors.is_last_row.items on.now.selectors.is_transition.items on.now.selectors.inv_vanishing.items on.now.periodic.values.items on.now.periodic.width on.now.periodic.period }
     ensures { IfOk result (λ values. ArePointwiseQuotients (⟦<SC as QuotientOperations<A>>⟧.air_over air.now on.now.trace_domain)
-        (⟦<SC as QuotientOperations<A>>⟧.rows_on on.now.quotient_domain (record { width = on.now.main.width; values = on.now.main.values.now }) (record { width = on.now.preprocessed.width; values = on.now.preprocessed.values.now }) on.now.public_values.now) on.now.powers.alpha values.items) }
+        (⟦<SC as QuotientOperations<A>>⟧.rows_on on.now.quotient_domain (record { width = on.now.main.now.width; values = on.now.main.now.values.items }) (matrix_or_empty (option_map (λ m. record { width = m.now.width; values = m.now.values.items }) on.now.preprocessed)) on.now.public_values.now) on.now.powers.alpha values.items) }
 {
-    let mut eval = PlainEval::new(alloc);
-    let mut periodic_row = Vec::new(alloc);
-    let mut values = Vec::new(alloc);
-    for k in 0..on.size {
-        let value = quotient_at::<SC, A>(alloc, air, on, &mut eval, &mut periodic_row, k)?;
-        values.push(value)?;
+    let mut eval = PlainEval::new(alloc, on.main.width, width_of(on.preprocessed));
+    let mut values = Vec::with_capacity(alloc, on.size)?;
+    let mut start = 0;
+    while start < on.size {
+        let packed = quotients_of_group::<SC, A>(alloc, air, on, &mut eval, start)?;
+        push_lanes(&mut values, &packed, on.size - start)?;
+        start += PackedChallenge::<SC>::WIDTH;
     }
     Ok(values)
 }
@@ -266,6 +301,9 @@ pub fn quotient_values<SC: StarkGenericConfig, A: QuotientAir<SC>>(
     preprocessed_on_quotient_domain: Option<&RowMajorMatrix<Val<SC>>>,
     alpha: SC::Challenge,
 ) -> Result<Vec<SC::Challenge>, AllocError>
+where
+    Val<SC>: PackedField,
+    SC::Challenge: PackedExtensionField<Val<SC>>,
     requires layout { Covers (symbolic_layout layout) (A.layout air.now) }
     requires subgroup { (SC.Pcs.Domain.coset_of trace_domain).shift ≡ SC.Pcs.Domain.Val.ring.one }
     requires disjoint { AreDisjoint SC.Pcs.Domain.Val.ring SC.Pcs.Domain.Val.root (SC.Pcs.Domain.coset_of trace_domain) (SC.Pcs.Domain.coset_of quotient_domain) }
@@ -279,13 +317,12 @@ pub fn quotient_values<SC: StarkGenericConfig, A: QuotientAir<SC>>(
     let periodic = periodic_table::<SC, A>(alloc, pcs, air, trace_domain, quotient_domain)?;
     let selectors = trace_domain.selectors_on_coset(alloc, &quotient_domain)?;
     let powers = alpha_powers::<SC, A>(alloc, air, layout, alpha)?;
-    let trace = trace_on_quotient_domain;
     let size = points_of(&quotient_domain);
     let on = OnCoset {
         trace_domain,
         quotient_domain,
-        main: RowMajorMatrixView::new(trace.values.as_slice(), trace.width),
-        preprocessed: view_or_empty(preprocessed_on_quotient_domain),
+        main: trace_on_quotient_domain,
+        preprocessed: preprocessed_on_quotient_domain,
         public_values,
         selectors,
         periodic,

@@ -7,7 +7,7 @@ ghost use Rattle.stark_quotient.specs.FoldedLanes.{AreFoldedLanes};
 
 use stark_air::{Air, AirBuilder};
 use stark_parts::{PackedChallenge, ProverConstraintFolder, StarkGenericConfig, Val};
-use stark_support::{ExtensionField, Field, PackedExtensionField, PackedValue};
+use stark_support::{ExtensionField, Field, PackedExtensionField, PackedField, PackedValue};
 use std::alloc::AllocError;
 
 /// The constraints of an AIR over the folder's rows, folded with the powers of alpha that the folder holds: in each lane
@@ -17,6 +17,9 @@ pub fn folded_row<'a, SC: StarkGenericConfig, A: Air<Val<SC>>>(
     air: &A,
     folder: &mut ProverConstraintFolder<'a, SC>,
 ) -> Result<PackedChallenge<SC>, AllocError>
+where
+    Val<SC>: PackedField,
+    SC::Challenge: PackedExtensionField<Val<SC>>,
     requires covers { Covers (⟦<ProverConstraintFolder<'a, SC> as AirBuilder>⟧.layout folder.old) (A.layout air.now) }
     requires nothing_kept { folder.old.base_constraints.items ≡ [] }
     requires nothing_kept_above { folder.old.ext_constraints.items ≡ [] }

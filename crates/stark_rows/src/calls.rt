@@ -1,44 +1,45 @@
 //! The library's calls that the rows make of a configuration. At closed types such a call has the evidence of all its types
 //! written out, which takes a minute to prove. So each stands here once: over any base field and extension, then over any base
 //! field and its extension. The rows make it at one field, where only that field's evidence is left.
-ghost use Rattle.std.specs.Prelude.{◌≡◌, ◌↔◌, ◌+◌, ◌*◌, ◌^◌, ◌≤◌, ◌<◌, All, IfOk, IsTrue, [], length, vec_len};
+ghost use Rattle.std.specs.Prelude.{◌≡◌, ◌↔◌, ◌+◌, ◌^◌, ◌≤◌, ◌<◌, All, IfOk, IsTrue, [], length, vec_len};
 ghost use Rattle.stark_air.specs.Layout.{Covers};
 ghost use Rattle.stark_air.specs.Rows.{layout_of};
 ghost use Rattle.stark_support.specs.Coset.{coset_size, coset_vanishing};
-ghost use Rattle.stark_support.specs.Scheme.{zk_bits};
-ghost use Rattle.stark_protocol.specs.Equation.{OpenedRows, opened_layout, row_or_empty};
 ghost use Rattle.stark_protocol.specs.Preprocessing.{HasHeight, IsCommittedWithin};
 
 use crate::elements::Base;
 use p3_uni_stark::{
-    PcsProof, PreprocessedProverData, PreprocessedVerifierKey, Proof, StarkProof, prove,
-    prove_with_preprocessed, recompose_quotient_from_chunks, setup_preprocessed, verify,
-    verify_constraints, verify_with_preprocessed,
+    PreprocessedProverData, PreprocessedVerifierKey, Proof, StarkProof,
+    recompose_quotient_from_chunks, setup_preprocessed, verify, verify_constraints,
+    verify_with_preprocessed,
 };
 use stark_air::{Air, AirBuilder, BaseAir, RowWindow, SubAirBuilder, WindowAccess};
-use stark_bench::{ClearCommitment, Coset, Ext4, F12289};
-use stark_clear::{ClearPcs, ClearProof, CounterAir, MaskedClearPcs};
+use stark_bench::{ClearCommitment, Coset, Ext4, F12289, P12289};
+use stark_clear::{ClearPcs, ClearProof, CounterAir};
 use stark_parts::{
-    Com, Domain, PcsError, PcsProverError, StarkConfig, StarkGenericConfig, Val, VerificationError,
+    Com, PcsError, StarkConfig, StarkGenericConfig, Val, VerificationError,
     VerifierConstraintFolder, fold_constraints,
 };
-use stark_protocol::power_of_two;
+use stark_protocol::quotient_at;
 use stark_support::{
     CanObserve, DomainShape, Element, ExtensionChallenger, ExtensionField, Field, FieldChallenger,
-    GrindingChallenger, JsonCodec, LagrangeSelectors, NeverNull, PackedExtensionField, Pcs,
-    PolynomialSpace, PrimeField64, QuarticBase, RowMajorMatrix, RowMajorMatrixView, TwoAdicField,
-    UnivariateStarkPcs, VerticalPair, value_from_bytes,
+    GrindingChallenger, LagrangeSelectors, PolynomialSpace, PrimeField64, RowMajorMatrixView,
+    TwoAdicField, VerticalPair,
 };
 use std::alloc::{AllocError, Global};
 use std::fmt::Debug;
 
 /// A base field of the rows, with the extension that stands above it.
 pub trait RowField: PrimeField64 + TwoAdicField {
-    type Above: PackedExtensionField<Self>;
+    type Above: ExtensionField<Self>;
 }
 
 impl RowField for Base {
     type Above = Ext4<Base>;
+}
+
+impl RowField for P12289 {
+    type Above = Ext4<P12289>;
 }
 
 impl RowField for F12289 {
@@ -61,7 +62,7 @@ fn folded_above<F, EF, C, A>(
 ) -> Result<EF, AllocError>
 where
     F: TwoAdicField + PrimeField64,
-    EF: PackedExtensionField<F>,
+    EF: ExtensionField<F>,
     C: FieldChallenger<F> + CanObserve<ClearCommitment<F>> + ExtensionChallenger<F, EF> + Clone,
     A: Air<F>,
     requires { Covers (layout_of local.now next.now fixed.now [] publics.now periodic.now) (A.layout air.now) }
@@ -131,36 +132,23 @@ pub fn selectors_at<F: RowField>(
     selectors_above::<F, F::Above>(log_size, point)
 }
 
-/// The value recomposed from two parts' chunks.
-fn recomposed<SC: StarkGenericConfig>(
-    alloc: Global,
-    domain: &Domain<SC>,
-    chunks: &[Vec<SC::Challenge>],
-    zeta: SC::Challenge,
-) -> Result<SC::Challenge, AllocError>
-    requires points { 2 ≤ coset_size (SC.Pcs.Domain.coset_of domain.now) }
-    requires chunks { length chunks.now ≡ 2 }
-    requires dimensions { All (λ chunk. vec_len chunk ≡ SC.Challenge.DIMENSION) chunks.now }
-{
-    let domains = domain.split_domains(alloc, 2)?;
-    Ok(recompose_quotient_from_chunks::<SC>(&domains, chunks, zeta))
-}
-
-fn recomposed_above<F, EF, C>(
+/// The value recomposed from as many chunks as a coset has parts.
+pub fn recomposed_on_parts<F, EF, C>(
     alloc: Global,
     domain: &Coset<F>,
+    log_chunks: usize,
     chunks: &[Vec<EF>],
     zeta: EF,
 ) -> Result<EF, AllocError>
 where
     F: TwoAdicField + PrimeField64,
-    EF: PackedExtensionField<F>,
+    EF: ExtensionField<F>,
     C: FieldChallenger<F> + CanObserve<ClearCommitment<F>> + ExtensionChallenger<F, EF> + Clone,
-    requires points { 2 ≤ coset_size (⟦<Coset<F> as PolynomialSpace>⟧.coset_of domain.now) }
-    requires chunks { length chunks.now ≡ 2 }
+    requires number { length chunks.now ≡ 2 ^ log_chunks }
+    requires within { log_chunks ≤ domain.now.log_size }
     requires dimensions { All (λ chunk. vec_len chunk ≡ EF.DIMENSION) chunks.now }
 {
-    recomposed::<ClearConfig<F, EF, C>>(alloc, domain, chunks, zeta)
+    quotient_at::<ClearConfig<F, EF, C>>(alloc, domain, log_chunks, chunks, zeta)
 }
 
 /// A list of a number and three zeros.
@@ -175,33 +163,6 @@ fn chunk<X: Copy + Drop>(alloc: Global, x: X, zero: X) -> Result<Vec<X>, AllocEr
     Ok(values)
 }
 
-/// The value recomposed on the two parts of a domain, from chunks whose first coordinates are given and the others zero; none
-/// where the domain has no two points, or the extension another degree than four.
-pub fn recomposed_of_two<F, C>(
-    alloc: Global,
-    domain: &Coset<F>,
-    first: F::Above,
-    second: F::Above,
-    zeta: F::Above,
-) -> Result<Option<F::Above>, AllocError>
-where
-    F: RowField,
-    C: FieldChallenger<F>
-        + CanObserve<ClearCommitment<F>>
-        + ExtensionChallenger<F, F::Above>
-        + Clone,
-{
-    if domain.size() < 2 || F::Above::DIMENSION != 4 {
-        return Ok(None);
-    }
-    let zero = F::Above::ZERO;
-    let mut chunks = Vec::new(alloc);
-    chunks.push(chunk(alloc, first, zero)?)?;
-    chunks.push(chunk(alloc, second, zero)?)?;
-    let value = recomposed_above::<F, F::Above, C>(alloc, domain, &chunks, zeta)?;
-    Ok(Some(value))
-}
-
 fn recomposed_alone_above<F, EF, C>(
     alloc: Global,
     domain: Coset<F>,
@@ -210,7 +171,7 @@ fn recomposed_alone_above<F, EF, C>(
 ) -> Result<EF, AllocError>
 where
     F: TwoAdicField + PrimeField64,
-    EF: PackedExtensionField<F>,
+    EF: ExtensionField<F>,
     C: FieldChallenger<F> + CanObserve<ClearCommitment<F>> + ExtensionChallenger<F, EF> + Clone,
     requires dimension { vec_len chunk ≡ EF.DIMENSION }
 {
@@ -317,7 +278,7 @@ fn part_reads_above<'a, F, EF, C>(
 ) -> Result<Option<[Option<EF>; 4]>, AllocError>
 where
     F: TwoAdicField + PrimeField64,
-    EF: PackedExtensionField<F>,
+    EF: ExtensionField<F>,
     C: FieldChallenger<F> + CanObserve<ClearCommitment<F>> + ExtensionChallenger<F, EF> + Clone,
 {
     part_reads::<ClearConfig<F, EF, C>>(start, local, next, publics)
@@ -358,7 +319,7 @@ fn equation_above<'p, F, EF, C, A>(
 ) -> Option<Result<(), VerificationError<NoScheme>>>
 where
     F: TwoAdicField + PrimeField64,
-    EF: PackedExtensionField<F>,
+    EF: ExtensionField<F>,
     C: FieldChallenger<F> + CanObserve<ClearCommitment<F>> + ExtensionChallenger<F, EF> + Clone,
     A: Air<F>,
     requires widths { Covers (layout_of local.now next.now [] [] publics.now []) (A.layout air.now) }
@@ -455,7 +416,7 @@ fn answer_above<F, EF, C, A>(
 ) -> Result<String, AllocError>
 where
     F: TwoAdicField + PrimeField64,
-    EF: PackedExtensionField<F>,
+    EF: ExtensionField<F>,
     C: FieldChallenger<F>
         + CanObserve<ClearCommitment<F>>
         + ExtensionChallenger<F, EF>
@@ -501,7 +462,7 @@ fn set_up_above<F, EF, C, A>(
 ) -> Option<Option<Keys<F>>>
 where
     F: TwoAdicField + PrimeField64,
-    EF: PackedExtensionField<F>,
+    EF: ExtensionField<F>,
     C: FieldChallenger<F> + CanObserve<ClearCommitment<F>> + ExtensionChallenger<F, EF> + Clone,
     A: BaseAir<F>,
     requires height { HasHeight degree_bits (A.preprocessed_trace air.now) }
@@ -528,262 +489,4 @@ where
     requires within { IsCommittedWithin degree_bits F.TWO_ADICITY (A.preprocessed_trace air.now) }
 {
     set_up_above::<F, F::Above, C, A>(alloc, config, air, degree_bits)
-}
-
-/// Whether a trace of `2^log_height` rows and these public values are of an AIR's widths and counts, and the configuration has
-/// room for such a trace.
-fn fits<SC: StarkGenericConfig, A: BaseAir<Val<SC>>>(
-    config: &SC,
-    air: &A,
-    log_height: usize,
-    trace: &RowMajorMatrix<Val<SC>>,
-    publics: &[Val<SC>],
-) -> bool
-    ensures columns { IsTrue result → 0 < trace.now.width }
-    ensures width { IsTrue result → trace.now.width ≡ (A.layout air.now).main }
-    ensures height { IsTrue result → length trace.now.values.items ≡ 2 ^ log_height * trace.now.width }
-    ensures within { IsTrue result → log_height + zk_bits SC.Pcs.ZK ≤ SC.Pcs.scheme.log_max_trace_height (SC.config.scheme config.now) }
-    ensures publics { IsTrue result → length publics.now ≡ (A.layout air.now).publics }
-{
-    if log_height > 12 || log_height + config.is_zk() > config.pcs().log_max_trace_height() {
-        return false;
-    }
-    trace.width > 0
-        && trace.width == air.width()
-        && Some(trace.values.len()) == power_of_two(log_height).checked_mul(trace.width)
-        && publics.len() == air.num_public_values()
-}
-
-/// A proof's JSON.
-fn json_of<K: NeverNull + Drop, EF: JsonCodec + Drop, P: JsonCodec + Drop, F: JsonCodec + Drop>(
-    alloc: Global,
-    proof: &Proof<K, EF, P, F>,
-) -> Result<String, AllocError> {
-    let json = proof.to_json(alloc)?;
-    json.to_string(alloc)
-}
-
-/// A proof's text, and what any verifier answers of it.
-fn shown_by<SC, A>(
-    alloc: Global,
-    config: &SC,
-    air: &A,
-    proof: &StarkProof<SC>,
-    publics: &[Val<SC>],
-) -> Result<String, AllocError>
-where
-    SC: StarkGenericConfig,
-    SC::Challenger: GrindingChallenger<Witness = Val<SC>>,
-    SC::Challenge: JsonCodec,
-    Val<SC>: JsonCodec,
-    Com<SC>: NeverNull,
-    PcsProof<SC>: JsonCodec,
-    PcsError<SC>: Debug,
-    A: Air<Val<SC>>,
-{
-    let answer = verify(alloc, config, air, proof, publics);
-    let text = json_of(alloc, proof)?;
-    format!(in alloc; "{text} {answer:?}")
-}
-
-/// The text of a proof of a trace and what any verifier answers of it, or the prover's error; none where the trace doesn't fit.
-fn proved_by<SC, A>(
-    alloc: Global,
-    config: &SC,
-    air: &A,
-    log_height: usize,
-    trace: RowMajorMatrix<Val<SC>>,
-    publics: &[Val<SC>],
-) -> Result<Option<String>, AllocError>
-where
-    SC: StarkGenericConfig,
-    SC::Challenger: GrindingChallenger<Witness = Val<SC>>,
-    SC::Challenge: JsonCodec,
-    Val<SC>: JsonCodec,
-    Com<SC>: NeverNull,
-    PcsProof<SC>: JsonCodec,
-    PcsError<SC>: Debug,
-    PcsProverError<SC>: Debug,
-    A: Air<Val<SC>>,
-    requires none { (A.layout air.now).preprocessed ≡ 0 }
-{
-    if !fits(config, air, log_height, &trace, publics) {
-        return Ok(None);
-    }
-    let text = match prove(alloc, config, air, trace, publics) {
-        Ok(proof) => shown_by(alloc, config, air, &proof, publics),
-        Err(error) => format!(in alloc; "{error:?}"),
-    };
-    Ok(Some(text?))
-}
-
-fn proved_above<F, EF, C, A>(
-    alloc: Global,
-    config: &ClearConfig<F, EF, C>,
-    air: &A,
-    log_height: usize,
-    trace: RowMajorMatrix<F>,
-    publics: &[F],
-) -> Result<Option<String>, AllocError>
-where
-    F: TwoAdicField + PrimeField64 + JsonCodec,
-    EF: PackedExtensionField<F> + JsonCodec,
-    C: FieldChallenger<F>
-        + CanObserve<ClearCommitment<F>>
-        + ExtensionChallenger<F, EF>
-        + GrindingChallenger<Witness = F>
-        + Clone,
-    A: Air<F>,
-    requires none { (A.layout air.now).preprocessed ≡ 0 }
-{
-    proved_by::<ClearConfig<F, EF, C>, A>(alloc, config, air, log_height, trace, publics)
-}
-
-/// The text of a proof of a trace of `2^log_height` rows and what the verifier answers of it, or the prover's error; none where
-/// the trace or the public values don't fit the AIR.
-pub fn proved<F, C, A>(
-    alloc: Global,
-    config: &ClearConfig<F, F::Above, C>,
-    air: &A,
-    log_height: usize,
-    trace: RowMajorMatrix<F>,
-    publics: &[F],
-) -> Result<Option<String>, AllocError>
-where
-    F: RowField + JsonCodec,
-    F::Above: JsonCodec,
-    C: FieldChallenger<F>
-        + CanObserve<ClearCommitment<F>>
-        + ExtensionChallenger<F, F::Above>
-        + GrindingChallenger<Witness = F>
-        + Clone,
-    A: Air<F>,
-    requires none { (A.layout air.now).preprocessed ≡ 0 }
-{
-    proved_above::<F, F::Above, C, A>(alloc, config, air, log_height, trace, publics)
-}
-
-/// The configuration with the masked scheme.
-pub type MaskedConfig<F, EF, C> = StarkConfig<MaskedClearPcs<F>, EF, C>;
-
-fn masked_above<F, EF, C, A>(
-    alloc: Global,
-    config: &MaskedConfig<F, EF, C>,
-    air: &A,
-    log_height: usize,
-    trace: RowMajorMatrix<F>,
-    publics: &[F],
-) -> Result<Option<String>, AllocError>
-where
-    F: TwoAdicField + PrimeField64 + JsonCodec,
-    EF: PackedExtensionField<F> + JsonCodec,
-    C: FieldChallenger<F>
-        + CanObserve<ClearCommitment<F>>
-        + ExtensionChallenger<F, EF>
-        + GrindingChallenger<Witness = F>
-        + Clone,
-    A: Air<F>,
-    requires none { (A.layout air.now).preprocessed ≡ 0 }
-{
-    proved_by::<MaskedConfig<F, EF, C>, A>(alloc, config, air, log_height, trace, publics)
-}
-
-/// What `proved` answers, with the masked scheme.
-pub fn masked<F, C, A>(
-    alloc: Global,
-    config: &MaskedConfig<F, F::Above, C>,
-    air: &A,
-    log_height: usize,
-    trace: RowMajorMatrix<F>,
-    publics: &[F],
-) -> Result<Option<String>, AllocError>
-where
-    F: RowField + JsonCodec,
-    F::Above: JsonCodec,
-    C: FieldChallenger<F>
-        + CanObserve<ClearCommitment<F>>
-        + ExtensionChallenger<F, F::Above>
-        + GrindingChallenger<Witness = F>
-        + Clone,
-    A: Air<F>,
-    requires none { (A.layout air.now).preprocessed ≡ 0 }
-{
-    masked_above::<F, F::Above, C, A>(alloc, config, air, log_height, trace, publics)
-}
-
-/// The proof of a text; none where it is no proof.
-fn proof_in<K: NeverNull + Drop, EF: JsonCodec + Drop, P: JsonCodec + Drop, F: JsonCodec + Drop>(
-    alloc: Global,
-    text: &str,
-) -> Option<Proof<K, EF, P, F>> {
-    let json = value_from_bytes(alloc, text.as_bytes()).ok()?;
-    Proof::from_json(alloc, &json).ok()
-}
-
-/// What any verifier answers of a proof's text; none where the text is no proof.
-fn reread_by<SC, A>(
-    alloc: Global,
-    config: &SC,
-    air: &A,
-    text: &str,
-    publics: &[Val<SC>],
-) -> Result<Option<String>, AllocError>
-where
-    SC: StarkGenericConfig,
-    SC::Challenger: GrindingChallenger<Witness = Val<SC>>,
-    SC::Challenge: JsonCodec,
-    Val<SC>: JsonCodec,
-    Com<SC>: NeverNull,
-    PcsProof<SC>: JsonCodec,
-    PcsError<SC>: Debug,
-    A: Air<Val<SC>>,
-{
-    match proof_in::<Com<SC>, SC::Challenge, PcsProof<SC>, Val<SC>>(alloc, text) {
-        Some(proof) => {
-            let answer = verify(alloc, config, air, &proof, publics);
-            Ok(Some(format!(in alloc; "{answer:?}")?))
-        }
-        None => Ok(None),
-    }
-}
-
-fn masked_reread_above<F, EF, C, A>(
-    alloc: Global,
-    config: &MaskedConfig<F, EF, C>,
-    air: &A,
-    text: &str,
-    publics: &[F],
-) -> Result<Option<String>, AllocError>
-where
-    F: TwoAdicField + PrimeField64 + JsonCodec,
-    EF: PackedExtensionField<F> + JsonCodec,
-    C: FieldChallenger<F>
-        + CanObserve<ClearCommitment<F>>
-        + ExtensionChallenger<F, EF>
-        + GrindingChallenger<Witness = F>
-        + Clone,
-    A: Air<F>,
-{
-    reread_by::<MaskedConfig<F, EF, C>, A>(alloc, config, air, text, publics)
-}
-
-/// What the verifier answers of a proof's text, with the masked scheme; none where the text is no proof.
-pub fn masked_reread<F, C, A>(
-    alloc: Global,
-    config: &MaskedConfig<F, F::Above, C>,
-    air: &A,
-    text: &str,
-    publics: &[F],
-) -> Result<Option<String>, AllocError>
-where
-    F: RowField + JsonCodec,
-    F::Above: JsonCodec,
-    C: FieldChallenger<F>
-        + CanObserve<ClearCommitment<F>>
-        + ExtensionChallenger<F, F::Above>
-        + GrindingChallenger<Witness = F>
-        + Clone,
-    A: Air<F>,
-{
-    masked_reread_above::<F, F::Above, C, A>(alloc, config, air, text, publics)
 }

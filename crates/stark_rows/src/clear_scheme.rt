@@ -11,9 +11,9 @@ use stark_clear::{ClearError, ClearPcs, ClearProof};
 use stark_parts::{StarkConfig, StarkGenericConfig, Val};
 use stark_support::{
     CanObserve, CanSample, DomainShape, DomainVal, ExtensionChallenger, ExtensionField,
-    FieldChallenger, JsonCodec, JsonFault, OpeningClaim, PackedExtensionField, Pcs,
-    PeriodicColumns, PeriodicLdeTable, PolynomialSpace, PrimeField64, RowMajorMatrix, SchemeFault,
-    TwoAdicField, UnivariateStarkPcs, value_from_bytes,
+    FieldChallenger, JsonCodec, JsonFault, OpeningClaim, Pcs, PeriodicColumns, PeriodicLdeTable,
+    PolynomialSpace, PrimeField64, RowMajorMatrix, SchemeFault, TwoAdicField, UnivariateStarkPcs,
+    value_from_bytes,
 };
 use std::alloc::{AllocError, Global};
 use std::test::Fail;
@@ -419,7 +419,7 @@ fn answers_above<F, EF, C>(
 ) -> Result<([usize; 3], [F; 2]), AllocError>
 where
     F: TwoAdicField + PrimeField64,
-    EF: PackedExtensionField<F>,
+    EF: ExtensionField<F>,
     C: FieldChallenger<F> + CanObserve<ClearCommitment<F>> + ExtensionChallenger<F, EF> + Clone,
 {
     answers(alloc, config)

@@ -1,6 +1,8 @@
 //! Cosets, their parts and selectors, and the recomposition of a quotient.
-use crate::calls::{RowField, recomposed_of_two, selectors_at};
-use crate::elements::{Base, number, numbers, values};
+ghost use Rattle.std.specs.Prelude.{◌≡◌, ◌^◌, All, IfOk, length, vec_len};
+
+use crate::calls::{RowField, recomposed_on_parts, selectors_at};
+use crate::elements::{Base, Extension, number, numbers, values};
 use stark_bench::{CircleShape, Coset, Ext4, Sha256Challenger};
 use stark_support::{
     DomainShape, Element, Field, LagrangeSelectors, PeriodicColumnShapeError, PeriodicColumns,
@@ -199,22 +201,72 @@ fn values_of_periodic_columns(rt: HostRuntime) -> Result<(), Fail> {
     Ok(())
 }
 
-// On the cosets of size 2 with shifts 11 and 3980, at 3.
+/// A chunk of these coordinates.
+fn chunk_of(alloc: Global, numbers: [u32; 4]) -> Result<Vec<Extension>, AllocError>
+    ensures { IfOk result (λ v. vec_len v ≡ 4) }
+{
+    let [first, second, third, fourth] = numbers;
+    let mut chunk = Vec::new(alloc);
+    chunk.push(number(first))?;
+    chunk.push(number(second))?;
+    chunk.push(number(third))?;
+    chunk.push(number(fourth))?;
+    Ok(chunk)
+}
+
+/// The value at 3 that is recomposed from so many chunks on the parts of the coset with shift 11 of `2^log_size` points; none where
+/// it has fewer parts.
+fn recomposed(
+    alloc: Global,
+    log_size: usize,
+    log_chunks: usize,
+    chunks: &[Vec<Extension>],
+) -> Result<Option<Extension>, AllocError>
+    requires number { length chunks.now ≡ 2 ^ log_chunks }
+    requires dimensions { All (λ chunk. vec_len chunk ≡ 4) chunks.now }
+{
+    let Some(domain) = coset(11, log_size) else {
+        return Ok(None);
+    };
+    if domain.log_size < log_chunks {
+        return Ok(None);
+    }
+    let value = recomposed_on_parts::<Base, Extension, Sha256Challenger<Base>>(
+        alloc,
+        &domain,
+        log_chunks,
+        chunks,
+        number(3),
+    )?;
+    Ok(Some(value))
+}
+
+// On the cosets of size 2 with shifts 11 and 3980.
 #[test]
 fn recompositions(rt: HostRuntime) -> Result<(), Fail> {
     let alloc = rt.alloc();
-    let Some(domain) = coset(11, 2) else {
-        return Err(Fail::new("no coset"))
-    };
     for (first, second, quotient) in [(121, 12168, 9), (7684, 7684, 7684)] {
-        let found = recomposed_of_two::<Base, Sha256Challenger<Base>>(
-            alloc,
-            &domain,
-            number(first),
-            number(second),
-            number(3),
-        )?;
+        let chunks = [
+            chunk_of(alloc, [first, 0, 0, 0])?,
+            chunk_of(alloc, [second, 0, 0, 0])?,
+        ];
+        let found = recomposed(alloc, 2, 1, &chunks)?;
         assert!(rt; found == Some(number(quotient)), "{first} and {second}");
     }
+    Ok(())
+}
+
+// The chunks of the counter's proof with masks of ones: the masks cancel.
+#[test]
+fn a_masked_recomposition(rt: HostRuntime) -> Result<(), Fail> {
+    let alloc = rt.alloc();
+    let chunks = [
+        chunk_of(alloc, [9603, 9340, 9340, 9340])?,
+        chunk_of(alloc, [6903, 5345, 5345, 5345])?,
+        chunk_of(alloc, [2720, 2941, 2941, 2941])?,
+        chunk_of(alloc, [2254, 3770, 3770, 3770])?,
+    ];
+    let found = recomposed(alloc, 3, 2, &chunks)?;
+    assert!(rt; found == Some(number(39)));
     Ok(())
 }

@@ -4,8 +4,8 @@ use crate::elements::{Base, Extension, coordinates, element, number};
 use stark_bench::{Ext4, F12289, P12289};
 use stark_support::{
     Algebra, Element, ExtensionField, Field, JsonCodec, JsonFault, NeverNull, PackedExtensionField,
-    PackedValue, PrimeField64, QuarticBase, TwoAdicField, packed_from_fn, power_of, squared_times,
-    value_from_bytes,
+    PackedField, PackedValue, PrimeField64, QuarticBase, TwoAdicField,
+    batch_multiplicative_inverse, packed_from_fn, power_of, squared_times, value_from_bytes,
 };
 use std::alloc::{AllocError, Global};
 use std::test::Fail;
@@ -47,6 +47,27 @@ fn base_operations(rt: HostRuntime) -> Result<(), Fail> {
         let found = computed(operation, Base::new(x), Base::new(y));
         assert_eq!(rt; found.value(), expected);
     }
+    Ok(())
+}
+
+/// The inverses of elements; none where one of them is zero.
+fn inverses_of<F: Field>(alloc: Global, elements: &[F]) -> Result<Option<Vec<F>>, AllocError> {
+    if elements.iter().any(|x| *x == F::ZERO) {
+        return Ok(None);
+    }
+    Ok(Some(batch_multiplicative_inverse(alloc, elements)?))
+}
+
+// 2 * 6145 and 3 * 8193 are one more than 12289 and twice that; 8 * 10753 is one more than seven times that.
+#[test]
+fn inverses_at_once(rt: HostRuntime) -> Result<(), Fail> {
+    let alloc = rt.alloc();
+    let some = inverses_of(alloc, &[Base::new(2), Base::new(3), Base::new(8)])?;
+    let none = inverses_of(alloc, &[Base::new(2), Base::new(0)])?;
+    assert_eq!(rt;
+        format!(in alloc; "{some:?} {none:?}")?.as_str(),
+        "Some([6145, 8193, 10753]) None"
+    );
     Ok(())
 }
 
@@ -274,7 +295,9 @@ fn packed_by_lane<P: PackedValue>(first: P::Value, other: P::Value) -> P {
     packed_from_fn(|lane| if lane == 0 { first } else { other })
 }
 
-fn packed_above<F: Field, EF: PackedExtensionField<F>>(x: F::Packing) -> EF::ExtensionPacking {
+fn packed_above<F: PackedField, EF: PackedExtensionField<F>>(
+    x: F::Packing,
+) -> EF::ExtensionPacking {
     EF::from_packed_base(x)
 }
 
@@ -283,10 +306,10 @@ fn packed_over<F: QuarticBase>(xs: &[Ext4<F>]) -> (usize, Option<(Ext4<F>, Ext4<
 }
 
 #[test]
-fn fields_pack_themselves(rt: HostRuntime) -> Result<(), Fail> {
-    assert_eq!(rt; width::<Base>(), 1);
-    assert_eq!(rt; width::<P12289>(), 1);
-    assert_eq!(rt; width::<F12289>(), 1);
+fn packings_of_the_fields(rt: HostRuntime) -> Result<(), Fail> {
+    assert_eq!(rt; width::<<Base as PackedField>::Packing>(), 1);
+    assert_eq!(rt; width::<<P12289 as PackedField>::Packing>(), 4);
+    assert_eq!(rt; width::<<F12289 as PackedField>::Packing>(), 4);
     assert!(rt; !Base::BENEFITS_FROM_LOCKSTEP_EVALUATION);
     let (seven, eight) = (Base::new(7), Base::new(8));
     assert!(rt; packed::<Base>(&[seven], eight) == Some((seven, eight)));

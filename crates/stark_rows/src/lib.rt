@@ -25,6 +25,8 @@ mod empty_trace;
 mod fields;
 mod kinds;
 #[cfg(test)]
+mod lanes;
+#[cfg(test)]
 mod numbers;
 #[cfg(test)]
 mod polynomials;
@@ -34,6 +36,8 @@ mod preprocessing;
 mod proofs;
 #[cfg(test)]
 mod provers;
+#[cfg(test)]
+mod proving;
 #[cfg(test)]
 mod quotients;
 #[cfg(test)]

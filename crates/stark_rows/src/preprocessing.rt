@@ -1,13 +1,19 @@
-//! Prover's data and verifier's key of preprocessed traces, over the scheme in the clear.
+//! Prover's data and verifier's key of preprocessed traces, over the scheme in the clear and the masked one.
+ghost use Rattle.std.specs.Prelude.{◌+◌};
 ghost use Rattle.stark_protocol.specs.Preprocessing.{HasHeight, IsCommittedWithin};
 
 use crate::calls::{self, Keys};
-use crate::elements::Base;
+use crate::elements::{Base, Extension};
 use crate::empty_trace::EmptyTraceAir;
+use crate::proving::MaskedConfig;
+use p3_uni_stark::setup_preprocessed;
 use stark_air::BaseAir;
 use stark_bench::{ClearCommitment, Sha256Challenger};
-use stark_clear::{ClearPcs, CounterAir, PreprocessedAir};
+use stark_clear::{ClearPcs, CounterAir, MaskedClearPcs, PreprocessedAir};
 use stark_parts::StarkConfig;
+use stark_support::{
+    CanObserve, ExtensionChallenger, ExtensionField, FieldChallenger, PrimeField64, TwoAdicField,
+};
 use std::alloc::Global;
 use std::test::Fail;
 
@@ -53,6 +59,42 @@ fn a_preprocessed_column(rt: HostRuntime) -> Result<(), Fail> {
     for commitment in [&key.commitment, &data.commitment, &data.prover_data] {
         assert!(rt; lists(commitment, &[6147, 739, 6144, 11549]));
     }
+    Ok(())
+}
+
+/// The width and the logarithm of the committed height of a key over the masked scheme.
+fn masked_sizes<F, EF, C, A>(
+    alloc: Global,
+    config: &MaskedConfig<F, EF, C>,
+    air: &A,
+    degree_bits: usize,
+) -> Option<(usize, usize)>
+where
+    F: TwoAdicField + PrimeField64,
+    EF: ExtensionField<F>,
+    C: FieldChallenger<F> + CanObserve<ClearCommitment<F>> + ExtensionChallenger<F, EF> + Clone,
+    A: BaseAir<F>,
+    requires height { HasHeight degree_bits (A.preprocessed_trace air.now) }
+    requires within { IsCommittedWithin (degree_bits + 1) F.TWO_ADICITY (A.preprocessed_trace air.now) }
+{
+    let (_data, key) = setup_preprocessed(alloc, config, air, degree_bits).ok()??;
+    Some((key.width, key.degree_bits))
+}
+
+// The masks double the rows of the trace, and of the preprocessed columns with it.
+#[test]
+fn a_key_beside_masks(rt: HostRuntime) -> Result<(), Fail> {
+    let alloc = rt.alloc();
+    let mut masks = Vec::new(alloc);
+    masks.push(Base::new(1))?;
+    let config = StarkConfig::new(MaskedClearPcs::new(masks), Sha256Challenger::new());
+    let sizes = masked_sizes::<Base, Extension, Sha256Challenger<Base>, PreprocessedAir>(
+        alloc,
+        &config,
+        &PreprocessedAir,
+        2,
+    );
+    assert!(rt; sizes == Some((1, 3)));
     Ok(())
 }
 

@@ -1,22 +1,29 @@
-//! Proofs that are made of a trace, and what the verifier answers of them. A row gives the logarithm of the height, zeta and the bits of
+//! Proofs that are made of a trace, and what the verifier answers of them. A row gives an AIR | the logarithm of the height, zeta and the bits of
 //! work | the trace, row after row | the public values; alpha is 4.
-ghost use Rattle.std.specs.Prelude.{◌≡◌};
+ghost use Rattle.std.specs.Prelude.{ℕ};
+ghost use Rattle.stark_protocol.specs.Preprocessing.{HasHeight};
 
-use crate::calls::{ClearConfig, MaskedConfig, RowField, masked, masked_reread, proved};
+use crate::calls::ClearConfig;
+use crate::proving::{MaskedConfig, masked_reread, proved_by};
 use crate::rows::{all_rows, apart, list_in, numbers_in};
 use crate::sized_airs::BoundedAir;
+use p3_uni_stark::PcsProof;
 use stark_air::Air;
-use stark_bench::{ClearCommitment, F12289, S12289, ScriptChallenger, Sha256Challenger};
+use stark_bench::{
+    ClearCommitment, Ext4, F12289, P12289, Packed, Residue, S12289, Scalar, ScriptChallenger,
+    Sha256Challenger,
+};
 use stark_clear::{
     Asked, ClearPcs, CounterAir, CubicAir, FibonacciAir, MaskedClearPcs, PairAir, PeriodicAir,
-    SmallAir,
+    PreprocessedAir, SmallAir,
 };
-use stark_parts::StarkConfig;
+use stark_parts::{Com, PcsError, PcsProverError, StarkConfig, StarkGenericConfig, Val};
 use stark_support::{
-    CanObserve, ExtensionChallenger, FieldChallenger, GrindingChallenger, JsonCodec, PrimeField64,
-    RowMajorMatrix,
+    CanObserve, ExtensionChallenger, FieldChallenger, GrindingChallenger, JsonCodec, NeverNull,
+    PackedExtensionField, PackedField, PrimeField64, RowMajorMatrix, TwoAdicField,
 };
 use std::alloc::{AllocError, Global};
+use std::fmt::Debug;
 use std::test::Fail;
 
 /// Numbers below 2^16, as elements of a field.
@@ -44,96 +51,196 @@ fn matrix<F: PrimeField64>(
 }
 
 /// The text of a proof and the verifier's answer, over a configuration.
-fn text_of<F, C, A>(
+fn text_of<SC, A>(
     alloc: Global,
-    config: &ClearConfig<F, F::Above, C>,
+    config: &SC,
     air: &A,
     log_height: usize,
     trace: &[u32],
     publics: &[u32],
 ) -> Result<String, Fail>
 where
-    F: RowField + JsonCodec,
-    F::Above: JsonCodec,
-    C: FieldChallenger<F>
-        + CanObserve<ClearCommitment<F>>
-        + ExtensionChallenger<F, F::Above>
-        + GrindingChallenger<Witness = F>
-        + Clone,
-    A: Air<F>,
-    requires none { (A.layout air.now).preprocessed ≡ 0 }
+    SC: StarkGenericConfig,
+    SC::Challenge: PackedExtensionField<Val<SC>> + JsonCodec,
+    SC::Challenger: GrindingChallenger<Witness = Val<SC>>,
+    Val<SC>: PackedField + JsonCodec,
+    Com<SC>: NeverNull,
+    PcsProof<SC>: JsonCodec,
+    PcsError<SC>: Debug,
+    PcsProverError<SC>: Debug,
+    A: Air<Val<SC>>,
+    requires set_up { HasHeight log_height (A.preprocessed_trace air.now) }
 {
-    let trace = matrix::<F>(alloc, trace, air.width())?.ok_or("rows that aren't whole")?;
-    let publics = elements::<F>(alloc, publics)?;
-    let text = proved::<F, C, A>(alloc, config, air, log_height, trace, &publics)?;
+    let trace = matrix::<Val<SC>>(alloc, trace, air.width())?.ok_or("rows that aren't whole")?;
+    let publics = elements::<Val<SC>>(alloc, publics)?;
+    let text = proved_by(alloc, config, air, log_height, trace, &publics)?;
     Ok(text.ok_or("a trace that doesn't fit")?)
 }
 
+/// The same in the clear, over any field and extension.
+fn clear_text<F, EF, C, A>(
+    alloc: Global,
+    config: &ClearConfig<F, EF, C>,
+    air: &A,
+    log_height: usize,
+    trace: &[u32],
+    publics: &[u32],
+) -> Result<String, Fail>
+where
+    F: PrimeField64 + TwoAdicField + PackedField + JsonCodec,
+    EF: PackedExtensionField<F> + JsonCodec,
+    C: FieldChallenger<F>
+        + CanObserve<ClearCommitment<F>>
+        + ExtensionChallenger<F, EF>
+        + GrindingChallenger<Witness = F>
+        + Clone,
+    A: Air<F>,
+    requires set_up { HasHeight log_height (A.preprocessed_trace air.now) }
+{
+    text_of::<ClearConfig<F, EF, C>, A>(alloc, config, air, log_height, trace, publics)
+}
+
+/// The same with masks.
+fn masked_text<F, EF, C, A>(
+    alloc: Global,
+    config: &MaskedConfig<F, EF, C>,
+    air: &A,
+    log_height: usize,
+    trace: &[u32],
+    publics: &[u32],
+) -> Result<String, Fail>
+where
+    F: PrimeField64 + TwoAdicField + PackedField + JsonCodec,
+    EF: PackedExtensionField<F> + JsonCodec,
+    C: FieldChallenger<F>
+        + CanObserve<ClearCommitment<F>>
+        + ExtensionChallenger<F, EF>
+        + GrindingChallenger<Witness = F>
+        + Clone,
+    A: Air<F>,
+    requires set_up { HasHeight log_height (A.preprocessed_trace air.now) }
+{
+    text_of::<MaskedConfig<F, EF, C>, A>(alloc, config, air, log_height, trace, publics)
+}
+
 /// The challenger that draws alpha 4 and this zeta.
-fn script(alloc: Global, zeta: u32) -> Result<ScriptChallenger<S12289>, Fail> {
-    let list = elements::<S12289>(alloc, &[4, 0, 0, 0, zeta, 0, 0, 0])?;
+fn script<Kind>(alloc: Global, zeta: u32) -> Result<ScriptChallenger<Residue<Kind>>, Fail> {
+    let list = elements::<Residue<Kind>>(alloc, &[4, 0, 0, 0, zeta, 0, 0, 0])?;
     if list.is_empty() {
         return Err(Fail::from("no numbers"));
     }
     Ok(ScriptChallenger::new(list))
 }
 
-type Script = ClearConfig<S12289, <S12289 as RowField>::Above, ScriptChallenger<S12289>>;
+/// The extension of the rows' slower field.
+type Above = Ext4<S12289>;
 
-/// The same over the challenger that draws alpha 4 and the row's zeta.
-fn scripted<A: Air<S12289>>(alloc: Global, air: &A, text: &str) -> Result<String, Fail>
-    requires none { (A.layout air.now).preprocessed ≡ 0 }
+type Scripted = ScriptChallenger<S12289>;
+
+/// The text of the proof of an AIR's trace: the trace | the public values.
+fn read_text<F, EF, C, A>(
+    alloc: Global,
+    config: &ClearConfig<F, EF, C>,
+    air: &A,
+    log_height: usize,
+    values: &str,
+) -> Result<String, Fail>
+where
+    F: PrimeField64 + TwoAdicField + PackedField + JsonCodec,
+    EF: PackedExtensionField<F> + JsonCodec,
+    C: FieldChallenger<F>
+        + CanObserve<ClearCommitment<F>>
+        + ExtensionChallenger<F, EF>
+        + GrindingChallenger<Witness = F>
+        + Clone,
+    A: Air<F>,
+    requires set_up { HasHeight log_height (A.preprocessed_trace air.now) }
 {
-    let (numbers, rest) = apart(text)?;
-    let (trace, publics) = apart(rest)?;
-    let [log_height, zeta, bits] = numbers_in::<3>(numbers)?;
-    let config: Script = StarkConfig::new(ClearPcs::new(), script(alloc, zeta)?);
-    let config = config.with_ood_proof_of_work_bits(bits as usize);
+    let (trace, publics) = apart(values)?;
     let trace = list_in(alloc, trace)?;
     let publics = list_in(alloc, publics)?;
-    text_of(alloc, &config, air, log_height as usize, &trace, &publics)
+    clear_text::<F, EF, C, A>(alloc, config, air, log_height, &trace, &publics)
+}
+
+/// The same for a named AIR, over a challenger.
+fn worked_text<F, EF, C>(
+    alloc: Global,
+    challenger: C,
+    name: &str,
+    numbers: [u32; 3],
+    values: &str,
+) -> Result<String, Fail>
+where
+    F: PrimeField64 + TwoAdicField + PackedField + JsonCodec,
+    EF: PackedExtensionField<F> + JsonCodec,
+    C: FieldChallenger<F>
+        + CanObserve<ClearCommitment<F>>
+        + ExtensionChallenger<F, EF>
+        + GrindingChallenger<Witness = F>
+        + Clone,
+{
+    let [log_height, _zeta, bits] = numbers;
+    let log_height = log_height as usize;
+    let config: ClearConfig<F, EF, C> = StarkConfig::new(ClearPcs::new(), challenger);
+    let config = config.with_ood_proof_of_work_bits(bits as usize);
+    match name {
+        "counter" => read_text(alloc, &config, &CounterAir, log_height, values),
+        "first row" => read_text(
+            alloc,
+            &config,
+            &SmallAir::new(Asked::FirstRow),
+            log_height,
+            values,
+        ),
+        _ => {
+            let air = BoundedAir {
+                air: CounterAir,
+                hint: Some(3),
+            };
+            read_text(alloc, &config, &air, log_height, values)
+        }
+    }
+}
+
+/// A row over the slower field.
+fn scalar_text(alloc: Global, text: &str) -> Result<String, Fail> {
+    let (name, rest) = apart(text)?;
+    let (numbers, values) = apart(rest)?;
+    let numbers = numbers_in::<3>(numbers)?;
+    let challenger = script::<Scalar>(alloc, numbers[1])?;
+    worked_text::<S12289, Above, Scripted>(alloc, challenger, name, numbers, values)
+}
+
+/// A row over the field with four lanes.
+fn packed_text(alloc: Global, text: &str) -> Result<String, Fail> {
+    let (name, rest) = apart(text)?;
+    let (numbers, values) = apart(rest)?;
+    let numbers = numbers_in::<3>(numbers)?;
+    let challenger = script::<Packed>(alloc, numbers[1])?;
+    worked_text::<P12289, Ext4<P12289>, ScriptChallenger<P12289>>(
+        alloc, challenger, name, numbers, values,
+    )
 }
 
 // The line through 5 and 6 on the points 1 and -1, and the quotient -1. At zeta 1 the proof is made and refused. Of one row the column
 // is 5 everywhere. No element is a witness of 14 bits: a script's witness passes where the number after it is a multiple of 2^bits.
-const COUNTERS: &str = "\
-1 3 0 | 5 6 | 5 => {\"commitments\":{\"quotient_chunks\":[[[12288,0],[0,0],[0,0],[0,0]]],\"random\":null,\"trace\":[[[6150,6144]]]},\"degree_bits\":1,\"ood_pow_witness\":0,\"opened_values\":{\"preprocessed_local\":null,\"preprocessed_next\":null,\"quotient_chunks\":[[[12288,0,0,0],[0,0,0,0],[0,0,0,0],[0,0,0,0]]],\"random\":null,\"trace_local\":[[4,0,0,0]],\"trace_next\":[[7,0,0,0]]},\"opening_proof\":null} Ok(())\n\
-1 1 0 | 5 6 | 5 => {\"commitments\":{\"quotient_chunks\":[[[12288,0],[0,0],[0,0],[0,0]]],\"random\":null,\"trace\":[[[6150,6144]]]},\"degree_bits\":1,\"ood_pow_witness\":0,\"opened_values\":{\"preprocessed_local\":null,\"preprocessed_next\":null,\"quotient_chunks\":[[[12288,0,0,0],[0,0,0,0],[0,0,0,0],[0,0,0,0]]],\"random\":null,\"trace_local\":[[5,0,0,0]],\"trace_next\":[[6,0,0,0]]},\"opening_proof\":null} Err(OodPointInDomain)\n\
-0 3 0 | 5 | 5 => {\"commitments\":{\"quotient_chunks\":[[[12288],[0],[0],[0]]],\"random\":null,\"trace\":[[[5]]]},\"degree_bits\":0,\"ood_pow_witness\":0,\"opened_values\":{\"preprocessed_local\":null,\"preprocessed_next\":null,\"quotient_chunks\":[[[12288,0,0,0],[0,0,0,0],[0,0,0,0],[0,0,0,0]]],\"random\":null,\"trace_local\":[[5,0,0,0]],\"trace_next\":[[5,0,0,0]]},\"opening_proof\":null} Ok(())\n\
-1 3 1 | 5 6 | 5 => {\"commitments\":{\"quotient_chunks\":[[[12288,0],[0,0],[0,0],[0,0]]],\"random\":null,\"trace\":[[[6150,6144]]]},\"degree_bits\":1,\"ood_pow_witness\":1,\"opened_values\":{\"preprocessed_local\":null,\"preprocessed_next\":null,\"quotient_chunks\":[[[12288,0,0,0],[0,0,0,0],[0,0,0,0],[0,0,0,0]]],\"random\":null,\"trace_local\":[[4,0,0,0]],\"trace_next\":[[7,0,0,0]]},\"opening_proof\":null} Ok(())\n\
-1 3 13 | 5 6 | 5 => {\"commitments\":{\"quotient_chunks\":[[[12288,0],[0,0],[0,0],[0,0]]],\"random\":null,\"trace\":[[[6150,6144]]]},\"degree_bits\":1,\"ood_pow_witness\":8191,\"opened_values\":{\"preprocessed_local\":null,\"preprocessed_next\":null,\"quotient_chunks\":[[[12288,0,0,0],[0,0,0,0],[0,0,0,0],[0,0,0,0]]],\"random\":null,\"trace_local\":[[4,0,0,0]],\"trace_next\":[[7,0,0,0]]},\"opening_proof\":null} Ok(())\n\
-1 3 14 | 5 6 | 5 => GrindExhausted { bits: 14 }";
-
-fn counter_text(alloc: Global, text: &str) -> Result<String, Fail> {
-    scripted(alloc, &CounterAir, text)
-}
-
 // On two rows the first selector is X + 1, and X over Z_H, which is 120 on the domain of the quotient, is 7271 X: a broken trace's proof.
-const FIRST_ROWS: &str = "\
-1 3 0 | 0 0 | empty => {\"commitments\":{\"quotient_chunks\":[[[0,7271],[0,0],[0,0],[0,0]]],\"random\":null,\"trace\":[[[0,0]]]},\"degree_bits\":1,\"ood_pow_witness\":0,\"opened_values\":{\"preprocessed_local\":null,\"preprocessed_next\":null,\"quotient_chunks\":[[[9524,0,0,0],[0,0,0,0],[0,0,0,0],[0,0,0,0]]],\"random\":null,\"trace_local\":[[0,0,0,0]],\"trace_next\":null},\"opening_proof\":null} Err(OodEvaluationMismatch { index: None })\n\
-0 3 0 | 0 | empty => {\"commitments\":{\"quotient_chunks\":[[[0],[0],[0],[0]]],\"random\":null,\"trace\":[[[0]]]},\"degree_bits\":0,\"ood_pow_witness\":0,\"opened_values\":{\"preprocessed_local\":null,\"preprocessed_next\":null,\"quotient_chunks\":[[[0,0,0,0],[0,0,0,0],[0,0,0,0],[0,0,0,0]]],\"random\":null,\"trace_local\":[[0,0,0,0]],\"trace_next\":null},\"opening_proof\":null} Ok(())";
-
-fn first_row_text(alloc: Global, text: &str) -> Result<String, Fail> {
-    scripted(alloc, &SmallAir::new(Asked::FirstRow), text)
-}
-
 // With an author's bound of 3 the same quotient is cut in two.
-const BOUNDED: &str = "\
-1 3 0 | 5 6 | 5 => {\"commitments\":{\"quotient_chunks\":[[[12288,0],[0,0],[0,0],[0,0]],[[12288,0],[0,0],[0,0],[0,0]]],\"random\":null,\"trace\":[[[6150,6144]]]},\"degree_bits\":1,\"ood_pow_witness\":0,\"opened_values\":{\"preprocessed_local\":null,\"preprocessed_next\":null,\"quotient_chunks\":[[[12288,0,0,0],[0,0,0,0],[0,0,0,0],[0,0,0,0]],[[12288,0,0,0],[0,0,0,0],[0,0,0,0],[0,0,0,0]]],\"random\":null,\"trace_local\":[[4,0,0,0]],\"trace_next\":[[7,0,0,0]]},\"opening_proof\":null} Ok(())";
-
-fn bounded_text(alloc: Global, text: &str) -> Result<String, Fail> {
-    let air = BoundedAir {
-        air: CounterAir,
-        hint: Some(3),
-    };
-    scripted(alloc, &air, text)
-}
+const WORKED: &str = "\
+counter | 1 3 0 | 5 6 | 5 => {\"commitments\":{\"quotient_chunks\":[[[12288,0],[0,0],[0,0],[0,0]]],\"random\":null,\"trace\":[[[6150,6144]]]},\"degree_bits\":1,\"ood_pow_witness\":0,\"opened_values\":{\"preprocessed_local\":null,\"preprocessed_next\":null,\"quotient_chunks\":[[[12288,0,0,0],[0,0,0,0],[0,0,0,0],[0,0,0,0]]],\"random\":null,\"trace_local\":[[4,0,0,0]],\"trace_next\":[[7,0,0,0]]},\"opening_proof\":null} Ok(())\n\
+counter | 1 1 0 | 5 6 | 5 => {\"commitments\":{\"quotient_chunks\":[[[12288,0],[0,0],[0,0],[0,0]]],\"random\":null,\"trace\":[[[6150,6144]]]},\"degree_bits\":1,\"ood_pow_witness\":0,\"opened_values\":{\"preprocessed_local\":null,\"preprocessed_next\":null,\"quotient_chunks\":[[[12288,0,0,0],[0,0,0,0],[0,0,0,0],[0,0,0,0]]],\"random\":null,\"trace_local\":[[5,0,0,0]],\"trace_next\":[[6,0,0,0]]},\"opening_proof\":null} Err(OodPointInDomain)\n\
+counter | 0 3 0 | 5 | 5 => {\"commitments\":{\"quotient_chunks\":[[[12288],[0],[0],[0]]],\"random\":null,\"trace\":[[[5]]]},\"degree_bits\":0,\"ood_pow_witness\":0,\"opened_values\":{\"preprocessed_local\":null,\"preprocessed_next\":null,\"quotient_chunks\":[[[12288,0,0,0],[0,0,0,0],[0,0,0,0],[0,0,0,0]]],\"random\":null,\"trace_local\":[[5,0,0,0]],\"trace_next\":[[5,0,0,0]]},\"opening_proof\":null} Ok(())\n\
+counter | 1 3 1 | 5 6 | 5 => {\"commitments\":{\"quotient_chunks\":[[[12288,0],[0,0],[0,0],[0,0]]],\"random\":null,\"trace\":[[[6150,6144]]]},\"degree_bits\":1,\"ood_pow_witness\":1,\"opened_values\":{\"preprocessed_local\":null,\"preprocessed_next\":null,\"quotient_chunks\":[[[12288,0,0,0],[0,0,0,0],[0,0,0,0],[0,0,0,0]]],\"random\":null,\"trace_local\":[[4,0,0,0]],\"trace_next\":[[7,0,0,0]]},\"opening_proof\":null} Ok(())\n\
+counter | 1 3 13 | 5 6 | 5 => {\"commitments\":{\"quotient_chunks\":[[[12288,0],[0,0],[0,0],[0,0]]],\"random\":null,\"trace\":[[[6150,6144]]]},\"degree_bits\":1,\"ood_pow_witness\":8191,\"opened_values\":{\"preprocessed_local\":null,\"preprocessed_next\":null,\"quotient_chunks\":[[[12288,0,0,0],[0,0,0,0],[0,0,0,0],[0,0,0,0]]],\"random\":null,\"trace_local\":[[4,0,0,0]],\"trace_next\":[[7,0,0,0]]},\"opening_proof\":null} Ok(())\n\
+counter | 1 3 14 | 5 6 | 5 => GrindExhausted { bits: 14 }\n\
+first row | 1 3 0 | 0 0 | empty => {\"commitments\":{\"quotient_chunks\":[[[0,7271],[0,0],[0,0],[0,0]]],\"random\":null,\"trace\":[[[0,0]]]},\"degree_bits\":1,\"ood_pow_witness\":0,\"opened_values\":{\"preprocessed_local\":null,\"preprocessed_next\":null,\"quotient_chunks\":[[[9524,0,0,0],[0,0,0,0],[0,0,0,0],[0,0,0,0]]],\"random\":null,\"trace_local\":[[0,0,0,0]],\"trace_next\":null},\"opening_proof\":null} Err(OodEvaluationMismatch { index: None })\n\
+first row | 0 3 0 | 0 | empty => {\"commitments\":{\"quotient_chunks\":[[[0],[0],[0],[0]]],\"random\":null,\"trace\":[[[0]]]},\"degree_bits\":0,\"ood_pow_witness\":0,\"opened_values\":{\"preprocessed_local\":null,\"preprocessed_next\":null,\"quotient_chunks\":[[[0,0,0,0],[0,0,0,0],[0,0,0,0],[0,0,0,0]]],\"random\":null,\"trace_local\":[[0,0,0,0]],\"trace_next\":null},\"opening_proof\":null} Ok(())\n\
+bounded | 1 3 0 | 5 6 | 5 => {\"commitments\":{\"quotient_chunks\":[[[12288,0],[0,0],[0,0],[0,0]],[[12288,0],[0,0],[0,0],[0,0]]],\"random\":null,\"trace\":[[[6150,6144]]]},\"degree_bits\":1,\"ood_pow_witness\":0,\"opened_values\":{\"preprocessed_local\":null,\"preprocessed_next\":null,\"quotient_chunks\":[[[12288,0,0,0],[0,0,0,0],[0,0,0,0],[0,0,0,0]],[[12288,0,0,0],[0,0,0,0],[0,0,0,0],[0,0,0,0]]],\"random\":null,\"trace_local\":[[4,0,0,0]],\"trace_next\":[[7,0,0,0]]},\"opening_proof\":null} Ok(())";
 
 #[test]
 fn worked_proofs(rt: HostRuntime) -> Result<(), Fail> {
-    all_rows(&rt, rt.alloc(), COUNTERS, counter_text)?;
-    all_rows(&rt, rt.alloc(), FIRST_ROWS, first_row_text)?;
-    all_rows(&rt, rt.alloc(), BOUNDED, bounded_text)
+    all_rows(&rt, rt.alloc(), WORKED, scalar_text)?;
+    all_rows(&rt, rt.alloc(), WORKED, packed_text)
 }
 
 /// `accepted` for a proof that the verifier accepts, else what there is.
@@ -144,65 +251,63 @@ fn verdict_of(text: String, alloc: Global) -> Result<String, Fail> {
     Ok(text)
 }
 
-/// The verdict on the proof of an AIR's trace: the logarithm of the height | the trace | the public values.
-fn verdict_on<F, C, A>(
+/// The verdict on the proof of an AIR's trace of so many rows: the trace | the public values.
+fn verdict_at<SC, A>(
     alloc: Global,
-    config: &ClearConfig<F, F::Above, C>,
+    config: &SC,
     air: &A,
+    log_height: usize,
     text: &str,
 ) -> Result<String, Fail>
 where
-    F: RowField + JsonCodec,
-    F::Above: JsonCodec,
-    C: FieldChallenger<F>
-        + CanObserve<ClearCommitment<F>>
-        + ExtensionChallenger<F, F::Above>
-        + GrindingChallenger<Witness = F>
-        + Clone,
-    A: Air<F>,
-    requires none { (A.layout air.now).preprocessed ≡ 0 }
+    SC: StarkGenericConfig,
+    SC::Challenge: PackedExtensionField<Val<SC>> + JsonCodec,
+    SC::Challenger: GrindingChallenger<Witness = Val<SC>>,
+    Val<SC>: PackedField + JsonCodec,
+    Com<SC>: NeverNull,
+    PcsProof<SC>: JsonCodec,
+    PcsError<SC>: Debug,
+    PcsProverError<SC>: Debug,
+    A: Air<Val<SC>>,
+    requires set_up { HasHeight log_height (A.preprocessed_trace air.now) }
 {
-    let (number, rest) = apart(text)?;
-    let (trace, publics) = apart(rest)?;
-    let [log_height] = numbers_in::<1>(number)?;
+    let (trace, publics) = apart(text)?;
     let trace = list_in(alloc, trace)?;
     let publics = list_in(alloc, publics)?;
-    let text = text_of(alloc, config, air, log_height as usize, &trace, &publics)?;
+    let text = text_of(alloc, config, air, log_height, &trace, &publics)?;
     verdict_of(text, alloc)
 }
 
-fn periodic_verdict<F, C>(
-    alloc: Global,
-    config: &ClearConfig<F, F::Above, C>,
-    text: &str,
-) -> Result<String, Fail>
+/// The same with the logarithm of the height before it.
+fn verdict_on<SC, A>(alloc: Global, config: &SC, air: &A, text: &str) -> Result<String, Fail>
 where
-    F: RowField + JsonCodec,
-    F::Above: JsonCodec,
-    C: FieldChallenger<F>
-        + CanObserve<ClearCommitment<F>>
-        + ExtensionChallenger<F, F::Above>
-        + GrindingChallenger<Witness = F>
-        + Clone,
+    SC: StarkGenericConfig,
+    SC::Challenge: PackedExtensionField<Val<SC>> + JsonCodec,
+    SC::Challenger: GrindingChallenger<Witness = Val<SC>>,
+    Val<SC>: PackedField + JsonCodec,
+    Com<SC>: NeverNull,
+    PcsProof<SC>: JsonCodec,
+    PcsError<SC>: Debug,
+    PcsProverError<SC>: Debug,
+    A: Air<Val<SC>>,
+    requires set_up { (height : ℕ) → HasHeight height (A.preprocessed_trace air.now) }
 {
-    let air = PeriodicAir::<F>::new(alloc)?;
-    verdict_on(alloc, config, &air, text)
+    let (number, rest) = apart(text)?;
+    let [log_height] = numbers_in::<1>(number)?;
+    verdict_at(alloc, config, air, log_height as usize, rest)
 }
 
-/// The same of a named AIR's.
-fn verdict_by_name<F, C>(
-    alloc: Global,
-    config: &ClearConfig<F, F::Above, C>,
-    text: &str,
-) -> Result<String, Fail>
+/// The verdict on a named AIR's trace. The preprocessed column has four rows, so that no height is read for it.
+fn verdict_by_name<SC>(alloc: Global, config: &SC, text: &str) -> Result<String, Fail>
 where
-    F: RowField + JsonCodec,
-    F::Above: JsonCodec,
-    C: FieldChallenger<F>
-        + CanObserve<ClearCommitment<F>>
-        + ExtensionChallenger<F, F::Above>
-        + GrindingChallenger<Witness = F>
-        + Clone,
+    SC: StarkGenericConfig,
+    SC::Challenge: PackedExtensionField<Val<SC>> + JsonCodec,
+    SC::Challenger: GrindingChallenger<Witness = Val<SC>>,
+    Val<SC>: PackedField + JsonCodec,
+    Com<SC>: NeverNull,
+    PcsProof<SC>: JsonCodec,
+    PcsError<SC>: Debug,
+    PcsProverError<SC>: Debug,
 {
     let (name, rest) = apart(text)?;
     match name {
@@ -210,45 +315,105 @@ where
         "cubic" => verdict_on(alloc, config, &CubicAir, rest),
         "fibonacci" => verdict_on(alloc, config, &FibonacciAir, rest),
         "pair" => verdict_on(alloc, config, &PairAir, rest),
-        _ => periodic_verdict(alloc, config, rest),
+        "preprocessed" => verdict_at(alloc, config, &PreprocessedAir, 2, rest),
+        _ => verdict_on(alloc, config, &PeriodicAir::new(alloc)?, rest),
     }
 }
 
-// Satisfying traces of one, two and eight rows; the periodic column has two. At these heights no drawn zeta lies in H.
+/// The same in the clear, over any field and extension.
+fn clear_verdict<F, EF, C>(
+    alloc: Global,
+    config: &ClearConfig<F, EF, C>,
+    text: &str,
+) -> Result<String, Fail>
+where
+    F: PrimeField64 + TwoAdicField + PackedField + JsonCodec,
+    EF: PackedExtensionField<F> + JsonCodec,
+    C: FieldChallenger<F>
+        + CanObserve<ClearCommitment<F>>
+        + ExtensionChallenger<F, EF>
+        + GrindingChallenger<Witness = F>
+        + Clone,
+{
+    verdict_by_name::<ClearConfig<F, EF, C>>(alloc, config, text)
+}
+
+/// The same with masks.
+fn masked_verdict<F, EF, C>(
+    alloc: Global,
+    config: &MaskedConfig<F, EF, C>,
+    text: &str,
+) -> Result<String, Fail>
+where
+    F: PrimeField64 + TwoAdicField + PackedField + JsonCodec,
+    EF: PackedExtensionField<F> + JsonCodec,
+    C: FieldChallenger<F>
+        + CanObserve<ClearCommitment<F>>
+        + ExtensionChallenger<F, EF>
+        + GrindingChallenger<Witness = F>
+        + Clone,
+{
+    verdict_by_name::<MaskedConfig<F, EF, C>>(alloc, config, text)
+}
+
+// Satisfying traces of one, two, four and eight rows; the periodic column has two, the preprocessed one four. At these heights
+// no drawn zeta lies in H.
 const HASHED: &str = "\
 counter | 0 | 5 | 5 => accepted
 counter | 1 | 5 6 | 5 => accepted
+counter | 2 | 5 6 7 8 | 5 => accepted
 counter | 3 | 5 6 7 8 9 10 11 12 | 5 => accepted
 cubic | 0 | 0 | empty => accepted
 cubic | 1 | 0 0 | empty => accepted
+cubic | 2 | 0 0 0 0 | empty => accepted
 cubic | 3 | 0 0 0 0 0 0 0 0 | empty => accepted
 fibonacci | 0 | 1 1 | 1 1 1 => accepted
 fibonacci | 1 | 1 1 1 2 | 1 1 2 => accepted
+fibonacci | 2 | 1 1 1 2 2 3 3 5 | 1 1 5 => accepted
 fibonacci | 3 | 1 1 1 2 2 3 3 5 5 8 8 13 13 21 21 34 | 1 1 34 => accepted
 pair | 0 | 5 5 | 5 => accepted
 pair | 1 | 5 5 6 6 | 5 => accepted
+pair | 2 | 5 5 6 6 7 7 8 8 | 5 => accepted
 pair | 3 | 5 5 6 6 7 7 8 8 9 9 10 10 11 11 12 12 | 5 => accepted
+preprocessed | 1 2 3 4 | empty => accepted
 periodic | 0 | 0 | empty => PeriodicColumn(TooLong { column: 0 })
 periodic | 1 | 0 1 | empty => accepted
+periodic | 2 | 0 1 0 1 | empty => accepted
 periodic | 3 | 0 1 0 1 0 1 0 1 | empty => accepted";
 
 fn small_verdict(alloc: Global, text: &str) -> Result<String, Fail> {
-    let config = StarkConfig::new(ClearPcs::new(), Sha256Challenger::<S12289>::new());
-    verdict_by_name(alloc, &config, text)
+    let config = StarkConfig::new(ClearPcs::new(), Sha256Challenger::new());
+    clear_verdict::<S12289, Above, Sha256Challenger<S12289>>(alloc, &config, text)
+}
+
+fn packed_verdict(alloc: Global, text: &str) -> Result<String, Fail> {
+    let config = StarkConfig::new(ClearPcs::new(), Sha256Challenger::new());
+    clear_verdict::<P12289, Ext4<P12289>, Sha256Challenger<P12289>>(alloc, &config, text)
 }
 
 fn fast_verdict(alloc: Global, text: &str) -> Result<String, Fail> {
-    let config = StarkConfig::new(ClearPcs::new(), Sha256Challenger::<F12289>::new());
-    verdict_by_name(alloc, &config, text)
+    let config = StarkConfig::new(ClearPcs::new(), Sha256Challenger::new());
+    clear_verdict::<F12289, Ext4<F12289>, Sha256Challenger<F12289>>(alloc, &config, text)
+}
+
+fn hidden_verdict(alloc: Global, text: &str) -> Result<String, Fail> {
+    let masks = elements::<S12289>(alloc, &[1, 2, 3])?;
+    if masks.is_empty() {
+        return Err(Fail::from("no masks"));
+    }
+    let config = StarkConfig::new(MaskedClearPcs::new(masks), Sha256Challenger::new());
+    masked_verdict::<S12289, Above, Sha256Challenger<S12289>>(alloc, &config, text)
 }
 
 #[test]
 fn satisfying_traces(rt: HostRuntime) -> Result<(), Fail> {
     all_rows(&rt, rt.alloc(), HASHED, small_verdict)?;
-    all_rows(&rt, rt.alloc(), HASHED, fast_verdict)
+    all_rows(&rt, rt.alloc(), HASHED, packed_verdict)?;
+    all_rows(&rt, rt.alloc(), HASHED, fast_verdict)?;
+    all_rows(&rt, rt.alloc(), HASHED, hidden_verdict)
 }
 
-type MaskedScript = MaskedConfig<S12289, <S12289 as RowField>::Above, ScriptChallenger<S12289>>;
+type MaskedScript = MaskedConfig<S12289, Above, Scripted>;
 
 /// The configuration with these masks that draws alpha 4 and zeta 3.
 fn masked_script(alloc: Global, masks: &[u32]) -> Result<MaskedScript, Fail> {
@@ -259,43 +424,44 @@ fn masked_script(alloc: Global, masks: &[u32]) -> Result<MaskedScript, Fail> {
     Ok(StarkConfig::new(MaskedClearPcs::new(masks), script(alloc, 3)?))
 }
 
-/// The text of a masked proof and the verifier's answer: the logarithm of the height | masks | trace | public values.
-fn masked_text<A: Air<S12289>>(alloc: Global, air: &A, text: &str) -> Result<String, Fail>
-    requires none { (A.layout air.now).preprocessed ≡ 0 }
+/// The text of a masked proof and the verifier's answer: masks | trace | public values.
+fn masked_script_text<A: Air<S12289>>(
+    alloc: Global,
+    air: &A,
+    log_height: usize,
+    text: &str,
+) -> Result<String, Fail>
+    requires set_up { HasHeight log_height (A.preprocessed_trace air.now) }
 {
-    let (number, rest) = apart(text)?;
-    let (masks, rest) = apart(rest)?;
+    let (masks, rest) = apart(text)?;
     let (trace, publics) = apart(rest)?;
-    let [log_height] = numbers_in::<1>(number)?;
     let config = masked_script(alloc, &list_in(alloc, masks)?)?;
     let trace = list_in(alloc, trace)?;
-    let trace = matrix::<S12289>(alloc, &trace, air.width())?.ok_or("rows that aren't whole")?;
-    let publics = elements::<S12289>(alloc, &list_in(alloc, publics)?)?;
-    let text = masked(alloc, &config, air, log_height as usize, trace, &publics)?;
-    Ok(text.ok_or("a trace that doesn't fit")?)
+    let publics = list_in(alloc, publics)?;
+    masked_text::<S12289, Above, Scripted, A>(alloc, &config, air, log_height, &trace, &publics)
 }
 
 // With masks of ones the counter's column is the line plus (X^2 - 1) (X + 1), 36 at 3 and 12280 at -3.
 const MASKED_COUNTERS: &str = "\
-1 | 1 | 5 6 | 5 => {\"commitments\":{\"quotient_chunks\":[[[244,5,1625,1625],[12288,12288,1625,1625],[12288,12288,1625,1625],[12288,12288,1625,1625]],[[1539,5,5269,5269],[12288,12288,5269,5269],[12288,12288,5269,5269],[12288,12288,5269,5269]],[[12049,5,10664,10664],[12288,12288,10664,10664],[12288,12288,10664,10664],[12288,12288,10664,10664]],[[10758,9,3518,3518],[3,3,3518,3518],[3,3,3518,3518],[3,3,3518,3518]]],\"random\":[[[1,1,1,1],[1,1,1,1],[1,1,1,1],[1,1,1,1]]],\"trace\":[[[6149,6143,1,1]]]},\"degree_bits\":2,\"ood_pow_witness\":0,\"opened_values\":{\"preprocessed_local\":null,\"preprocessed_next\":null,\"quotient_chunks\":[[[9603,0,0,0],[9340,0,0,0],[9340,0,0,0],[9340,0,0,0]],[[6903,0,0,0],[5345,0,0,0],[5345,0,0,0],[5345,0,0,0]],[[2720,0,0,0],[2941,0,0,0],[2941,0,0,0],[2941,0,0,0]],[[2254,0,0,0],[3770,0,0,0],[3770,0,0,0],[3770,0,0,0]]],\"random\":[[40,0,0,0],[40,0,0,0],[40,0,0,0],[40,0,0,0]],\"trace_local\":[[36,0,0,0]],\"trace_next\":[[12280,0,0,0]]},\"opening_proof\":null} Ok(())";
+1 | 5 6 | 5 => {\"commitments\":{\"quotient_chunks\":[[[244,5,1625,1625],[12288,12288,1625,1625],[12288,12288,1625,1625],[12288,12288,1625,1625]],[[1539,5,5269,5269],[12288,12288,5269,5269],[12288,12288,5269,5269],[12288,12288,5269,5269]],[[12049,5,10664,10664],[12288,12288,10664,10664],[12288,12288,10664,10664],[12288,12288,10664,10664]],[[10758,9,3518,3518],[3,3,3518,3518],[3,3,3518,3518],[3,3,3518,3518]]],\"random\":[[[1,1,1,1],[1,1,1,1],[1,1,1,1],[1,1,1,1]]],\"trace\":[[[6149,6143,1,1]]]},\"degree_bits\":2,\"ood_pow_witness\":0,\"opened_values\":{\"preprocessed_local\":null,\"preprocessed_next\":null,\"quotient_chunks\":[[[9603,0,0,0],[9340,0,0,0],[9340,0,0,0],[9340,0,0,0]],[[6903,0,0,0],[5345,0,0,0],[5345,0,0,0],[5345,0,0,0]],[[2720,0,0,0],[2941,0,0,0],[2941,0,0,0],[2941,0,0,0]],[[2254,0,0,0],[3770,0,0,0],[3770,0,0,0],[3770,0,0,0]]],\"random\":[[40,0,0,0],[40,0,0,0],[40,0,0,0],[40,0,0,0]],\"trace_local\":[[36,0,0,0]],\"trace_next\":[[12280,0,0,0]]},\"opening_proof\":null} Ok(())";
 
 fn masked_counter(alloc: Global, text: &str) -> Result<String, Fail> {
-    masked_text(alloc, &CounterAir, text)
+    masked_script_text(alloc, &CounterAir, 1, text)
 }
 
 const MASKED_FIBONACCIS: &str = "\
-2 | 1 2 3 | 1 1 1 2 2 3 3 5 | 1 1 5 => accepted";
+1 2 3 | 1 1 1 2 2 3 3 5 | 1 1 5 => accepted";
 
 fn masked_fibonacci(alloc: Global, text: &str) -> Result<String, Fail> {
-    let text = masked_text(alloc, &FibonacciAir, text)?;
+    let text = masked_script_text(alloc, &FibonacciAir, 2, text)?;
     verdict_of(text, alloc)
 }
 
 const MASKED_CUBICS: &str = "\
-1 | 1 2 3 | 0 0 | empty => accepted";
+1 2 3 | 0 0 | empty => accepted";
 
 fn masked_cubic(alloc: Global, text: &str) -> Result<String, Fail> {
-    let text = masked_text(alloc, &CubicAir, text)?;
+    let text = masked_script_text(alloc, &CubicAir, 1, text)?;
     verdict_of(text, alloc)
 }
 
@@ -314,7 +480,13 @@ fn changed_masked(alloc: Global, text: &str) -> Result<String, Fail> {
     let changed = MASKED_PROOF.replacen(alloc, from, to, 1)?;
     let config = masked_script(alloc, &[1])?;
     let publics = elements::<S12289>(alloc, &[5])?;
-    let answer = masked_reread(alloc, &config, &CounterAir, &changed, &publics)?;
+    let answer = masked_reread::<S12289, Above, Scripted, CounterAir>(
+        alloc,
+        &config,
+        &CounterAir,
+        &changed,
+        &publics,
+    )?;
     Ok(answer.ok_or("no proof")?)
 }
 

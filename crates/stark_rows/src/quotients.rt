@@ -1,4 +1,4 @@
-//! Quotient values on the coset beside a trace's rows, point by point. One table of rows serves every field.
+//! Quotient values on the coset beside a trace's rows, a group of points at a time. One table of rows serves every field.
 ghost use Rattle.std.specs.Prelude.{IfSome};
 ghost use Rattle.stark_quotient.specs.PointwiseQuotient.{HasShape};
 
@@ -6,13 +6,13 @@ use crate::calls::{ClearConfig, RowField};
 use crate::elements::Base;
 use p3_uni_stark::quotient_values;
 use stark_air::{Air, AirLayout, BaseAir};
-use stark_bench::{ClearCommitment, F12289, Sha256Challenger};
+use stark_bench::{ClearCommitment, F12289, P12289, Sha256Challenger};
 use stark_clear::{Asked, ClearPcs, CounterAir, SmallAir};
 use stark_parts::{StarkConfig, StarkGenericConfig, Val};
 use stark_protocol::natural_domain;
 use stark_support::{
     CanObserve, DomainShape, ExtensionChallenger, ExtensionField, Field, FieldChallenger,
-    PackedExtensionField, PolynomialSpace, PrimeField64, RowMajorMatrix, TwoAdicField,
+    PackedExtensionField, PackedField, PolynomialSpace, PrimeField64, RowMajorMatrix, TwoAdicField,
     UnivariateStarkPcs,
 };
 use std::alloc::{AllocError, Global};
@@ -43,7 +43,11 @@ fn values_beside<'p, SC: StarkGenericConfig, A: Air<Val<SC>>>(
     column: Vec<Val<SC>>,
     publics: &'p [Val<SC>],
     alpha: SC::Challenge,
-) -> Result<Option<Vec<SC::Challenge>>, AllocError> {
+) -> Result<Option<Vec<SC::Challenge>>, AllocError>
+where
+    Val<SC>: PackedField,
+    SC::Challenge: PackedExtensionField<Val<SC>>,
+{
     let fits = air.preprocessed_width() == 0
         && air.periodic_columns().is_empty()
         && air.num_public_values() == publics.len();
@@ -84,7 +88,7 @@ fn values_above<F, EF, C, A>(
     alpha: EF,
 ) -> Result<Option<Vec<EF>>, AllocError>
 where
-    F: TwoAdicField + PrimeField64,
+    F: TwoAdicField + PrimeField64 + PackedField,
     EF: PackedExtensionField<F>,
     C: FieldChallenger<F> + CanObserve<ClearCommitment<F>> + ExtensionChallenger<F, EF> + Clone,
     A: Air<F>,
@@ -120,7 +124,8 @@ fn are_everywhere<F, C, A>(
     expected: u16,
 ) -> Result<bool, AllocError>
 where
-    F: RowField,
+    F: RowField + PackedField,
+    F::Above: PackedExtensionField<F>,
     C: FieldChallenger<F>
         + CanObserve<ClearCommitment<F>>
         + ExtensionChallenger<F, F::Above>
@@ -145,7 +150,8 @@ where
 /// vanishing value at 11 is 10.
 fn rows_hold<F, C>(alloc: Global, config: &ClearConfig<F, F::Above, C>) -> Result<bool, AllocError>
 where
-    F: RowField,
+    F: RowField + PackedField,
+    F::Above: PackedExtensionField<F>,
     C: FieldChallenger<F>
         + CanObserve<ClearCommitment<F>>
         + ExtensionChallenger<F, F::Above>
@@ -169,6 +175,8 @@ fn quotients_of_worked_rows(rt: HostRuntime) -> Result<(), Fail> {
     let alloc = rt.alloc();
     let small = StarkConfig::new(ClearPcs::new(), Sha256Challenger::<Base>::new());
     assert!(rt; rows_hold(alloc, &small)?);
+    let packed = StarkConfig::new(ClearPcs::new(), Sha256Challenger::<P12289>::new());
+    assert!(rt; rows_hold(alloc, &packed)?);
     let fast = StarkConfig::new(ClearPcs::new(), Sha256Challenger::<F12289>::new());
     assert!(rt; rows_hold(alloc, &fast)?);
     Ok(())

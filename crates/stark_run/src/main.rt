@@ -1,9 +1,9 @@
-//! Checks the numbers of a proof at one point, or verifies a proof, from bytes to bytes.
+//! Checks the numbers of a proof at one point, verifies a proof, or proves a trace, from bytes to bytes.
 #![tactic(auto)]
 
 ghost use Rattle.std.specs.Prelude.{◌≡◌, ◌⊎◌, IfErr};
 
-use stark_input::{Refusal, RunEnd, Verdict, WatchedReader, WatchedWriter, tell};
+use stark_input::{Finding, Refusal, RunEnd, Verdict, WatchedReader, WatchedWriter, tell};
 use stark_program::run;
 use std::alloc::AllocError;
 use std::process::ExitCode;
@@ -35,7 +35,7 @@ fn main(rt: HostRuntime) -> ExitCode {
             let mut reader = WatchedReader::new(rt.stdin());
             run(rt.alloc(), &words, &mut reader, &mut writer)
         }
-        Err(verdict) => tell(verdict, &mut writer),
+        Err(verdict) => tell(&Finding::Verdict(verdict), &mut writer),
     };
     match end {
         RunEnd::InputFailed => {

@@ -4,6 +4,10 @@
 #[cfg(test)]
 mod air_tests;
 #[cfg(test)]
+mod prove_tests;
+#[cfg(test)]
+mod runs;
+#[cfg(test)]
 mod tests;
 #[cfg(test)]
 mod verify_tests;

@@ -1,39 +1,28 @@
-use stark_input::{RunEnd, WatchedWriter};
-use stark_program::run;
+use crate::runs::outcome;
+use stark_input::RunEnd;
 use std::alloc::{AllocError, Global};
 use std::test::Fail;
 
 // The honest proof of the counter's trace 5, 6, with alpha 4 and zeta 3.
-const COUNTER: &str =
+pub(crate) const COUNTER: &str =
     "{\"proof\":{\"commitments\":{\"quotient_chunks\":[[[12288,0],[0,0],[0,0],[0,0]]],\"random\":null,\"trace\":[[[6150,6144]]]},\"degree_bits\":1,\"ood_pow_witness\":0,\"opened_values\":{\"preprocessed_local\":null,\"preprocessed_next\":null,\"quotient_chunks\":[[[12288,0,0,0],[0,0,0,0],[0,0,0,0],[0,0,0,0]]],\"random\":null,\"trace_local\":[[4,0,0,0]],\"trace_next\":[[7,0,0,0]]},\"opening_proof\":null},\"publics\":[5],\"challenger\":[4,0,0,0,3,0,0,0]}";
 
 // The other proofs were made by a plain prover outside this repository, with the same alpha and zeta.
-const CUBIC: &str =
+pub(crate) const CUBIC: &str =
     "{\"proof\":{\"commitments\":{\"quotient_chunks\":[[[0,0,0,0],[0,0,0,0],[0,0,0,0],[0,0,0,0]],[[0,0,0,0],[0,0,0,0],[0,0,0,0],[0,0,0,0]]],\"random\":null,\"trace\":[[[0,0,0,0]]]},\"degree_bits\":2,\"ood_pow_witness\":0,\"opened_values\":{\"preprocessed_local\":null,\"preprocessed_next\":null,\"quotient_chunks\":[[[0,0,0,0],[0,0,0,0],[0,0,0,0],[0,0,0,0]],[[0,0,0,0],[0,0,0,0],[0,0,0,0],[0,0,0,0]]],\"random\":null,\"trace_local\":[[0,0,0,0]],\"trace_next\":null},\"opening_proof\":null},\"publics\":[],\"challenger\":[4,0,0,0,3,0,0,0]}";
 
 // Of the trace 1 1, 1 2, 2 3, 3 5.
-const FIBONACCI: &str =
+pub(crate) const FIBONACCI: &str =
     "{\"proof\":{\"commitments\":{\"quotient_chunks\":[[[3246,10584,5776,0],[0,0,0,0],[0,0,0,0],[0,0,0,0]]],\"random\":null,\"trace\":[[[3074,9956,3072,8477],[3075,4181,9216,8107]]]},\"degree_bits\":2,\"ood_pow_witness\":0,\"opened_values\":{\"preprocessed_local\":null,\"preprocessed_next\":null,\"quotient_chunks\":[[[959,0,0,0],[0,0,0,0],[0,0,0,0],[0,0,0,0]]],\"random\":null,\"trace_local\":[[6822,0,0,0],[10226,0,0,0]],\"trace_next\":[[8863,0,0,0],[5446,0,0,0]]},\"opening_proof\":null},\"publics\":[1,1,5],\"challenger\":[4,0,0,0,3,0,0,0]}";
 
-const PERIODIC: &str =
+pub(crate) const PERIODIC: &str =
     "{\"proof\":{\"commitments\":{\"quotient_chunks\":[[[0,0],[0,0],[0,0],[0,0]]],\"random\":null,\"trace\":[[[6145,6144]]]},\"degree_bits\":1,\"ood_pow_witness\":0,\"opened_values\":{\"preprocessed_local\":null,\"preprocessed_next\":null,\"quotient_chunks\":[[[0,0,0,0],[0,0,0,0],[0,0,0,0],[0,0,0,0]]],\"random\":null,\"trace_local\":[[12288,0,0,0]],\"trace_next\":null},\"opening_proof\":null},\"publics\":[],\"challenger\":[4,0,0,0,3,0,0,0]}";
 
-const PREPROCESSED: &str =
+pub(crate) const PREPROCESSED: &str =
     "{\"proof\":{\"commitments\":{\"quotient_chunks\":[[[0,0,0,0],[0,0,0,0],[0,0,0,0],[0,0,0,0]]],\"random\":null,\"trace\":[[[6147,739,6144,11549]]]},\"degree_bits\":2,\"ood_pow_witness\":0,\"opened_values\":{\"preprocessed_local\":[[6813,0,0,0]],\"preprocessed_next\":null,\"quotient_chunks\":[[[0,0,0,0],[0,0,0,0],[0,0,0,0],[0,0,0,0]]],\"random\":null,\"trace_local\":[[6813,0,0,0]],\"trace_next\":null},\"opening_proof\":null},\"publics\":[],\"challenger\":[4,0,0,0,3,0,0,0]}";
 
-const PAIR: &str =
+pub(crate) const PAIR: &str =
     "{\"proof\":{\"commitments\":{\"quotient_chunks\":[[[12272,0],[0,0],[0,0],[0,0]]],\"random\":null,\"trace\":[[[6150,6144],[6150,6144]]]},\"degree_bits\":1,\"ood_pow_witness\":0,\"opened_values\":{\"preprocessed_local\":null,\"preprocessed_next\":null,\"quotient_chunks\":[[[12272,0,0,0],[0,0,0,0],[0,0,0,0],[0,0,0,0]]],\"random\":null,\"trace_local\":[[4,0,0,0],[4,0,0,0]],\"trace_next\":[[7,0,0,0],[7,0,0,0]]},\"opening_proof\":null},\"publics\":[5],\"challenger\":[4,0,0,0,3,0,0,0]}";
-
-/// The end and the line of the verification of bytes in memory.
-fn outcome(alloc: Global, air: &str, text: &str) -> Result<(RunEnd, Vec<u8>), AllocError> {
-    let mut words = Vec::new(alloc);
-    words.push(String::from_str(alloc, "verify")?)?;
-    words.push(String::from_str(alloc, air)?)?;
-    let mut reader = text.as_bytes();
-    let mut writer = WatchedWriter::new(Vec::new(alloc));
-    let end = run(alloc, &words, &mut reader, &mut writer);
-    Ok((end, writer.into_inner()))
-}
 
 /// The line of the verification of a text with parts of it written anew, each once.
 fn line_of(
@@ -46,13 +35,13 @@ fn line_of(
     for (from, to) in changes {
         text = text.replacen(alloc, from, to, 1)?;
     }
-    let (_end, line) = outcome(alloc, air, &text)?;
+    let (_end, line) = outcome(alloc, "verify", air, text.as_bytes())?;
     Ok(line)
 }
 
 #[test]
 fn honest_proof_of_the_counter(rt: HostRuntime) -> Result<(), Fail> {
-    let (end, line) = outcome(rt.alloc(), "counter", COUNTER)?;
+    let (end, line) = outcome(rt.alloc(), "verify", "counter", COUNTER.as_bytes())?;
     assert_eq!(rt; end, RunEnd::Accepted);
     assert_eq!(rt; line.as_slice(), b"accepted\n".as_slice());
     Ok(())

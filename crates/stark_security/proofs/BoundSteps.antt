@@ -9,7 +9,8 @@ use Rattle.stark_air.specs.ConstantFolding.{constant_in, both_constants, pair_or
 use Rattle.stark_air.specs.Symbolic.{ap_two}
 use Rattle.stark_air.specs.SymbolicTrees.{marked_tree}
 use Rattle.stark_air.specs.declared.symbolic.builder.SymbolicConstraint.{SymbolicConstraint}
-use Rattle.stark_security.specs.DegreeBound.{fitting, error_bound, tree_bound, constraint_bound, greatest_bound}
+use Rattle.stark_parts.specs.ConstraintBound.{tree_bound, constraint_bound, greatest_bound}
+use Rattle.stark_security.specs.DegreeBound.{fitting, error_bound}
 use Rattle.stark_security.specs.ErrorBound.{marked_expression}
 use Rattle.stark_security.proofs.Fitting.{past, some_fits, none_past, below_holds, past_fails}
 

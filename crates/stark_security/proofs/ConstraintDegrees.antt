@@ -19,7 +19,8 @@ use Rattle.stark_air.specs.Tree.{Tree, Constraint, base, extension, constant, ma
 use Rattle.stark_air.specs.Value.{value, constraint_values}
 use Rattle.stark_parts.specs.Folded.{folded}
 use Rattle.stark_security.specs.ConstraintPolynomial.{AirInstance, Columns, height, next_point, environment_at, constraint_polynomials, folded_polynomial, equation_polynomial}
-use Rattle.stark_security.specs.DegreeBound.{tree_bound, greatest_bound, zeta_bound}
+use Rattle.stark_parts.specs.ConstraintBound.{tree_bound, greatest_bound}
+use Rattle.stark_security.specs.DegreeBound.{zeta_bound}
 use Rattle.stark_security.specs.BadValues.{ColumnsFit}
 
 pub left_max : (a b : ℕ) → a ≤ max a b

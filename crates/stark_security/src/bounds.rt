@@ -6,7 +6,8 @@ ghost use Rattle.stark_air.specs.SymbolicLayout.{symbolic_layout};
 ghost use Rattle.stark_air.specs.SymbolicTrees.{marked_tree};
 ghost use Rattle.stark_air.specs.SymbolicView.{tree_of};
 ghost use Rattle.stark_air.specs.Tree.{Constraint};
-ghost use Rattle.stark_security.specs.DegreeBound.{fitting, tree_bound, greatest_bound, zeta_bound};
+ghost use Rattle.stark_parts.specs.ConstraintBound.{tree_bound, greatest_bound};
+ghost use Rattle.stark_security.specs.DegreeBound.{fitting, zeta_bound};
 ghost use Rattle.stark_security.specs.ErrorBound.{IsChunkCount, IsErrorBound, FewBadDraws, marked_expression};
 
 use stark_air::{

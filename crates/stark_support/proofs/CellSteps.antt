@@ -1,5 +1,9 @@
 -- Rows taken round the end of a matrix.
 use Rattle.std.proofs.Common.{◌≡◌, ◌∙◌, ℕ, ◌+◌, ◌*◌, ◌%◌, ◌<◌, ◌≤◌, ap, sym, arith, zero, suc, ◌/◌}
+use Rattle.std.proofs.Common.{◌^◌, get_or, length, List, Some}
+use Rattle.std.specs.List.{slice_get}
+use Rattle.std.proofs.lemmas.Option.{slice_get-get_or}
+use Rattle.stark_support.specs.LogarithmFacts.{two_power_at_most}
 use Rattle.std.proofs.Math.Nat.{add-mod-mod, add-mod_left, mod-add-mod, mod-eq_of_lt, mod-lt, div-add-mod}
 
 both_reduced : (r further height : ℕ) → (r % height + further % height) % height ≡ (r + further) % height
@@ -26,3 +30,11 @@ cell_within row width column count a b =
 
 pub reduced : (n height : ℕ) → 0 < height → n % height < height
 reduced n height some = mod-lt n some
+
+-- the first of a power of two rows
+pub first_row_there : (r lanes exponent height : ℕ) → lanes ≡ 2 ^ exponent → r + lanes ≤ height → r < height
+first_row_there r lanes exponent height power within = omega (arith, power, two_power_at_most 0 exponent (omega arith), within)
+
+-- the value of a place, given by a number that is equal to it
+pub value_at : {T : Type 0} (values : List T) (place cell : ℕ) (default : T) → place ≡ cell → place < length values → slice_get values cell ≡ Some (get_or values place default)
+value_at values place cell default is below = ap (slice_get values) (sym is) ∙ slice_get-get_or values place default below

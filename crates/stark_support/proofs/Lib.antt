@@ -8,3 +8,4 @@ pub mod Repeated
 pub mod LaneSteps
 pub mod CombinationSteps
 pub mod CellSteps
+pub mod InverseSteps

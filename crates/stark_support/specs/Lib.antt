@@ -6,6 +6,7 @@ pub mod RingSolver
 pub mod FieldFacts
 pub mod Operations
 pub mod Powers
+pub mod Products
 pub mod PowerFacts
 pub mod TwoAdic
 pub mod Embedding

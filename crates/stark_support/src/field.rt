@@ -66,9 +66,6 @@ pub trait Field: Element
     + Sub<Self, Output = Self>
     + Mul<Self, Output = Self>
     + Neg<Output = Self> {
-    /// Packed values of this field.
-    type Packing: PackedValue<Value = Self>;
-
     /// The operations, as functions of the values.
     ghost ring: { RingOps Self };
 
@@ -127,9 +124,15 @@ pub trait Field: Element
     ghost mul_is: { (x y r : Self) → Self.mul_gives x y r → r ≡ ring.mul x y };
 
     ghost neg_is: { (x r : Self) → Self.neg_gives x r → r ≡ ring.neg x };
+}
+
+/// A field whose elements are packed.
+pub trait PackedField: Field {
+    /// Packed values of this field.
+    type Packing: PackedValue<Value = Self>;
 
     /// The lanes of packed values are added and multiplied as this field's elements.
-    ghost packed_ring: { Self.Packing.lane_ring ≡ ring };
+    ghost packed_ring: { Self.Packing.lane_ring ≡ Self.ring };
 }
 
 /// A field of the residues modulo a prime, each of which is one number of 64 bits.
@@ -230,7 +233,7 @@ pub trait ExtensionField<F: Field>: Field + Algebra<F> {
 
 /// An extension field whose elements are packed beside those of its base field. It is a trait of its own: as a part of
 /// `ExtensionField` its type keeps a trait's method from being generic in an extension.
-pub trait PackedExtensionField<F: Field>: ExtensionField<F> {
+pub trait PackedExtensionField<F: PackedField>: ExtensionField<F> {
     /// Packed values of this field, as many as the base field packs.
     type ExtensionPacking: PackedValue<Value = Self> + From<F::Packing>;
 

@@ -1,6 +1,7 @@
 //! Fields, domains and their written laws, on which a STARK stands.
 #![tactic(auto)]
 
+mod batch_inverse;
 mod challenger;
 mod claims;
 mod domain;
@@ -18,6 +19,7 @@ mod scheme;
 mod security;
 mod util;
 
+pub use batch_inverse::batch_multiplicative_inverse;
 pub use challenger::{
     CanObserve, CanSample, CanSampleBits, ExtensionChallenger, FieldChallenger, GrindingChallenger,
     TranscriptSponge, observe_bytes, observe_slice,
@@ -27,8 +29,8 @@ pub use domain::{
     DomainShape, LagrangeSelectors, PolynomialSpace, points_differ, vanishing_is_constant,
 };
 pub use field::{
-    Algebra, Element, ExtensionField, Field, PackedExtensionField, PrimeField64, QuarticBase,
-    TwoAdicField,
+    Algebra, Element, ExtensionField, Field, PackedExtensionField, PackedField, PrimeField64,
+    QuarticBase, TwoAdicField,
 };
 pub use interpolation::interpolate;
 pub use json::{

@@ -61,6 +61,15 @@ impl<T> RowMajorMatrix<T> {
     }
 }
 
+/// The row that `r` is among `height` rows, taken round the end.
+fn row_within(r: usize, height: usize) -> usize
+    requires { 0 < height }
+    ensures within { result < height }
+    ensures same { (i : ℕ) → (result + i) % height ≡ (r + i) % height }
+{
+    r % height
+}
+
 /// The row that lies `further` after row `r` of `height` rows, taken round the end.
 fn row_after(r: usize, further: usize, height: usize) -> usize
     requires { 0 < height }
@@ -86,7 +95,7 @@ impl<T: Copy> RowMajorMatrix<T> {
     }
 
     /// The packed values of a column in the rows `r`, `r + 1`, .., a row a lane, taken round the end.
-    fn packed_down<P: PackedValue<Value = T>>(&self, r: usize, column: usize) -> P
+    fn packed_round<P: PackedValue<Value = T>>(&self, r: usize, column: usize) -> P
         requires rows { 0 < length self.now.values.items / self.now.width }
         requires column { column < self.now.width }
         ensures { (i : ℕ) → i < P.WIDTH → slice_get (P.lanes result) i
@@ -99,6 +108,36 @@ impl<T: Copy> RowMajorMatrix<T> {
                 ensures { slice_get self.entry.now.values.items (((r + lane) % (length self.entry.now.values.items / self.entry.now.width)) * self.entry.now.width + column) ≡ Some result }
             { self.cell_down(r, lane, column) },
         )
+    }
+
+    /// The same where no row lies past the end: then no row's number has to be divided.
+    fn packed_straight<P: PackedValue<Value = T>>(&self, r: usize, column: usize) -> P
+        requires rows { r + P.WIDTH ≤ length self.now.values.items / self.now.width }
+        requires column { column < self.now.width }
+        ensures { (i : ℕ) → i < P.WIDTH → slice_get (P.lanes result) i ≡ slice_get self.now.values.items ((r + i) * self.now.width + column) }
+    {
+        let mut place = r * self.width + column;
+        let mut packed = P::from(self.values[place]);
+        for lane in 1..P::WIDTH {
+            place += self.width;
+            packed = packed.with_lane(lane, self.values[place]);
+        }
+        packed
+    }
+
+    /// The packed values of a column in row `r` and those after it, a row a lane, taken round the end; `left` rows begin there.
+    fn packed_down<P: PackedValue<Value = T>>(&self, r: usize, left: usize, column: usize) -> P
+        requires some { 0 < left }
+        requires rows { r + left ≡ length self.now.values.items / self.now.width }
+        requires column { column < self.now.width }
+        ensures { (i : ℕ) → i < P.WIDTH → slice_get (P.lanes result) i
+            ≡ slice_get self.now.values.items (((r + i) % (length self.now.values.items / self.now.width)) * self.now.width + column) }
+    {
+        if P::WIDTH <= left {
+            self.packed_straight(r, column)
+        } else {
+            self.packed_round(r, column)
+        }
     }
 
     /// Puts `vertically_packed_row` in a lent buffer, in place of what it has. Err only where the buffer has no room for it
@@ -116,8 +155,10 @@ impl<T: Copy> RowMajorMatrix<T> {
             ≡ slice_get self.now.values.items (((r + i) % (length self.now.values.items / self.now.width)) * self.now.width + c)) }
     {
         packed.clear();
+        let height = self.height();
+        let first = row_within(r, height);
         for column in 0..self.width {
-            packed.push(self.packed_down(r, column))?;
+            packed.push(self.packed_down(first, height - first, column))?;
         }
         Ok(())
     }

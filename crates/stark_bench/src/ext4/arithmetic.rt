@@ -1,6 +1,5 @@
 //! The extension's operations.
 ghost use Rattle.std.specs.Prelude.{false, ◌≡◌, refl, ⊤, map, [], ◌∷◌};
-ghost use Rattle.std.proofs.Common.{ap};
 ghost use Rattle.stark_support.specs.Extension.{basis_sum};
 ghost use Rattle.stark_support.specs.Ring.{difference};
 ghost use Rattle.stark_support.specs.Lanes.{one_lane, alone_is_lane_by_lane};
@@ -10,10 +9,8 @@ ghost use Rattle.stark_bench.specs.Quartic.{quartic_norm, quartic_cofactor};
 ghost use Rattle.stark_bench.specs.Ext4Field.{coordinates_of, of_coordinates, ext4, ext4_ring, ext4_inverse, ext4_laws, embedded, embedded_is_embedding, basis_of, coordinate_list, ext4_basis, generator_x, eq_gives_same};
 
 use crate::ext4::Ext4;
-use crate::residue::Residue;
 use stark_support::{
-    Algebra, Element, ExtensionField, Field, PackedExtensionField, PackedValue, QuarticBase,
-    TwoAdicField,
+    Algebra, Element, ExtensionField, Field, PackedField, PackedValue, QuarticBase, TwoAdicField,
 };
 use std::ops::{Add, Mul, Neg, Sub};
 
@@ -230,9 +227,13 @@ impl<F: QuarticBase> Element for Ext4<F> {
     };
 }
 
-impl<F: QuarticBase> Field for Ext4<F> {
+impl<F: QuarticBase> PackedField for Ext4<F> {
     type Packing = Ext4<F>;
 
+    ghost packed_ring = { refl };
+}
+
+impl<F: QuarticBase> Field for Ext4<F> {
     ghost ring = { ext4_ring F.ring F.QUARTIC_CONSTANT };
 
     ghost inverse_of = { ext4_inverse F.ring F.inverse_of F.QUARTIC_CONSTANT };
@@ -294,8 +295,6 @@ impl<F: QuarticBase> Field for Ext4<F> {
     ghost mul_is = { λ _ _ _ h. h };
 
     ghost neg_is = { λ _ _ h. h };
-
-    ghost packed_ring = { refl };
 }
 
 /// The sum of the basis times the coordinates.
@@ -400,21 +399,6 @@ impl<F: QuarticBase> ExtensionField<F> for Ext4<F> {
     ghost from_is = { λ _ _ h. h };
 
     ghost exact_above = { λ _ _ h. h };
-}
-
-impl<Kind> PackedExtensionField<Residue<Kind>> for Ext4<Residue<Kind>> {
-    type ExtensionPacking = Ext4<Residue<Kind>>;
-
-    #[tactic(auto, using(stark_support::specs::Lanes::lone_mapped))]
-    fn from_packed_base(x: Residue<Kind>) -> Ext4<Residue<Kind>> {
-        Ext4::from(x)
-    }
-
-    ghost from_packed_is = { λ _ _ h. ap (λ z. one_lane z) h };
-
-    ghost extension_packed_ring = { refl };
-
-    ghost packed_as_wide = { refl };
 }
 
 impl<F: QuarticBase + TwoAdicField> TwoAdicField for Ext4<F> {

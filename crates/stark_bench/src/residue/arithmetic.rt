@@ -167,8 +167,6 @@ impl<Kind> Element for Residue<Kind> {
 }
 
 impl<Kind> Field for Residue<Kind> {
-    type Packing = Residue<Kind>;
-
     ghost ring = { residue_ring };
 
     ghost inverse_of = { residue_inverse };
@@ -232,8 +230,6 @@ impl<Kind> Field for Residue<Kind> {
     ghost mul_is = { λ _ _ _ h. h };
 
     ghost neg_is = { λ _ _ h. h };
-
-    ghost packed_ring = { refl };
 }
 
 impl<Kind> PrimeField64 for Residue<Kind> {

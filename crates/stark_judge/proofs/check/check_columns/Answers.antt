@@ -1,4 +1,4 @@
-use Rattle.std.proofs.Common.{◌≡◌, ◌∙◌, ◌+◌, ◌^◌, ap, arith, length, map, sym, ℕ}
+use Rattle.std.proofs.Common.{◌∙◌, ◌^◌, ap, arith, length, map, sym, ℕ}
 use Rattle.std.proofs.lemmas.List.{length-map, length-replicate}
 use Rattle.stark_support.specs.Coset.{TwoAdicCoset}
 use Rattle.stark_input.specs.Input.{Base, elements, zeros}

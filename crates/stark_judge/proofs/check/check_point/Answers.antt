@@ -1,4 +1,4 @@
-use Rattle.std.proofs.Common.{◌≡◌, ◌≢◌, ◌∙◌, ◌^◌, ap, inl, map, refl, sym, ℕ, vec_len}
+use Rattle.std.proofs.Common.{◌≢◌, ◌∙◌, ◌^◌, ap, inl, map, refl, sym, ℕ, vec_len}
 use Rattle.std.proofs.lemmas.Bool.{false≢true}
 use Rattle.stark_support.specs.Coset.{TwoAdicCoset}
 use Rattle.stark_input.specs.Input.{Base, elements}

@@ -1,9 +1,9 @@
-use Rattle.std.proofs.Common.{◌≡◌, ◌⊎◌, ◌∙◌, ap, inl, inr, subst, sym, Err}
+use Rattle.std.proofs.Common.{◌∙◌, ap, inl, subst, sym, Err}
 use Rattle.stark_support.specs.Json.{Gives}
 use Rattle.stark_input.specs.Airs.{checked_air}
 use Rattle.stark_input.specs.Input.{has_shape, numbers_in}
 use Rattle.stark_input.specs.Numbers.{numbers}
-use Rattle.stark_judge.proofs.PointSteps.{judged_shaped, judged_unread, judged_unshaped}
+use Rattle.stark_judge.proofs.PointSteps.{judged_unread}
 use Rattle.stark_judge.proofs.judge.judge.Goals as goal
 
 pub check-requires-clause-shape : goal.check-requires-clause-shape

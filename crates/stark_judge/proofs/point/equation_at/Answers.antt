@@ -1,4 +1,4 @@
-use Rattle.std.proofs.Common.{◌≡◌, ◌∙◌, ap, length}
+use Rattle.std.proofs.Common.{◌∙◌, ap, length}
 use Rattle.std.proofs.lemmas.List.{length-map}
 use Rattle.stark_support.specs.Subgroup.{subgroup_of}
 use Rattle.stark_judge.specs.Point.{PointVerdict}

@@ -1,6 +1,5 @@
 use Rattle.std.proofs.Common.{ap}
 use Rattle.stark_input.specs.ProofInput.{named_challenger}
-use Rattle.stark_input.specs.Airs.{checked_air}
 use Rattle.stark_judge.proofs.Judged.{judged_by_hashing, judged_by_script}
 use Rattle.stark_judge.proofs.verify.judge_by.Goals as goal
 

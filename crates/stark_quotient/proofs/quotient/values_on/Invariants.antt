@@ -1,9 +1,10 @@
+use Rattle.std.proofs.Common.{◌≡◌, ◌-◌, min, option_map}
 use Rattle.stark_security.specs.ConstraintPolynomial.{AirInstance}
-use Rattle.stark_quotient.specs.PointwiseQuotient.{AreFirstQuotients, rows_of_matrices}
+use Rattle.stark_quotient.specs.PointwiseQuotient.{AreFirstQuotients, matrix_or_empty, rows_of_matrices}
 use Rattle.stark_quotient.proofs.quotient.values_on.Given as goal
 
-abbrev pub invariant-loop-k : goal.invariant-loop-k
-invariant-loop-k g l =
+abbrev pub invariant-loop-start : goal.invariant-loop-start
+invariant-loop-start g l =
     let trace = g.SC.Pcs.Domain.PolynomialSpace.coset_of l.on.trace_domain in
     let air : AirInstance g.row.SC-Pcs-Domain-Val.Denot g.row.SC-Challenge.Denot = record {
       base = g.SC.Pcs.Domain.Val.Field.ring;
@@ -18,5 +19,9 @@ invariant-loop-k g l =
       periodic = g.A.BaseAir.periodic_columns l.air;
     } in
     let rows = rows_of_matrices g.SC.Pcs.Domain.Val.Field.ring g.SC.Pcs.Domain.Val.TwoAdicField.root (g.SC.Pcs.Domain.PolynomialSpace.coset_of l.on.quotient_domain)
-    (record { width = l.on.main.width; values = l.on.main.values.now }) (record { width = l.on.preprocessed.width; values = l.on.preprocessed.values.now }) l.on.public_values.now in
-    AreFirstQuotients air rows l.on.powers.alpha l.k l.values.items
+    (record { width = l.on.main.now.width; values = l.on.main.now.values.items }) (matrix_or_empty (option_map (λ m. record { width = m.now.width; values = m.now.values.items }) l.on.preprocessed)) l.on.public_values.now in
+    AreFirstQuotients air rows l.on.powers.alpha (min l.start rows.size) l.values.items
+    × (l.eval.rows.main_width ≡ (g.A.BaseAir.layout l.air).main) × (l.eval.rows.preprocessed_width ≡ (g.A.BaseAir.layout l.air).preprocessed)
+
+abbrev pub decreases-loop-start : goal.decreases-loop-start
+decreases-loop-start g l = l.on.size - l.start

@@ -26,6 +26,6 @@ returns g c = λ alpha are i within.
     let base = g.met.SC.Pcs.Domain.Val in
     let field = g.met.SC.Challenge in
     c.finalize_constraints.ensures i within ∙
-    folded_lane field.Field.field_laws.of_ring field.ExtensionField.embeds base.Field.packed_ring base.Packing.PackedValue.lane_by_lane field.ExtensionField.is_basis {s = c.args.folder.now} {t = c.eval.new.builder}
+    folded_lane field.Field.field_laws.of_ring field.ExtensionField.embeds base.PackedField.packed_ring base.Packing.PackedValue.lane_by_lane field.ExtensionField.is_basis {s = c.args.folder.now} {t = c.eval.new.builder}
     c.in_ok-eval.ensures.asserted c.requires.nothing_kept (ap (map lanes) c.requires.nothing_kept_above) alpha _ _ are lanes c.eval.new.builder.ext_constraints.items refl _ _
     base.Field.zero_is field.Field.zero_is i (subst (λ n. i < n) field.PackedExtensionField.packed_as_wide within)

@@ -1,7 +1,8 @@
 use Rattle.std.proofs.Common.{◌≡◌, List, map, take}
 use Rattle.stark_air.specs.SymbolicTrees.{marked_tree}
 use Rattle.stark_air.specs.Tree.{Constraint}
-use Rattle.stark_security.specs.DegreeBound.{fitting, greatest_bound}
+use Rattle.stark_parts.specs.ConstraintBound.{greatest_bound}
+use Rattle.stark_security.specs.DegreeBound.{fitting}
 use Rattle.stark_security.proofs.bounds.greatest_bound.Given as goal
 
 -- The bound of the constraints up to here.

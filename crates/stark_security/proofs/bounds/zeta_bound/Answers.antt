@@ -1,5 +1,6 @@
 use Rattle.std.proofs.Common.{◌∙◌, ap, sym, ◌+◌, ◌-◌, ◌^◌, max}
-use Rattle.stark_security.specs.DegreeBound.{greatest_bound, fitting}
+use Rattle.stark_parts.specs.ConstraintBound.{greatest_bound}
+use Rattle.stark_security.specs.DegreeBound.{fitting}
 use Rattle.stark_security.proofs.BoundSteps.{recomposed_degree}
 use Rattle.stark_security.proofs.bounds.zeta_bound.Goals as goal
 

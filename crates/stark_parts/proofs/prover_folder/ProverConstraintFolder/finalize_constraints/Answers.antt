@@ -29,7 +29,7 @@ loop-index-preserved g c = (
       let at_row = slice_get_read rows field.DIMENSION j row (sym c.requires.dimension) within_rows c.index-self-index.is in
       let at_sum = slice_get-map sums (map vec_items rows) j ∙ ap (option_map sums) (slice_get-map vec_items rows j ∙ ap (option_map vec_items) at_row) in
       let lane = c.packed_sum-coordinate.ensures i wide
-      ∙ ap (λ r. sum_of_products r base.ZERO (lane_values packed.lanes i base.ring.zero c.as_slice-in-loop-index.result.now) c.as_slice-in-loop-index-2.result.now) g.met.SC.Pcs.Domain.Val.Field.packed_ring
+      ∙ ap (λ r. sum_of_products r base.ZERO (lane_values packed.lanes i base.ring.zero c.as_slice-in-loop-index.result.now) c.as_slice-in-loop-index-2.result.now) g.met.SC.Pcs.Domain.Val.PackedField.packed_ring
       ∙ ap (λ vs. sum_of_products base.ring base.ZERO (lane_values packed.lanes i base.ring.zero vs) c.as_slice-in-loop-index-2.result.now) c.as_slice-in-loop-index.ensures.value
       ∙ ap (λ cs. sum_of_products base.ring base.ZERO (lane_values packed.lanes i base.ring.zero values) cs) c.as_slice-in-loop-index-2.ensures.value
       ∙ ap (λ v. sum_of_products base.ring base.ZERO (lane_values packed.lanes i base.ring.zero values) v.items) (sym c.index-self-index.is) in

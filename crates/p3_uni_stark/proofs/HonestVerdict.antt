@@ -1,0 +1,23 @@
+-- The verifier's answer for an honest proof.
+use Rattle.std.proofs.Common.{◌≡◌, ◌⊎◌, inl, inr, ℕ, Option, Result, Ok, Err, IfErr}
+use Rattle.stark_air.specs.Declaration.{Trace}
+use Rattle.stark_parts.specs.declared.error.VerificationError.{VerificationError}
+use Rattle.stark_parts.specs.declared.error.VerificationError.TheVariants.{OutOfMemory}
+use Rattle.stark_proof.specs.ProofView.{ProofView}
+use Rattle.stark_protocol.specs.Acceptance.{Accepted}
+use Rattle.stark_protocol.specs.FirstFault.{IsOutOfMemoryOr}
+use Rattle.stark_protocol.specs.Instance.{Instance, ProtocolOps}
+use Rattle.stark_protocol.specs.declared.preprocessed.PreprocessedProverData.{PreprocessedProverData}
+use Rattle.stark_prover.specs.Honest.{AreSetUp, HasSizedDegrees, IsAcceptedOutside, IsSatisfied}
+use Rattle.p3_uni_stark.specs.Completeness.{IsHonest}
+
+-- What can only be refused for want of memory or because something doesn't hold, that holds.
+pub memory_alone : {T X : Type 0} {Holds : Type 0} (answer : Result T (VerificationError X)) → IfErr answer (IsOutOfMemoryOr (λ error. Holds → ⊥)) → Holds → IfErr answer (λ error. error ≡ OutOfMemory)
+memory_alone (Ok x) exact holds = tt
+memory_alone (Err error) (inl memory) holds = memory
+memory_alone (Err error) (inr fails) holds = absurd (fails holds)
+
+-- Of the verifier's own instance, what is accepted if it is honest, and is honest, is accepted.
+pub honest_is_accepted : {S F E C K T P X Y : Type 0} {ops : ProtocolOps S F E C K T P X Y} {i : Instance S F C K} {declared : Option (Trace F)} {held : Option (PreprocessedProverData K T)} {height : ℕ} {trace : Trace F} {p : ProofView K E P F}
+    → (AreSetUp ops.opening i.scheme height declared held i.key → IsSatisfied ops i height declared trace → HasSizedDegrees ops i height → IsAcceptedOutside ops i p) → IsHonest ops i declared held height trace p → Accepted ops i p
+honest_is_accepted law honest = law honest.set_up honest.satisfied honest.sized honest.alpha honest.zeta honest.drawn honest.outside

@@ -1,0 +1,6 @@
+use Rattle.p3_uni_stark.proofs.HonestVerdict.{honest_is_accepted, memory_alone}
+use Rattle.p3_uni_stark.proofs.completeness.prove_and_verify.Goals as goal
+
+pub returns-clause-complete : goal.returns-clause-complete
+returns-clause-complete g c = λ height rows least whole honest.
+    memory_alone _ c.verify_with_preprocessed-verdict.ensures.exact (honest_is_accepted (c.in_ok-proof.ensures.honest height rows least whole _) honest)

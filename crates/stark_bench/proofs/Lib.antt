@@ -1,0 +1,3 @@
+pub mod LaneFacts
+pub mod ExtensionLaneFacts
+pub mod PointLists

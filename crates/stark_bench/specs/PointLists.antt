@@ -1,0 +1,14 @@
+-- Lists of values made of other lists, place by place.
+use Rattle.std.specs.Prelude.{◌≡◌, ℕ, ◌<◌, ◌%◌, List, get_or, length, Some}
+use Rattle.std.specs.List.{slice_get}
+use Rattle.stark_support.specs.Ring.{RingOps}
+
+-- the first `count` elements, each over the divisor at its place
+pub record AreQuotients {K : Type 0} (ring : RingOps K) (inverse : K → K) (elements divisors : List K) (count : ℕ) (over : List K) : Type 0 where
+  pub number : length over ≡ count
+  pub at_place : (i : ℕ) → i < count → slice_get over i ≡ Some (ring.mul (get_or elements i ring.zero) (inverse (get_or divisors i ring.zero)))
+
+-- `count` elements: those of a list over and over
+pub record AreRepeated {K : Type 0} (list : List K) (count : ℕ) (all : List K) : Type 0 where
+  pub number : length all ≡ count
+  pub at_place : (i : ℕ) → i < count → slice_get all i ≡ slice_get list (i % length list)

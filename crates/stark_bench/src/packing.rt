@@ -1,0 +1,74 @@
+//! How the elements of each field are packed.
+ghost use Rattle.std.specs.Prelude.{refl};
+ghost use Rattle.std.proofs.Common.{ap};
+ghost use Rattle.stark_support.specs.Lanes.{one_lane};
+ghost use Rattle.stark_bench.specs.Ext4Lanes.{embedded_elements};
+
+use crate::ext4::Ext4;
+use crate::extension_lanes::ExtensionLanes;
+use crate::lanes::Lanes;
+use crate::residue::{F12289, Lockstep, P12289, Packed, Residue, S12289, Scalar};
+use stark_support::{PackedExtensionField, PackedField};
+
+impl PackedField for Residue<Scalar> {
+    type Packing = S12289;
+
+    ghost packed_ring = { refl };
+}
+
+impl PackedField for Residue<Packed> {
+    type Packing = Lanes<Packed>;
+
+    ghost packed_ring = { refl };
+}
+
+impl PackedField for Residue<Lockstep> {
+    type Packing = Lanes<Lockstep>;
+
+    ghost packed_ring = { refl };
+}
+
+impl PackedExtensionField<S12289> for Ext4<S12289> {
+    type ExtensionPacking = Ext4<S12289>;
+
+    #[tactic(auto, using(stark_support::specs::Lanes::lone_mapped))]
+    fn from_packed_base(x: S12289) -> Ext4<S12289> {
+        Ext4::from(x)
+    }
+
+    ghost from_packed_is = { λ _ _ h. ap (λ z. one_lane z) h };
+
+    ghost extension_packed_ring = { refl };
+
+    ghost packed_as_wide = { refl };
+}
+
+impl PackedExtensionField<P12289> for Ext4<P12289> {
+    type ExtensionPacking = ExtensionLanes<Packed>;
+
+    #[tactic(auto, using(crate::specs::Ext4Lanes::embedded_elements))]
+    fn from_packed_base(x: Lanes<Packed>) -> ExtensionLanes<Packed> {
+        ExtensionLanes::from(x)
+    }
+
+    ghost from_packed_is = { embedded_elements };
+
+    ghost extension_packed_ring = { refl };
+
+    ghost packed_as_wide = { refl };
+}
+
+impl PackedExtensionField<F12289> for Ext4<F12289> {
+    type ExtensionPacking = ExtensionLanes<Lockstep>;
+
+    #[tactic(auto, using(crate::specs::Ext4Lanes::embedded_elements))]
+    fn from_packed_base(x: Lanes<Lockstep>) -> ExtensionLanes<Lockstep> {
+        ExtensionLanes::from(x)
+    }
+
+    ghost from_packed_is = { embedded_elements };
+
+    ghost extension_packed_ring = { refl };
+
+    ghost packed_as_wide = { refl };
+}

@@ -1,0 +1,37 @@
+//! What is found of an input: what is said of it, or a proof.
+
+ghost use Rattle.std.specs.Prelude.{◌≡◌};
+ghost use Rattle.stark_input.specs.Finding.{finding_end, finding_line};
+
+use crate::verdict::{RunEnd, Verdict};
+
+/// What is found of an input.
+#[derive(Debug, Drop)]
+pub enum Finding {
+    /// What is said of it.
+    Verdict(Verdict),
+    /// The line of a proof, with its newline.
+    Proof(String),
+}
+
+impl Finding {
+    /// The line that is written, with its newline.
+    pub fn line(&self) -> &str
+        ensures { result.now ≡ finding_line self.now }
+    {
+        match self {
+            Finding::Verdict(verdict) => verdict.line(),
+            Finding::Proof(line) => line.as_str(),
+        }
+    }
+
+    /// How a run ends that has written the line.
+    pub fn end(&self) -> RunEnd
+        ensures { result ≡ finding_end self.now }
+    {
+        match self {
+            Finding::Verdict(verdict) => verdict.end(),
+            Finding::Proof(_) => RunEnd::Accepted,
+        }
+    }
+}

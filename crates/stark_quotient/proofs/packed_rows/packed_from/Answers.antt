@@ -1,0 +1,8 @@
+use Rattle.std.proofs.Common.{◌∙◌, sym}
+use Rattle.stark_quotient.proofs.LaneRows.{rest_at, rest_within}
+use Rattle.stark_quotient.proofs.packed_rows.packed_from.Goals as goal
+
+pub returns : goal.returns
+returns g c = λ i below within.
+    let found = c.packed_from_fn.ensures i below in
+    found.2 ∙ sym (found.1 (rest_within c.args.values.now c.args.start i within)) ∙ rest_at c.args.values.now c.args.start i

@@ -1,0 +1,54 @@
+-- What constraints read at one point, in the base field, and where packed rows have it in a lane.
+use Rattle.std.specs.Prelude.{◌≡◌, ℕ, List, ◌++◌, map, slice_index_or, take, drop}
+use Rattle.stark_support.specs.Ring.{RingOps}
+use Rattle.stark_support.specs.Operations.{Operations, ring_operations}
+use Rattle.stark_air.specs.Layout.{Layout}
+use Rattle.stark_air.specs.Rows.{environment_of, layout_of}
+use Rattle.stark_air.specs.Tree.{Constraint}
+use Rattle.stark_air.specs.Value.{Environment, constraint_values}
+use Rattle.stark_parts.specs.Finalized.{lane_values}
+use Rattle.stark_parts.specs.Folded.{folded}
+
+-- The current and the next row of the main and the preprocessed columns, the public and the periodic columns' values, and the
+-- selectors.
+pub record PointRow (F : Type 0) : Type 0 where
+  pub main_current : List F
+  pub main_next : List F
+  pub preprocessed_current : List F
+  pub preprocessed_next : List F
+  pub publics : List F
+  pub periodic : List F
+  pub first_row : F
+  pub last_row : F
+  pub transition : F
+
+module _ {F E : Type 0} (base : RingOps F) (ring : RingOps E) (embed : F → E) (row : PointRow F) where
+  -- The row's leaves, embedded.
+  abbrev pub row_environment : Environment E
+  row_environment =
+      environment_of (ring_operations ring embed) base.zero ring.zero
+      (map embed row.main_current) (map embed row.main_next) (map embed row.preprocessed_current) (map embed row.preprocessed_next) row.publics (map embed row.periodic)
+      (embed row.first_row) (embed row.last_row) (embed row.transition)
+
+  -- The sum over j below n of alpha ^ (n - 1 - j) times constraint j over the row.
+  abbrev pub folded_over : E → List (Constraint F) → E
+  folded_over alpha cs = folded ring alpha (constraint_values (ring_operations ring embed) row_environment cs)
+
+-- Packed values have the row in lane i: two rows one after the other of the main and of the preprocessed columns, the periodic
+-- columns' values, and the selectors.
+pub record IsLaneRow {F P : Type 0} (lanes : P → List F) (blank : F) (main preprocessed periodic : List P) (first last change : P) (i : ℕ) (row : PointRow F) : Type 0 where
+  pub main_rows : lane_values lanes i blank main ≡ row.main_current ++ row.main_next
+  pub preprocessed_rows : lane_values lanes i blank preprocessed ≡ row.preprocessed_current ++ row.preprocessed_next
+  pub periodic_row : lane_values lanes i blank periodic ≡ row.periodic
+  pub first_row : slice_index_or (lanes first) i blank ≡ row.first_row
+  pub last_row : slice_index_or (lanes last) i blank ≡ row.last_row
+  pub transition : slice_index_or (lanes change) i blank ≡ row.transition
+
+-- Packed rows in a folder: of `width` and of `fixed_width` columns.
+module _ {F P : Type 0} (width fixed_width : ℕ) (main preprocessed periodic : List P) (publics : List F) where
+  abbrev pub packed_environment : Operations F P → F → P → P → P → Environment P
+  packed_environment o blank first last change =
+      environment_of o blank first (take width main) (drop width main) (take fixed_width preprocessed) (drop fixed_width preprocessed) publics periodic first last change
+
+  abbrev pub packed_layout : Layout
+  packed_layout = layout_of (take width main) (drop width main) (take fixed_width preprocessed) (drop fixed_width preprocessed) publics periodic

@@ -3,6 +3,7 @@ ghost use Rattle.std.specs.Prelude.{◌<◌, ◌≡◌, ℕ, length, slice_index
 
 mod arithmetic;
 
+pub(crate) use self::arithmetic::{four_products, three_products, two_products};
 use std::alloc::AllocError;
 use std::marker::PhantomData;
 use std::simd::u32x4;

@@ -9,7 +9,7 @@ ghost use Rattle.stark_bench.specs.Ext4Lanes.{element_in_each_lane, elements_of,
 
 use crate::ext4::Ext4;
 use crate::extension_lanes::ExtensionLanes;
-use crate::lanes::Lanes;
+use crate::lanes::{Lanes, four_products, three_products, two_products};
 use crate::residue::Residue;
 use stark_support::{Algebra, Field, PackedValue, QuarticBase};
 use std::ops::{Add, Mul, Neg, Sub};
@@ -113,16 +113,14 @@ impl<Kind> Mul for ExtensionLanes<Kind> {
     ghost mul_gives = { λ x y r. r ≡ extension_lanes_ring.mul x y };
 
     fn mul(self, other: ExtensionLanes<Kind>) -> ExtensionLanes<Kind> {
-        let w = fourth_power();
+        let (x, y, w) = (self, other, fourth_power());
+        let above_c0 = three_products((x.c1, y.c3), (x.c2, y.c2), (x.c3, y.c1));
+        let above_c1 = two_products((x.c2, y.c3), (x.c3, y.c2));
         ExtensionLanes {
-            c0: self.c0 * other.c0
-                + w * (self.c1 * other.c3 + (self.c2 * other.c2 + self.c3 * other.c1)),
-            c1: (self.c0 * other.c1 + self.c1 * other.c0)
-                + w * (self.c2 * other.c3 + self.c3 * other.c2),
-            c2: (self.c0 * other.c2 + (self.c1 * other.c1 + self.c2 * other.c0))
-                + w * (self.c3 * other.c3),
-            c3: (self.c0 * other.c3 + self.c1 * other.c2)
-                + (self.c2 * other.c1 + self.c3 * other.c0),
+            c0: two_products((x.c0, y.c0), (w, above_c0)),
+            c1: three_products((x.c0, y.c1), (x.c1, y.c0), (w, above_c1)),
+            c2: four_products((x.c0, y.c2), (x.c1, y.c1), (x.c2, y.c0), (w, x.c3 * y.c3)),
+            c3: four_products((x.c0, y.c3), (x.c1, y.c2), (x.c2, y.c1), (x.c3, y.c0)),
         }
     }
 }

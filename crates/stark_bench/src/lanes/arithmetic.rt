@@ -1,5 +1,6 @@
 //! The operations on four residues at once: each works lane by lane.
-ghost use Rattle.std.specs.Prelude.{[], ◌≡◌, ◌∷◌, length, refl};
+ghost use Rattle.std.specs.Prelude.{[], ◌≡◌, ◌∷◌, ◌<◌, ◌≤◌, ◌+◌, ℕ, length, refl, slice_index};
+ghost use Rattle.std.specs.Simd.Lanes.{zip2};
 ghost use Rattle.stark_support.specs.Ring.{difference};
 ghost use Rattle.stark_support.specs.Operations.{ring_operations, exact_binary, exact_unary};
 ghost use Rattle.stark_bench.specs.Residues.{residue_ring};
@@ -10,7 +11,7 @@ use crate::residue::Residue;
 use stark_support::{Algebra, PackedValue};
 use std::marker::PhantomData;
 use std::ops::{Add, Mul, Neg, Sub};
-use std::simd::u32x4;
+use std::simd::prelude::*;
 
 /// The sums of the numbers, lane by lane.
 fn sums<Kind>(x: Lanes<Kind>, y: Lanes<Kind>) -> u32x4
@@ -33,15 +34,81 @@ fn complements<Kind>(x: Lanes<Kind>) -> u32x4
     u32x4::splat(12289).strict_sub(x.numbers)
 }
 
-/// Each number modulo 12289, in its lane.
-fn reduced<Kind>(numbers: u32x4) -> Lanes<Kind>
-    requires { length numbers ≡ 4 }
+/// Each number modulo 12289, in its lane; the numbers are below twice that. Where a number is less than 12289, the difference
+/// wraps and is the greater one.
+fn reduced_once<Kind>(numbers: u32x4) -> Lanes<Kind>
+    requires four { length numbers ≡ 4 }
+    requires below { (lane : ℕ) → slice_index numbers lane < 24578 }
     ensures { result.numbers ≡ number_remainders numbers }
 {
     Lanes {
-        numbers: numbers % u32x4::splat(12289),
+        numbers: numbers.simd_min(numbers - u32x4::splat(12289)),
         kind: PhantomData,
     }
+}
+
+/// The numbers less 12289 times a quotient that falls short by at most one (Barrett's reduction): `2^29 / 12289` is 43687 and
+/// a fraction.
+fn nearly_reduced(numbers: u32x4) -> u32x4
+    requires four { length numbers ≡ 4 }
+    requires below { (lane : ℕ) → slice_index numbers lane ≤ 603979776 }
+    ensures four { length result ≡ 4 }
+    ensures below { (lane : ℕ) → slice_index result lane < 24578 }
+    ensures same { number_remainders result ≡ number_remainders numbers }
+{
+    let scaled = (numbers >> u32x4::splat(13)) * u32x4::splat(43687);
+    numbers - (scaled >> u32x4::splat(16)) * u32x4::splat(12289)
+}
+
+/// Each number modulo 12289, in its lane; the numbers are at most four times the greatest product of two residues.
+fn reduced<Kind>(numbers: u32x4) -> Lanes<Kind>
+    requires four { length numbers ≡ 4 }
+    requires below { (lane : ℕ) → slice_index numbers lane ≤ 603979776 }
+    ensures { result.numbers ≡ number_remainders numbers }
+{
+    reduced_once(nearly_reduced(numbers))
+}
+
+/// Two factors in each lane.
+pub(crate) type Factors<Kind> = (Lanes<Kind>, Lanes<Kind>);
+
+/// The products of the numbers of both, added, lane by lane.
+fn sums_of_products<Kind>(first: Factors<Kind>, second: Factors<Kind>) -> u32x4
+    ensures { result ≡ zip2 (λ a b. a + b) (number_products first.0 first.1) (number_products second.0 second.1) }
+{
+    products(first.0, first.1).strict_add(products(second.0, second.1))
+}
+
+/// Two products, added, lane by lane; reduced once.
+pub(crate) fn two_products<Kind>(first: Factors<Kind>, second: Factors<Kind>) -> Lanes<Kind>
+    ensures { result ≡ lanes_ring.add (lanes_ring.mul first.0 first.1) (lanes_ring.mul second.0 second.1) }
+{
+    reduced(sums_of_products(first, second))
+}
+
+/// Three products, added, lane by lane; reduced once.
+pub(crate) fn three_products<Kind>(
+    first: Factors<Kind>,
+    second: Factors<Kind>,
+    third: Factors<Kind>,
+) -> Lanes<Kind>
+    ensures first_two { result ≡ lanes_ring.add (lanes_ring.add (lanes_ring.mul first.0 first.1) (lanes_ring.mul second.0 second.1)) (lanes_ring.mul third.0 third.1) }
+    ensures last_two { result ≡ lanes_ring.add (lanes_ring.mul first.0 first.1) (lanes_ring.add (lanes_ring.mul second.0 second.1) (lanes_ring.mul third.0 third.1)) }
+{
+    reduced(sums_of_products(first, second).strict_add(products(third.0, third.1)))
+}
+
+/// Four products, added, lane by lane; reduced once.
+pub(crate) fn four_products<Kind>(
+    first: Factors<Kind>,
+    second: Factors<Kind>,
+    third: Factors<Kind>,
+    fourth: Factors<Kind>,
+) -> Lanes<Kind>
+    ensures in_pairs { result ≡ lanes_ring.add (lanes_ring.add (lanes_ring.mul first.0 first.1) (lanes_ring.mul second.0 second.1)) (lanes_ring.add (lanes_ring.mul third.0 third.1) (lanes_ring.mul fourth.0 fourth.1)) }
+    ensures middle_first { result ≡ lanes_ring.add (lanes_ring.add (lanes_ring.mul first.0 first.1) (lanes_ring.add (lanes_ring.mul second.0 second.1) (lanes_ring.mul third.0 third.1))) (lanes_ring.mul fourth.0 fourth.1) }
+{
+    reduced(sums_of_products(first, second).strict_add(sums_of_products(third, fourth)))
 }
 
 impl<Kind> Lanes<Kind> {
@@ -82,9 +149,9 @@ impl<Kind> Add for Lanes<Kind> {
 
     ghost add_gives = { λ x y r. r ≡ lanes_ring.add x y };
 
-    #[tactic(auto, using(crate::proofs::LaneFacts::sums_four))]
+    #[tactic(auto, using(crate::proofs::LaneFacts::sums_four, crate::proofs::LaneFacts::sums_below))]
     fn add(self, other: Lanes<Kind>) -> Lanes<Kind> {
-        reduced(sums(self, other))
+        reduced_once(sums(self, other))
     }
 }
 
@@ -103,7 +170,7 @@ impl<Kind> Mul for Lanes<Kind> {
 
     ghost mul_gives = { λ x y r. r ≡ lanes_ring.mul x y };
 
-    #[tactic(auto, using(crate::proofs::LaneFacts::products_four))]
+    #[tactic(auto, using(crate::proofs::LaneFacts::products_four, crate::proofs::LaneFacts::products_below))]
     fn mul(self, other: Lanes<Kind>) -> Lanes<Kind> {
         reduced(products(self, other))
     }
@@ -114,9 +181,9 @@ impl<Kind> Neg for Lanes<Kind> {
 
     ghost neg_gives = { λ x r. r ≡ lanes_ring.neg x };
 
-    #[tactic(auto, using(crate::proofs::LaneFacts::complements_four))]
+    #[tactic(auto, using(crate::proofs::LaneFacts::complements_four, crate::proofs::LaneFacts::complements_below))]
     fn neg(self) -> Lanes<Kind> {
-        reduced(complements(self))
+        reduced_once(complements(self))
     }
 }
 
@@ -166,7 +233,7 @@ impl<Kind> PackedValue for Lanes<Kind> {
     }
 
     fn extract(&self, lane: usize) -> Residue<Kind> {
-        Residue::new(self.numbers[lane])
+        Residue::of_reduced(self.numbers[lane])
     }
 
     fn with_lane(self, lane: usize, value: Residue<Kind>) -> Lanes<Kind> {

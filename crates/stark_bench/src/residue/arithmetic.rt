@@ -26,6 +26,17 @@ impl<Kind> Residue<Kind> {
             kind: PhantomData,
         }
     }
+
+    /// The residue of a number that is reduced.
+    pub(crate) fn of_reduced(number: u32) -> Residue<Kind>
+        requires { number < 12289 }
+        ensures { result ≡ residue number }
+    {
+        Residue {
+            value: number,
+            kind: PhantomData,
+        }
+    }
 }
 
 impl<Kind> PartialEq for Residue<Kind> {

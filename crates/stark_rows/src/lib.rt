@@ -8,12 +8,6 @@ mod airs;
 #[cfg(test)]
 mod calls;
 #[cfg(test)]
-mod challengers;
-#[cfg(test)]
-mod clear_scheme;
-#[cfg(test)]
-mod configurations;
-#[cfg(test)]
 mod constraints;
 #[cfg(test)]
 mod domains;
@@ -21,15 +15,7 @@ mod domains;
 mod elements;
 #[cfg(test)]
 mod empty_trace;
-#[cfg(test)]
-mod fields;
 mod kinds;
-#[cfg(test)]
-mod lanes;
-#[cfg(test)]
-mod numbers;
-#[cfg(test)]
-mod polynomials;
 #[cfg(test)]
 mod preprocessing;
 #[cfg(test)]
@@ -45,14 +31,8 @@ mod rows;
 #[cfg(test)]
 mod security;
 #[cfg(test)]
-mod seeds;
-#[cfg(test)]
 mod sized_airs;
 #[cfg(test)]
 mod sizing;
-#[cfg(test)]
-mod tables;
-#[cfg(test)]
-mod transcripts;
 #[cfg(test)]
 mod verdicts;

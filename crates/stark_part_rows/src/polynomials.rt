@@ -1,6 +1,6 @@
 //! Polynomials: values, interpolation, and the laws on roots at a field.
-use crate::calls::RowField;
 use crate::elements::{Base, element};
+use crate::row_field::RowField;
 use stark_bench::{Coset, Ext4};
 use stark_support::{
     Field, PolynomialSpace, TwoAdicField, all_roots_are_few, interpolate, interpolation_is_unique,

@@ -1,5 +1,5 @@
 //! Elements in four lanes: each lane computes what the field does of the element in it, and so does the prover's folder.
-use crate::calls::ClearConfig;
+use crate::row_field::ClearConfig;
 use stark_air::{AirBuilder, ExtensionBuilder, RowWindow};
 use stark_bench::{ClearCommitment, Ext4, F12289, P12289, Sha256Challenger};
 use stark_parts::{PackedChallenge, PackedVal, ProverConstraintFolder, StarkGenericConfig, Val};

@@ -4,7 +4,7 @@ ghost use Rattle.std.specs.Int.{IsPowerOfTwo};
 ghost use Rattle.stark_support.specs.Claims.{IfRefused, claim_view};
 ghost use Rattle.stark_support.specs.Scheme.{matrix_row};
 
-use crate::calls::{ClearConfig, RowField};
+use crate::row_field::{ClearConfig, RowField};
 use crate::rows::{all_rows, apart, list_in, numbers_in};
 use stark_bench::{ClearCommitment, Coset, Ext4, F12289, Sha256Challenger};
 use stark_clear::{ClearError, ClearPcs, ClearProof};

@@ -1,6 +1,6 @@
 //! Logarithms, powers of two, sums of products, matrices and row views.
-use crate::calls::RowField;
 use crate::elements::{Base, Extension, element, numbers, values};
+use crate::row_field::RowField;
 use stark_bench::Ext4;
 use stark_support::{
     Algebra, ExtensionField, Field, PackedValue, RowMajorMatrix, RowMajorMatrixView, VerticalPair,

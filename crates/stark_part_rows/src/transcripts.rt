@@ -1,8 +1,8 @@
 //! Transcripts of both sides, over the two challengers.
 ghost use Rattle.std.specs.Prelude.{◌≡◌, length};
 
-use crate::calls::RowField;
 use crate::elements::{Base, Extension};
+use crate::row_field::RowField;
 use crate::rows::{all_rows, numbers_in};
 use stark_bench::{ClearCommitment, Ext4, ScriptChallenger, Sha256Challenger};
 use stark_parts::{

@@ -1,6 +1,6 @@
 use Rattle.std.proofs.Common.{◌≡◌, ◌<◌, ◌/◌, ◌^◌, length, refl, sym, ◌∙◌, subst}
 use Rattle.stark_support.specs.SchemeFacts.{rows_again}
-use Rattle.stark_rows.proofs.clear_scheme.read_back.Goals as goal
+use Rattle.stark_part_rows.proofs.clear_scheme.read_back.Goals as goal
 
 pub returns : goal.returns
 returns g c r below =

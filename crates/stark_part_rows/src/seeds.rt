@@ -4,8 +4,8 @@ ghost use Rattle.std.specs.List.{range_with_len};
 ghost use Rattle.std.proofs.Common.{rules};
 ghost use Rattle.std.proofs.lemmas.List.{length-map};
 
-use crate::calls::RowField;
 use crate::elements::Base;
+use crate::row_field::RowField;
 use stark_air::{BaseAir, every_column};
 use stark_bench::Ext4;
 use stark_parts::StarkShape;

@@ -1,6 +1,6 @@
 //! The field of 12289 and its extension of degree four.
-use crate::calls::RowField;
 use crate::elements::{Base, Extension, coordinates, element, number};
+use crate::row_field::RowField;
 use stark_bench::{Ext4, F12289, P12289};
 use stark_support::{
     Algebra, Element, ExtensionField, Field, JsonCodec, JsonFault, NeverNull, PackedExtensionField,

@@ -1,0 +1,48 @@
+//! Worked rows as text: a row a line, what is given before ` => ` and the answer behind it.
+use std::alloc::Global;
+use std::process::Abort;
+use std::test::Fail;
+
+/// Asserts that each row's input is answered as the row says.
+pub fn all_rows(
+    rt: &impl Abort,
+    alloc: Global,
+    rows: &str,
+    answer: fn(Global, &str) -> Result<String, Fail>,
+) -> Result<(), Fail>
+    requires { IsAlwaysCallable answer }
+{
+    for row in rows.lines() {
+        let (input, expected) = row.split_once(" => ").ok_or("a row without an answer")?;
+        assert_eq!(rt; answer(alloc, input)?.as_str(), expected, "{input}");
+    }
+    Ok(())
+}
+
+/// The first words of a text, as numbers.
+pub fn numbers_in<const N: usize>(text: &str) -> Result<[u32; N], Fail> {
+    let mut found = [0; N];
+    let mut words = text.split_ascii_whitespace();
+    for slot in &mut found {
+        let word = words.next().ok_or("too few numbers")?;
+        *slot = word.parse::<u32>()?;
+    }
+    Ok(found)
+}
+
+/// All words of a text, as numbers; the one word `empty` stands for no number.
+pub fn list_in(alloc: Global, text: &str) -> Result<Vec<u32>, Fail> {
+    let mut found = Vec::new(alloc);
+    if text == "empty" {
+        return Ok(found);
+    }
+    for word in text.split_ascii_whitespace() {
+        found.push(word.parse::<u32>()?)?;
+    }
+    Ok(found)
+}
+
+/// The text before the first bar and the one behind it.
+pub fn apart(text: &str) -> Result<(&str, &str), Fail> {
+    Ok(text.split_once(" | ").ok_or("no bar")?)
+}

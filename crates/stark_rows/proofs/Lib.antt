@@ -1,1 +1,2 @@
 pub mod SmallParams
+pub mod Spelled

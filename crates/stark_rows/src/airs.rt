@@ -17,7 +17,7 @@ use std::alloc::{AllocError, Global};
 use std::test::Fail;
 
 /// The folded sum over a main row and the one after it, a preprocessed row, periodic values and public values.
-fn folded<A: Air<Base>>(
+pub fn folded<A: Air<Base>>(
     air: &A,
     local: &[Extension],
     next: &[Extension],

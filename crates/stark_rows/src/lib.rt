@@ -35,4 +35,6 @@ mod sized_airs;
 #[cfg(test)]
 mod sizing;
 #[cfg(test)]
+mod trees;
+#[cfg(test)]
 mod verdicts;

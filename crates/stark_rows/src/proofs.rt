@@ -12,7 +12,7 @@ type Commitment = Commitments<S12289>;
 
 type WholeProof = Proof<S12289, Ext4<S12289>, S12289, S12289>;
 
-fn value_of(alloc: Global, text: &str) -> Result<Value, Fail> {
+pub fn value_of(alloc: Global, text: &str) -> Result<Value, Fail> {
     match Value::from_str(alloc, text) {
         Ok(value) => Ok(value),
         Err(_) => Err(Fail::new("no JSON")),

@@ -138,7 +138,7 @@ type Above = Ext4<S12289>;
 type Scripted = ScriptChallenger<S12289>;
 
 /// The text of the proof of an AIR's trace: the trace | the public values.
-fn read_text<F, EF, C, A>(
+pub fn read_text<F, EF, C, A>(
     alloc: Global,
     config: &ClearConfig<F, EF, C>,
     air: &A,
@@ -244,7 +244,7 @@ fn worked_proofs(rt: HostRuntime) -> Result<(), Fail> {
 }
 
 /// `accepted` for a proof that the verifier accepts, else what there is.
-fn verdict_of(text: String, alloc: Global) -> Result<String, Fail> {
+pub fn verdict_of(text: String, alloc: Global) -> Result<String, Fail> {
     if text.ends_with(" Ok(())") {
         return Ok(String::from_str(alloc, "accepted")?);
     }

@@ -1,0 +1,6 @@
+pub mod Steps
+pub mod WrittenTrees
+pub mod WrittenConstraints
+pub mod WrittenFaults
+pub mod JsonSteps
+pub mod JsonReadBack

@@ -1,0 +1,6 @@
+use Rattle.std.proofs.Common.{◌≡◌, drop}
+use Rattle.stark_tree_air.specs.Faults.{reads_main_next}
+use Rattle.stark_tree_air.proofs.fault.reads_main_next.Given as goal
+
+abbrev pub invariant-loop-node : goal.invariant-loop-node
+invariant-loop-node l = reads_main_next (drop l.node-index l.nodes) ≡ reads_main_next l.nodes

@@ -1,0 +1,9 @@
+pub mod Traces
+pub mod Nodes
+pub mod Faults
+pub mod FaultFacts
+pub mod Writing
+pub mod Named
+pub mod NodeJson
+pub mod NodeJsonFacts
+pub mod TreeJson

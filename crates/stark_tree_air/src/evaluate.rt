@@ -1,0 +1,122 @@
+//! Nodes and constraints on a builder.
+ghost use Rattle.std.specs.Prelude.{◌≡◌, ◌<◌, List, [], ◌∷◌, map, length, IfOk, OnErr, ⊤};
+ghost use Rattle.stark_air.specs.Emission.{Asserted};
+ghost use Rattle.stark_air.specs.Tree.{Tree, constant};
+ghost use Rattle.stark_air.specs.Value.{Environment, Shows, value};
+ghost use Rattle.stark_tree_air.specs.Nodes.{Stand, NodeFits, NodesFit, ConstraintFits, ConstraintsFit, node_tree, nodes_trees, tree_at, marked_tree};
+
+use crate::node::{TreeConstraint, TreeNode};
+use stark_air::{AirBuilder, ExtensionBuilder, WindowAccess, periodic_value, public_value};
+use stark_support::{Algebra, Element};
+use std::alloc::{AllocError, Global};
+
+/// A copy of the value of an earlier node.
+#[tactic(auto, using(crate::proofs::Steps::operand_stands))]
+fn operand<F, E: Algebra<F>>(values: &[E], index: usize) -> E
+    requires { index < length values.now }
+    ensures { (e : Environment E) (ts : List (Tree F)) → Stand E.stands E.operations e ts values.now → E.stands (value E.operations e (tree_at ts index)) result }
+{
+    values[index].dup()
+}
+
+/// The value of a constant of the list.
+#[tactic(auto, using(crate::proofs::Steps::constant_stands))]
+fn constant_value<F: Element, E: Algebra<F>>(constants: &[F], index: usize) -> E
+    requires { index < length constants.now }
+    ensures { (e : Environment E) → E.stands (value E.operations e (tree_at (map constant constants.now) index)) result }
+{
+    E::from(constants[index])
+}
+
+/// The value of a node, from the constants and the values of the nodes before it.
+#[tactic(auto, using(stark_air::proofs::Steps::shown))]
+fn node_value<AB: AirBuilder>(
+    node: TreeNode,
+    constants: &[AB::F],
+    values: &[AB::Expr],
+    main: &AB::MainWindow,
+    preprocessed: &AB::PreprocessedWindow,
+    builder: &AB,
+) -> AB::Expr
+    requires fits { NodeFits (AB.layout builder.now) (length constants.now) (length values.now) node }
+    requires current { Shows ⟦<AB::Expr as From<AB::Var>>⟧.from_gives AB.Expr.stands (AB.environment builder.now).main_current (AB.layout builder.now).main (AB.MainWindow.current_at main.now) }
+    requires next { Shows ⟦<AB::Expr as From<AB::Var>>⟧.from_gives AB.Expr.stands (AB.environment builder.now).main_next (AB.layout builder.now).main_next (AB.MainWindow.next_at main.now) }
+    requires preprocessed_current { Shows ⟦<AB::Expr as From<AB::Var>>⟧.from_gives AB.Expr.stands (AB.environment builder.now).preprocessed_current (AB.layout builder.now).preprocessed (AB.PreprocessedWindow.current_at preprocessed.now) }
+    requires preprocessed_next { Shows ⟦<AB::Expr as From<AB::Var>>⟧.from_gives AB.Expr.stands (AB.environment builder.now).preprocessed_next (AB.layout builder.now).preprocessed_next (AB.PreprocessedWindow.next_at preprocessed.now) }
+    ensures { (ts : List (Tree AB.F)) → Stand AB.Expr.stands AB.Expr.operations (AB.environment builder.now) ts values.now → AB.Expr.stands (value AB.Expr.operations (AB.environment builder.now) (node_tree constants.now ts node)) result }
+{
+    match node {
+        TreeNode::Constant(index) => constant_value(constants, index),
+        TreeNode::MainCurrent(column) => main.current(column).unwrap().into(),
+        TreeNode::MainNext(column) => main.next(column).unwrap().into(),
+        TreeNode::PreprocessedCurrent(column) => preprocessed.current(column).unwrap().into(),
+        TreeNode::PreprocessedNext(column) => preprocessed.next(column).unwrap().into(),
+        TreeNode::PublicValue(index) => public_value(builder, index),
+        TreeNode::PeriodicValue(column) => periodic_value(builder, column),
+        TreeNode::FirstRow => builder.is_first_row(),
+        TreeNode::LastRow => builder.is_last_row(),
+        TreeNode::Transition => builder.is_transition(),
+        TreeNode::Sum(left, right) => operand(values, left) + operand(values, right),
+        TreeNode::Difference(left, right) => operand(values, left) - operand(values, right),
+        TreeNode::Product(left, right) => operand(values, left) * operand(values, right),
+        TreeNode::Negation(inner) => -operand(values, inner),
+    }
+}
+
+/// The values of the nodes, in their order.
+pub(crate) fn node_values<AB: AirBuilder>(
+    alloc: Global,
+    constants: &[AB::F],
+    nodes: &[TreeNode],
+    builder: &AB,
+) -> Result<Vec<AB::Expr>, AllocError>
+    requires { NodesFit (AB.layout builder.now) (length constants.now) 0 nodes.now }
+    ensures { IfOk result (λ values. Stand AB.Expr.stands AB.Expr.operations (AB.environment builder.now) (nodes_trees constants.now nodes.now) values.items) }
+{
+    let main = builder.main()?;
+    let preprocessed = builder.preprocessed()?;
+    let mut values = Vec::new(alloc);
+    for node in nodes {
+        let value = node_value(*node, constants, &values, &main, &preprocessed, builder);
+        values.push(value)?;
+    }
+    Ok(values)
+}
+
+/// Asserts one constraint, by the values of the nodes.
+fn assert_constraint<AB: ExtensionBuilder>(
+    constraint: TreeConstraint,
+    values: &[AB::Expr],
+    builder: &mut AB,
+) -> Result<(), AllocError>
+    requires { ConstraintFits (length values.now) constraint }
+    ensures same_environment { AB.environment builder.new ≡ AB.environment builder.old }
+    ensures asserted { IfOk result (λ _. (ts : List (Tree AB.F)) → Stand AB.Expr.stands AB.Expr.operations (AB.environment builder.old) ts values.now → AB.after builder.old (marked_tree ts constraint ∷ []) builder.new) }
+    ensures refused { OnErr result (AB.after builder.old [] builder.new) }
+{
+    match constraint {
+        TreeConstraint::Base(index) => {
+            let x = operand(values, index);
+            builder.assert_zero(x)
+        }
+        TreeConstraint::Extension(index) => {
+            let x = operand(values, index);
+            builder.assert_zero_ext(AB::ExprEF::from(x))
+        }
+    }
+}
+
+/// Asserts the constraints in their order, by the values of the nodes.
+pub(crate) fn assert_constraints<AB: ExtensionBuilder>(
+    constraints: &[TreeConstraint],
+    values: &[AB::Expr],
+    builder: &mut AB,
+) -> Result<(), AllocError>
+    requires { ConstraintsFit (length values.now) constraints.now }
+    ensures { (ts : List (Tree AB.F)) → Stand AB.Expr.stands AB.Expr.operations (AB.environment builder.old) ts values.now → Asserted AB.after result builder.old (map (marked_tree ts) constraints.now) builder.new }
+{
+    for constraint in constraints {
+        assert_constraint(*constraint, values, &mut *builder)?;
+    }
+    Ok(())
+}

@@ -1,0 +1,215 @@
+//! AIRs that are data, in JSON.
+ghost use Rattle.std.specs.Prelude.{◌≡◌, IfOk, Ok, OnOk};
+ghost use Rattle.serde_json.specs.View.{members_view, view};
+ghost use Rattle.stark_support.specs.JsonFacts.{list_written};
+ghost use Rattle.stark_tree_air.specs.TreeJson.{Decodes, air_reading, air_view, air_writing, columns_at, columns_view, columns_writing, list_reading, list_view, list_writing, optional, trace_at, trace_or_null, trace_rows, trace_writing};
+ghost use Rattle.stark_tree_air.specs.Traces.{declared_trace, matrix_trace};
+
+use crate::air::TreeAir;
+use crate::columns::{TreeColumns, TreeDeclaration};
+use crate::json_error::TreeJsonError;
+use crate::json_fields::{
+    joined_rows, list_to_json, lists_to_json, optional_number, put_number, required_list,
+    required_lists, required_number,
+};
+use crate::list::TreeList;
+use serde_json::{Map, Value, put};
+use stark_support::{Field, JsonCodec, RowMajorMatrix};
+use std::alloc::{AllocError, Global};
+
+/// The matrix of a width and rows.
+#[tactic(auto, unfolding(crate::specs::TreeJson::trace_at))]
+fn trace_from_json<F: JsonCodec + Copy>(
+    alloc: Global,
+    value: &Value,
+) -> Result<RowMajorMatrix<F>, TreeJsonError>
+    ensures { Decodes matrix_trace result (trace_at F.reading (view value.now)) }
+{
+    if !value.is_object() {
+        return Err(TreeJsonError::WrongKind {
+            field: "preprocessed",
+        });
+    }
+    let width = required_number(value, "width")?;
+    let rows = required_lists(alloc, value, "rows")?;
+    let values = joined_rows(alloc, width, &rows)?;
+    Ok(RowMajorMatrix::new(values, width))
+}
+
+/// The preprocessed trace; None where it is missing or null.
+fn optional_trace<F: JsonCodec + Copy>(
+    alloc: Global,
+    value: &Value,
+    field: &'static str,
+) -> Result<Option<RowMajorMatrix<F>>, TreeJsonError>
+    ensures { Decodes declared_trace result (optional field.now (trace_at F.reading) (view value.now)) }
+{
+    let Some(found) = value.get(field) else {
+        return Ok(None);
+    };
+    if found.is_null() {
+        return Ok(None);
+    }
+    let trace = trace_from_json(alloc, found)?;
+    Ok(Some(trace))
+}
+
+#[tactic(auto, unfolding(crate::specs::TreeJson::columns_at))]
+fn columns_from_json<F: JsonCodec + Copy>(
+    alloc: Global,
+    value: &Value,
+) -> Result<TreeColumns<F>, TreeJsonError>
+    ensures { Decodes columns_view result (columns_at F.reading (view value.now)) }
+{
+    let width = required_number(value, "width")?;
+    let num_public_values = required_number(value, "publics")?;
+    let periodic_columns = required_lists(alloc, value, "periodic")?;
+    let preprocessed_trace = optional_trace(alloc, value, "preprocessed")?;
+    Ok(TreeColumns {
+        width,
+        num_public_values,
+        periodic_columns,
+        preprocessed_trace,
+    })
+}
+
+#[tactic(auto, unfolding(crate::specs::TreeJson::list_reading))]
+fn tree_list_from_json<F: JsonCodec + Copy>(
+    alloc: Global,
+    value: &Value,
+) -> Result<TreeList<F>, TreeJsonError>
+    ensures { Decodes list_view result (list_reading F.reading (view value.now)) }
+{
+    let constants = required_list(alloc, value, "constants")?;
+    let nodes = required_list(alloc, value, "nodes")?;
+    let constraints = required_list(alloc, value, "constraints")?;
+    Ok(TreeList {
+        constants,
+        nodes,
+        constraints,
+    })
+}
+
+fn rows_to_json<F: JsonCodec>(alloc: Global, trace: &RowMajorMatrix<F>) -> Result<Value, AllocError>
+    ensures { IfOk result (λ value. view value ≡ list_written (list_written F.writing) (trace_rows F.writing (matrix_trace trace.now))) }
+{
+    let mut rows = Vec::new(alloc);
+    for r in 0..trace.height() {
+        rows.push(list_to_json(alloc, trace.row(r))?)?;
+    }
+    Ok(Value::Array(rows))
+}
+
+#[tactic(auto, unfolding(crate::specs::TreeJson::trace_writing))]
+fn trace_to_json<F: JsonCodec>(
+    alloc: Global,
+    trace: &RowMajorMatrix<F>,
+) -> Result<Value, AllocError>
+    ensures { IfOk result (λ value. view value ≡ trace_writing F.writing (matrix_trace trace.now)) }
+{
+    let mut map = Map::new(alloc);
+    put(&mut map, alloc, "width", Value::from(trace.width))?;
+    put(&mut map, alloc, "rows", rows_to_json(alloc, trace)?)?;
+    Ok(Value::Object(map))
+}
+
+fn trace_or_null<F: JsonCodec>(
+    alloc: Global,
+    trace: &Option<RowMajorMatrix<F>>,
+) -> Result<Value, AllocError>
+    ensures { IfOk result (λ value. view value ≡ trace_or_null F.writing (declared_trace trace.now)) }
+{
+    match trace {
+        Some(trace) => trace_to_json(alloc, trace),
+        None => Ok(Value::Null),
+    }
+}
+
+#[tactic(auto, unfolding(crate::specs::TreeJson::columns_writing))]
+fn columns_to_map<F: JsonCodec>(
+    alloc: Global,
+    columns: &TreeColumns<F>,
+) -> Result<Map<String, Value>, AllocError>
+    ensures { IfOk result (λ map. members_view map.entries ≡ columns_writing F.writing (columns_view columns.now)) }
+{
+    let periodic = lists_to_json(alloc, &columns.periodic_columns)?;
+    let preprocessed = trace_or_null(alloc, &columns.preprocessed_trace)?;
+    let mut map = Map::new(alloc);
+    put(&mut map, alloc, "width", Value::from(columns.width))?;
+    put(
+        &mut map,
+        alloc,
+        "publics",
+        Value::from(columns.num_public_values),
+    )?;
+    put(&mut map, alloc, "periodic", periodic)?;
+    put(&mut map, alloc, "preprocessed", preprocessed)?;
+    Ok(map)
+}
+
+#[tactic(auto, unfolding(crate::specs::TreeJson::list_writing))]
+fn put_list<F: JsonCodec>(
+    map: &mut Map<String, Value>,
+    alloc: Global,
+    list: &TreeList<F>,
+) -> Result<(), AllocError>
+    ensures { OnOk result (members_view map.new.entries ≡ list_writing F.writing (list_view list.now) (members_view map.old.entries)) }
+{
+    let constants = list_to_json(alloc, &list.constants)?;
+    let nodes = list_to_json(alloc, &list.nodes)?;
+    let constraints = list_to_json(alloc, &list.constraints)?;
+    put(&mut *map, alloc, "constants", constants)?;
+    put(&mut *map, alloc, "nodes", nodes)?;
+    put(&mut *map, alloc, "constraints", constraints)
+}
+
+impl<F: Field + JsonCodec> TreeAir<F> {
+    /// The AIR that an object spells. Its fields are read in the order `width`, `publics`, `periodic`, `preprocessed`,
+    /// `max_constraint_degree`, `num_constraints`, `constants`, `nodes`, `constraints`, others are ignored, and the first fault
+    /// is answered. The preprocessed trace and the hints are None where they are missing or null; the rest is required.
+    ///
+    /// - `WrongKind` with an empty name where the value isn't an object.
+    /// - `MissingField` where a required field isn't there, also one of the preprocessed trace.
+    /// - `WrongKind` where a number isn't a whole one that fits, a list isn't an array, or the preprocessed trace isn't an object.
+    /// - `Element` where an element of a list is refused.
+    /// - `RowWidth` where a row of the preprocessed trace has another width.
+    /// - `Air` after all fields, where the nodes or the constraints have a fault.
+    /// - `OutOfMemory` wherever a growth was refused.
+    #[tactic(auto, unfolding(crate::specs::TreeJson::air_reading))]
+    pub fn from_json(alloc: Global, value: &Value) -> Result<TreeAir<F>, TreeJsonError>
+        ensures decoded { Decodes (λ air. air_view air.declaration air.list) result (air_reading F.reading (view value.now)) }
+    {
+        if !value.is_object() {
+            return Err(TreeJsonError::WrongKind { field: "" });
+        }
+        let columns = columns_from_json(alloc, value)?;
+        let max_constraint_degree = optional_number(value, "max_constraint_degree")?;
+        let num_constraints = optional_number(value, "num_constraints")?;
+        let list = tree_list_from_json(alloc, value)?;
+        let declaration = TreeDeclaration {
+            columns,
+            max_constraint_degree,
+            num_constraints,
+        };
+        match TreeAir::new(alloc, declaration, list) {
+            Ok(air) => Ok(air),
+            Err(fault) => Err(TreeJsonError::Air(fault)),
+        }
+    }
+
+    /// An object with the keys of the columns, the lists and the hints that there are; without a preprocessed trace it has null
+    /// in its place. It is read back as this AIR.
+    #[tactic(auto, unfolding(crate::specs::TreeJson::air_writing))]
+    pub fn to_json(&self, alloc: Global) -> Result<Value, AllocError>
+        ensures written { IfOk result (λ value. view value ≡ air_writing F.writing (air_view self.now.declaration self.now.list)) }
+        ensures read_back { IfOk result (λ value. air_reading F.reading (view value) ≡ Ok (air_view self.now.declaration self.now.list)) }
+    {
+        let mut map = columns_to_map(alloc, &self.declaration.columns)?;
+        put_list(&mut map, alloc, &self.list)?;
+        let degree = self.declaration.max_constraint_degree;
+        put_number(&mut map, alloc, "max_constraint_degree", degree)?;
+        let count = self.declaration.num_constraints;
+        put_number(&mut map, alloc, "num_constraints", count)?;
+        Ok(Value::Object(map))
+    }
+}

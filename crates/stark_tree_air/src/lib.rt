@@ -1,0 +1,25 @@
+//! AIRs that are data: a list of nodes, and which of them are constraints.
+#![tactic(auto)]
+
+mod air;
+mod columns;
+mod error;
+mod evaluate;
+mod expression;
+mod fault;
+mod json;
+mod json_error;
+mod json_fields;
+mod list;
+mod node;
+mod node_json;
+mod symbolic;
+mod writing;
+
+pub use air::TreeAir;
+pub use columns::{TreeColumns, TreeDeclaration};
+pub use error::{TreeAirError, TreeExpressionError};
+pub use expression::NamedConstraint;
+pub use json_error::TreeJsonError;
+pub use list::TreeList;
+pub use node::{TreeConstraint, TreeNode};

@@ -1,1 +1,2 @@
 pub mod SizedAirs
+pub mod DeclaringAirs

@@ -10,11 +10,17 @@ mod calls;
 #[cfg(test)]
 mod constraints;
 #[cfg(test)]
+mod declaring_air;
+#[cfg(test)]
 mod domains;
 #[cfg(test)]
 mod elements;
 #[cfg(test)]
 mod empty_trace;
+#[cfg(test)]
+mod hostile;
+#[cfg(test)]
+mod hostile_inputs;
 mod kinds;
 #[cfg(test)]
 mod preprocessing;

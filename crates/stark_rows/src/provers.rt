@@ -5,7 +5,7 @@ ghost use Rattle.stark_protocol.specs.Preprocessing.{HasHeight};
 
 use crate::calls::ClearConfig;
 use crate::proving::{MaskedConfig, masked_reread, proved_by};
-use crate::rows::{all_rows, apart, list_in, numbers_in};
+use crate::rows::{all_rows, apart, list_in, numbers_in, option_in};
 use crate::sized_airs::BoundedAir;
 use p3_uni_stark::PcsProof;
 use stark_air::Air;
@@ -195,7 +195,7 @@ where
         _ => {
             let air = BoundedAir {
                 air: CounterAir,
-                hint: Some(3),
+                hint: option_in(name)?,
             };
             read_text(alloc, &config, &air, log_height, values)
         }
@@ -225,7 +225,7 @@ fn packed_text(alloc: Global, text: &str) -> Result<String, Fail> {
 // The line through 5 and 6 on the points 1 and -1, and the quotient -1. At zeta 1 the proof is made and refused. Of one row the column
 // is 5 everywhere. No element is a witness of 14 bits: a script's witness passes where the number after it is a multiple of 2^bits.
 // On two rows the first selector is X + 1, and X over Z_H, which is 120 on the domain of the quotient, is 7271 X: a broken trace's proof.
-// With an author's bound of 3 the same quotient is cut in two.
+// With an author's bound of 3 the same quotient is cut in two; with the greatest of the bounds there is no domain so large.
 const WORKED: &str = "\
 counter | 1 3 0 | 5 6 | 5 => {\"commitments\":{\"quotient_chunks\":[[[12288,0],[0,0],[0,0],[0,0]]],\"random\":null,\"trace\":[[[6150,6144]]]},\"degree_bits\":1,\"ood_pow_witness\":0,\"opened_values\":{\"preprocessed_local\":null,\"preprocessed_next\":null,\"quotient_chunks\":[[[12288,0,0,0],[0,0,0,0],[0,0,0,0],[0,0,0,0]]],\"random\":null,\"trace_local\":[[4,0,0,0]],\"trace_next\":[[7,0,0,0]]},\"opening_proof\":null} Ok(())\n\
 counter | 1 1 0 | 5 6 | 5 => {\"commitments\":{\"quotient_chunks\":[[[12288,0],[0,0],[0,0],[0,0]]],\"random\":null,\"trace\":[[[6150,6144]]]},\"degree_bits\":1,\"ood_pow_witness\":0,\"opened_values\":{\"preprocessed_local\":null,\"preprocessed_next\":null,\"quotient_chunks\":[[[12288,0,0,0],[0,0,0,0],[0,0,0,0],[0,0,0,0]]],\"random\":null,\"trace_local\":[[5,0,0,0]],\"trace_next\":[[6,0,0,0]]},\"opening_proof\":null} Err(OodPointInDomain)\n\
@@ -235,7 +235,8 @@ counter | 1 3 13 | 5 6 | 5 => {\"commitments\":{\"quotient_chunks\":[[[12288,0],
 counter | 1 3 14 | 5 6 | 5 => GrindExhausted { bits: 14 }\n\
 first row | 1 3 0 | 0 0 | empty => {\"commitments\":{\"quotient_chunks\":[[[0,7271],[0,0],[0,0],[0,0]]],\"random\":null,\"trace\":[[[0,0]]]},\"degree_bits\":1,\"ood_pow_witness\":0,\"opened_values\":{\"preprocessed_local\":null,\"preprocessed_next\":null,\"quotient_chunks\":[[[9524,0,0,0],[0,0,0,0],[0,0,0,0],[0,0,0,0]]],\"random\":null,\"trace_local\":[[0,0,0,0]],\"trace_next\":null},\"opening_proof\":null} Err(OodEvaluationMismatch { index: None })\n\
 first row | 0 3 0 | 0 | empty => {\"commitments\":{\"quotient_chunks\":[[[0],[0],[0],[0]]],\"random\":null,\"trace\":[[[0]]]},\"degree_bits\":0,\"ood_pow_witness\":0,\"opened_values\":{\"preprocessed_local\":null,\"preprocessed_next\":null,\"quotient_chunks\":[[[0,0,0,0],[0,0,0,0],[0,0,0,0],[0,0,0,0]]],\"random\":null,\"trace_local\":[[0,0,0,0]],\"trace_next\":null},\"opening_proof\":null} Ok(())\n\
-bounded | 1 3 0 | 5 6 | 5 => {\"commitments\":{\"quotient_chunks\":[[[12288,0],[0,0],[0,0],[0,0]],[[12288,0],[0,0],[0,0],[0,0]]],\"random\":null,\"trace\":[[[6150,6144]]]},\"degree_bits\":1,\"ood_pow_witness\":0,\"opened_values\":{\"preprocessed_local\":null,\"preprocessed_next\":null,\"quotient_chunks\":[[[12288,0,0,0],[0,0,0,0],[0,0,0,0],[0,0,0,0]],[[12288,0,0,0],[0,0,0,0],[0,0,0,0],[0,0,0,0]]],\"random\":null,\"trace_local\":[[4,0,0,0]],\"trace_next\":[[7,0,0,0]]},\"opening_proof\":null} Ok(())";
+3 | 1 3 0 | 5 6 | 5 => {\"commitments\":{\"quotient_chunks\":[[[12288,0],[0,0],[0,0],[0,0]],[[12288,0],[0,0],[0,0],[0,0]]],\"random\":null,\"trace\":[[[6150,6144]]]},\"degree_bits\":1,\"ood_pow_witness\":0,\"opened_values\":{\"preprocessed_local\":null,\"preprocessed_next\":null,\"quotient_chunks\":[[[12288,0,0,0],[0,0,0,0],[0,0,0,0],[0,0,0,0]],[[12288,0,0,0],[0,0,0,0],[0,0,0,0],[0,0,0,0]]],\"random\":null,\"trace_local\":[[4,0,0,0]],\"trace_next\":[[7,0,0,0]]},\"opening_proof\":null} Ok(())\n\
+9223372036854775809 | 1 3 0 | 5 6 | 5 => QuotientDomainTooLarge { maximum: 63, got: 64 }";
 
 #[test]
 fn worked_proofs(rt: HostRuntime) -> Result<(), Fail> {

@@ -4,6 +4,7 @@
 use crate::calls;
 use crate::elements::{Base, Extension, numbers, row};
 use crate::rows::{all_rows, apart, list_in, numbers_in};
+use crate::sized_airs::BoundedAir;
 use p3_uni_stark::{
     Commitments, OpenedValues, PreprocessedOpenedValues, PreprocessedVerifierKey, Proof,
 };
@@ -214,14 +215,15 @@ fn cubic_answer(alloc: Global, text: &str) -> Result<String, Fail> {
     answer_with(alloc, &CubicAir, text, None, None)
 }
 
-// An author's bound on the degree, past all domains.
+// The cubic with an author's bound on the degree that is past all domains, at the greatest height and the least.
 const HIGH_BOUND: &str = "\
+0 0 12 0 3 0 | 0 | none | empty => Err(InvalidProofShape(QuotientDomainTooLarge { air: None, maximum: 63, got: 64 }))
 0 0 0 0 3 0 | 0 | none | empty => Err(InvalidProofShape(QuotientDomainTooLarge { air: None, maximum: 63, got: 64 }))";
 
 fn bounded_answer(alloc: Global, text: &str) -> Result<String, Fail> {
-    let air = SmallAir {
-        asked: Asked::Zeros,
-        max_degree: Some(usize::MAX),
+    let air = BoundedAir {
+        air: CubicAir,
+        hint: Some(usize::MAX),
     };
     answer_with(alloc, &air, text, None, None)
 }

@@ -4,6 +4,8 @@
 #[cfg(test)]
 mod air_tests;
 #[cfg(test)]
+mod hostile_tests;
+#[cfg(test)]
 mod prove_tests;
 #[cfg(test)]
 mod runs;

@@ -1,0 +1,179 @@
+//! All that a verifier is given, as one JSON text, and what it answers: the declarations of an AIR, the key, the challenger's
+//! numbers and the bits of work, the public values, the opened preprocessed rows and the proof, whose JSON has none of those rows,
+//! since JSON can't spell all of them.
+use crate::calls::ClearConfig;
+use crate::declaring_air::DeclaringAir;
+use crate::elements::{Base, Extension};
+use crate::proving::MaskedConfig;
+use p3_uni_stark::{
+    PcsProof, PreprocessedOpenedValues, PreprocessedVerifierKey, Proof, verify_with_preprocessed,
+};
+use serde_json::Value;
+use stark_bench::{ClearCommitment, ScriptChallenger};
+use stark_clear::{ClearPcs, MaskedClearPcs};
+use stark_parts::{Com, PcsError, StarkConfig, StarkGenericConfig, Val};
+use stark_support::{
+    CanObserve, ExtensionChallenger, ExtensionField, FieldChallenger, GrindingChallenger,
+    JsonCodec, NeverNull, PrimeField64, TwoAdicField, list_from_json, lists_from_json,
+};
+use std::alloc::Global;
+use std::fmt::Debug;
+use std::test::Fail;
+
+fn list_at<T: JsonCodec + Drop>(alloc: Global, value: &Value, key: &str) -> Result<Vec<T>, Fail> {
+    let list = value.get(key).ok_or("no list")?;
+    Ok(list_from_json(alloc, list).ok().ok_or("another list")?)
+}
+
+fn flag_at(value: &Value, key: &str) -> Result<bool, Fail> {
+    Ok(value.get(key).and_then(Value::as_bool).ok_or("no flag")?)
+}
+
+fn number_at(value: &Value, key: &str) -> Option<usize> {
+    let number = value.get(key)?.as_u64()?;
+    Some(number as usize)
+}
+
+fn air_of<F: JsonCodec + Drop>(alloc: Global, value: &Value) -> Result<DeclaringAir<F>, Fail> {
+    let periodic = value.get("periodic").ok_or("no columns")?;
+    Ok(DeclaringAir {
+        reads_next: flag_at(value, "next")?,
+        has_fixed: flag_at(value, "fixed")?,
+        reads_fixed_next: flag_at(value, "fixed_next")?,
+        periodic: lists_from_json(alloc, periodic)
+            .ok()
+            .ok_or("other columns")?,
+        hint: number_at(value, "hint"),
+    })
+}
+
+/// The key; none where it is missing.
+fn key_of<K: JsonCodec + Drop>(
+    alloc: Global,
+    value: &Value,
+) -> Result<Option<PreprocessedVerifierKey<K>>, Fail> {
+    let Some(key) = value.get("key") else {
+        return Ok(None);
+    };
+    let commitment = key.get("commitment").ok_or("no commitment")?;
+    Ok(Some(PreprocessedVerifierKey {
+        width: number_at(key, "width").ok_or("no width")?,
+        degree_bits: number_at(key, "height").ok_or("no height")?,
+        commitment: K::from_json(alloc, commitment)
+            .ok()
+            .ok_or("another commitment")?,
+    }))
+}
+
+/// The opened preprocessed rows; none where the current one is missing.
+fn fixed_rows_of<EF: JsonCodec + Drop>(
+    alloc: Global,
+    value: &Value,
+) -> Result<Option<PreprocessedOpenedValues<EF>>, Fail> {
+    if value.get("fixed_row").is_none() {
+        return Ok(None);
+    }
+    let local = list_at(alloc, value, "fixed_row")?;
+    let next = match value.get("fixed_row_after") {
+        Some(_) => Some(list_at(alloc, value, "fixed_row_after")?),
+        None => None,
+    };
+    Ok(Some(PreprocessedOpenedValues { local, next }))
+}
+
+fn proof_of<K: NeverNull + Drop, EF: JsonCodec + Drop, P: JsonCodec + Drop, F: JsonCodec + Drop>(
+    alloc: Global,
+    value: &Value,
+) -> Result<Proof<K, EF, P, F>, Fail> {
+    let json = value.get("proof").ok_or("no proof")?;
+    let mut proof: Proof<K, EF, P, F> = Proof::from_json(alloc, json).ok().ok_or("another proof")?;
+    proof.opened_values.preprocessed = fixed_rows_of(alloc, value)?;
+    Ok(proof)
+}
+
+/// What any verifier answers, in words.
+fn answered<SC>(alloc: Global, config: &SC, value: &Value) -> Result<String, Fail>
+where
+    SC: StarkGenericConfig,
+    SC::Challenger: GrindingChallenger<Witness = Val<SC>>,
+    SC::Challenge: JsonCodec,
+    Val<SC>: JsonCodec,
+    Com<SC>: NeverNull,
+    PcsProof<SC>: JsonCodec,
+    PcsError<SC>: Debug,
+{
+    let air = air_of::<Val<SC>>(alloc, value)?;
+    let key = key_of::<Com<SC>>(alloc, value)?;
+    let proof = proof_of::<Com<SC>, SC::Challenge, PcsProof<SC>, Val<SC>>(alloc, value)?;
+    let publics = list_at::<Val<SC>>(alloc, value, "publics")?;
+    let answer = verify_with_preprocessed(alloc, config, &air, &proof, &publics, key.as_ref());
+    Ok(format!(in alloc; "{answer:?}")?)
+}
+
+fn answered_in_clear<F, EF, C>(
+    alloc: Global,
+    config: &ClearConfig<F, EF, C>,
+    value: &Value,
+) -> Result<String, Fail>
+where
+    F: TwoAdicField + PrimeField64 + JsonCodec,
+    EF: ExtensionField<F> + JsonCodec,
+    C: FieldChallenger<F>
+        + CanObserve<ClearCommitment<F>>
+        + ExtensionChallenger<F, EF>
+        + GrindingChallenger<Witness = F>
+        + Clone,
+{
+    answered::<ClearConfig<F, EF, C>>(alloc, config, value)
+}
+
+fn answered_with_masks<F, EF, C>(
+    alloc: Global,
+    config: &MaskedConfig<F, EF, C>,
+    value: &Value,
+) -> Result<String, Fail>
+where
+    F: TwoAdicField + PrimeField64 + JsonCodec,
+    EF: ExtensionField<F> + JsonCodec,
+    C: FieldChallenger<F>
+        + CanObserve<ClearCommitment<F>>
+        + ExtensionChallenger<F, EF>
+        + GrindingChallenger<Witness = F>
+        + Clone,
+{
+    answered::<MaskedConfig<F, EF, C>>(alloc, config, value)
+}
+
+fn value_of(alloc: Global, text: &str) -> Result<Value, Fail> {
+    Ok(Value::from_str(alloc, text).ok().ok_or("no JSON")?)
+}
+
+/// The challenger that hands out an input's numbers.
+fn challenger_of(alloc: Global, value: &Value) -> Result<Option<ScriptChallenger<Base>>, Fail> {
+    let numbers = list_at::<Base>(alloc, value, "challenger")?;
+    if numbers.is_empty() {
+        return Ok(None);
+    }
+    Ok(Some(ScriptChallenger::new(numbers)))
+}
+
+/// What the verifier with the scheme in the clear answers of an input.
+pub fn clear_answer(alloc: Global, text: &str) -> Result<String, Fail> {
+    let value = value_of(alloc, text)?;
+    let challenger = challenger_of(alloc, &value)?.ok_or("no numbers")?;
+    let bits = number_at(&value, "work").ok_or("no bits of work")?;
+    let config = StarkConfig::new(ClearPcs::new(), challenger).with_ood_proof_of_work_bits(bits);
+    answered_in_clear::<Base, Extension, ScriptChallenger<Base>>(alloc, &config, &value)
+}
+
+/// What the verifier with the masked scheme answers. No mask is read by it.
+pub fn masked_answer(alloc: Global, text: &str) -> Result<String, Fail> {
+    let value = value_of(alloc, text)?;
+    let challenger = challenger_of(alloc, &value)?.ok_or("no numbers")?;
+    let bits = number_at(&value, "work").ok_or("no bits of work")?;
+    let mut masks = Vec::new(alloc);
+    masks.push(Base::new(1))?;
+    let scheme = MaskedClearPcs::new(masks);
+    let config = StarkConfig::new(scheme, challenger).with_ood_proof_of_work_bits(bits);
+    answered_with_masks::<Base, Extension, ScriptChallenger<Base>>(alloc, &config, &value)
+}

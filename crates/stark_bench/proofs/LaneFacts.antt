@@ -19,9 +19,6 @@ Below n = n < 12289
 abbrev IsModulus : ℕ → Type 0
 IsModulus n = n ≡ 12289
 
-abbrev Any : ℕ → Type 0
-Any n = ℕ
-
 abbrev moduli : List ℕ
 moduli = 12289 ∷ 12289 ∷ 12289 ∷ 12289 ∷ []
 

@@ -16,9 +16,9 @@ pub use stark_parts::{
     Com, Domain, GrindExhausted, InvalidProofShapeError, PackedChallenge, PackedVal, PcsError,
     PcsProverError, ProverConstraintFolder, ProvingError, StarkConfig, StarkGenericConfig,
     StarkOpeningLayout, StarkProverTranscript, StarkShape, StarkTranscriptFailure,
-    StarkVerifierTranscript, Val, VerificationError, VerifierConstraintFolder,
-    get_log_num_quotient_chunks, get_log_num_quotient_chunks_for_domain,
-    get_log_quotient_degree_extension,
+    StarkVerifierTranscript, Val, VectorizedChallenge, VectorizedConstraintFolder, VectorizedVal,
+    VerificationError, VerifierConstraintFolder, get_log_num_quotient_chunks,
+    get_log_num_quotient_chunks_for_domain, get_log_quotient_degree_extension,
 };
 pub use stark_proof::{
     Commitments, OpenedValues, OpeningsDecodeError, PreprocessedOpenedValues, Proof,
@@ -29,7 +29,7 @@ pub use stark_protocol::{
     StarkProof, recompose_quotient_from_chunks, setup_preprocessed,
 };
 pub use stark_prover::{StarkProving, prove, prove_with_preprocessed};
-pub use stark_quotient::{QuotientAir, quotient_values};
+pub use stark_quotient::{QUOTIENT_ILP, QuotientAir, quotient_values};
 pub use stark_security::{
     OpeningShape, StarkSecurityParams, num_batched_openings, ood_error_bound,
 };

@@ -1,5 +1,5 @@
 //! How the elements of each field are packed.
-ghost use Rattle.std.specs.Prelude.{refl};
+ghost use Rattle.std.specs.Prelude.{false, refl, true};
 ghost use Rattle.std.proofs.Common.{ap};
 ghost use Rattle.stark_support.specs.Lanes.{one_lane};
 ghost use Rattle.stark_bench.specs.Ext4Lanes.{embedded_elements};
@@ -13,17 +13,29 @@ use stark_support::{PackedExtensionField, PackedField};
 impl PackedField for Residue<Scalar> {
     type Packing = S12289;
 
+    ghost BENEFITS_FROM_LOCKSTEP_EVALUATION = { false };
+
+    const BENEFITS_FROM_LOCKSTEP_EVALUATION: bool = false;
+
     ghost packed_ring = { refl };
 }
 
 impl PackedField for Residue<Packed> {
     type Packing = Lanes<Packed>;
 
+    ghost BENEFITS_FROM_LOCKSTEP_EVALUATION = { false };
+
+    const BENEFITS_FROM_LOCKSTEP_EVALUATION: bool = false;
+
     ghost packed_ring = { refl };
 }
 
 impl PackedField for Residue<Lockstep> {
     type Packing = Lanes<Lockstep>;
+
+    ghost BENEFITS_FROM_LOCKSTEP_EVALUATION = { true };
+
+    const BENEFITS_FROM_LOCKSTEP_EVALUATION: bool = true;
 
     ghost packed_ring = { refl };
 }

@@ -311,6 +311,8 @@ fn packings_of_the_fields(rt: HostRuntime) -> Result<(), Fail> {
     assert_eq!(rt; width::<<P12289 as PackedField>::Packing>(), 4);
     assert_eq!(rt; width::<<F12289 as PackedField>::Packing>(), 4);
     assert!(rt; !Base::BENEFITS_FROM_LOCKSTEP_EVALUATION);
+    assert!(rt; !P12289::BENEFITS_FROM_LOCKSTEP_EVALUATION);
+    assert!(rt; F12289::BENEFITS_FROM_LOCKSTEP_EVALUATION);
     let (seven, eight) = (Base::new(7), Base::new(8));
     assert!(rt; packed::<Base>(&[seven], eight) == Some((seven, eight)));
     let y = element([1, 2, 3, 4]);

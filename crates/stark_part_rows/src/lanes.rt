@@ -12,7 +12,7 @@ use std::alloc::{AllocError, Global};
 use std::test::Fail;
 
 /// Whether each lane of the elements' squares, opposites and doubles has what the field computes of the element in it.
-fn lanes_agree<P: PackedValue>(elements: &[P::Value]) -> bool
+pub(crate) fn lanes_agree<P: PackedValue>(elements: &[P::Value]) -> bool
 where
     P::Value: Field,
 {
@@ -104,7 +104,7 @@ fn each_lane_is_the_fields_own(rt: HostRuntime) -> Result<(), Fail> {
 
 /// The powers of alpha, 4, of the first and the last of three constraints, which are over the base field: for each coordinate
 /// of the extension its own.
-fn base_powers<F: PrimeField64>(
+pub(crate) fn base_powers<F: PrimeField64>(
     alloc: Global,
     dimension: usize,
 ) -> Result<Vec<Vec<F>>, AllocError> {

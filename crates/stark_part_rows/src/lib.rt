@@ -16,6 +16,8 @@ mod fields;
 #[cfg(test)]
 mod lanes;
 #[cfg(test)]
+mod lockstep;
+#[cfg(test)]
 mod numbers;
 #[cfg(test)]
 mod polynomials;

@@ -1,4 +1,5 @@
 pub mod Windows
 pub mod FinalizedSteps
+pub mod PairSteps
 pub mod SizingSteps
 pub mod SizingRows

@@ -13,8 +13,11 @@ lane_values lanes i d vs = map (λ v. slice_index_or (lanes v) i d) vs
 abbrev pub sum_of_products : {F : Type 0} → RingOps F → F → List F → List F → F
 sum_of_products ring zero vs cs = linear_combination (ring_operations ring (λ x. x)) zero vs cs
 
--- For each row of powers the sum of the base values times them, embedded; the sum of these, each times its element of the
--- basis; and the sum of the extension's values times their powers.
+-- For each row of powers the sum of the values times them, embedded; the sum of these, each times its element of the basis.
+abbrev pub base_sums : {F E : Type 0} → RingOps F → F → RingOps E → (F → E) → List E → List (List F) → List F → E
+base_sums base zero ring embed basis rows values = basis_sum ring (λ c. c) basis (map (λ row. embed (sum_of_products base zero values row)) rows)
+
+-- These sums of the base values, and the sum of the extension's values times their powers.
 abbrev pub finalized : {F E : Type 0} → RingOps F → F → RingOps E → E → (F → E) → List E → List (List F) → List E → List F → List E → E
 finalized base zero ring zero_above embed basis rows powers values values_above =
-    ring.add (basis_sum ring (λ c. c) basis (map (λ row. embed (sum_of_products base zero values row)) rows)) (sum_of_products ring zero_above values_above powers)
+    ring.add (base_sums base zero ring embed basis rows values) (sum_of_products ring zero_above values_above powers)

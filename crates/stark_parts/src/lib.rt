@@ -9,6 +9,7 @@ mod prover_folder;
 mod shape;
 mod symbolic;
 mod transcript;
+mod vectorized_folder;
 
 pub use config::{
     Com, Domain, PackedChallenge, PackedVal, PcsError, PcsProverError, StarkConfig,
@@ -25,3 +26,4 @@ pub use symbolic::{
     get_log_quotient_degree_extension,
 };
 pub use transcript::{StarkProverTranscript, StarkVerifierTranscript};
+pub use vectorized_folder::{VectorizedChallenge, VectorizedConstraintFolder, VectorizedVal};

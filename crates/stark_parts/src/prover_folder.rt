@@ -4,7 +4,7 @@ ghost use Rattle.std.specs.Vec.{vec_items};
 ghost use Rattle.std.proofs.Common.{ap, ◌∙◌};
 ghost use Rattle.stark_air.specs.Rows.{environment_of, layout_of};
 ghost use Rattle.stark_air.specs.CollectingBoth.{CollectedBoth, collecting_both_laws};
-ghost use Rattle.stark_parts.specs.Finalized.{finalized, lane_values, sum_of_products};
+ghost use Rattle.stark_parts.specs.Finalized.{base_sums, finalized, lane_values, sum_of_products};
 ghost use Rattle.stark_parts.specs.PackedFacts.{embedded_product};
 
 use crate::config::{PackedChallenge, PackedVal, StarkGenericConfig, Val};
@@ -166,26 +166,45 @@ where
             ≡ finalized SC.Pcs.Domain.Val.ring SC.Pcs.Domain.Val.ZERO SC.Challenge.ring SC.Challenge.ZERO SC.Challenge.embed SC.Challenge.basis (map vec_items self.now.base_alpha_powers.now) self.now.ext_alpha_powers.now
             (lane_values SC.Pcs.Domain.Val.Packing.lanes i SC.Pcs.Domain.Val.ring.zero self.now.base_constraints.items) (lane_values SC.Challenge.ExtensionPacking.lanes i SC.Challenge.ring.zero self.now.ext_constraints.items) }
     {
-        let mut sum = packed_sum::<SC::Challenge, PackedChallenge<SC>>(
+        let sum = packed_sum::<SC::Challenge, PackedChallenge<SC>>(
             self.ext_constraints.as_slice(),
             self.ext_alpha_powers,
         );
-        let mut index = SC::Challenge::DIMENSION;
-        while index > 0 {
-            index -= 1;
-            let coordinate = packed_sum::<Val<SC>, PackedVal<SC>>(
-                self.base_constraints.as_slice(),
-                self.base_alpha_powers[index].as_slice(),
-            );
-            let element = SC::Challenge::basis_element(index);
-            sum = plus_coordinate::<SC>(element, coordinate, sum);
-        }
-        sum
+        plus_base_sums::<SC>(
+            self.base_constraints.as_slice(),
+            self.base_alpha_powers,
+            sum,
+        )
     }
 }
 
+/// For each coordinate the basis element times the sum of the values times their powers, and the rest, lane by lane.
+pub(crate) fn plus_base_sums<SC: StarkGenericConfig>(
+    values: &[PackedVal<SC>],
+    powers: &[Vec<Val<SC>>],
+    rest: PackedChallenge<SC>,
+) -> PackedChallenge<SC>
+where
+    Val<SC>: PackedField,
+    SC::Challenge: PackedExtensionField<Val<SC>>,
+    requires dimension { length powers.now ≡ SC.Challenge.DIMENSION }
+    requires rows { All (λ row. length row.items ≡ length values.now) powers.now }
+    ensures { (i : ℕ) → i < SC.Challenge.ExtensionPacking.WIDTH → slice_index_or (SC.Challenge.ExtensionPacking.lanes result) i SC.Challenge.ring.zero
+        ≡ SC.Challenge.ring.add (base_sums SC.Pcs.Domain.Val.ring SC.Pcs.Domain.Val.ZERO SC.Challenge.ring SC.Challenge.embed SC.Challenge.basis (map vec_items powers.now) (lane_values SC.Pcs.Domain.Val.Packing.lanes i SC.Pcs.Domain.Val.ring.zero values.now)) (slice_index_or (SC.Challenge.ExtensionPacking.lanes rest) i SC.Challenge.ring.zero) }
+{
+    let mut sum = rest;
+    let mut index = SC::Challenge::DIMENSION;
+    while index > 0 {
+        index -= 1;
+        let coordinate = packed_sum::<Val<SC>, PackedVal<SC>>(values, powers[index].as_slice());
+        let element = SC::Challenge::basis_element(index);
+        sum = plus_coordinate::<SC>(element, coordinate, sum);
+    }
+    sum
+}
+
 /// The sum of the values, each times its coefficient, lane by lane.
-fn packed_sum<F: Field, P: PackedValue<Value = F>>(values: &[P], coefficients: &[F]) -> P
+pub(crate) fn packed_sum<F: Field, P: PackedValue<Value = F>>(values: &[P], coefficients: &[F]) -> P
     requires { length values.now ≡ length coefficients.now }
     ensures { (i : ℕ) → i < P.WIDTH → slice_index_or (P.lanes result) i F.ring.zero ≡ sum_of_products P.lane_ring F.ZERO (lane_values P.lanes i F.ring.zero values.now) coefficients.now }
 {

@@ -1,5 +1,5 @@
 -- Rows of matrices and of tables that stand in one lane of packed values.
-use Rattle.std.proofs.Common.{◌≡◌, ◌∙◌, ◌++◌, ◌<◌, ◌≤◌, ◌+◌, ◌*◌, ◌-◌, ◌/◌, ◌%◌, ℕ, zero, suc, List, [], ◌∷◌, Option, Some, length, option_map, take, drop, slice_index_or, ap, sym, arith, refl}
+use Rattle.std.proofs.Common.{◌≡◌, ◌≢◌, ◌∙◌, ◌++◌, ◌<◌, ◌≤◌, ◌+◌, ◌*◌, ◌-◌, ◌/◌, ◌%◌, ℕ, zero, suc, List, [], ◌∷◌, Option, None, Some, IfSome, length, option_map, take, drop, slice_index_or, ap, subst, sym, arith, refl}
 use Rattle.std.specs.List.{slice_get}
 use Rattle.std.proofs.Math.Seq.{drop-cons, take-length}
 use Rattle.std.proofs.Math.Nat.{mod-add-div, mul-div_cancel, mul-le-mul_right}
@@ -9,7 +9,7 @@ use Rattle.stark_support.specs.Scheme.{matrix_row}
 use Rattle.stark_support.proofs.CellSteps.{cell_within}
 use Rattle.stark_air.specs.Declaration.{Trace}
 use Rattle.stark_parts.specs.Finalized.{lane_values}
-use Rattle.stark_quotient.specs.PointwiseQuotient.{round_row}
+use Rattle.stark_quotient.specs.PointwiseQuotient.{HasShape, matrix_or_empty, round_row}
 
 pub whole_row : (row width count : ℕ) → row < count / width → row * width + width ≤ count
 whole_row row zero count below = let last = cell_within row 0 0 count below in omega arith
@@ -112,3 +112,12 @@ pub in_period : {A : Type 0} (value : ℕ → A) (period : ℕ) → ((r : ℕ) �
 in_period value period again start r =
     let parts = mod-add-div start period in
     sym (begins_again value period again (start / period) (start % period + r)) ∙ ap value (let e : start % period + r + start / period * period ≡ start + r = omega (arith, parts) in e)
+
+-- A matrix of some columns that has the shape of one with rows has rows.
+pub rows_there : {M N F : Type 0} (now : M → N) (view : N → Trace F) (width size : ℕ) (found : Option M) → 0 < size → HasShape width size (matrix_or_empty (option_map (λ m. view (now m)) found))
+    → IfSome (option_map now found) (λ m. (view m).width ≢ 0 → 0 < length (view m).values / (view m).width)
+rows_there now view width size None some shape = tt
+rows_there now view width size (Some m) some shape = λ wide.
+    let columns = (view (now m)).width in
+    let e = ap (λ n. n / columns) shape.number ∙ mul-div_cancel size (let above : 0 < columns = omega (arith, wide) in above) in
+    subst (λ n. 0 < n) (sym e) some

@@ -4,6 +4,7 @@ ghost use Rattle.std.specs.Vec.{vec_items};
 ghost use Rattle.stark_quotient.specs.FoldedPlaces.{AreFoldingPowers};
 ghost use Rattle.stark_quotient.specs.PointRows.{IsLaneRow, PointRow, folded_over, packed_environment, packed_layout};
 
+use crate::group_eval::GroupEval;
 use crate::row::folded_row;
 use stark_air::{Air, AirBuilder, RowWindow};
 use stark_parts::{PackedChallenge, PackedVal, ProverConstraintFolder, StarkGenericConfig, Val};
@@ -28,70 +29,52 @@ pub(crate) struct AlphaPowers<SC: StarkGenericConfig> {
 
 /// Packed rows, each two one after the other, in buffers that serve every group.
 #[derive(Drop)]
-pub(crate) struct PackedRows<SC: StarkGenericConfig>
-where
-    Val<SC>: PackedField,
-    SC::Challenge: PackedExtensionField<Val<SC>>,
-{
+pub(crate) struct PackedRows<P> {
     pub main_width: usize,
-    pub main: Vec<PackedVal<SC>>,
+    pub main: Vec<P>,
     pub preprocessed_width: usize,
-    pub preprocessed: Vec<PackedVal<SC>>,
-    pub periodic_values: Vec<PackedVal<SC>>,
+    pub preprocessed: Vec<P>,
+    pub periodic_values: Vec<P>,
+    /// Where next rows are packed, before they are put behind the current ones.
+    pub next: Vec<P>,
+}
+
+impl<P> PackedRows<P> {
+    /// The buffers, all empty, for rows of so many main and preprocessed columns.
+    pub(crate) fn new(alloc: Global, main_width: usize, preprocessed_width: usize) -> PackedRows<P>
+        ensures main { result.main_width ≡ main_width }
+        ensures preprocessed { result.preprocessed_width ≡ preprocessed_width }
+    {
+        PackedRows {
+            main_width,
+            main: Vec::new(alloc),
+            preprocessed_width,
+            preprocessed: Vec::new(alloc),
+            periodic_values: Vec::new(alloc),
+            next: Vec::new(alloc),
+        }
+    }
 }
 
 /// The buffers in which a folder keeps the constraints' values.
 #[derive(Drop)]
-pub(crate) struct KeptValues<SC: StarkGenericConfig>
-where
-    Val<SC>: PackedField,
-    SC::Challenge: PackedExtensionField<Val<SC>>,
-{
-    base: Vec<PackedVal<SC>>,
-    ext: Vec<PackedChallenge<SC>>,
+pub(crate) struct KeptValues<P, C> {
+    pub base: Vec<P>,
+    pub ext: Vec<C>,
 }
 
-/// Evaluates an AIR's constraints at one group of points after the other, with one set of buffers.
+/// Evaluates an AIR's constraints at as many points at a time as one packed value has lanes, with one set of buffers.
 #[derive(Drop)]
 pub(crate) struct PlainEval<SC: StarkGenericConfig>
 where
     Val<SC>: PackedField,
     SC::Challenge: PackedExtensionField<Val<SC>>,
 {
-    pub rows: PackedRows<SC>,
-    pub next: Vec<PackedVal<SC>>,
-    pub kept: KeptValues<SC>,
-}
-
-impl<SC: StarkGenericConfig> PlainEval<SC>
-where
-    Val<SC>: PackedField,
-    SC::Challenge: PackedExtensionField<Val<SC>>,
-{
-    /// The buffers, all empty, for rows of so many main and preprocessed columns.
-    pub(crate) fn new(alloc: Global, main_width: usize, preprocessed_width: usize) -> PlainEval<SC>
-        ensures main { result.rows.main_width ≡ main_width }
-        ensures preprocessed { result.rows.preprocessed_width ≡ preprocessed_width }
-    {
-        PlainEval {
-            rows: PackedRows {
-                main_width,
-                main: Vec::new(alloc),
-                preprocessed_width,
-                preprocessed: Vec::new(alloc),
-                periodic_values: Vec::new(alloc),
-            },
-            next: Vec::new(alloc),
-            kept: KeptValues {
-                base: Vec::new(alloc),
-                ext: Vec::new(alloc),
-            },
-        }
-    }
+    kept: KeptValues<PackedVal<SC>, PackedChallenge<SC>>,
 }
 
 /// What a buffer has, emptied; it is replaced by one without room.
-fn emptied<T: Drop>(alloc: Global, buffer: &mut Vec<T>) -> Vec<T>
+pub(crate) fn emptied<T: Drop>(alloc: Global, buffer: &mut Vec<T>) -> Vec<T>
     ensures { result.items ≡ [] }
 {
     let mut values = mem::replace(buffer, Vec::new(alloc));
@@ -102,11 +85,11 @@ fn emptied<T: Drop>(alloc: Global, buffer: &mut Vec<T>) -> Vec<T>
 /// The prover's folder over rows in the buffers, which keeps nothing yet.
 fn folder_on<'a, SC: StarkGenericConfig>(
     alloc: Global,
-    rows: &'a PackedRows<SC>,
+    rows: &'a PackedRows<PackedVal<SC>>,
     selectors: &LagrangeSelectors<PackedVal<SC>>,
     public_values: &'a [Val<SC>],
     powers: &'a AlphaPowers<SC>,
-    kept: &mut KeptValues<SC>,
+    kept: &mut KeptValues<PackedVal<SC>, PackedChallenge<SC>>,
 ) -> ProverConstraintFolder<'a, SC>
 where
     Val<SC>: PackedField,
@@ -145,14 +128,14 @@ where
 
 /// In each lane the folded sum of an AIR's constraints over the row there: `alpha^(n - 1 - j)` times constraint `j` for each of
 /// the `n`. Err only where memory was refused.
-pub(crate) fn fold_group<SC: StarkGenericConfig, A: Air<Val<SC>>>(
+fn fold_group<SC: StarkGenericConfig, A: Air<Val<SC>>>(
     alloc: Global,
     air: &A,
-    rows: &PackedRows<SC>,
+    rows: &PackedRows<PackedVal<SC>>,
     selectors: &LagrangeSelectors<PackedVal<SC>>,
     public_values: &[Val<SC>],
     powers: &AlphaPowers<SC>,
-    kept: &mut KeptValues<SC>,
+    kept: &mut KeptValues<PackedVal<SC>, PackedChallenge<SC>>,
 ) -> Result<PackedChallenge<SC>, AllocError>
 where
     Val<SC>: PackedField,
@@ -174,4 +157,49 @@ where
     kept.base = folder.base_constraints;
     kept.ext = folder.ext_constraints;
     Ok(packed)
+}
+
+impl<SC: StarkGenericConfig, A: Air<Val<SC>>> GroupEval<SC, A> for PlainEval<SC>
+where
+    Val<SC>: PackedField,
+    SC::Challenge: PackedExtensionField<Val<SC>>,
+{
+    type Packed = PackedVal<SC>;
+
+    type PackedAbove = PackedChallenge<SC>;
+
+    fn new(alloc: Global) -> PlainEval<SC> {
+        PlainEval {
+            kept: KeptValues {
+                base: Vec::new(alloc),
+                ext: Vec::new(alloc),
+            },
+        }
+    }
+
+    fn fold(
+        &mut self,
+        alloc: Global,
+        air: &A,
+        rows: &PackedRows<PackedVal<SC>>,
+        selectors: &LagrangeSelectors<PackedVal<SC>>,
+        public_values: &[Val<SC>],
+        powers: &AlphaPowers<SC>,
+    ) -> Result<PackedChallenge<SC>, AllocError> {
+        fold_group::<SC, A>(
+            alloc,
+            air,
+            rows,
+            selectors,
+            public_values,
+            powers,
+            &mut self.kept,
+        )
+    }
+
+    ghost from_packed_is = { SC.Challenge.from_packed_is };
+
+    ghost extension_ring = { SC.Challenge.extension_packed_ring };
+
+    ghost as_wide = { SC.Challenge.packed_as_wide };
 }

@@ -14,12 +14,14 @@ ghost use Rattle.stark_parts.specs.Finalized.{lane_values};
 ghost use Rattle.stark_quotient.specs.OnCoset.{ArePrepared};
 ghost use Rattle.stark_quotient.specs.PointwiseQuotient.{ArePointwiseQuotients, HasShape, RowsOnCoset, matrix_or_empty, pointwise_quotient, round_row, rows_of_matrices};
 
+use crate::group_eval::GroupEval;
 use crate::packed_rows::{
     packed_pair_or_none, packed_selectors, packed_table_row, push_lanes, row_in_period,
 };
-use crate::plain_eval::{AlphaPowers, PlainEval, fold_group};
+use crate::plain_eval::{AlphaPowers, PackedRows, PlainEval};
+use crate::vectorized_eval::{QUOTIENT_ILP, VectorizedEval};
 use stark_air::{Air, AirLayout, BaseAir, get_constraint_layout};
-use stark_parts::{Domain, PackedChallenge, PackedVal, StarkGenericConfig, Val};
+use stark_parts::{Domain, StarkGenericConfig, Val};
 use stark_support::{
     DomainShape, ExtensionField, Field, LagrangeSelectors, PackedExtensionField, PackedField,
     PackedValue, Pcs, PeriodicColumns, PeriodicLdeTable, PolynomialSpace, RowMajorMatrix,
@@ -110,76 +112,67 @@ fn width_of<T>(matrix: Option<&RowMajorMatrix<T>>) -> usize
     }
 }
 
-/// Puts the rows of the points from `start` on in the evaluator's buffers, a point a lane.
-fn fill_rows<SC: StarkGenericConfig>(
+/// Puts the rows of the points from `start` on in the buffers, a point a lane.
+fn fill_rows<SC: StarkGenericConfig, P: PackedValue<Value = Val<SC>>>(
     on: &OnCoset<'_, SC>,
     start: usize,
-    eval: &mut PlainEval<SC>,
+    rows: &mut PackedRows<P>,
 ) -> Result<(), AllocError>
-where
-    Val<SC>: PackedField,
-    SC::Challenge: PackedExtensionField<Val<SC>>,
     requires room { start + on.now.step < 2 ^ 64 }
     requires main { on.now.main.now.width ≢ 0 → 0 < length on.now.main.now.values.items / on.now.main.now.width }
     requires preprocessed { IfSome (option_map (λ m. m.now) on.now.preprocessed) (λ m. m.width ≢ 0 → 0 < length m.values.items / m.width) }
-    ensures main_width { eval.new.rows.main_width ≡ eval.old.rows.main_width }
-    ensures preprocessed_width { eval.new.rows.preprocessed_width ≡ eval.old.rows.preprocessed_width }
-    ensures main_number { OnOk result (length eval.new.rows.main.items ≡ 2 * on.now.main.now.width) }
-    ensures main { OnOk result ((i : ℕ) → i < SC.Pcs.Domain.Val.Packing.WIDTH → lane_values SC.Pcs.Domain.Val.Packing.lanes i SC.Pcs.Domain.Val.ring.zero eval.new.rows.main.items
+    ensures main_width { rows.new.main_width ≡ rows.old.main_width }
+    ensures preprocessed_width { rows.new.preprocessed_width ≡ rows.old.preprocessed_width }
+    ensures main_number { OnOk result (length rows.new.main.items ≡ 2 * on.now.main.now.width) }
+    ensures main { OnOk result ((i : ℕ) → i < P.WIDTH → lane_values P.lanes i SC.Pcs.Domain.Val.ring.zero rows.new.main.items
         ≡ round_row (record { width = on.now.main.now.width; values = on.now.main.now.values.items }) (start + i) ++ round_row (record { width = on.now.main.now.width; values = on.now.main.now.values.items }) (start + on.now.step + i)) }
-    ensures preprocessed_number { OnOk result (length eval.new.rows.preprocessed.items ≡ 2 * (matrix_or_empty (option_map (λ m. record { width = m.now.width; values = m.now.values.items }) on.now.preprocessed)).width) }
-    ensures preprocessed { OnOk result ((i : ℕ) → i < SC.Pcs.Domain.Val.Packing.WIDTH → lane_values SC.Pcs.Domain.Val.Packing.lanes i SC.Pcs.Domain.Val.ring.zero eval.new.rows.preprocessed.items
+    ensures preprocessed_number { OnOk result (length rows.new.preprocessed.items ≡ 2 * (matrix_or_empty (option_map (λ m. record { width = m.now.width; values = m.now.values.items }) on.now.preprocessed)).width) }
+    ensures preprocessed { OnOk result ((i : ℕ) → i < P.WIDTH → lane_values P.lanes i SC.Pcs.Domain.Val.ring.zero rows.new.preprocessed.items
         ≡ round_row (matrix_or_empty (option_map (λ m. record { width = m.now.width; values = m.now.values.items }) on.now.preprocessed)) (start + i) ++ round_row (matrix_or_empty (option_map (λ m. record { width = m.now.width; values = m.now.values.items }) on.now.preprocessed)) (start + on.now.step + i)) }
-    ensures periodic_number { OnOk result (length eval.new.rows.periodic_values.items ≡ on.now.periodic.width) }
-    ensures periodic { OnOk result ((c : ℕ) (p : SC.Pcs.Domain.Val.Packing) → slice_get eval.new.rows.periodic_values.items c ≡ Some p → (i : ℕ) → i < SC.Pcs.Domain.Val.Packing.WIDTH → start + i < 2 ^ 64
-        → slice_get (SC.Pcs.Domain.Val.Packing.lanes p) i ≡ table_at on.now.periodic.values.items on.now.periodic.width on.now.periodic.period (start + i) c) }
+    ensures periodic_number { OnOk result (length rows.new.periodic_values.items ≡ on.now.periodic.width) }
+    ensures periodic { OnOk result ((c : ℕ) (p : P) → slice_get rows.new.periodic_values.items c ≡ Some p → (i : ℕ) → i < P.WIDTH → start + i < 2 ^ 64
+        → slice_get (P.lanes p) i ≡ table_at on.now.periodic.values.items on.now.periodic.width on.now.periodic.period (start + i) c) }
 {
-    let rows = &mut eval.rows;
     packed_pair_or_none(
         Some(on.main),
         start,
         on.step,
         &mut rows.main,
-        &mut eval.next,
+        &mut rows.next,
     )?;
     packed_pair_or_none(
         on.preprocessed,
         start,
         on.step,
         &mut rows.preprocessed,
-        &mut eval.next,
+        &mut rows.next,
     )?;
-    let periodic_start = row_in_period(&on.periodic, start, PackedVal::<SC>::WIDTH);
+    let periodic_start = row_in_period(&on.periodic, start, P::WIDTH);
     packed_table_row(&on.periodic, periodic_start, &mut rows.periodic_values)
 }
 
 /// Packed sums over vanishing values, whose inverses are given.
-fn over_vanishing<SC: StarkGenericConfig>(
-    sums: PackedChallenge<SC>,
-    inverses: PackedVal<SC>,
-) -> PackedChallenge<SC>
-where
-    Val<SC>: PackedField,
-    SC::Challenge: PackedExtensionField<Val<SC>>,
-    ensures { (i : ℕ) → i < SC.Challenge.ExtensionPacking.WIDTH → slice_index_or (SC.Challenge.ExtensionPacking.lanes result) i SC.Challenge.ring.zero
-        ≡ SC.Challenge.ring.mul (slice_index_or (SC.Challenge.ExtensionPacking.lanes sums) i SC.Challenge.ring.zero) (SC.Challenge.embed (slice_index_or (SC.Pcs.Domain.Val.Packing.lanes inverses) i SC.Pcs.Domain.Val.ring.zero)) }
+fn over_vanishing<SC: StarkGenericConfig, A: Air<Val<SC>>, G: GroupEval<SC, A>>(
+    sums: G::PackedAbove,
+    inverses: G::Packed,
+) -> G::PackedAbove
+    ensures { (i : ℕ) → i < G.PackedAbove.WIDTH → slice_index_or (G.PackedAbove.lanes result) i SC.Challenge.ring.zero
+        ≡ SC.Challenge.ring.mul (slice_index_or (G.PackedAbove.lanes sums) i SC.Challenge.ring.zero) (SC.Challenge.embed (slice_index_or (G.Packed.lanes inverses) i SC.Pcs.Domain.Val.ring.zero)) }
 {
-    sums * PackedChallenge::<SC>::from(inverses)
+    sums * G::PackedAbove::from(inverses)
 }
 
 /// The quotients at the points from `start` on, a point a lane, as far as there are points.
-fn quotients_of_group<SC: StarkGenericConfig, A: Air<Val<SC>>>(
+fn quotients_of_group<SC: StarkGenericConfig, A: Air<Val<SC>>, G: GroupEval<SC, A>>(
     alloc: Global,
     air: &A,
     on: &OnCoset<'_, SC>,
-    eval: &mut PlainEval<SC>,
+    eval: &mut G,
+    rows: &mut PackedRows<G::Packed>,
     start: usize,
-) -> Result<PackedChallenge<SC>, AllocError>
-where
-    Val<SC>: PackedField,
-    SC::Challenge: PackedExtensionField<Val<SC>>,
-    requires main_width { eval.old.rows.main_width ≡ (A.layout air.now).main }
-    requires preprocessed_width { eval.old.rows.preprocessed_width ≡ (A.layout air.now).preprocessed }
+) -> Result<G::PackedAbove, AllocError>
+    requires main_width { rows.old.main_width ≡ (A.layout air.now).main }
+    requires preprocessed_width { rows.old.preprocessed_width ≡ (A.layout air.now).preprocessed }
     requires size { on.now.size ≡ coset_size (SC.Pcs.Domain.coset_of on.now.quotient_domain) }
     requires step { on.now.step ≡ on.now.size / coset_size (SC.Pcs.Domain.coset_of on.now.trace_domain) }
     requires room { on.now.size ≤ 2 ^ 63 }
@@ -192,34 +185,23 @@ where
     requires powers { AreFoldingPowers SC.Challenge.ring SC.Challenge.coordinates SC.Challenge.DIMENSION on.now.powers.alpha (A.constraints air.now) (map vec_items on.now.powers.base.items) on.now.powers.ext.items }
     requires prepared { ArePrepared SC.Pcs.Domain.Val.ring SC.Pcs.Domain.Val.inverse_of SC.Pcs.Domain.Val.root (SC.Pcs.Domain.coset_of on.now.trace_domain) (SC.Pcs.Domain.coset_of on.now.quotient_domain) (A.periodic_columns air.now)
         on.now.selectors.is_first_row.items on.now.selectors.is_last_row.items on.now.selectors.is_transition.items on.now.selectors.inv_vanishing.items on.now.periodic.values.items on.now.periodic.width on.now.periodic.period }
-    ensures main_width { eval.new.rows.main_width ≡ eval.old.rows.main_width }
-    ensures preprocessed_width { eval.new.rows.preprocessed_width ≡ eval.old.rows.preprocessed_width }
-    ensures quotients { IfOk result (λ packed. (i : ℕ) → i < SC.Challenge.ExtensionPacking.WIDTH → start + i < on.now.size → slice_index_or (SC.Challenge.ExtensionPacking.lanes packed) i SC.Challenge.ring.zero ≡ pointwise_quotient (⟦<SC as QuotientOperations<A>>⟧.air_over air.now on.now.trace_domain)
+    ensures main_width { rows.new.main_width ≡ rows.old.main_width }
+    ensures preprocessed_width { rows.new.preprocessed_width ≡ rows.old.preprocessed_width }
+    ensures quotients { IfOk result (λ packed. (i : ℕ) → i < G.PackedAbove.WIDTH → start + i < on.now.size → slice_index_or (G.PackedAbove.lanes packed) i SC.Challenge.ring.zero ≡ pointwise_quotient (⟦<SC as QuotientOperations<A>>⟧.air_over air.now on.now.trace_domain)
         (⟦<SC as QuotientOperations<A>>⟧.rows_on on.now.quotient_domain (record { width = on.now.main.now.width; values = on.now.main.now.values.items }) (matrix_or_empty (option_map (λ m. record { width = m.now.width; values = m.now.values.items }) on.now.preprocessed)) on.now.public_values.now) on.now.powers.alpha (start + i)) }
 {
-    fill_rows::<SC>(on, start, eval)?;
+    fill_rows::<SC, G::Packed>(on, start, rows)?;
     let selectors = packed_selectors(&on.selectors, start);
-    let sums = fold_group::<SC, A>(
-        alloc,
-        air,
-        &eval.rows,
-        &selectors,
-        on.public_values,
-        &on.powers,
-        &mut eval.kept,
-    )?;
-    Ok(over_vanishing::<SC>(sums, selectors.inv_vanishing))
+    let sums = eval.fold(alloc, air, rows, &selectors, on.public_values, &on.powers)?;
+    Ok(over_vanishing::<SC, A, G>(sums, selectors.inv_vanishing))
 }
 
-/// The quotients at all points.
-fn values_on<SC: StarkGenericConfig, A: Air<Val<SC>>>(
+/// The quotients at all points, by one way to evaluate groups of them.
+fn values_on<SC: StarkGenericConfig, A: Air<Val<SC>>, G: GroupEval<SC, A>>(
     alloc: Global,
     air: &A,
     on: &OnCoset<'_, SC>,
 ) -> Result<Vec<SC::Challenge>, AllocError>
-where
-    Val<SC>: PackedField,
-    SC::Challenge: PackedExtensionField<Val<SC>>,
     requires size { on.now.size ≡ coset_size (SC.Pcs.Domain.coset_of on.now.quotient_domain) }
     requires step { on.now.step ≡ on.now.size / coset_size (SC.Pcs.Domain.coset_of on.now.trace_domain) }
     requires room { on.now.size ≤ 2 ^ 63 }
@@ -234,13 +216,14 @@ where
     ensures { IfOk result (λ values. ArePointwiseQuotients (⟦<SC as QuotientOperations<A>>⟧.air_over air.now on.now.trace_domain)
         (⟦<SC as QuotientOperations<A>>⟧.rows_on on.now.quotient_domain (record { width = on.now.main.now.width; values = on.now.main.now.values.items }) (matrix_or_empty (option_map (λ m. record { width = m.now.width; values = m.now.values.items }) on.now.preprocessed)) on.now.public_values.now) on.now.powers.alpha values.items) }
 {
-    let mut eval = PlainEval::new(alloc, on.main.width, width_of(on.preprocessed));
+    let mut eval = G::new(alloc);
+    let mut rows = PackedRows::new(alloc, on.main.width, width_of(on.preprocessed));
     let mut values = Vec::with_capacity(alloc, on.size)?;
     let mut start = 0;
     while start < on.size {
-        let packed = quotients_of_group::<SC, A>(alloc, air, on, &mut eval, start)?;
+        let packed = quotients_of_group::<SC, A, G>(alloc, air, on, &mut eval, &mut rows, start)?;
         push_lanes(&mut values, &packed, on.size - start)?;
-        start += PackedChallenge::<SC>::WIDTH;
+        start += G::PackedAbove::WIDTH;
     }
     Ok(values)
 }
@@ -330,5 +313,9 @@ where
         size,
         step: size / points_of(&trace_domain),
     };
-    values_on::<SC, A>(alloc, air, &on)
+    if Val::<SC>::BENEFITS_FROM_LOCKSTEP_EVALUATION {
+        values_on::<SC, A, VectorizedEval<SC, QUOTIENT_ILP>>(alloc, air, &on)
+    } else {
+        values_on::<SC, A, PlainEval<SC>>(alloc, air, &on)
+    }
 }

@@ -12,6 +12,8 @@ pub mod TwoAdic
 pub mod Embedding
 pub mod Extension
 pub mod Lanes
+pub mod Pairs
+pub mod PairRoom
 pub mod Combination
 pub mod Logarithm
 pub mod LogarithmFacts

@@ -7,7 +7,7 @@ ghost use Rattle.stark_support.specs.Embedding.{IsEmbedding};
 ghost use Rattle.stark_support.specs.Extension.{IsBasis, basis_sum};
 ghost use Rattle.stark_support.specs.TwoAdic.{TwoAdicLaws};
 
-use crate::packed::PackedValue;
+use crate::packed::PairedValue;
 use std::ops::{Add, Mul, Neg, Sub};
 
 /// What a list of constraints needs of the elements of a field. It has no operator, so that a builder may name it by
@@ -79,14 +79,9 @@ pub trait Field: Element
 
     ghost GENERATOR: { Self };
 
-    ghost BENEFITS_FROM_LOCKSTEP_EVALUATION: { Bool };
-
     const ZERO: Self;
 
     const GENERATOR: Self;
-
-    /// Whether it pays to work on two packed values at a time.
-    const BENEFITS_FROM_LOCKSTEP_EVALUATION: bool;
 
     /// A value of the type is an element.
     fn known_element(self)
@@ -129,7 +124,12 @@ pub trait Field: Element
 /// A field whose elements are packed.
 pub trait PackedField: Field {
     /// Packed values of this field.
-    type Packing: PackedValue<Value = Self>;
+    type Packing: PairedValue<Value = Self>;
+
+    ghost BENEFITS_FROM_LOCKSTEP_EVALUATION: { Bool };
+
+    /// Whether it pays to work on two packed values at a time.
+    const BENEFITS_FROM_LOCKSTEP_EVALUATION: bool;
 
     /// The lanes of packed values are added and multiplied as this field's elements.
     ghost packed_ring: { Self.Packing.lane_ring ≡ Self.ring };
@@ -235,7 +235,7 @@ pub trait ExtensionField<F: Field>: Field + Algebra<F> {
 /// `ExtensionField` its type keeps a trait's method from being generic in an extension.
 pub trait PackedExtensionField<F: PackedField>: ExtensionField<F> {
     /// Packed values of this field, as many as the base field packs.
-    type ExtensionPacking: PackedValue<Value = Self> + From<F::Packing>;
+    type ExtensionPacking: PairedValue<Value = Self> + From<F::Packing>;
 
     /// Packed elements of the base field, each embedded.
     fn from_packed_base(x: F::Packing) -> Self::ExtensionPacking

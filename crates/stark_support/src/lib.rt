@@ -18,6 +18,7 @@ mod powers;
 mod scheme;
 mod security;
 mod util;
+mod vectorized;
 
 pub use batch_inverse::batch_multiplicative_inverse;
 pub use challenger::{
@@ -37,7 +38,7 @@ pub use json::{
     JsonCodec, JsonFault, NeverNull, field_of, list_from_json, lists_from_json, value_from_bytes,
 };
 pub use matrix::{RowMajorMatrix, RowMajorMatrixView, VerticalPair, ViewPair};
-pub use packed::{PackedValue, packed_from_fn};
+pub use packed::{PackedValue, PairedValue, packed_from_fn};
 pub use pattern::{DomainSeparator, Hierarchy, Interaction, InteractionPattern, Kind, Length};
 pub use periodic::{PeriodicColumnShapeError, PeriodicColumns};
 pub use periodic_table::{PeriodicLdeTable, periodic_lde_table};
@@ -49,3 +50,4 @@ pub use powers::{batched_linear_combination, power_of, squared_times};
 pub use scheme::{DomainVal, Pcs, SchemeFault, UnivariateStarkPcs};
 pub use security::{FriRegime, GrindingSites};
 pub use util::{checked_log_size_sum, checked_pow2, log2_ceil_usize, log2_strict_usize};
+pub use vectorized::{OfBase, OfExtension, PackedPair, Vectorized, VectorizedExt};

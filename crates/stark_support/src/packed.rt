@@ -1,8 +1,9 @@
 //! Values of a field, packed into lanes.
-ghost use Rattle.std.specs.Prelude.{◌≡◌, ◌<◌, ℕ, List, length, Some, slice_set};
+ghost use Rattle.std.specs.Prelude.{◌≡◌, ◌<◌, ◌*◌, ◌^◌, ℕ, List, length, Some, slice_set};
 ghost use Rattle.std.specs.List.{slice_get};
 ghost use Rattle.stark_support.specs.Ring.{RingOps};
 ghost use Rattle.stark_support.specs.Lanes.{IsLaneByLane};
+ghost use Rattle.stark_support.specs.PairRoom.{PairFitsInMemory};
 
 use crate::field::Algebra;
 
@@ -41,6 +42,15 @@ pub trait PackedValue: Copy + Algebra<Self::Value> {
 
     /// A packed value stands for itself alone.
     ghost exact_lanes: { (v x : Self) → ⟦<Self as Algebra<Self::Value>>⟧.stands v x → x ≡ v };
+}
+
+/// Packed values of which two side by side are one with twice as many lanes.
+pub trait PairedValue: PackedValue {
+    /// The lanes of both can be counted.
+    ghost room_for_two: { 2 * Self.WIDTH < 2 ^ 64 };
+
+    /// Both fit in memory.
+    ghost pair_fits: { PairFitsInMemory Self.row };
 }
 
 /// The packed values whose lane `i` has what `value_of` answers at `i`.

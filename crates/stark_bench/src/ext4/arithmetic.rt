@@ -1,5 +1,6 @@
 //! The extension's operations.
 ghost use Rattle.std.specs.Prelude.{false, ◌≡◌, refl, ⊤, map, [], ◌∷◌};
+ghost use Rattle.std.proofs.Common.{lit<};
 ghost use Rattle.stark_support.specs.Extension.{basis_sum};
 ghost use Rattle.stark_support.specs.Ring.{difference};
 ghost use Rattle.stark_support.specs.Lanes.{one_lane, alone_is_lane_by_lane};
@@ -9,8 +10,10 @@ ghost use Rattle.stark_bench.specs.Quartic.{quartic_norm, quartic_cofactor};
 ghost use Rattle.stark_bench.specs.Ext4Field.{coordinates_of, of_coordinates, ext4, ext4_ring, ext4_inverse, ext4_laws, embedded, embedded_is_embedding, basis_of, coordinate_list, ext4_basis, generator_x, eq_gives_same};
 
 use crate::ext4::Ext4;
+use crate::residue::Residue;
 use stark_support::{
-    Algebra, Element, ExtensionField, Field, PackedField, PackedValue, QuarticBase, TwoAdicField,
+    Algebra, Element, ExtensionField, Field, PackedField, PackedValue, PairedValue, QuarticBase,
+    TwoAdicField,
 };
 use std::ops::{Add, Mul, Neg, Sub};
 
@@ -216,6 +219,12 @@ impl<F: QuarticBase> PackedValue for Ext4<F> {
     ghost exact_lanes = { λ _ _ h. h };
 }
 
+impl<Kind> PairedValue for Ext4<Residue<Kind>> {
+    ghost room_for_two = { lit< tt };
+
+    ghost pair_fits = { lit< tt };
+}
+
 impl<F: QuarticBase> Element for Ext4<F> {
     ghost ONE = { embedded F.ring F.ring.one };
 
@@ -227,8 +236,12 @@ impl<F: QuarticBase> Element for Ext4<F> {
     };
 }
 
-impl<F: QuarticBase> PackedField for Ext4<F> {
-    type Packing = Ext4<F>;
+impl<Kind> PackedField for Ext4<Residue<Kind>> {
+    type Packing = Ext4<Residue<Kind>>;
+
+    ghost BENEFITS_FROM_LOCKSTEP_EVALUATION = { false };
+
+    const BENEFITS_FROM_LOCKSTEP_EVALUATION: bool = false;
 
     ghost packed_ring = { refl };
 }
@@ -243,10 +256,6 @@ impl<F: QuarticBase> Field for Ext4<F> {
     ghost ZERO = { embedded F.ring F.ring.zero };
 
     ghost GENERATOR = { embedded F.ring F.GENERATOR };
-
-    ghost BENEFITS_FROM_LOCKSTEP_EVALUATION = { false };
-
-    const BENEFITS_FROM_LOCKSTEP_EVALUATION: bool = false;
 
     const ZERO: Ext4<F> = Ext4 {
         c0: F::ZERO,

@@ -1,5 +1,6 @@
 //! The extension's operations on four elements at once: each works lane by lane.
 ghost use Rattle.std.specs.Prelude.{[], ◌≡◌, ◌∷◌, refl};
+ghost use Rattle.std.proofs.Common.{lit<};
 ghost use Rattle.stark_support.specs.Ring.{difference};
 ghost use Rattle.stark_support.specs.Operations.{ring_operations, exact_binary, exact_unary};
 ghost use Rattle.stark_bench.specs.Residues.{residue, residue_ring};
@@ -11,7 +12,7 @@ use crate::ext4::Ext4;
 use crate::extension_lanes::ExtensionLanes;
 use crate::lanes::{Lanes, four_products, three_products, two_products};
 use crate::residue::Residue;
-use stark_support::{Algebra, Field, PackedValue, QuarticBase};
+use stark_support::{Algebra, Field, PackedValue, PairedValue, QuarticBase};
 use std::ops::{Add, Mul, Neg, Sub};
 
 /// What X^4 is, in each lane.
@@ -191,4 +192,10 @@ impl<Kind> PackedValue for ExtensionLanes<Kind> {
     ghost lane_by_lane = { extension_is_lane_by_lane };
 
     ghost exact_lanes = { λ _ _ h. h };
+}
+
+impl<Kind> PairedValue for ExtensionLanes<Kind> {
+    ghost room_for_two = { lit< tt };
+
+    ghost pair_fits = { lit< tt };
 }

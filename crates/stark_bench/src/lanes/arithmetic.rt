@@ -1,6 +1,7 @@
 //! The operations on four residues at once: each works lane by lane.
 ghost use Rattle.std.specs.Prelude.{[], ◌≡◌, ◌∷◌, ◌<◌, ◌≤◌, ◌+◌, ℕ, length, refl, slice_index};
 ghost use Rattle.std.specs.Simd.Lanes.{zip2};
+ghost use Rattle.std.proofs.Common.{lit<};
 ghost use Rattle.stark_support.specs.Ring.{difference};
 ghost use Rattle.stark_support.specs.Operations.{ring_operations, exact_binary, exact_unary};
 ghost use Rattle.stark_bench.specs.Residues.{residue_ring};
@@ -8,7 +9,7 @@ ghost use Rattle.stark_bench.specs.ResidueLanes.{lanes_of, in_each_lane, lanes_r
 
 use crate::lanes::Lanes;
 use crate::residue::Residue;
-use stark_support::{Algebra, PackedValue};
+use stark_support::{Algebra, PackedValue, PairedValue};
 use std::marker::PhantomData;
 use std::ops::{Add, Mul, Neg, Sub};
 use std::simd::prelude::*;
@@ -248,4 +249,10 @@ impl<Kind> PackedValue for Lanes<Kind> {
     ghost lane_by_lane = { is_lane_by_lane };
 
     ghost exact_lanes = { λ _ _ h. h };
+}
+
+impl<Kind> PairedValue for Lanes<Kind> {
+    ghost room_for_two = { lit< tt };
+
+    ghost pair_fits = { lit< tt };
 }

@@ -1,5 +1,5 @@
 //! The field's operations.
-ghost use Rattle.std.specs.Prelude.{false, ◌<◌, ◌≡◌, ◌==◌, refl, ⊤};
+ghost use Rattle.std.specs.Prelude.{◌<◌, ◌≡◌, ◌==◌, refl, ⊤};
 ghost use Rattle.stark_support.specs.Ring.{difference};
 ghost use Rattle.stark_support.specs.Lanes.{one_lane, alone_is_lane_by_lane};
 ghost use Rattle.stark_support.specs.Operations.{ring_operations, exact_binary, exact_unary};
@@ -10,7 +10,8 @@ ghost use Rattle.stark_bench.specs.Roots.{root, two_adic_laws};
 
 use crate::residue::Residue;
 use stark_support::{
-    Algebra, Element, Field, PackedValue, PrimeField64, QuarticBase, TwoAdicField, squared_times,
+    Algebra, Element, Field, PackedValue, PairedValue, PrimeField64, QuarticBase, TwoAdicField,
+    squared_times,
 };
 use std::fmt::{self, Write};
 use std::marker::PhantomData;
@@ -168,6 +169,12 @@ impl<Kind> PackedValue for Residue<Kind> {
     ghost exact_lanes = { λ _ _ h. h };
 }
 
+impl<Kind> PairedValue for Residue<Kind> {
+    ghost room_for_two = { lit< tt };
+
+    ghost pair_fits = { lit< tt };
+}
+
 impl<Kind> Element for Residue<Kind> {
     ghost ONE = { residue 1 };
 
@@ -187,10 +194,6 @@ impl<Kind> Field for Residue<Kind> {
     ghost ZERO = { residue 0 };
 
     ghost GENERATOR = { residue 11 };
-
-    ghost BENEFITS_FROM_LOCKSTEP_EVALUATION = { false };
-
-    const BENEFITS_FROM_LOCKSTEP_EVALUATION: bool = false;
 
     const ZERO: Residue<Kind> = Residue {
         value: 0,

@@ -8,7 +8,7 @@ use Rattle.stark_air.specs.Declaration.{Trace}
 use Rattle.stark_parts.specs.Finalized.{lane_values}
 use Rattle.stark_quotient.specs.PointRows.{IsLaneRow, PointRow}
 use Rattle.stark_quotient.specs.PointwiseQuotient.{matrix_or_empty}
-use Rattle.stark_quotient.proofs.LaneRows.{lane_read, row_number, table_in_lane, two_round}
+use Rattle.stark_quotient.proofs.LaneRows.{lane_read, row_number, rows_there, table_in_lane, two_round}
 use Rattle.stark_quotient.proofs.PointSteps.{quotient_of_rows}
 use Rattle.stark_quotient.proofs.quotient.quotients_of_group.Goals as goal
 
@@ -20,12 +20,12 @@ returns-clause-quotients g c = λ i below within.
     let val = g.met.SC.Pcs.Domain.Val in
     let challenge = g.met.SC.Challenge in
     let field = g.SC.Challenge.ExtensionField in
-    let lanes = g.SC.Pcs.Domain.Val.Packing.PackedValue.lanes in
+    let lanes = g.G.Packed.PackedValue.lanes in
     let zero = g.SC.Pcs.Domain.Val.Field.ring.zero in
     let trace = g.SC.Pcs.Domain.PolynomialSpace.coset_of on.trace_domain in
     let coset = g.SC.Pcs.Domain.PolynomialSpace.coset_of on.quotient_domain in
-    let narrow = subst (λ n. i < n) challenge.PackedExtensionField.packed_as_wide below in
-    let wide : (p : g.row.SC-Pcs-Domain-Val-Packing.Denot) → i < length (lanes p) = λ p. subst (λ n. i < n) (sym (val.Packing.PackedValue.lane_by_lane.as_many p)) narrow in
+    let narrow = subst (λ n. i < n) g.met.G.GroupEval.as_wide below in
+    let wide : (p : g.row.G-Packed.Denot) → i < length (lanes p) = λ p. subst (λ n. i < n) (sym (g.met.G.Packed.PackedValue.lane_by_lane.as_many p)) narrow in
     let inside = subst (λ n. k < n) c.requires.size within in
     let main : Trace g.row.SC-Pcs-Domain-Val.Denot = record { width = on.main.now.width; values = on.main.now.values.items } in
     let fixed = matrix_or_empty (option_map (λ m. record { width = m.now.width; values = m.now.values.items }) on.preprocessed) in
@@ -34,7 +34,7 @@ returns-clause-quotients g c = λ i below within.
     ap (λ s. (k + s) % on.size) (c.requires.step ∙ ap (λ n. n / coset_size trace) c.requires.size) ∙ ap (λ n. (k + coset_size coset / coset_size trace) % n) c.requires.size in
     let here : (start + i) % on.size ≡ k = mod-eq_of_lt within in
     let there : (start + on.step + i) % on.size ≡ next = ap (λ n. n % on.size) (let e : start + on.step + i ≡ k + on.step = omega arith in e) in
-    let rows = c.fill_rows.new.eval.rows in
+    let rows = c.fill_rows.new.rows in
     let filled = c.in_ok-fill_rows.ensures in
     let selectors = c.packed_selectors-selectors.result in
     let read = c.packed_selectors-selectors.ensures in
@@ -79,3 +79,12 @@ returns-clause-quotients g c = λ i below within.
     (sym (read.last_row i narrow (subst (λ n. k < n) (sym prepared.last_row.number) inside)) ∙ lane_read (lanes selectors.is_last_row) i zero (wide selectors.is_last_row))
     (sym (read.transition i narrow (subst (λ n. k < n) (sym prepared.transition.number) inside)) ∙ lane_read (lanes selectors.is_transition) i zero (wide selectors.is_transition))
     (sym (read.inv_vanishing i narrow (subst (λ n. k < n) (sym prepared.inv_vanishing.number) inside)) ∙ lane_read (lanes selectors.inv_vanishing) i zero (wide selectors.inv_vanishing))
+
+pub fill_rows-requires-clause-preprocessed : goal.fill_rows-requires-clause-preprocessed
+fill_rows-requires-clause-preprocessed g c =
+    let on = c.args.on.now in
+    let some : 0 < on.size = omega (arith, c.requires.within) in
+    rows_there (λ m. m.now) (λ m. record { width = m.width; values = m.values.items }) (g.A.BaseAir.layout c.args.air.now).preprocessed on.size on.preprocessed some c.requires.preprocessed
+
+pub fold-requires-clause-periodic : goal.fold-requires-clause-periodic
+fold-requires-clause-periodic g c = c.in_ok-fill_rows.ensures.periodic_number ∙ c.requires.prepared.periodic.count ∙ sym (g.met.A.BaseAir.as_declared c.args.air.now).periodic_columns

@@ -21,7 +21,7 @@ invariant-loop-start g l =
     let rows = rows_of_matrices g.SC.Pcs.Domain.Val.Field.ring g.SC.Pcs.Domain.Val.TwoAdicField.root (g.SC.Pcs.Domain.PolynomialSpace.coset_of l.on.quotient_domain)
     (record { width = l.on.main.now.width; values = l.on.main.now.values.items }) (matrix_or_empty (option_map (λ m. record { width = m.now.width; values = m.now.values.items }) l.on.preprocessed)) l.on.public_values.now in
     AreFirstQuotients air rows l.on.powers.alpha (min l.start rows.size) l.values.items
-    × (l.eval.rows.main_width ≡ (g.A.BaseAir.layout l.air).main) × (l.eval.rows.preprocessed_width ≡ (g.A.BaseAir.layout l.air).preprocessed)
+    × (l.rows.main_width ≡ (g.A.BaseAir.layout l.air).main) × (l.rows.preprocessed_width ≡ (g.A.BaseAir.layout l.air).preprocessed)
 
 abbrev pub decreases-loop-start : goal.decreases-loop-start
 decreases-loop-start g l = l.on.size - l.start

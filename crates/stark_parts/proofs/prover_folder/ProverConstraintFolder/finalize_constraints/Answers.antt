@@ -1,46 +1,22 @@
-use Rattle.std.proofs.Common.{◌≡◌, ◌∙◌, ◌<◌, ◌+◌, ◌-◌, ap, arith, map, slice_index_or, subst, sym, option_map, List}
+use Rattle.std.proofs.Common.{◌∙◌, List, ap, map, slice_index_or}
 use Rattle.std.specs.Vec.{vec_items}
-use Rattle.std.proofs.lemmas.Option.{slice_get-map, slice_get_read}
-use Rattle.stark_parts.specs.Finalized.{lane_values, sum_of_products}
-use Rattle.stark_parts.proofs.FinalizedSteps.{all_coordinates, mapped_at, one_more_coordinate}
+use Rattle.stark_parts.specs.Finalized.{base_sums, lane_values, sum_of_products}
 use Rattle.stark_parts.proofs.prover_folder.ProverConstraintFolder.finalize_constraints.Goals as goal
 
-pub loop-index-preserved : goal.loop-index-preserved
-loop-index-preserved g c = (
-  omega (arith, c.loop-index.invariant.0),
-  λ i within.
-      let base = g.SC.Pcs.Domain.Val.Field in
-      let packed = g.SC.Pcs.Domain.Val.Packing.PackedValue in
-      let above = g.SC.Challenge.ExtensionPacking.PackedValue in
-      let ring = g.SC.Challenge.Field.ring in
-      let field = g.SC.Challenge.ExtensionField in
-      let laws = g.met.SC.Challenge.PackedExtensionField in
-      let wide = subst (λ n. i < n) laws.packed_as_wide within in
-      let values = c.args.self.now.base_constraints.items in
-      let sums = λ (row : List g.row.SC-Pcs-Domain-Val.Denot). field.embed (sum_of_products base.ring base.ZERO (lane_values packed.lanes i base.ring.zero values) row) in
-      let rows = c.args.self.now.base_alpha_powers.now in
-      let j = c.loop-index.index - 1 in
-      let row = c.index-self-index.result in
-      let element = c.basis_element-element.result in
-      let coordinate = c.packed_sum-coordinate.result in
-      let rest = slice_index_or (above.lanes c.loop-index.sum) i ring.zero in
-      let within_rows : j < field.DIMENSION = omega (arith, c.loop-index.invariant.0, c.loop-index-test.true) in
-      let next : j + 1 ≡ c.loop-index.index = omega (arith, c.loop-index-test.true) in
-      let at_row = slice_get_read rows field.DIMENSION j row (sym c.requires.dimension) within_rows c.index-self-index.is in
-      let at_sum = slice_get-map sums (map vec_items rows) j ∙ ap (option_map sums) (slice_get-map vec_items rows j ∙ ap (option_map vec_items) at_row) in
-      let lane = c.packed_sum-coordinate.ensures i wide
-      ∙ ap (λ r. sum_of_products r base.ZERO (lane_values packed.lanes i base.ring.zero c.as_slice-in-loop-index.result.now) c.as_slice-in-loop-index-2.result.now) g.met.SC.Pcs.Domain.Val.PackedField.packed_ring
-      ∙ ap (λ vs. sum_of_products base.ring base.ZERO (lane_values packed.lanes i base.ring.zero vs) c.as_slice-in-loop-index-2.result.now) c.as_slice-in-loop-index.ensures.value
-      ∙ ap (λ cs. sum_of_products base.ring base.ZERO (lane_values packed.lanes i base.ring.zero values) cs) c.as_slice-in-loop-index-2.ensures.value
-      ∙ ap (λ v. sum_of_products base.ring base.ZERO (lane_values packed.lanes i base.ring.zero values) v.items) (sym c.index-self-index.is) in
-      let there = subst (λ n. i < n) (sym (g.met.SC.Pcs.Domain.Val.Packing.PackedValue.lane_by_lane.as_many coordinate)) wide in
-      let is = c.plus_coordinate-sum.ensures i within
-      ∙ ap (λ r. r.add (r.mul element (slice_index_or (map field.embed (packed.lanes coordinate)) i ring.zero)) rest) laws.extension_packed_ring
-      ∙ ap (λ x. ring.add (ring.mul element x) rest) (mapped_at field.embed (packed.lanes coordinate) i base.ring.zero ring.zero there ∙ ap field.embed lane) in
-      one_more_coordinate ring _ field.basis (map sums (map vec_items rows)) j c.loop-index.index element (sums row.items) rest (slice_index_or (above.lanes c.plus_coordinate-sum.result) i ring.zero) next c.basis_element-element.ensures at_sum (c.loop-index.invariant.1 i within) is,
-)
-
 pub returns : goal.returns
-returns g c i within =
-    let ended : c.loop-index.index ≡ 0 = omega (arith, c.loop-index-test.false) in
-    all_coordinates g.met.SC.Challenge.Field.field_laws.of_ring _ _ _ c.loop-index.index _ ended (c.loop-index.invariant.1 i within)
+returns g c = λ i within.
+    let base = g.SC.Pcs.Domain.Val.Field in
+    let ring = g.SC.Challenge.Field.ring in
+    let field = g.SC.Challenge.ExtensionField in
+    let zero_above = g.SC.Challenge.Field.ZERO in
+    let lanes = g.SC.Pcs.Domain.Val.Packing.PackedValue.lanes in
+    let lanes_above = g.SC.Challenge.ExtensionPacking.PackedValue.lanes in
+    let folder = c.args.self.now in
+    let sums = λ (values : List g.row.SC-Pcs-Domain-Val-Packing.Denot). base_sums base.ring base.ZERO ring field.embed field.basis (map vec_items folder.base_alpha_powers.now) (lane_values lanes i base.ring.zero values) in
+    let powers = folder.ext_alpha_powers.now in
+    c.plus_base_sums.ensures i within ∙
+    ap (λ vs. ring.add (sums vs) (slice_index_or (lanes_above c.packed_sum-sum.result) i ring.zero)) c.as_slice-2.ensures.value ∙
+    ap (ring.add (sums folder.base_constraints.items))
+    (c.packed_sum-sum.ensures i within ∙
+    ap (λ r. sum_of_products r zero_above (lane_values lanes_above i ring.zero c.as_slice.result.now) powers) g.met.SC.Challenge.PackedExtensionField.extension_packed_ring ∙
+    ap (λ vs. sum_of_products ring zero_above (lane_values lanes_above i ring.zero vs) powers) c.as_slice.ensures.value)

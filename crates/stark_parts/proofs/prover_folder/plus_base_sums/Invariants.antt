@@ -2,7 +2,7 @@ use Rattle.std.proofs.Common.{◌≡◌, ◌<◌, ◌≤◌, ℕ, drop, map, sli
 use Rattle.std.specs.Vec.{vec_items}
 use Rattle.stark_parts.specs.Finalized.{lane_values, sum_of_products}
 use Rattle.stark_parts.proofs.FinalizedSteps.{onto}
-use Rattle.stark_parts.proofs.prover_folder.ProverConstraintFolder.finalize_constraints.Given as goal
+use Rattle.stark_parts.proofs.prover_folder.plus_base_sums.Given as goal
 
 abbrev pub invariant-loop-index : goal.invariant-loop-index
 invariant-loop-index g l =
@@ -13,8 +13,8 @@ invariant-loop-index g l =
     let field = g.SC.Challenge.ExtensionField in
     (l.index ≤ field.DIMENSION)
     × ((i : ℕ) → i < above.WIDTH → slice_index_or (above.lanes l.sum) i ring.zero
-    ≡ onto ring (sum_of_products ring g.SC.Challenge.Field.ZERO (lane_values above.lanes i ring.zero l.self.ext_constraints.items) l.self.ext_alpha_powers.now) (drop l.index field.basis)
-    (drop l.index (map (λ row. field.embed (sum_of_products base.ring base.ZERO (lane_values packed.lanes i base.ring.zero l.self.base_constraints.items) row)) (map vec_items l.self.base_alpha_powers.now))))
+    ≡ onto ring (slice_index_or (above.lanes l.fn.rest) i ring.zero) (drop l.index field.basis)
+    (drop l.index (map (λ row. field.embed (sum_of_products base.ring base.ZERO (lane_values packed.lanes i base.ring.zero l.fn.values) row)) (map vec_items l.fn.powers))))
 
 abbrev pub decreases-loop-index : goal.decreases-loop-index
 decreases-loop-index g l = l.index

@@ -1,3 +1,4 @@
 pub mod LaneFacts
 pub mod ExtensionLaneFacts
 pub mod PointLists
+pub mod SelectorLists

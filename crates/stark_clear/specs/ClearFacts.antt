@@ -1,5 +1,5 @@
 -- The laws of the scheme in the clear.
-use Rattle.std.specs.Prelude.{◌≡◌, ℕ, zero, suc, ◌<◌, List, [], ◌∷◌, map, length, All, refl}
+use Rattle.std.specs.Prelude.{◌≡◌, ℕ, zero, suc, ◌<◌, Bool, List, [], ◌∷◌, Option, map, length, All, refl}
 use Rattle.std.specs.List.{AllByRecursion}
 use Rattle.std.proofs.Common.{sym, ap, ◌∙◌, subst, arith}
 use Rattle.std.proofs.lemmas.List.{length-map}
@@ -9,8 +9,11 @@ use Rattle.stark_support.specs.Claims.{RoundClaim}
 use Rattle.stark_support.specs.Polynomial.{HasDegreeBelow}
 use Rattle.stark_support.specs.Scheme.{CommittedMatrix, HasDegreesBelowSize, OpenedRound, RoundStands, SchemeLaws, handed, row_at, true_claim, true_matrices, true_matrix_claims, true_values}
 use Rattle.stark_clear.specs.ClearClaims.{ClaimsAreTrue, ClaimsFault, HasValue, HasValues, IsFirstFault, MatrixHasShape, MatrixIsTrue, PlaceByPlace, RoundHasShape, RoundIsTrue}
-use Rattle.stark_clear.specs.ClearScheme.{IsFull, clear_scheme, columns_of}
+use Rattle.stark_clear.specs.ClearScheme.{IsFull, RefusesClaims, clear_scheme, columns_of}
+use Rattle.stark_clear.specs.Stops.{StopsAt}
 use Rattle.stark_clear.specs.Opened.{matrices_at, opened_round}
+use Rattle.stark_clear.specs.declared.clear.call.ClearCall.{ClearCall}
+use Rattle.stark_clear.specs.declared.clear.call.ClearCall.TheVariants.{Verify}
 use Rattle.stark_clear.specs.declared.clear.check.ClearError.{ClearError}
 use Rattle.stark_clear.specs.declared.clear.check.ClearError.TheVariants.{Stopped, Shape, Value}
 
@@ -25,6 +28,20 @@ pub true_or_at_fault : {F E : Type 0} (ring : RingOps E) (embed : F → E) (clai
 true_or_at_fault ring embed claims Stopped holds fault = fault
 true_or_at_fault ring embed claims (Shape round) holds fault = no_first_fault RoundHasShape claims round fault holds.0
 true_or_at_fault ring embed claims (Value round) holds fault = no_first_fault (RoundIsTrue ring embed) claims round fault.1 holds.1
+
+-- Where verifying doesn't stop, a fault of the claims is refused.
+pub at_fault : {F E : Type 0} (ring : RingOps E) (embed : F → E) (stops : Option ClearCall) (claims : List (RoundClaim F E (List (List (List F))))) (error : ClearError) → (StopsAt stops Verify → ⊥)
+    → ClaimsFault ring embed claims error → RefusesClaims ring embed stops claims error
+at_fault ring embed stops claims Stopped goes fault = absurd fault
+at_fault ring embed stops claims (Shape round) goes fault = (goes, fault)
+at_fault ring embed stops claims (Value round) goes fault = (goes, fault)
+
+-- What is accepted isn't refused.
+accepted_or_refused : {F E : Type 0} (ring : RingOps E) (embed : F → E) (stops : Option ClearCall) (claims : List (RoundClaim F E (List (List (List F))))) (error : ClearError)
+    → ClaimsAreTrue ring embed claims × (StopsAt stops Verify → ⊥) → RefusesClaims ring embed stops claims error → ⊥
+accepted_or_refused ring embed stops claims Stopped accepted refused = accepted.1 refused
+accepted_or_refused ring embed stops claims (Shape round) accepted refused = true_or_at_fault ring embed claims (Shape round) accepted.0 refused.1
+accepted_or_refused ring embed stops claims (Value round) accepted refused = true_or_at_fault ring embed claims (Value round) accepted.0 refused.1
 
 module _ {F : Type 0} where
   within_size : (n : ℕ) (columns : List (List F)) → AllByRecursion (λ column. length column ≡ n) columns → All (HasDegreeBelow n) columns
@@ -71,9 +88,9 @@ module _ {F E : Type 0} (ring : RingOps E) (embed : F → E) where
   opened_are_true (m ∷ matrices) [] = refl
   opened_are_true (m ∷ matrices) (xs ∷ points) = ap (λ t. map (row_at ring embed m.columns) xs ∷ t) (opened_are_true matrices points)
 
-  module _ {S : Type 0} (C : Type 0) (adicity : ℕ) (s : S) where
+  module _ {S : Type 0} (C : Type 0) (adicity : ℕ) (is_zk : Bool) (stops : S → Option ClearCall) (s : S) where
     -- What is claimed of rounds that stand is true.
-    pub true_claims : (made : List (OpenedRound F E (List (List (List F))) (List (List (List F))))) → AllByRecursion (RoundStands (clear_scheme {C = C} ring embed adicity) s) made → ClaimsAreTrue ring embed (map (true_claim ring embed) made)
+    pub true_claims : (made : List (OpenedRound F E (List (List (List F))) (List (List (List F))))) → AllByRecursion (RoundStands (clear_scheme {C = C} ring embed adicity is_zk stops) s) made → ClaimsAreTrue ring embed (map (true_claim ring embed) made)
     true_claims [] all = (tt, tt)
     true_claims (round ∷ made) all =
         let rest = true_claims made all.1 in
@@ -83,7 +100,7 @@ module _ {F E : Type 0} (ring : RingOps E) (embed : F → E) where
         )
 
     -- What is opened of rounds that stand are the true values.
-    pub true_openings : (made : List (OpenedRound F E (List (List (List F))) (List (List (List F))))) → AllByRecursion (RoundStands (clear_scheme {C = C} ring embed adicity) s) made
+    pub true_openings : (made : List (OpenedRound F E (List (List (List F))) (List (List (List F))))) → AllByRecursion (RoundStands (clear_scheme {C = C} ring embed adicity is_zk stops) s) made
         → map (opened_round ring embed) (map handed made) ≡ map (true_values ring embed) made
     true_openings [] all = refl
     true_openings (round ∷ made) all =
@@ -91,9 +108,10 @@ module _ {F E : Type 0} (ring : RingOps E) (embed : F → E) where
         ∙ ap (λ t. t ∷ map (opened_round ring embed) (map handed made)) (opened_are_true round.matrices round.points)
         ∙ ap (λ t. true_values ring embed round ∷ t) (true_openings made all.1)
 
-pub clear_laws : {S F E C : Type 0} (ring : RingOps E) (embed : F → E) (adicity : ℕ) → adicity < 64 → SchemeLaws (clear_scheme {S = S} {C = C} ring embed adicity)
-clear_laws ring embed adicity bound = record {
-  excludes = λ s claims proof state index error accepted refused. true_or_at_fault ring embed claims error accepted refused;
+pub clear_laws : {S F E C : Type 0} (ring : RingOps E) (embed : F → E) (adicity : ℕ) (is_zk : Bool) (stops : S → Option ClearCall) → adicity < 64
+    → SchemeLaws (clear_scheme {S = S} {C = C} ring embed adicity is_zk stops)
+clear_laws ring embed adicity is_zk stops bound = record {
+  excludes = λ s claims proof state index error accepted refused. accepted_or_refused ring embed (stops s) claims error accepted refused;
   degrees = λ s commitment prover_data matrices stands. full_is_within matrices stands.2;
   least_height = λ s. omega arith;
   greatest_height = λ s. omega (arith, bound);

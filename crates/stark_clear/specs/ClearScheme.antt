@@ -1,18 +1,27 @@
 -- The scheme in the clear: a commitment lists the committed columns.
-use Rattle.std.specs.Prelude.{◌≡◌, ℕ, ⊤, List, map, length}
+use Rattle.std.specs.Prelude.{◌≡◌, ℕ, Bool, true, List, Option, None, Some, map, length}
 use Rattle.std.specs.List.{AllByRecursion}
 use Rattle.stark_support.specs.Ring.{RingOps}
 use Rattle.stark_support.specs.Coset.{coset_size}
+use Rattle.stark_support.specs.Claims.{RoundClaim}
 use Rattle.stark_support.specs.Scheme.{CommittedMatrix, SchemeOps}
 use Rattle.stark_clear.specs.ClearClaims.{ClaimsAreTrue, ClaimsFault}
+use Rattle.stark_clear.specs.Stops.{StopsAt}
+use Rattle.stark_clear.specs.declared.clear.call.ClearCall.{ClearCall}
+use Rattle.stark_clear.specs.declared.clear.call.ClearCall.TheVariants.{Commit, CommitPreprocessing, CommitQuotient, Randomization, Open, Verify}
 use Rattle.stark_clear.specs.declared.clear.check.ClearError.{ClearError}
+use Rattle.stark_clear.specs.declared.clear.check.ClearError.TheVariants.{Stopped, Shape, Value}
 use Rattle.stark_clear.specs.declared.clear.pcs.ClearPcs.{ClearPcs}
 use Rattle.stark_clear.specs.declared.clear.pcs.ClearProof.{ClearProof}
 use Rattle.stark_clear.specs.declared.clear.pcs.ClearProverError.{ClearProverError}
 
--- The scheme's one value: there is nothing to choose.
+-- The scheme that stops nowhere.
 abbrev pub clear_pcs : {F : Type 0} → ClearPcs F
-clear_pcs = record { field = record {} }
+clear_pcs = record { field = record {}; stops_at = None }
+
+-- The scheme that stops at this call.
+abbrev pub stopping_pcs : {F : Type 0} → ClearCall → ClearPcs F
+stopping_pcs call = record { field = record {}; stops_at = Some call }
 
 -- Each column has as many coefficients as the domain points.
 abbrev pub IsFull : {F : Type 0} → CommittedMatrix F → Type 0
@@ -21,18 +30,25 @@ IsFull matrix = AllByRecursion (λ column. length column ≡ coset_size matrix.d
 abbrev pub columns_of : {F : Type 0} → List (CommittedMatrix F) → List (List (List F))
 columns_of matrices = map (λ m. m.columns) matrices
 
--- The commitment and the prover's data are the matrices' columns, and no error is answered but by verifying.
-abbrev pub clear_scheme : {S F E C : Type 0} → RingOps E → (F → E) → ℕ → SchemeOps S F E C (List (List (List F))) (List (List (List F))) ClearProof ClearError ClearProverError
-clear_scheme ring embed adicity = record {
+-- Stopped where verifying stops, and there no other error; else the first fault of the claims.
+abbrev pub RefusesClaims : {F E : Type 0} → RingOps E → (F → E) → Option ClearCall → List (RoundClaim F E (List (List (List F)))) → ClearError → Type 0
+RefusesClaims ring embed stops claims Stopped = StopsAt stops Verify
+RefusesClaims ring embed stops claims (Shape round) = (StopsAt stops Verify → ⊥) × ClaimsFault ring embed claims (Shape round)
+RefusesClaims ring embed stops claims (Value round) = (StopsAt stops Verify → ⊥) × ClaimsFault ring embed claims (Value round)
+
+-- The commitment and the prover's data are the matrices' columns. Of the prover's calls one that the scheme stops at may answer an error, of which there is one
+-- alone; a scheme that masks nothing has no random commitment to refuse. One that stops at verifying accepts nothing, and is not whole.
+abbrev pub clear_scheme : {S F E C : Type 0} → RingOps E → (F → E) → ℕ → Bool → (S → Option ClearCall) → SchemeOps S F E C (List (List (List F))) (List (List (List F))) ClearProof ClearError ClearProverError
+clear_scheme ring embed adicity is_zk stops = record {
   log_min_trace_height = λ s. 0;
   log_max_trace_height = λ s. adicity;
-  Whole = λ s. ⊤;
+  Whole = λ s. StopsAt (stops s) Verify → ⊥;
   Stands = λ s commitment prover_data matrices. (commitment ≡ columns_of matrices) × (prover_data ≡ columns_of matrices) × AllByRecursion IsFull matrices;
-  Accepts = λ s claims proof state index. ClaimsAreTrue ring embed claims;
-  Refuses = λ s claims proof state index error. ClaimsFault ring embed claims error;
-  RefusesCommit = λ s domain values width error. ⊥;
-  RefusesPreprocessing = λ s domain values width error. ⊥;
-  RefusesQuotient = λ s domain values width chunks error. ⊥;
-  RefusesRandomization = λ s domain error. ⊥;
-  RefusesOpening = λ s rounds state index error. ⊥;
+  Accepts = λ s claims proof state index. ClaimsAreTrue ring embed claims × (StopsAt (stops s) Verify → ⊥);
+  Refuses = λ s claims proof state index error. RefusesClaims ring embed (stops s) claims error;
+  RefusesCommit = λ s domain values width error. StopsAt (stops s) Commit;
+  RefusesPreprocessing = λ s domain values width error. StopsAt (stops s) CommitPreprocessing;
+  RefusesQuotient = λ s domain values width chunks error. StopsAt (stops s) CommitQuotient;
+  RefusesRandomization = λ s domain error. (is_zk ≡ true) × StopsAt (stops s) Randomization;
+  RefusesOpening = λ s rounds state index error. StopsAt (stops s) Open;
 }

@@ -5,6 +5,7 @@ pub mod ColumnPoints
 pub mod Opened
 pub mod ColumnFacts
 pub mod OpenedFacts
+pub mod Stops
 pub mod ClearScheme
 pub mod ClearFacts
 pub mod RowFacts

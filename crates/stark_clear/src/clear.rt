@@ -1,5 +1,6 @@
 //! A commitment scheme in the clear.
 
+mod call;
 mod check;
 mod columns;
 mod commit;
@@ -7,6 +8,7 @@ mod json;
 mod opening;
 mod pcs;
 
+pub use call::ClearCall;
 pub use check::ClearError;
 pub use commit::{chunks_of, columns_of, committed, committed_alone};
 pub use pcs::{ClearPcs, ClearProof, ClearProverError};

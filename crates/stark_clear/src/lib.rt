@@ -5,7 +5,7 @@ mod clear;
 mod masked;
 mod samples;
 
-pub use clear::{ClearError, ClearPcs, ClearProof, ClearProverError};
+pub use clear::{ClearCall, ClearError, ClearPcs, ClearProof, ClearProverError};
 pub use masked::MaskedClearPcs;
 pub use samples::{
     Asked, CounterAir, CubicAir, FibonacciAir, PairAir, PeriodicAir, PreprocessedAir, SmallAir,

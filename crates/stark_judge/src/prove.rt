@@ -117,7 +117,7 @@ where
     }
 }
 
-/// The same in the clear, over any field and extension. A call of this one writes out no scheme.
+/// The same with the scheme in the clear that stops nowhere, over any field and extension. A call of this one writes out no scheme.
 fn prove_over<F, EF, C, A>(
     alloc: Global,
     config: &ClearConfig<F, EF, C>,
@@ -137,6 +137,7 @@ where
     requires fitting { IsTraceFor (A.layout air.now) (record { width = trace.width; values = trace.values.items }) (length publics.now) 0 F.TWO_ADICITY }
     requires four_rows { HasHeight 2 (A.preprocessed_trace air.now) }
     requires within { 2 ≤ F.TWO_ADICITY }
+    requires stops_nowhere { config.now.pcs ≡ clear_pcs }
     ensures { (height : ℕ) → length trace.values.items ≡ 2 ^ height * trace.width
         → AnswersWithHeld ⟦<ClearConfig<F, EF, C> as StarkOperations>⟧.operations EF.coordinates config.now.pcs (A.preprocessed_trace air.now) (λ held. ⟦<ClearConfig<F, EF, C> as StarkInstance<A>>⟧.instance config.now air.now publics.now (option_map key_of held)) height (record { width = trace.width; values = trace.values.items }) result }
 {

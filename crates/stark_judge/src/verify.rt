@@ -91,7 +91,7 @@ where
     }
 }
 
-/// The same in the clear, over any field and extension. A call of this one writes out no scheme.
+/// The same with the scheme in the clear that stops nowhere, over any field and extension. A call of this one writes out no scheme.
 fn judge_over<F, EF, C, A>(
     alloc: Global,
     config: &ClearConfig<F, EF, C>,
@@ -110,6 +110,7 @@ where
     A: Air<F>,
     requires height { HasHeight 2 (A.preprocessed_trace air.now) }
     requires within { 2 ≤ F.TWO_ADICITY }
+    requires stops_nowhere { config.now.pcs ≡ clear_pcs }
     ensures { JudgesWithKey ⟦<ClearConfig<F, EF, C> as StarkOperations>⟧.operations config.now.pcs (A.preprocessed_trace air.now) (⟦<ClearConfig<F, EF, C> as StarkInstance<A>>⟧.instance config.now air.now publics.now) (proof_view proof.now) result }
 {
     judge_with(alloc, config, air, proof, publics)

@@ -15,7 +15,7 @@ use thiserror::Error;
 /// Why the scheme in the clear refuses claims. Rounds count from 0, in the order of the claims.
 #[derive(Debug, Drop, Error)]
 pub enum ClearError {
-    /// The scheme was made to stop at this call; nothing makes it so yet.
+    /// The scheme was made to stop at this call.
     #[error("stopped")]
     Stopped,
     /// The first round whose commitment has other matrices, columns or coefficients than claimed.

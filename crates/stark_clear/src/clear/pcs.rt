@@ -1,5 +1,5 @@
 //! The scheme in the clear.
-ghost use Rattle.std.specs.Prelude.{◌≡◌, ◌≢◌, ◌≤◌, ◌/◌, ◌*◌, ◌^◌, false, map, length, IfErr, IfOk};
+ghost use Rattle.std.specs.Prelude.{◌≡◌, ◌≢◌, ◌≤◌, ◌↔◌, ◌/◌, ◌*◌, ◌^◌, IsTrue, false, map, length, Result, IfErr, IfOk};
 ghost use Rattle.std.specs.Int.{IsPowerOfTwo};
 ghost use Rattle.std.specs.List.{AllByRecursion};
 ghost use Rattle.stark_support.specs.Claims.{IfRefused, claim_view, opened_view, round_view};
@@ -8,10 +8,12 @@ ghost use Rattle.stark_support.specs.PeriodicTable.{HasPeriodicValues};
 ghost use Rattle.stark_support.specs.Scheme.{zk_bits};
 ghost use Rattle.stark_support.specs.Polynomial.{value};
 ghost use Rattle.stark_clear.specs.ClearFacts.{clear_laws};
-ghost use Rattle.stark_clear.specs.ClearScheme.{clear_pcs, clear_scheme};
+ghost use Rattle.stark_clear.specs.ClearScheme.{clear_pcs, clear_scheme, stopping_pcs};
 ghost use Rattle.stark_clear.specs.ColumnPoints.{IsPolynomialBelow};
+ghost use Rattle.stark_clear.specs.Stops.{StopsAt};
 ghost use Rattle.stark_clear.specs.SchemeClauses.{CommitsChunks, CommitsRows, OpensTrueValues, ProvesTrueClaims};
 
+use crate::clear::call::ClearCall;
 use crate::clear::check::{ClearError, check_claims};
 use crate::clear::commit::{chunks_of, columns_of, committed, committed_alone, copied};
 use crate::clear::opening::{open_rounds, rows_on};
@@ -28,7 +30,7 @@ use thiserror::Error;
 /// Why the prover's side of the scheme in the clear gives no answer.
 #[derive(Debug, Drop, Error)]
 pub enum ClearProverError {
-    /// The scheme was made to stop at this call; nothing makes it so yet.
+    /// The scheme was made to stop at this call.
     #[error("stopped")]
     Stopped,
 }
@@ -41,9 +43,11 @@ pub struct ClearProof;
 /// Each committed column has as many coefficients as its domain has points. It commits to traces of 1 to `2^TWO_ADICITY` rows,
 /// in a time that grows with the square of that number, and leaves the challenger alone. Verifying is Ok exactly where
 /// all claims are true of the listed columns; else it names the first round at fault.
+/// It may be made to stop at one call, which then refuses, for tests of the layers above.
 #[derive(Clone, Debug, Drop)]
 pub struct ClearPcs<F> {
     pub field: PhantomData<F>,
+    pub stops_at: Option<ClearCall>,
 }
 
 impl<F> ClearPcs<F> {
@@ -51,7 +55,41 @@ impl<F> ClearPcs<F> {
     pub fn new() -> ClearPcs<F>
         ensures { result ≡ clear_pcs }
     {
-        ClearPcs { field: PhantomData }
+        ClearPcs {
+            field: PhantomData,
+            stops_at: None,
+        }
+    }
+
+    /// The scheme that stops at this call: the call refuses with `Stopped` whatever it is handed, and each other call
+    /// answers as ever. There is no random commitment, so that stopping at `Randomization` changes no answer.
+    pub fn stopping_at(call: ClearCall) -> ClearPcs<F>
+        ensures { result ≡ stopping_pcs call }
+    {
+        ClearPcs {
+            field: PhantomData,
+            stops_at: Some(call),
+        }
+    }
+
+    fn stops(&self, call: ClearCall) -> bool
+        ensures { IsTrue result ↔ StopsAt self.now.stops_at call }
+    {
+        match self.stops_at {
+            Some(named) => named == call,
+            None => false,
+        }
+    }
+
+    /// The refusal of a call with this error, where the scheme stops there.
+    pub(crate) fn pass<E: Drop>(&self, call: ClearCall, stopped: E) -> Result<(), SchemeFault<E>>
+        ensures goes { IfOk result (λ _. StopsAt self.now.stops_at call → ⊥) }
+        ensures stops { IfErr result (λ fault. StopsAt self.now.stops_at call × (fault ≡ SchemeFault.Refused stopped)) }
+    {
+        if self.stops(call) {
+            return Err(SchemeFault::Refused(stopped));
+        }
+        Ok(())
     }
 }
 
@@ -70,7 +108,7 @@ impl<F: TwoAdicField, EF: ExtensionField<F>, C> Pcs<EF, C> for ClearPcs<F> {
 
     ghost ZK = { false };
 
-    ghost scheme = { clear_scheme EF.ring EF.embed F.TWO_ADICITY };
+    ghost scheme = { clear_scheme EF.ring EF.embed F.TWO_ADICITY false (λ s. s.stops_at) };
 
     const ZK: bool = false;
 
@@ -99,7 +137,9 @@ impl<F: TwoAdicField, EF: ExtensionField<F>, C> Pcs<EF, C> for ClearPcs<F> {
         ensures stands { IfOk result (CommitsRows ⟦<ClearPcs<F> as Pcs<EF, C>>⟧.scheme F.ring F.root self.now (⟦<Coset<F> as PolynomialSpace>⟧.coset_of domain) matrix.values.items matrix.width) }
         ensures refused { IfErr result (λ fault. IfRefused fault (⟦<ClearPcs<F> as Pcs<EF, C>>⟧.scheme.RefusesCommit self.now (⟦<Coset<F> as PolynomialSpace>⟧.coset_of domain) matrix.values.items matrix.width)) }
         ensures plain { IfOk result (λ made. AllByRecursion (AllByRecursion (λ column. IsPolynomialBelow F.ring (length matrix.values.items / matrix.width) (value F.ring column))) made.0) }
+        ensures stops { StopsAt self.now.stops_at ClearCall.Commit → result ≡ Result.Err (SchemeFault.Refused ClearProverError.Stopped) }
     {
+        self.pass(ClearCall::Commit, ClearProverError::Stopped)?;
         let columns = columns_of(alloc, &domain, &matrix)?;
         let made = committed_alone(alloc, columns)?;
         Ok(made)
@@ -138,7 +178,9 @@ impl<F: TwoAdicField, EF: ExtensionField<F>, C> UnivariateStarkPcs<EF, C> for Cl
         ensures stands { IfOk result (CommitsRows ⟦<ClearPcs<F> as Pcs<EF, C>>⟧.scheme F.ring F.root self.now (⟦<Coset<F> as PolynomialSpace>⟧.coset_of domain) matrix.values.items matrix.width) }
         ensures refused { IfErr result (λ fault. IfRefused fault (⟦<ClearPcs<F> as Pcs<EF, C>>⟧.scheme.RefusesPreprocessing self.now (⟦<Coset<F> as PolynomialSpace>⟧.coset_of domain) matrix.values.items matrix.width)) }
         ensures plain { IfOk result (λ made. AllByRecursion (AllByRecursion (λ column. IsPolynomialBelow F.ring (length matrix.values.items / matrix.width) (value F.ring column))) made.0) }
+        ensures stops { StopsAt self.now.stops_at ClearCall.CommitPreprocessing → result ≡ Result.Err (SchemeFault.Refused ClearProverError.Stopped) }
     {
+        self.pass(ClearCall::CommitPreprocessing, ClearProverError::Stopped)?;
         let columns = columns_of(alloc, &domain, &matrix)?;
         let made = committed_alone(alloc, columns)?;
         Ok(made)
@@ -157,7 +199,9 @@ impl<F: TwoAdicField, EF: ExtensionField<F>, C> UnivariateStarkPcs<EF, C> for Cl
         requires within { coset_size (⟦<Coset<F> as PolynomialSpace>⟧.coset_of domain) * 2 ^ zk_bits false ≤ num_chunks * 2 ^ F.TWO_ADICITY }
         ensures stands { IfOk result (CommitsChunks ⟦<ClearPcs<F> as Pcs<EF, C>>⟧.scheme F.ring F.root EF.ring EF.inverse_of EF.embed false self.now (⟦<Coset<F> as PolynomialSpace>⟧.coset_of domain) flat.values.items flat.width num_chunks) }
         ensures refused { IfErr result (λ fault. IfRefused fault (⟦<ClearPcs<F> as Pcs<EF, C>>⟧.scheme.RefusesQuotient self.now (⟦<Coset<F> as PolynomialSpace>⟧.coset_of domain) flat.values.items flat.width num_chunks)) }
+        ensures stops { StopsAt self.now.stops_at ClearCall.CommitQuotient → result ≡ Result.Err (SchemeFault.Refused ClearProverError.Stopped) }
     {
+        self.pass(ClearCall::CommitQuotient, ClearProverError::Stopped)?;
         let chunks = chunks_of(alloc, &domain, &flat, num_chunks)?;
         let made = committed(alloc, chunks)?;
         Ok(made)
@@ -207,7 +251,9 @@ impl<F: TwoAdicField, EF: ExtensionField<F>, C> UnivariateStarkPcs<EF, C> for Cl
         ensures true_values { IfOk result (λ opened. OpensTrueValues ⟦<ClearPcs<F> as Pcs<EF, C>>⟧.scheme EF.ring EF.embed self.now (map round_view rounds.entry.items) (opened_view opened.0)) }
         ensures whole { IfOk result (λ opened. ProvesTrueClaims ⟦<ClearPcs<F> as Pcs<EF, C>>⟧.scheme EF.ring EF.embed self.now (map round_view rounds.entry.items) opened.1 _challenger.old _preprocessed_index) }
         ensures refused { IfErr result (λ fault. IfRefused fault (⟦<ClearPcs<F> as Pcs<EF, C>>⟧.scheme.RefusesOpening self.now (map round_view rounds.entry.items) _challenger.old _preprocessed_index)) }
+        ensures stops { StopsAt self.now.stops_at ClearCall.Open → result ≡ Result.Err (SchemeFault.Refused ClearProverError.Stopped) }
     {
+        self.pass(ClearCall::Open, ClearProverError::Stopped)?;
         let opened = open_rounds::<F, EF>(alloc, &rounds)?;
         Ok((opened, ClearProof))
     }
@@ -223,12 +269,14 @@ impl<F: TwoAdicField, EF: ExtensionField<F>, C> UnivariateStarkPcs<EF, C> for Cl
         ensures accepted { IfOk result (λ _. ⟦<ClearPcs<F> as Pcs<EF, C>>⟧.scheme.Accepts self.now (map (claim_view ⟦<Coset<F> as PolynomialSpace>⟧.coset_of) claims.entry.items) _proof.now _challenger.old _preprocessed_index) }
         ensures refused { IfErr result (λ fault. IfRefused fault (⟦<ClearPcs<F> as Pcs<EF, C>>⟧.scheme.Refuses self.now (map (claim_view ⟦<Coset<F> as PolynomialSpace>⟧.coset_of) claims.entry.items) _proof.now _challenger.old _preprocessed_index)) }
         ensures no_memory { IfErr result (λ fault. fault ≢ SchemeFault.OutOfMemory) }
+        ensures stops { StopsAt self.now.stops_at ClearCall.Verify → result ≡ Result.Err (SchemeFault.Refused ClearError.Stopped) }
     {
+        self.pass(ClearCall::Verify, ClearError::Stopped)?;
         match check_claims::<Coset<F>, EF>(&claims) {
             Ok(()) => Ok(()),
             Err(error) => Err(SchemeFault::Refused(error)),
         }
     }
 
-    ghost scheme_laws = { clear_laws EF.ring EF.embed F.TWO_ADICITY F.two_adic.bounded };
+    ghost scheme_laws = { clear_laws EF.ring EF.embed F.TWO_ADICITY false (λ s. s.stops_at) F.two_adic.bounded };
 }

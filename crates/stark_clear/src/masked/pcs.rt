@@ -1,5 +1,5 @@
 //! The scheme in the clear with masks.
-ghost use Rattle.std.specs.Prelude.{◌≡◌, ◌≢◌, ◌≤◌, ◌<◌, ◌-◌, ◌/◌, ◌*◌, ◌^◌, ℕ, List, [], ◌∷◌, true, is_some, length, map, IfErr, IfOk, IfSome};
+ghost use Rattle.std.specs.Prelude.{◌≡◌, ◌≢◌, ◌≤◌, ◌<◌, ◌-◌, ◌/◌, ◌*◌, ◌^◌, ℕ, List, [], ◌∷◌, true, None, Some, is_some, length, map, Result, IfErr, IfOk, IfSome};
 ghost use Rattle.std.specs.Int.{IsPowerOfTwo};
 ghost use Rattle.std.specs.List.{AllByRecursion};
 ghost use Rattle.stark_support.specs.Claims.{IfRefused, claim_view, opened_view, round_view};
@@ -9,11 +9,12 @@ ghost use Rattle.stark_support.specs.Polynomial.{value};
 ghost use Rattle.stark_clear.specs.ClearFacts.{clear_laws};
 ghost use Rattle.stark_clear.specs.ClearScheme.{clear_scheme};
 ghost use Rattle.stark_clear.specs.ColumnPoints.{IsPolynomialBelow};
+ghost use Rattle.stark_clear.specs.Stops.{StopsAt};
 ghost use Rattle.stark_clear.specs.SchemeClauses.{CommitsChunks, CommitsRows, OpensTrueValues, ProvesTrueClaims};
 ghost use Rattle.stark_clear.specs.Masks.{AreMaskedBy, AreMaskedChunks, mask_lists, quotient_masks};
 
 use crate::clear::{
-    ClearError, ClearPcs, ClearProof, ClearProverError, committed, committed_alone,
+    ClearCall, ClearError, ClearPcs, ClearProof, ClearProverError, committed, committed_alone,
 };
 use crate::masked::chunks::masked_chunks_of;
 use crate::masked::commit::masked_columns_of;
@@ -29,18 +30,21 @@ use std::marker::Model;
 
 /// The scheme in the clear with masks from a list, which it reads round and round, from its start at each call. It masks
 /// as a scheme that hides does, so that all that is to be done for one is done, and hides nothing: its commitments list
-/// the masked columns, and who made the scheme knows the masks.
+/// the masked columns, and who made the scheme knows the masks. What needs no mask is done by the scheme without, which
+/// stops where this one does.
 #[derive(Clone, Debug, Drop)]
 pub struct MaskedClearPcs<F> {
     masks: Vec<F>,
+    plain: ClearPcs<F>,
 }
 
 impl<F> Model for MaskedClearPcs<F> {
-    ghost use Rattle.std.specs.Prelude.{List, length, ◌<◌};
+    ghost use Rattle.std.specs.Prelude.{length, ◌<◌};
+    ghost use Rattle.stark_clear.specs.Stops.{MaskedPcs};
 
-    ghost Value = { List F };
+    ghost Value = { MaskedPcs F };
 
-    ghost view = { λ s. s.masks.items };
+    ghost view = { λ s. record { masks = s.masks.items; stops_at = s.plain.stops_at } };
 
     ghost invariant = { λ s. 0 < length s.masks.items };
 }
@@ -49,9 +53,24 @@ impl<F> MaskedClearPcs<F> {
     /// The scheme whose masks are from a list that isn't empty.
     pub fn new(masks: Vec<F>) -> MaskedClearPcs<F>
         requires { 0 < length masks.items }
-        ensures { result ≡ masks.items }
+        ensures { result ≡ record { masks = masks.items; stops_at = None } }
     {
-        MaskedClearPcs { masks }
+        MaskedClearPcs {
+            masks,
+            plain: ClearPcs::new(),
+        }
+    }
+
+    /// The scheme with these masks that stops at this call: the call refuses with `Stopped` whatever it is handed, and each
+    /// other call answers as ever.
+    pub fn stopping_at(masks: Vec<F>, call: ClearCall) -> MaskedClearPcs<F>
+        requires { 0 < length masks.items }
+        ensures { result ≡ record { masks = masks.items; stops_at = Some call } }
+    {
+        MaskedClearPcs {
+            masks,
+            plain: ClearPcs::stopping_at(call),
+        }
     }
 }
 
@@ -70,12 +89,12 @@ impl<F: TwoAdicField, EF: ExtensionField<F>, C> Pcs<EF, C> for MaskedClearPcs<F>
 
     ghost ZK = { true };
 
-    ghost scheme = { clear_scheme EF.ring EF.embed F.TWO_ADICITY };
+    ghost scheme = { clear_scheme EF.ring EF.embed F.TWO_ADICITY true (λ s. s.stops_at) };
 
     const ZK: bool = true;
 
     fn natural_domain_for_degree(&self, degree: usize) -> Coset<F> {
-        <ClearPcs<F> as Pcs<EF, C>>::natural_domain_for_degree(&ClearPcs::new(), degree)
+        <ClearPcs<F> as Pcs<EF, C>>::natural_domain_for_degree(&self.plain, degree)
     }
 
     fn copy_commitment(
@@ -83,7 +102,7 @@ impl<F: TwoAdicField, EF: ExtensionField<F>, C> Pcs<EF, C> for MaskedClearPcs<F>
         alloc: Global,
         commitment: &ClearCommitment<F>,
     ) -> Result<ClearCommitment<F>, AllocError> {
-        <ClearPcs<F> as Pcs<EF, C>>::copy_commitment(&ClearPcs::new(), alloc, commitment)
+        <ClearPcs<F> as Pcs<EF, C>>::copy_commitment(&self.plain, alloc, commitment)
     }
 
     fn commit(
@@ -98,8 +117,11 @@ impl<F: TwoAdicField, EF: ExtensionField<F>, C> Pcs<EF, C> for MaskedClearPcs<F>
         ensures stands { IfOk result (CommitsRows ⟦<MaskedClearPcs<F> as Pcs<EF, C>>⟧.scheme F.ring F.root self.now (⟦<Coset<F> as PolynomialSpace>⟧.coset_of domain) matrix.values.items matrix.width) }
         ensures refused { IfErr result (λ fault. IfRefused fault (⟦<MaskedClearPcs<F> as Pcs<EF, C>>⟧.scheme.RefusesCommit self.now (⟦<Coset<F> as PolynomialSpace>⟧.coset_of domain) matrix.values.items matrix.width)) }
         ensures masked { IfOk result (λ made. AllByRecursion (AreMaskedBy F.ring (length matrix.values.items / matrix.width)
-            (mask_lists F.ring self.now 0 matrix.width (coset_size (⟦<Coset<F> as PolynomialSpace>⟧.coset_of domain) - length matrix.values.items / matrix.width))) made.0) }
+            (mask_lists F.ring self.now.masks 0 matrix.width (coset_size (⟦<Coset<F> as PolynomialSpace>⟧.coset_of domain) - length matrix.values.items / matrix.width))) made.0) }
+        ensures stops { StopsAt self.now.stops_at ClearCall.Commit → result ≡ Result.Err (SchemeFault.Refused ClearProverError.Stopped) }
     {
+        self.plain
+            .pass(ClearCall::Commit, ClearProverError::Stopped)?;
         let columns = masked_columns_of(alloc, &self.masks, &domain, &matrix)?;
         let made = committed_alone(alloc, columns)?;
         Ok(made)
@@ -113,7 +135,7 @@ impl<F: TwoAdicField, EF: ExtensionField<F>, C> Pcs<EF, C> for MaskedClearPcs<F>
         domain: Coset<F>,
     ) -> Result<RowMajorMatrix<F>, AllocError> {
         <ClearPcs<F> as Pcs<EF, C>>::get_evaluations_on_domain(
-            &ClearPcs::new(),
+            &self.plain,
             alloc,
             prover_data,
             index,
@@ -124,11 +146,11 @@ impl<F: TwoAdicField, EF: ExtensionField<F>, C> Pcs<EF, C> for MaskedClearPcs<F>
 
 impl<F: TwoAdicField, EF: ExtensionField<F>, C> UnivariateStarkPcs<EF, C> for MaskedClearPcs<F> {
     fn log_min_trace_height(&self) -> usize {
-        <ClearPcs<F> as UnivariateStarkPcs<EF, C>>::log_min_trace_height(&ClearPcs::new())
+        <ClearPcs<F> as UnivariateStarkPcs<EF, C>>::log_min_trace_height(&self.plain)
     }
 
     fn log_max_trace_height(&self) -> usize {
-        <ClearPcs<F> as UnivariateStarkPcs<EF, C>>::log_max_trace_height(&ClearPcs::new())
+        <ClearPcs<F> as UnivariateStarkPcs<EF, C>>::log_max_trace_height(&self.plain)
     }
 
     fn commit_preprocessing(
@@ -143,9 +165,10 @@ impl<F: TwoAdicField, EF: ExtensionField<F>, C> UnivariateStarkPcs<EF, C> for Ma
         ensures stands { IfOk result (CommitsRows ⟦<MaskedClearPcs<F> as Pcs<EF, C>>⟧.scheme F.ring F.root self.now (⟦<Coset<F> as PolynomialSpace>⟧.coset_of domain) matrix.values.items matrix.width) }
         ensures refused { IfErr result (λ fault. IfRefused fault (⟦<MaskedClearPcs<F> as Pcs<EF, C>>⟧.scheme.RefusesPreprocessing self.now (⟦<Coset<F> as PolynomialSpace>⟧.coset_of domain) matrix.values.items matrix.width)) }
         ensures plain { IfOk result (λ made. AllByRecursion (AllByRecursion (λ column. IsPolynomialBelow F.ring (length matrix.values.items / matrix.width) (value F.ring column))) made.0) }
+        ensures stops { StopsAt self.now.stops_at ClearCall.CommitPreprocessing → result ≡ Result.Err (SchemeFault.Refused ClearProverError.Stopped) }
     {
         <ClearPcs<F> as UnivariateStarkPcs<EF, C>>::commit_preprocessing(
-            &ClearPcs::new(),
+            &self.plain,
             alloc,
             domain,
             matrix,
@@ -167,8 +190,11 @@ impl<F: TwoAdicField, EF: ExtensionField<F>, C> UnivariateStarkPcs<EF, C> for Ma
         ensures refused { IfErr result (λ fault. IfRefused fault (⟦<MaskedClearPcs<F> as Pcs<EF, C>>⟧.scheme.RefusesQuotient self.now (⟦<Coset<F> as PolynomialSpace>⟧.coset_of domain) flat.values.items flat.width num_chunks)) }
         ensures masked { IfOk result (λ made. (plain : List (List (List F))) × ((log_parts : ℕ) → 2 ^ log_parts ≡ num_chunks
             → AreMaskedChunks F.ring F.inverse_of F.root (⟦<Coset<F> as PolynomialSpace>⟧.coset_of domain) log_parts flat.width (matrix_row flat.values.items flat.width)
-            (quotient_masks F.ring self.now (num_chunks - 1) flat.width (2 ^ ((⟦<Coset<F> as PolynomialSpace>⟧.coset_of domain).log_size - log_parts))) plain made.0)) }
+            (quotient_masks F.ring self.now.masks (num_chunks - 1) flat.width (2 ^ ((⟦<Coset<F> as PolynomialSpace>⟧.coset_of domain).log_size - log_parts))) plain made.0)) }
+        ensures stops { StopsAt self.now.stops_at ClearCall.CommitQuotient → result ≡ Result.Err (SchemeFault.Refused ClearProverError.Stopped) }
     {
+        self.plain
+            .pass(ClearCall::CommitQuotient, ClearProverError::Stopped)?;
         let chunks = masked_chunks_of(alloc, &self.masks, &domain, &flat, num_chunks)?;
         let made = committed(alloc, chunks)?;
         Ok(made)
@@ -185,8 +211,11 @@ impl<F: TwoAdicField, EF: ExtensionField<F>, C> UnivariateStarkPcs<EF, C> for Ma
             × ⟦<MaskedClearPcs<F> as Pcs<EF, C>>⟧.scheme.Stands self.now made.0 made.1 (record { domain = ⟦<Coset<F> as PolynomialSpace>⟧.coset_of domain; columns = columns } ∷ [])
             × (length columns ≡ EF.DIMENSION))) }
         ensures refused { IfErr result (λ fault. IfRefused fault (⟦<MaskedClearPcs<F> as Pcs<EF, C>>⟧.scheme.RefusesRandomization self.now (⟦<Coset<F> as PolynomialSpace>⟧.coset_of domain))) }
-        ensures numbers { IfOk result (λ made. IfSome made (λ made. made.0 ≡ mask_lists F.ring self.now 0 EF.DIMENSION (coset_size (⟦<Coset<F> as PolynomialSpace>⟧.coset_of domain)) ∷ [])) }
+        ensures numbers { IfOk result (λ made. IfSome made (λ made. made.0 ≡ mask_lists F.ring self.now.masks 0 EF.DIMENSION (coset_size (⟦<Coset<F> as PolynomialSpace>⟧.coset_of domain)) ∷ [])) }
+        ensures stops { StopsAt self.now.stops_at ClearCall.Randomization → result ≡ Result.Err (SchemeFault.Refused ClearProverError.Stopped) }
     {
+        self.plain
+            .pass(ClearCall::Randomization, ClearProverError::Stopped)?;
         let mut place = 0;
         let columns = next_lists(alloc, &self.masks, &mut place, EF::DIMENSION, domain.size())?;
         let made = committed_alone(alloc, columns)?;
@@ -201,7 +230,7 @@ impl<F: TwoAdicField, EF: ExtensionField<F>, C> UnivariateStarkPcs<EF, C> for Ma
         domain: Coset<F>,
     ) -> Result<RowMajorMatrix<F>, AllocError> {
         <ClearPcs<F> as UnivariateStarkPcs<EF, C>>::get_evaluations_on_domain_no_random(
-            &ClearPcs::new(),
+            &self.plain,
             alloc,
             prover_data,
             index,
@@ -217,7 +246,7 @@ impl<F: TwoAdicField, EF: ExtensionField<F>, C> UnivariateStarkPcs<EF, C> for Ma
         quotient_domain: Coset<F>,
     ) -> Result<PeriodicLdeTable<F>, AllocError> {
         <ClearPcs<F> as UnivariateStarkPcs<EF, C>>::build_periodic_lde_table(
-            &ClearPcs::new(),
+            &self.plain,
             alloc,
             columns,
             trace_domain,
@@ -235,9 +264,10 @@ impl<F: TwoAdicField, EF: ExtensionField<F>, C> UnivariateStarkPcs<EF, C> for Ma
         ensures true_values { IfOk result (λ opened. OpensTrueValues ⟦<MaskedClearPcs<F> as Pcs<EF, C>>⟧.scheme EF.ring EF.embed self.now (map round_view rounds.entry.items) (opened_view opened.0)) }
         ensures whole { IfOk result (λ opened. ProvesTrueClaims ⟦<MaskedClearPcs<F> as Pcs<EF, C>>⟧.scheme EF.ring EF.embed self.now (map round_view rounds.entry.items) opened.1 challenger.old preprocessed_index) }
         ensures refused { IfErr result (λ fault. IfRefused fault (⟦<MaskedClearPcs<F> as Pcs<EF, C>>⟧.scheme.RefusesOpening self.now (map round_view rounds.entry.items) challenger.old preprocessed_index)) }
+        ensures stops { StopsAt self.now.stops_at ClearCall.Open → result ≡ Result.Err (SchemeFault.Refused ClearProverError.Stopped) }
     {
         <ClearPcs<F> as UnivariateStarkPcs<EF, C>>::open_with_preprocessing(
-            &ClearPcs::new(),
+            &self.plain,
             alloc,
             rounds,
             challenger,
@@ -256,9 +286,10 @@ impl<F: TwoAdicField, EF: ExtensionField<F>, C> UnivariateStarkPcs<EF, C> for Ma
         ensures accepted { IfOk result (λ _. ⟦<MaskedClearPcs<F> as Pcs<EF, C>>⟧.scheme.Accepts self.now (map (claim_view ⟦<Coset<F> as PolynomialSpace>⟧.coset_of) claims.entry.items) proof.now challenger.old preprocessed_index) }
         ensures refused { IfErr result (λ fault. IfRefused fault (⟦<MaskedClearPcs<F> as Pcs<EF, C>>⟧.scheme.Refuses self.now (map (claim_view ⟦<Coset<F> as PolynomialSpace>⟧.coset_of) claims.entry.items) proof.now challenger.old preprocessed_index)) }
         ensures no_memory { IfErr result (λ fault. fault ≢ SchemeFault.OutOfMemory) }
+        ensures stops { StopsAt self.now.stops_at ClearCall.Verify → result ≡ Result.Err (SchemeFault.Refused ClearError.Stopped) }
     {
         <ClearPcs<F> as UnivariateStarkPcs<EF, C>>::verify_with_preprocessing(
-            &ClearPcs::new(),
+            &self.plain,
             alloc,
             claims,
             proof,
@@ -267,5 +298,5 @@ impl<F: TwoAdicField, EF: ExtensionField<F>, C> UnivariateStarkPcs<EF, C> for Ma
         )
     }
 
-    ghost scheme_laws = { clear_laws EF.ring EF.embed F.TWO_ADICITY F.two_adic.bounded };
+    ghost scheme_laws = { clear_laws EF.ring EF.embed F.TWO_ADICITY true (λ s. s.stops_at) F.two_adic.bounded };
 }

@@ -4,6 +4,9 @@ use Rattle.stark_input.specs.Airs.{checked_air}
 use Rattle.stark_judge.proofs.Proved.{is_proved}
 use Rattle.stark_judge.proofs.prove.prove_trace.Goals as goal
 
+pub prove_over-answer-requires-clause-stops_nowhere : goal.prove_over-answer-requires-clause-stops_nowhere
+prove_over-answer-requires-clause-stops_nowhere g c = ap (λ (k : StarkConfig _ _ _). k.pcs) c.with_ood_proof_of_work_bits-config.ensures ∙ c.new-2.ensures.pcs ∙ c.new.ensures
+
 pub returns : goal.returns
 returns g c = λ height rows.
     let made = c.with_ood_proof_of_work_bits-config.ensures in

@@ -4,6 +4,9 @@ use Rattle.stark_input.specs.Airs.{checked_air}
 use Rattle.stark_judge.proofs.Judged.{is_judged}
 use Rattle.stark_judge.proofs.verify.judge_proof.Goals as goal
 
+pub judge_over-requires-clause-stops_nowhere : goal.judge_over-requires-clause-stops_nowhere
+judge_over-requires-clause-stops_nowhere g c = ap (λ (k : StarkConfig _ _ _). k.pcs) c.with_ood_proof_of_work_bits-config.ensures ∙ c.new-2.ensures.pcs ∙ c.new.ensures
+
 pub returns : goal.returns
 returns g c =
     let made = c.with_ood_proof_of_work_bits-config.ensures in

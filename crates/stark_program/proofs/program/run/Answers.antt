@@ -16,8 +16,8 @@ pub returns-clause-sound : goal.returns-clause-sound
 returns-clause-sound g c =
     sound_known _ _ _
     (λ air input verified. verified_soundly _ _ _ _ _
-    (record { plain = refl; base_laws = residue_laws; laws = laws_of_elements; embeds = embedded_is_embedding residue_laws.of_ring (residue 11); two_adic = two_adic_laws; four_points = omega arith; accepts = λ s claims proof state index h. h; stands = λ s commitment prover_data matrices h. (h.0, h.2) })
-    (record { plain = refl; base_laws = residue_laws; laws = laws_of_elements; embeds = embedded_is_embedding residue_laws.of_ring (residue 11); two_adic = two_adic_laws; four_points = omega arith; accepts = λ s claims proof state index h. h; stands = λ s commitment prover_data matrices h. (h.0, h.2) })
+    (record { plain = refl; base_laws = residue_laws; laws = laws_of_elements; embeds = embedded_is_embedding residue_laws.of_ring (residue 11); two_adic = two_adic_laws; four_points = omega arith; accepts = λ s claims proof state index h. h.0; stands = λ s commitment prover_data matrices h. (h.0, h.2) })
+    (record { plain = refl; base_laws = residue_laws; laws = laws_of_elements; embeds = embedded_is_embedding residue_laws.of_ring (residue 11); two_adic = two_adic_laws; four_points = omega arith; accepts = λ s claims proof state index h. h.0; stands = λ s commitment prover_data matrices h. (h.0, h.2) })
     air _ verified) _ _ _ _ c.run_with.ensures.accepted
 
 pub returns-clause-proved : goal.returns-clause-proved

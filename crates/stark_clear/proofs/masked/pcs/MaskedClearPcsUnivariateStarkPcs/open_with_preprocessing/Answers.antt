@@ -1,4 +1,4 @@
-use Rattle.std.specs.Prelude.{IfOk, Result, Ok, Err}
+use Rattle.std.specs.Prelude.{IfOk, Result, Ok, Err, true}
 use Rattle.stark_clear.specs.ClearFacts.{true_claims}
 use Rattle.stark_clear.proofs.masked.pcs.MaskedClearPcsUnivariateStarkPcs.open_with_preprocessing.Goals as goal
 
@@ -10,4 +10,4 @@ of_every_answer (Err e) P h = tt
 pub returns-clause-whole : goal.returns-clause-whole
 returns-clause-whole g c =
     of_every_answer c.open_with_preprocessing.result _
-    (λ opened made stand same whole. true_claims g.EF.Field.ring g.EF.ExtensionField.embed g.row.C.Denot g.F.TwoAdicField.TWO_ADICITY c.args.self.now made stand)
+    (λ opened made stand same whole. (true_claims g.EF.Field.ring g.EF.ExtensionField.embed g.row.C.Denot g.F.TwoAdicField.TWO_ADICITY true (λ s. s.stops_at) c.args.self.now made stand, whole))

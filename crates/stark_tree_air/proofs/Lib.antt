@@ -1,4 +1,5 @@
 pub mod Steps
+pub mod NeededSteps
 pub mod WrittenTrees
 pub mod WrittenConstraints
 pub mod WrittenFaults

@@ -1,5 +1,5 @@
 -- Nodes and constraints without a fault fit, and their trees stay within the layout.
-use Rattle.std.specs.Prelude.{◌≡◌, ℕ, zero, suc, ◌+◌, ◌<◌, nat_lt, Bool, true, false, List, [], ◌∷◌, ◌++◌, length, map, None, Some, if◌then◌else◌, refl, IsTrue}
+use Rattle.std.specs.Prelude.{◌≡◌, ℕ, zero, suc, ◌+◌, ◌<◌, nat_lt, Bool, true, false, List, [], ◌∷◌, ◌++◌, length, map, filter_map, None, Some, if◌then◌else◌, refl, IsTrue}
 use Rattle.std.specs.Option.{option_or}
 use Rattle.std.proofs.Common.{sym, subst, arith, get_or}
 use Rattle.std.proofs.lemmas.List.{length-map}
@@ -8,7 +8,7 @@ use Rattle.stark_air.specs.Declaration.{IsDeclared, next_width}
 use Rattle.stark_air.specs.Layout.{Layout, Covers, TreeWithin, LeavesWithin}
 use Rattle.stark_air.specs.Tree.{Tree, constant, first_row}
 use Rattle.stark_tree_air.specs.Nodes.{node_tree, trees_after, nodes_trees, marked_tree, spelled, NodeFits, NodesFit, ConstraintFits, ConstraintsFit}
-use Rattle.stark_tree_air.specs.Faults.{operand_fault, node_fault, first_node_fault, constraint_fault, first_constraint_fault, tree_air_fault, tree_layout, columns_read, reads_main_next, reads_preprocessed_next}
+use Rattle.stark_tree_air.specs.Faults.{operand_fault, node_fault, first_node_fault, constraint_fault, first_constraint_fault, tree_air_fault, tree_layout, main_next_column, preprocessed_next_column, reads_main_next, reads_preprocessed_next}
 use Rattle.stark_tree_air.specs.Traces.{declared_trace}
 use Rattle.stark_tree_air.specs.declared.columns.TreeColumns.{TreeColumns}
 use Rattle.stark_tree_air.specs.declared.node.TreeNode.{TreeNode}
@@ -139,17 +139,22 @@ pub covered_nodes : (have want : Layout) (m k : ℕ) (ns : List TreeNode) → Co
 covered_nodes have want m k [] c f = tt
 covered_nodes have want m k (n ∷ ns) c f = (covered_node have want m k n c f.0, covered_nodes have want m (suc k) ns c f.1)
 
-next_read : (reads : Bool) (width : ℕ) → (if reads then width else 0) ≡ next_width (columns_read reads width) width
-next_read true zero = refl
-next_read true (suc width) = refl
-next_read false width = refl
+main_next_read : (ns : List TreeNode) (width : ℕ) → (if reads_main_next ns then width else 0) ≡ next_width (filter_map main_next_column ns) width
+main_next_read [] width = refl
+main_next_read (MainNext c ∷ ns) width = refl
+main_next_read (n ∷ ns) width = main_next_read ns width
+
+preprocessed_next_read : (ns : List TreeNode) (width : ℕ) → (if reads_preprocessed_next ns then width else 0) ≡ next_width (filter_map preprocessed_next_column ns) width
+preprocessed_next_read [] width = refl
+preprocessed_next_read (PreprocessedNext c ∷ ns) width = refl
+preprocessed_next_read (n ∷ ns) width = preprocessed_next_read ns width
 
 pub tree_air_declared : {F : Type 0} (columns : TreeColumns F) (ns : List TreeNode) → IsDeclared (tree_layout columns ns) (declared_trace columns.preprocessed_trace)
     (map (λ column. column.items) columns.periodic_columns.items)
-    (columns_read (reads_main_next ns) (tree_layout columns ns).main) (columns_read (reads_preprocessed_next ns) (tree_layout columns ns).preprocessed)
+    (filter_map main_next_column ns) (filter_map preprocessed_next_column ns)
 tree_air_declared columns ns = record {
   preprocessed_width = refl;
   periodic_columns = sym (length-map columns.periodic_columns.items (λ column. column.items));
-  main_next_row = next_read (reads_main_next ns) (tree_layout columns ns).main;
-  preprocessed_next_row = next_read (reads_preprocessed_next ns) (tree_layout columns ns).preprocessed;
+  main_next_row = main_next_read ns (tree_layout columns ns).main;
+  preprocessed_next_row = preprocessed_next_read ns (tree_layout columns ns).preprocessed;
 }

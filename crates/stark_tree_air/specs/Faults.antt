@@ -1,6 +1,5 @@
 -- What nodes read, and the first fault of nodes and constraints.
 use Rattle.std.specs.Prelude.{ℕ, ◌+◌, nat_lt, Bool, true, false, List, [], ◌∷◌, length, Option, None, Some, if◌then◌else◌}
-use Rattle.std.specs.List.{range_with_len}
 use Rattle.std.specs.Option.{option_or}
 use Rattle.stark_air.specs.Declaration.{trace_width}
 use Rattle.stark_air.specs.Layout.{Layout}
@@ -48,9 +47,15 @@ tree_layout columns ns =
 abbrev pub counted_layout : TreeCounts → Layout
 counted_layout c = record { main = c.main; main_next = c.main_next; preprocessed = c.preprocessed; preprocessed_next = c.preprocessed_next; publics = c.publics; periodics = c.periodics }
 
--- All columns where the next row is read, else none.
-abbrev pub columns_read : Bool → ℕ → List ℕ
-columns_read reads width = (if reads then range_with_len 0 width else [])
+-- The column of a node that is a main column in the next row.
+abbrev pub main_next_column : TreeNode → Option ℕ
+main_next_column (MainNext c) = Some c
+main_next_column _ = None
+
+-- The column of a node that is a preprocessed column in the next row.
+abbrev pub preprocessed_next_column : TreeNode → Option ℕ
+preprocessed_next_column (PreprocessedNext c) = Some c
+preprocessed_next_column _ = None
 
 abbrev pub leaf_fault : ℕ → ℕ → ℕ → Option TreeAirError
 leaf_fault node index count = (if nat_lt index count then None else Some (LeafOutside node))

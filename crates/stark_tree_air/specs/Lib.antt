@@ -1,5 +1,6 @@
 pub mod Traces
 pub mod Nodes
+pub mod Needed
 pub mod Faults
 pub mod FaultFacts
 pub mod Writing

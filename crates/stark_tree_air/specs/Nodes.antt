@@ -1,10 +1,11 @@
 -- Lists of nodes, the trees that they spell, and values that stand for these.
-use Rattle.std.specs.Prelude.{ℕ, suc, ◌<◌, List, [], ◌∷◌, ◌++◌, map}
+use Rattle.std.specs.Prelude.{ℕ, suc, ◌+◌, ◌<◌, Bool, List, [], ◌∷◌, ◌++◌, map}
 use Rattle.std.specs.Prelude.{slice_index_or}
 use Rattle.stark_support.specs.Operations.{Operations}
 use Rattle.stark_air.specs.Layout.{Layout}
 use Rattle.stark_air.specs.Tree.{Tree, Constraint, base, extension, constant, main_current, main_next, preprocessed_current, preprocessed_next, public_value, periodic_value, first_row, last_row, transition, sum, difference, product, negation}
 use Rattle.stark_air.specs.Value.{Environment, value}
+use Rattle.stark_tree_air.specs.Needed.{Marked}
 use Rattle.stark_tree_air.specs.declared.node.TreeNode.{TreeNode}
 use Rattle.stark_tree_air.specs.declared.node.TreeNode.TheVariants.{Constant, MainCurrent, MainNext, PreprocessedCurrent, PreprocessedNext, PublicValue, PeriodicValue, FirstRow, LastRow, Transition, Sum, Difference, Product, Negation}
 use Rattle.stark_tree_air.specs.declared.node.TreeConstraint.{TreeConstraint}
@@ -80,13 +81,13 @@ abbrev pub ConstraintsFit : ℕ → List TreeConstraint → Type 0
 ConstraintsFit count [] = Unit {0}
 ConstraintsFit count (c ∷ cs) = ConstraintFits count c × ConstraintsFit count cs
 
--- One value for each tree.
-abbrev pub EachStands : {F : Type 0} {E : Type 0} → (E → E → Type 0) → Operations F E → Environment E → List (Tree F) → List E → Type 0
-EachStands stands o e [] [] = Unit {0}
-EachStands stands o e [] (x ∷ xs) = ⊥
-EachStands stands o e (t ∷ ts) [] = ⊥
-EachStands stands o e (t ∷ ts) (x ∷ xs) = stands (value o e t) x × EachStands stands o e ts xs
+-- One value for each tree; from the place k on, a value with a mark stands for its tree.
+abbrev pub EachStands : {F : Type 0} {E : Type 0} → (E → E → Type 0) → Operations F E → Environment E → List Bool → ℕ → List (Tree F) → List E → Type 0
+EachStands stands o e ms k [] [] = Unit {0}
+EachStands stands o e ms k [] (x ∷ xs) = ⊥
+EachStands stands o e ms k (t ∷ ts) [] = ⊥
+EachStands stands o e ms k (t ∷ ts) (x ∷ xs) = (Marked ms k → stands (value o e t) x) × EachStands stands o e ms (k + 1) ts xs
 
--- Each value stands for that of the tree at its place, and there are as many of both.
-pub record Stand {F : Type 0} {E : Type 0} (stands : E → E → Type 0) (o : Operations F E) (e : Environment E) (ts : List (Tree F)) (xs : List E) : Type 0 where
-  pub each : EachStands stands o e ts xs
+-- Each value with a mark stands for that of the tree at its place, and there are as many values as trees.
+pub record Stand {F : Type 0} {E : Type 0} (stands : E → E → Type 0) (o : Operations F E) (e : Environment E) (ms : List Bool) (ts : List (Tree F)) (xs : List E) : Type 0 where
+  pub each : EachStands stands o e ms 0 ts xs

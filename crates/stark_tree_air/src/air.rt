@@ -1,17 +1,18 @@
 //! The AIR that nodes and constraints spell.
-ghost use Rattle.std.specs.Prelude.{◌≡◌, ◌⊎◌, [], IfOk, MatchResult, None, Some, ⊤, alloc_error, length, map};
+ghost use Rattle.std.specs.Prelude.{◌≡◌, ◌⊎◌, [], IfOk, MatchResult, None, Some, ⊤, alloc_error, filter_map, length, map};
 ghost use Rattle.stark_tree_air.specs.FaultFacts.{tree_air_declared, tree_air_within};
-ghost use Rattle.stark_tree_air.specs.Faults.{columns_read, reads_main_next, reads_preprocessed_next, tree_air_fault, tree_layout};
+ghost use Rattle.stark_tree_air.specs.Faults.{main_next_column, preprocessed_next_column, tree_air_fault, tree_layout};
 ghost use Rattle.stark_tree_air.specs.Nodes.{spelled};
 ghost use Rattle.stark_tree_air.specs.Traces.{declared_trace};
 
 use crate::columns::TreeDeclaration;
 use crate::error::TreeAirError;
 use crate::evaluate::{assert_constraints, node_values};
-use crate::fault::{reads_main_next, reads_preprocessed_next, tree_air_fault};
+use crate::fault::{main_next_column, preprocessed_next_column, tree_air_fault};
 use crate::list::TreeList;
+use crate::needed::needed;
 use crate::node::{TreeConstraint, TreeNode};
-use stark_air::{Air, BaseAir, ExtensionBuilder, every_column};
+use stark_air::{Air, BaseAir, ExtensionBuilder};
 use stark_support::{Field, RowMajorMatrix};
 use std::alloc::{AllocError, Global};
 
@@ -93,9 +94,10 @@ impl<F: Copy> BaseAir<F> for TreeAir<F> {
 
     ghost periodic_columns = { λ air. map (λ column. column.items) air.declaration.columns.periodic_columns.items };
 
-    ghost main_next_row_columns = { λ air. columns_read (reads_main_next air.list.nodes.items) (tree_layout air.declaration.columns air.list.nodes.items).main };
+    /// A column for each node that reads one in the next row, in the nodes' order.
+    ghost main_next_row_columns = { λ air. filter_map main_next_column air.list.nodes.items };
 
-    ghost preprocessed_next_row_columns = { λ air. columns_read (reads_preprocessed_next air.list.nodes.items) (tree_layout air.declaration.columns air.list.nodes.items).preprocessed };
+    ghost preprocessed_next_row_columns = { λ air. filter_map preprocessed_next_column air.list.nodes.items };
 
     ghost degree_hint = { λ air. air.declaration.max_constraint_degree };
 
@@ -124,19 +126,19 @@ impl<F: Copy> BaseAir<F> for TreeAir<F> {
     }
 
     fn main_next_row_columns(&self, alloc: Global) -> Result<Vec<usize>, AllocError> {
-        if reads_main_next(&self.list.nodes) {
-            every_column(alloc, self.declaration.columns.width)
-        } else {
-            Ok(Vec::new(alloc))
-        }
+        self.list
+            .nodes
+            .iter()
+            .filter_map(|node| main_next_column(*node))
+            .collect(alloc)
     }
 
     fn preprocessed_next_row_columns(&self, alloc: Global) -> Result<Vec<usize>, AllocError> {
-        if reads_preprocessed_next(&self.list.nodes) {
-            every_column(alloc, self.declaration.columns.preprocessed_width())
-        } else {
-            Ok(Vec::new(alloc))
-        }
+        self.list
+            .nodes
+            .iter()
+            .filter_map(|node| preprocessed_next_column(*node))
+            .collect(alloc)
     }
 
     fn max_constraint_degree(&self) -> Option<usize> {
@@ -161,8 +163,10 @@ impl<F: Field> Air<F> for TreeAir<F> {
     ghost leaves_within = { λ air. tree_air_within air.declaration.columns air.list.constants.items air.list.nodes.items air.list.constraints.items air.without_fault };
 
     fn eval<AB: ExtensionBuilder<F = F>>(&self, builder: &mut AB) -> Result<(), AllocError> {
-        let constants = &self.list.constants;
-        let values = node_values(self.alloc, constants, &self.list.nodes, &*builder)?;
-        assert_constraints(&self.list.constraints, &values, builder)
+        let nodes = self.list.nodes.as_slice();
+        let constraints = self.list.constraints.as_slice();
+        let needed = needed(self.alloc, nodes, constraints)?;
+        let values = node_values(self.alloc, &self.list.constants, nodes, &needed, &*builder)?;
+        assert_constraints(constraints, &values, builder)
     }
 }

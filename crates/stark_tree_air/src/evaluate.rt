@@ -1,8 +1,9 @@
 //! Nodes and constraints on a builder.
-ghost use Rattle.std.specs.Prelude.{◌≡◌, ◌<◌, List, [], ◌∷◌, map, length, IfOk, OnErr, ⊤};
+ghost use Rattle.std.specs.Prelude.{◌≡◌, ◌<◌, Bool, List, [], ◌∷◌, map, length, IfOk, OnErr, ⊤};
 ghost use Rattle.stark_air.specs.Emission.{Asserted};
 ghost use Rattle.stark_air.specs.Tree.{Tree, constant};
 ghost use Rattle.stark_air.specs.Value.{Environment, Shows, value};
+ghost use Rattle.stark_tree_air.specs.Needed.{ConstraintsMarked, Marked, NodesMarked, OperandsMarked, constraint_place};
 ghost use Rattle.stark_tree_air.specs.Nodes.{Stand, NodeFits, NodesFit, ConstraintFits, ConstraintsFit, node_tree, nodes_trees, tree_at, marked_tree};
 
 use crate::node::{TreeConstraint, TreeNode};
@@ -14,7 +15,7 @@ use std::alloc::{AllocError, Global};
 #[tactic(auto, using(crate::proofs::Steps::operand_stands))]
 fn operand<F, E: Algebra<F>>(values: &[E], index: usize) -> E
     requires { index < length values.now }
-    ensures { (e : Environment E) (ts : List (Tree F)) → Stand E.stands E.operations e ts values.now → E.stands (value E.operations e (tree_at ts index)) result }
+    ensures { (e : Environment E) (ms : List Bool) (ts : List (Tree F)) → Stand E.stands E.operations e ms ts values.now → Marked ms index → E.stands (value E.operations e (tree_at ts index)) result }
 {
     values[index].dup()
 }
@@ -43,7 +44,7 @@ fn node_value<AB: AirBuilder>(
     requires next { Shows ⟦<AB::Expr as From<AB::Var>>⟧.from_gives AB.Expr.stands (AB.environment builder.now).main_next (AB.layout builder.now).main_next (AB.MainWindow.next_at main.now) }
     requires preprocessed_current { Shows ⟦<AB::Expr as From<AB::Var>>⟧.from_gives AB.Expr.stands (AB.environment builder.now).preprocessed_current (AB.layout builder.now).preprocessed (AB.PreprocessedWindow.current_at preprocessed.now) }
     requires preprocessed_next { Shows ⟦<AB::Expr as From<AB::Var>>⟧.from_gives AB.Expr.stands (AB.environment builder.now).preprocessed_next (AB.layout builder.now).preprocessed_next (AB.PreprocessedWindow.next_at preprocessed.now) }
-    ensures { (ts : List (Tree AB.F)) → Stand AB.Expr.stands AB.Expr.operations (AB.environment builder.now) ts values.now → AB.Expr.stands (value AB.Expr.operations (AB.environment builder.now) (node_tree constants.now ts node)) result }
+    ensures { (ms : List Bool) (ts : List (Tree AB.F)) → Stand AB.Expr.stands AB.Expr.operations (AB.environment builder.now) ms ts values.now → OperandsMarked ms node → AB.Expr.stands (value AB.Expr.operations (AB.environment builder.now) (node_tree constants.now ts node)) result }
 {
     match node {
         TreeNode::Constant(index) => constant_value(constants, index),
@@ -63,22 +64,29 @@ fn node_value<AB: AirBuilder>(
     }
 }
 
-/// The values of the nodes, in their order.
+/// The values of the nodes, in their order. In place of a node that isn't needed stands a selector, which takes no memory.
 pub(crate) fn node_values<AB: AirBuilder>(
     alloc: Global,
     constants: &[AB::F],
     nodes: &[TreeNode],
+    needed: &[bool],
     builder: &AB,
 ) -> Result<Vec<AB::Expr>, AllocError>
-    requires { NodesFit (AB.layout builder.now) (length constants.now) 0 nodes.now }
-    ensures { IfOk result (λ values. Stand AB.Expr.stands AB.Expr.operations (AB.environment builder.now) (nodes_trees constants.now nodes.now) values.items) }
+    requires fit { NodesFit (AB.layout builder.now) (length constants.now) 0 nodes.now }
+    requires operands { NodesMarked needed.now 0 nodes.now }
+    requires as_many { length needed.now ≡ length nodes.now }
+    ensures { IfOk result (λ values. Stand AB.Expr.stands AB.Expr.operations (AB.environment builder.now) needed.now (nodes_trees constants.now nodes.now) values.items) }
 {
     let main = builder.main()?;
     let preprocessed = builder.preprocessed()?;
     let mut values = Vec::new(alloc);
-    for node in nodes {
-        let value = node_value(*node, constants, &values, &main, &preprocessed, builder);
-        values.push(value)?;
+    for (place, node) in nodes.iter().enumerate() {
+        if needed[place] {
+            let value = node_value(*node, constants, &values, &main, &preprocessed, builder);
+            values.push(value)?;
+        } else {
+            values.push(builder.is_first_row())?;
+        }
     }
     Ok(values)
 }
@@ -91,7 +99,7 @@ fn assert_constraint<AB: ExtensionBuilder>(
 ) -> Result<(), AllocError>
     requires { ConstraintFits (length values.now) constraint }
     ensures same_environment { AB.environment builder.new ≡ AB.environment builder.old }
-    ensures asserted { IfOk result (λ _. (ts : List (Tree AB.F)) → Stand AB.Expr.stands AB.Expr.operations (AB.environment builder.old) ts values.now → AB.after builder.old (marked_tree ts constraint ∷ []) builder.new) }
+    ensures asserted { IfOk result (λ _. (ms : List Bool) (ts : List (Tree AB.F)) → Stand AB.Expr.stands AB.Expr.operations (AB.environment builder.old) ms ts values.now → Marked ms (constraint_place constraint) → AB.after builder.old (marked_tree ts constraint ∷ []) builder.new) }
     ensures refused { OnErr result (AB.after builder.old [] builder.new) }
 {
     match constraint {
@@ -113,7 +121,7 @@ pub(crate) fn assert_constraints<AB: ExtensionBuilder>(
     builder: &mut AB,
 ) -> Result<(), AllocError>
     requires { ConstraintsFit (length values.now) constraints.now }
-    ensures { (ts : List (Tree AB.F)) → Stand AB.Expr.stands AB.Expr.operations (AB.environment builder.old) ts values.now → Asserted AB.after result builder.old (map (marked_tree ts) constraints.now) builder.new }
+    ensures { (ms : List Bool) (ts : List (Tree AB.F)) → Stand AB.Expr.stands AB.Expr.operations (AB.environment builder.old) ms ts values.now → ConstraintsMarked ms constraints.now → Asserted AB.after result builder.old (map (marked_tree ts) constraints.now) builder.new }
 {
     for constraint in constraints {
         assert_constraint(*constraint, values, &mut *builder)?;

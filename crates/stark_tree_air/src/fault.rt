@@ -1,7 +1,7 @@
 //! The first fault of a list of constants, nodes and constraints.
 ghost use Rattle.std.specs.Prelude.{◌≡◌, length, if◌then◌else◌};
 ghost use Rattle.std.specs.Option.{option_or};
-ghost use Rattle.stark_tree_air.specs.Faults.{constraint_fault, counted_layout, first_constraint_fault, first_node_fault, is_main_next, is_preprocessed_next, leaf_fault, node_fault, operand_fault, reads_main_next, reads_preprocessed_next, tree_air_fault, tree_layout};
+ghost use Rattle.stark_tree_air.specs.Faults.{constraint_fault, counted_layout, first_constraint_fault, first_node_fault, is_main_next, is_preprocessed_next, leaf_fault, main_next_column, node_fault, operand_fault, preprocessed_next_column, reads_main_next, reads_preprocessed_next, tree_air_fault, tree_layout};
 
 use crate::columns::TreeColumns;
 use crate::error::TreeAirError;
@@ -54,6 +54,26 @@ pub(crate) fn reads_preprocessed_next(nodes: &[TreeNode]) -> bool
         }
     }
     false
+}
+
+/// The column of a node that is a main column in the next row.
+pub(crate) fn main_next_column(node: TreeNode) -> Option<usize>
+    ensures { result ≡ main_next_column node }
+{
+    match node {
+        TreeNode::MainNext(column) => Some(column),
+        _ => None,
+    }
+}
+
+/// The column of a node that is a preprocessed column in the next row.
+pub(crate) fn preprocessed_next_column(node: TreeNode) -> Option<usize>
+    ensures { result ≡ preprocessed_next_column node }
+{
+    match node {
+        TreeNode::PreprocessedNext(column) => Some(column),
+        _ => None,
+    }
 }
 
 fn counts<F>(columns: &TreeColumns<F>, constants: usize, nodes: &[TreeNode]) -> TreeCounts

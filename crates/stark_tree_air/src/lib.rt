@@ -11,6 +11,7 @@ mod json;
 mod json_error;
 mod json_fields;
 mod list;
+mod needed;
 mod node;
 mod node_json;
 mod symbolic;

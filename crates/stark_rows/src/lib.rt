@@ -41,6 +41,8 @@ mod sized_airs;
 #[cfg(test)]
 mod sizing;
 #[cfg(test)]
+mod stopped;
+#[cfg(test)]
 mod trees;
 #[cfg(test)]
 mod verdicts;

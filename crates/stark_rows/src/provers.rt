@@ -10,8 +10,8 @@ use crate::sized_airs::BoundedAir;
 use p3_uni_stark::PcsProof;
 use stark_air::Air;
 use stark_bench::{
-    ClearCommitment, Ext4, F12289, P12289, Packed, Residue, S12289, Scalar, ScriptChallenger,
-    Sha256Challenger,
+    ClearCommitment, Ext4, F12289, Lockstep, P12289, Packed, Residue, S12289, Scalar,
+    ScriptChallenger, Sha256Challenger,
 };
 use stark_clear::{
     Asked, ClearPcs, CounterAir, CubicAir, FibonacciAir, MaskedClearPcs, PairAir, PeriodicAir,
@@ -124,7 +124,7 @@ where
 }
 
 /// The challenger that draws alpha 4 and this zeta.
-fn script<Kind>(alloc: Global, zeta: u32) -> Result<ScriptChallenger<Residue<Kind>>, Fail> {
+pub fn script<Kind>(alloc: Global, zeta: u32) -> Result<ScriptChallenger<Residue<Kind>>, Fail> {
     let list = elements::<Residue<Kind>>(alloc, &[4, 0, 0, 0, zeta, 0, 0, 0])?;
     if list.is_empty() {
         return Err(Fail::from("no numbers"));
@@ -133,9 +133,9 @@ fn script<Kind>(alloc: Global, zeta: u32) -> Result<ScriptChallenger<Residue<Kin
 }
 
 /// The extension of the rows' slower field.
-type Above = Ext4<S12289>;
+pub type Above = Ext4<S12289>;
 
-type Scripted = ScriptChallenger<S12289>;
+pub type Scripted = ScriptChallenger<S12289>;
 
 /// The text of the proof of an AIR's trace: the trace | the public values.
 pub fn read_text<F, EF, C, A>(
@@ -222,6 +222,17 @@ fn packed_text(alloc: Global, text: &str) -> Result<String, Fail> {
     )
 }
 
+/// A row over the field in lockstep.
+fn lockstep_text(alloc: Global, text: &str) -> Result<String, Fail> {
+    let (name, rest) = apart(text)?;
+    let (numbers, values) = apart(rest)?;
+    let numbers = numbers_in::<3>(numbers)?;
+    let challenger = script::<Lockstep>(alloc, numbers[1])?;
+    worked_text::<F12289, Ext4<F12289>, ScriptChallenger<F12289>>(
+        alloc, challenger, name, numbers, values,
+    )
+}
+
 // The line through 5 and 6 on the points 1 and -1, and the quotient -1. At zeta 1 the proof is made and refused. Of one row the column
 // is 5 everywhere. No element is a witness of 14 bits: a script's witness passes where the number after it is a multiple of 2^bits.
 // On two rows the first selector is X + 1, and X over Z_H, which is 120 on the domain of the quotient, is 7271 X: a broken trace's proof.
@@ -241,7 +252,16 @@ first row | 0 3 0 | 0 | empty => {\"commitments\":{\"quotient_chunks\":[[[0],[0]
 #[test]
 fn worked_proofs(rt: HostRuntime) -> Result<(), Fail> {
     all_rows(&rt, rt.alloc(), WORKED, scalar_text)?;
-    all_rows(&rt, rt.alloc(), WORKED, packed_text)
+    all_rows(&rt, rt.alloc(), WORKED, packed_text)?;
+    all_rows(&rt, rt.alloc(), WORKED, lockstep_text)
+}
+
+/// What is answered over all three fields, where it is the same.
+fn agreed(alloc: Global, one: String, four: String, eight: String) -> Result<String, Fail> {
+    if one != four || one != eight {
+        return Ok(String::from_str(alloc, "the fields differ")?);
+    }
+    Ok(one)
 }
 
 /// `accepted` for a proof that the verifier accepts, else what there is.
@@ -252,8 +272,8 @@ pub fn verdict_of(text: String, alloc: Global) -> Result<String, Fail> {
     Ok(text)
 }
 
-/// The verdict on the proof of an AIR's trace of so many rows: the trace | the public values.
-fn verdict_at<SC, A>(
+/// The text of the proof of an AIR's trace of so many rows, and the verifier's answer: the trace | the public values.
+fn text_at<SC, A>(
     alloc: Global,
     config: &SC,
     air: &A,
@@ -275,12 +295,11 @@ where
     let (trace, publics) = apart(text)?;
     let trace = list_in(alloc, trace)?;
     let publics = list_in(alloc, publics)?;
-    let text = text_of(alloc, config, air, log_height, &trace, &publics)?;
-    verdict_of(text, alloc)
+    text_of(alloc, config, air, log_height, &trace, &publics)
 }
 
 /// The same with the logarithm of the height before it.
-fn verdict_on<SC, A>(alloc: Global, config: &SC, air: &A, text: &str) -> Result<String, Fail>
+fn text_on<SC, A>(alloc: Global, config: &SC, air: &A, text: &str) -> Result<String, Fail>
 where
     SC: StarkGenericConfig,
     SC::Challenge: PackedExtensionField<Val<SC>> + JsonCodec,
@@ -295,11 +314,11 @@ where
 {
     let (number, rest) = apart(text)?;
     let [log_height] = numbers_in::<1>(number)?;
-    verdict_at(alloc, config, air, log_height as usize, rest)
+    text_at(alloc, config, air, log_height as usize, rest)
 }
 
-/// The verdict on a named AIR's trace. The preprocessed column has four rows, so that no height is read for it.
-fn verdict_by_name<SC>(alloc: Global, config: &SC, text: &str) -> Result<String, Fail>
+/// The same of a named AIR's trace. The preprocessed column has four rows, so that no height is read for it.
+fn text_by_name<SC>(alloc: Global, config: &SC, text: &str) -> Result<String, Fail>
 where
     SC: StarkGenericConfig,
     SC::Challenge: PackedExtensionField<Val<SC>> + JsonCodec,
@@ -312,17 +331,17 @@ where
 {
     let (name, rest) = apart(text)?;
     match name {
-        "counter" => verdict_on(alloc, config, &CounterAir, rest),
-        "cubic" => verdict_on(alloc, config, &CubicAir, rest),
-        "fibonacci" => verdict_on(alloc, config, &FibonacciAir, rest),
-        "pair" => verdict_on(alloc, config, &PairAir, rest),
-        "preprocessed" => verdict_at(alloc, config, &PreprocessedAir, 2, rest),
-        _ => verdict_on(alloc, config, &PeriodicAir::new(alloc)?, rest),
+        "counter" => text_on(alloc, config, &CounterAir, rest),
+        "cubic" => text_on(alloc, config, &CubicAir, rest),
+        "fibonacci" => text_on(alloc, config, &FibonacciAir, rest),
+        "pair" => text_on(alloc, config, &PairAir, rest),
+        "preprocessed" => text_at(alloc, config, &PreprocessedAir, 2, rest),
+        _ => text_on(alloc, config, &PeriodicAir::new(alloc)?, rest),
     }
 }
 
 /// The same in the clear, over any field and extension.
-fn clear_verdict<F, EF, C>(
+pub fn clear_by_name<F, EF, C>(
     alloc: Global,
     config: &ClearConfig<F, EF, C>,
     text: &str,
@@ -336,11 +355,11 @@ where
         + GrindingChallenger<Witness = F>
         + Clone,
 {
-    verdict_by_name::<ClearConfig<F, EF, C>>(alloc, config, text)
+    text_by_name::<ClearConfig<F, EF, C>>(alloc, config, text)
 }
 
 /// The same with masks.
-fn masked_verdict<F, EF, C>(
+pub fn masked_by_name<F, EF, C>(
     alloc: Global,
     config: &MaskedConfig<F, EF, C>,
     text: &str,
@@ -354,7 +373,7 @@ where
         + GrindingChallenger<Witness = F>
         + Clone,
 {
-    verdict_by_name::<MaskedConfig<F, EF, C>>(alloc, config, text)
+    text_by_name::<MaskedConfig<F, EF, C>>(alloc, config, text)
 }
 
 // Satisfying traces of one, two, four and eight rows; the periodic column has two, the preprocessed one four. At these heights
@@ -382,89 +401,114 @@ periodic | 1 | 0 1 | empty => accepted
 periodic | 2 | 0 1 0 1 | empty => accepted
 periodic | 3 | 0 1 0 1 0 1 0 1 | empty => accepted";
 
-fn small_verdict(alloc: Global, text: &str) -> Result<String, Fail> {
-    let config = StarkConfig::new(ClearPcs::new(), Sha256Challenger::new());
-    clear_verdict::<S12289, Above, Sha256Challenger<S12289>>(alloc, &config, text)
+/// A row over each field: the proofs are the same.
+fn hashed(alloc: Global, text: &str) -> Result<String, Fail> {
+    let one = StarkConfig::new(ClearPcs::new(), Sha256Challenger::new());
+    let one = clear_by_name::<S12289, Above, Sha256Challenger<S12289>>(alloc, &one, text)?;
+    let four = StarkConfig::new(ClearPcs::new(), Sha256Challenger::new());
+    let four = clear_by_name::<P12289, Ext4<P12289>, Sha256Challenger<P12289>>(alloc, &four, text)?;
+    let eight = StarkConfig::new(ClearPcs::new(), Sha256Challenger::new());
+    let eight = clear_by_name::<F12289, Ext4<F12289>, Sha256Challenger<F12289>>(
+        alloc, &eight, text,
+    )?;
+    verdict_of(agreed(alloc, one, four, eight)?, alloc)
 }
 
-fn packed_verdict(alloc: Global, text: &str) -> Result<String, Fail> {
-    let config = StarkConfig::new(ClearPcs::new(), Sha256Challenger::new());
-    clear_verdict::<P12289, Ext4<P12289>, Sha256Challenger<P12289>>(alloc, &config, text)
-}
-
-fn fast_verdict(alloc: Global, text: &str) -> Result<String, Fail> {
-    let config = StarkConfig::new(ClearPcs::new(), Sha256Challenger::new());
-    clear_verdict::<F12289, Ext4<F12289>, Sha256Challenger<F12289>>(alloc, &config, text)
-}
-
-fn hidden_verdict(alloc: Global, text: &str) -> Result<String, Fail> {
-    let masks = elements::<S12289>(alloc, &[1, 2, 3])?;
+/// The configuration with these masks.
+fn masked<F, EF, C>(
+    alloc: Global,
+    challenger: C,
+    masks: &[u32],
+) -> Result<MaskedConfig<F, EF, C>, Fail>
+where
+    F: PrimeField64 + TwoAdicField,
+    C: Drop,
+{
+    let masks = elements::<F>(alloc, masks)?;
     if masks.is_empty() {
         return Err(Fail::from("no masks"));
     }
-    let config = StarkConfig::new(MaskedClearPcs::new(masks), Sha256Challenger::new());
-    masked_verdict::<S12289, Above, Sha256Challenger<S12289>>(alloc, &config, text)
+    Ok(StarkConfig::new(MaskedClearPcs::new(masks), challenger))
+}
+
+/// A row with masks 1, 2, 3 and a challenger.
+fn hidden_text<F, EF, C>(alloc: Global, challenger: C, text: &str) -> Result<String, Fail>
+where
+    F: PrimeField64 + TwoAdicField + PackedField + JsonCodec,
+    EF: PackedExtensionField<F> + JsonCodec,
+    C: FieldChallenger<F>
+        + CanObserve<ClearCommitment<F>>
+        + ExtensionChallenger<F, EF>
+        + GrindingChallenger<Witness = F>
+        + Clone,
+{
+    let config = masked::<F, EF, C>(alloc, challenger, &[1, 2, 3])?;
+    masked_by_name::<F, EF, C>(alloc, &config, text)
+}
+
+/// The same over each field: the proofs are the same.
+fn hidden(alloc: Global, text: &str) -> Result<String, Fail> {
+    let one = Sha256Challenger::new();
+    let one = hidden_text::<S12289, Above, Sha256Challenger<S12289>>(alloc, one, text)?;
+    let four = Sha256Challenger::new();
+    let four = hidden_text::<P12289, Ext4<P12289>, Sha256Challenger<P12289>>(alloc, four, text)?;
+    let eight = Sha256Challenger::new();
+    let eight = hidden_text::<F12289, Ext4<F12289>, Sha256Challenger<F12289>>(alloc, eight, text)?;
+    verdict_of(agreed(alloc, one, four, eight)?, alloc)
 }
 
 #[test]
 fn satisfying_traces(rt: HostRuntime) -> Result<(), Fail> {
-    all_rows(&rt, rt.alloc(), HASHED, small_verdict)?;
-    all_rows(&rt, rt.alloc(), HASHED, packed_verdict)?;
-    all_rows(&rt, rt.alloc(), HASHED, fast_verdict)?;
-    all_rows(&rt, rt.alloc(), HASHED, hidden_verdict)
+    all_rows(&rt, rt.alloc(), HASHED, hashed)?;
+    all_rows(&rt, rt.alloc(), HASHED, hidden)
 }
 
-type MaskedScript = MaskedConfig<S12289, Above, Scripted>;
-
-/// The configuration with these masks that draws alpha 4 and zeta 3.
-fn masked_script(alloc: Global, masks: &[u32]) -> Result<MaskedScript, Fail> {
-    let masks = elements::<S12289>(alloc, masks)?;
-    if masks.is_empty() {
-        return Err(Fail::from("no masks"));
-    }
-    Ok(StarkConfig::new(MaskedClearPcs::new(masks), script(alloc, 3)?))
-}
-
-/// The text of a masked proof and the verifier's answer: masks | trace | public values.
-fn masked_script_text<A: Air<S12289>>(
-    alloc: Global,
-    air: &A,
-    log_height: usize,
-    text: &str,
-) -> Result<String, Fail>
-    requires set_up { HasHeight log_height (A.preprocessed_trace air.now) }
+/// The text of a named AIR's masked proof and the verifier's answer: the AIR | the masks | the trace | the public values.
+fn masked_row<F, EF, C>(alloc: Global, challenger: C, text: &str) -> Result<String, Fail>
+where
+    F: PrimeField64 + TwoAdicField + PackedField + JsonCodec,
+    EF: PackedExtensionField<F> + JsonCodec,
+    C: FieldChallenger<F>
+        + CanObserve<ClearCommitment<F>>
+        + ExtensionChallenger<F, EF>
+        + GrindingChallenger<Witness = F>
+        + Clone,
 {
-    let (masks, rest) = apart(text)?;
+    let (name, rest) = apart(text)?;
+    let (masks, rest) = apart(rest)?;
     let (trace, publics) = apart(rest)?;
-    let config = masked_script(alloc, &list_in(alloc, masks)?)?;
+    let config = masked::<F, EF, C>(alloc, challenger, &list_in(alloc, masks)?)?;
     let trace = list_in(alloc, trace)?;
     let publics = list_in(alloc, publics)?;
-    masked_text::<S12289, Above, Scripted, A>(alloc, &config, air, log_height, &trace, &publics)
+    match name {
+        "counter" => masked_text(alloc, &config, &CounterAir, 1, &trace, &publics),
+        "cubic" => masked_text(alloc, &config, &CubicAir, 1, &trace, &publics),
+        _ => masked_text(alloc, &config, &FibonacciAir, 2, &trace, &publics),
+    }
+}
+
+/// The same over each field, where alpha is 4 and zeta 3: the proofs are the same.
+fn masked_in_all_fields(alloc: Global, text: &str) -> Result<String, Fail> {
+    let one = script::<Scalar>(alloc, 3)?;
+    let one = masked_row::<S12289, Above, Scripted>(alloc, one, text)?;
+    let four = script::<Packed>(alloc, 3)?;
+    let four = masked_row::<P12289, Ext4<P12289>, ScriptChallenger<P12289>>(alloc, four, text)?;
+    let eight = script::<Lockstep>(alloc, 3)?;
+    let eight = masked_row::<F12289, Ext4<F12289>, ScriptChallenger<F12289>>(alloc, eight, text)?;
+    agreed(alloc, one, four, eight)
+}
+
+fn masked_verdict(alloc: Global, text: &str) -> Result<String, Fail> {
+    verdict_of(masked_in_all_fields(alloc, text)?, alloc)
 }
 
 // With masks of ones the counter's column is the line plus (X^2 - 1) (X + 1), 36 at 3 and 12280 at -3.
 const MASKED_COUNTERS: &str = "\
-1 | 5 6 | 5 => {\"commitments\":{\"quotient_chunks\":[[[244,5,1625,1625],[12288,12288,1625,1625],[12288,12288,1625,1625],[12288,12288,1625,1625]],[[1539,5,5269,5269],[12288,12288,5269,5269],[12288,12288,5269,5269],[12288,12288,5269,5269]],[[12049,5,10664,10664],[12288,12288,10664,10664],[12288,12288,10664,10664],[12288,12288,10664,10664]],[[10758,9,3518,3518],[3,3,3518,3518],[3,3,3518,3518],[3,3,3518,3518]]],\"random\":[[[1,1,1,1],[1,1,1,1],[1,1,1,1],[1,1,1,1]]],\"trace\":[[[6149,6143,1,1]]]},\"degree_bits\":2,\"ood_pow_witness\":0,\"opened_values\":{\"preprocessed_local\":null,\"preprocessed_next\":null,\"quotient_chunks\":[[[9603,0,0,0],[9340,0,0,0],[9340,0,0,0],[9340,0,0,0]],[[6903,0,0,0],[5345,0,0,0],[5345,0,0,0],[5345,0,0,0]],[[2720,0,0,0],[2941,0,0,0],[2941,0,0,0],[2941,0,0,0]],[[2254,0,0,0],[3770,0,0,0],[3770,0,0,0],[3770,0,0,0]]],\"random\":[[40,0,0,0],[40,0,0,0],[40,0,0,0],[40,0,0,0]],\"trace_local\":[[36,0,0,0]],\"trace_next\":[[12280,0,0,0]]},\"opening_proof\":null} Ok(())";
+counter | 1 | 5 6 | 5 => {\"commitments\":{\"quotient_chunks\":[[[244,5,1625,1625],[12288,12288,1625,1625],[12288,12288,1625,1625],[12288,12288,1625,1625]],[[1539,5,5269,5269],[12288,12288,5269,5269],[12288,12288,5269,5269],[12288,12288,5269,5269]],[[12049,5,10664,10664],[12288,12288,10664,10664],[12288,12288,10664,10664],[12288,12288,10664,10664]],[[10758,9,3518,3518],[3,3,3518,3518],[3,3,3518,3518],[3,3,3518,3518]]],\"random\":[[[1,1,1,1],[1,1,1,1],[1,1,1,1],[1,1,1,1]]],\"trace\":[[[6149,6143,1,1]]]},\"degree_bits\":2,\"ood_pow_witness\":0,\"opened_values\":{\"preprocessed_local\":null,\"preprocessed_next\":null,\"quotient_chunks\":[[[9603,0,0,0],[9340,0,0,0],[9340,0,0,0],[9340,0,0,0]],[[6903,0,0,0],[5345,0,0,0],[5345,0,0,0],[5345,0,0,0]],[[2720,0,0,0],[2941,0,0,0],[2941,0,0,0],[2941,0,0,0]],[[2254,0,0,0],[3770,0,0,0],[3770,0,0,0],[3770,0,0,0]]],\"random\":[[40,0,0,0],[40,0,0,0],[40,0,0,0],[40,0,0,0]],\"trace_local\":[[36,0,0,0]],\"trace_next\":[[12280,0,0,0]]},\"opening_proof\":null} Ok(())";
 
-fn masked_counter(alloc: Global, text: &str) -> Result<String, Fail> {
-    masked_script_text(alloc, &CounterAir, 1, text)
-}
-
-const MASKED_FIBONACCIS: &str = "\
-1 2 3 | 1 1 1 2 2 3 3 5 | 1 1 5 => accepted";
-
-fn masked_fibonacci(alloc: Global, text: &str) -> Result<String, Fail> {
-    let text = masked_script_text(alloc, &FibonacciAir, 2, text)?;
-    verdict_of(text, alloc)
-}
-
-const MASKED_CUBICS: &str = "\
-1 2 3 | 0 0 | empty => accepted";
-
-fn masked_cubic(alloc: Global, text: &str) -> Result<String, Fail> {
-    let text = masked_script_text(alloc, &CubicAir, 1, text)?;
-    verdict_of(text, alloc)
-}
+const MASKED_TRACES: &str = "\
+fibonacci | 1 2 3 | 1 1 1 2 2 3 3 5 | 1 1 5 => accepted
+cubic | 1 2 3 | 0 0 | empty => accepted";
 
 // The masked counter's proof, and what is put in its place.
 const MASKED_PROOF: &str =
@@ -479,7 +523,7 @@ const CHANGED_MASKED: &str = "\
 fn changed_masked(alloc: Global, text: &str) -> Result<String, Fail> {
     let (from, to) = apart(text)?;
     let changed = MASKED_PROOF.replacen(alloc, from, to, 1)?;
-    let config = masked_script(alloc, &[1])?;
+    let config = masked::<S12289, Above, Scripted>(alloc, script(alloc, 3)?, &[1])?;
     let publics = elements::<S12289>(alloc, &[5])?;
     let answer = masked_reread::<S12289, Above, Scripted, CounterAir>(
         alloc,
@@ -493,8 +537,7 @@ fn changed_masked(alloc: Global, text: &str) -> Result<String, Fail> {
 
 #[test]
 fn masked_proofs(rt: HostRuntime) -> Result<(), Fail> {
-    all_rows(&rt, rt.alloc(), MASKED_COUNTERS, masked_counter)?;
-    all_rows(&rt, rt.alloc(), MASKED_FIBONACCIS, masked_fibonacci)?;
-    all_rows(&rt, rt.alloc(), MASKED_CUBICS, masked_cubic)?;
+    all_rows(&rt, rt.alloc(), MASKED_COUNTERS, masked_in_all_fields)?;
+    all_rows(&rt, rt.alloc(), MASKED_TRACES, masked_verdict)?;
     all_rows(&rt, rt.alloc(), CHANGED_MASKED, changed_masked)
 }

@@ -3,7 +3,8 @@
 //! transition; their proofs stand beside those of the hand-written AIRs.
 ghost use Rattle.std.specs.Prelude.{◌≡◌, IfOk, Some};
 ghost use Rattle.stark_air.specs.SymbolicView.{variable_tree};
-ghost use Rattle.stark_clear.specs.Samples.{counter_constraints, mixed_constraints};
+ghost use Rattle.stark_air.specs.Tree.{main_current, main_next, public_value};
+ghost use Rattle.stark_clear.specs.Samples.{counter_constraints, fibonacci_constraints, mixed_constraints};
 ghost use Rattle.stark_protocol.specs.Preprocessing.{HasHeight};
 
 use crate::airs::folded;
@@ -12,7 +13,9 @@ use crate::elements::{Base, Extension, coordinates, numbers, row};
 use crate::proofs::value_of;
 use crate::provers::{read_text, verdict_of};
 use crate::rows::{all_rows, apart, list_in, numbers_in};
-use stark_air::{Air, BaseEntry, SymbolicConstraint, SymbolicExpression, SymbolicVariable};
+use stark_air::{
+    Air, BaseAir, BaseEntry, SymbolicConstraint, SymbolicExpression, SymbolicVariable,
+};
 use stark_bench::{ClearCommitment, Sha256Challenger};
 use stark_clear::{
     Asked, ClearPcs, CounterAir, CubicAir, FibonacciAir, PairAir, PeriodicAir, PreprocessedAir,
@@ -134,6 +137,20 @@ const WRITTEN: &str = "\
 {\"width\":1,\"publics\":1,\"periodic\":[],\"constants\":[],\"nodes\":[],\"constraints\":[],\"num_constraints\":null,\"name\":\"none\"} => {\"constants\":[],\"constraints\":[],\"nodes\":[],\"periodic\":[],\"preprocessed\":null,\"publics\":1,\"width\":1}
 {\"width\":2,\"publics\":1,\"periodic\":[[1,2],[3]],\"preprocessed\":{\"rows\":[[4,5],[6,7]],\"width\":2},\"max_constraint_degree\":3,\"num_constraints\":2,\"constants\":[12288],\"nodes\":[[\"constant\",0],[\"main\",1],[\"next\",1],[\"preprocessed\",1],[\"preprocessed_next\",0],[\"public\",0],[\"periodic\",1],[\"first\"],[\"last\"],[\"transition\"],[\"add\",0,1],[\"sub\",3,2],[\"mul\",11,10],[\"neg\",12]],\"constraints\":[{\"ext\":13},{\"base\":12}]} => {\"constants\":[12288],\"constraints\":[{\"ext\":13},{\"base\":12}],\"max_constraint_degree\":3,\"nodes\":[[\"constant\",0],[\"main\",1],[\"next\",1],[\"preprocessed\",1],[\"preprocessed_next\",0],[\"public\",0],[\"periodic\",1],[\"first\"],[\"last\"],[\"transition\"],[\"add\",0,1],[\"sub\",3,2],[\"mul\",11,10],[\"neg\",12]],\"num_constraints\":2,\"periodic\":[[1,2],[3]],\"preprocessed\":{\"rows\":[[4,5],[6,7]],\"width\":2},\"publics\":1,\"width\":2}";
 
+/// The main and the preprocessed columns whose next row is declared.
+fn next_columns(alloc: Global, text: &str) -> Result<String, Fail> {
+    let air = tree_of::<Base>(alloc, text)?;
+    let main = air.main_next_row_columns(alloc)?;
+    let preprocessed = air.preprocessed_next_row_columns(alloc)?;
+    Ok(format!(in alloc; "{main:?} {preprocessed:?}")?)
+}
+
+// A column for each node that reads one in the next row, in the nodes' order, however wide the rows are.
+const NEXT: &str = "\
+{\"width\":18446744073709551615,\"publics\":0,\"periodic\":[],\"constants\":[],\"nodes\":[[\"main\",0],[\"next\",18446744073709551614]],\"constraints\":[{\"base\":1}]} => [18446744073709551614] []
+{\"width\":18446744073709551615,\"publics\":0,\"periodic\":[],\"constants\":[],\"nodes\":[[\"main\",0]],\"constraints\":[{\"base\":0}]} => [] []
+{\"width\":3,\"publics\":0,\"periodic\":[],\"preprocessed\":{\"width\":18446744073709551615,\"rows\":[]},\"constants\":[],\"nodes\":[[\"next\",2],[\"preprocessed_next\",7],[\"next\",0],[\"next\",2]],\"constraints\":[]} => [2, 0, 2] [7]";
+
 /// The counter, by the places that its list answers.
 fn counter_by_places<F: Field>(alloc: Global) -> Result<TreeAir<F>, TreeAirError> {
     let mut list = TreeList::new(alloc);
@@ -165,6 +182,19 @@ fn ones(alloc: Global, constraint: usize) -> Result<TreeAir<Base>, TreeAirError>
     let declaration = TreeDeclaration::without_hints(columns);
     let constraints = [TreeConstraint::Base(constraint)];
     TreeAir::of(alloc, declaration, [Base::ONE], nodes, constraints)
+}
+
+/// A column that is zero, and squares of squares that no constraint needs: as an expression the last has 2^100 leaves.
+fn with_squares(alloc: Global) -> Result<TreeAir<Base>, TreeAirError> {
+    let mut list = TreeList::new(alloc);
+    let x = list.node(TreeNode::MainCurrent(0))?;
+    list.base(x)?;
+    let mut square = x;
+    for _ in 0..100 {
+        square = list.node(TreeNode::Product(square, square))?;
+    }
+    let columns = TreeColumns::main(alloc, 1, 0);
+    TreeAir::new(alloc, TreeDeclaration::without_hints(columns), list)
 }
 
 /// The expression that is a column or a value.
@@ -227,6 +257,64 @@ fn mixed_by_expressions(alloc: Global) -> Result<TreeAir<Base>, TreeExpressionEr
     TreeAir::from_expressions(alloc, TreeDeclaration::without_hints(columns), &constraints)
 }
 
+fn current<F: Field>(alloc: Global, column: usize) -> SymbolicExpression<F>
+    ensures { result ≡ Some (main_current column) }
+{
+    variable(alloc, BaseEntry::Main { offset: 0 }, column)
+}
+
+fn next<F: Field>(alloc: Global, column: usize) -> SymbolicExpression<F>
+    ensures { result ≡ Some (main_next column) }
+{
+    variable(alloc, BaseEntry::Main { offset: 1 }, column)
+}
+
+fn public<F: Field>(alloc: Global, index: usize) -> SymbolicExpression<F>
+    ensures { result ≡ Some (public_value index) }
+{
+    variable(alloc, BaseEntry::Public, index)
+}
+
+/// Two columns of Fibonacci numbers by expressions.
+fn fibonacci_by_expressions(alloc: Global) -> Result<TreeAir<Base>, TreeExpressionError>
+    ensures constraints { IfOk result (λ air. ⟦<TreeAir<Base> as Air<Base>>⟧.constraints air ≡ fibonacci_constraints) }
+{
+    let left = current::<Base>(alloc, 0) - public(alloc, 0);
+    let right = current::<Base>(alloc, 1) - public(alloc, 1);
+    let moved = next::<Base>(alloc, 0) - current(alloc, 1);
+    let added = next::<Base>(alloc, 1) - (current::<Base>(alloc, 0) + current(alloc, 1));
+    let ended = current::<Base>(alloc, 1) - public(alloc, 2);
+    let starts_left = SymbolicExpression::is_first_row(alloc) * left;
+    let starts_right = SymbolicExpression::is_first_row(alloc) * right;
+    let moves = SymbolicExpression::is_transition(alloc) * moved;
+    let adds = SymbolicExpression::is_transition(alloc) * added;
+    let ends = SymbolicExpression::is_last_row(alloc) * ended;
+    let constraints = [
+        NamedConstraint {
+            name: "left starts",
+            constraint: SymbolicConstraint::Base(starts_left),
+        },
+        NamedConstraint {
+            name: "right starts",
+            constraint: SymbolicConstraint::Base(starts_right),
+        },
+        NamedConstraint {
+            name: "moves",
+            constraint: SymbolicConstraint::Base(moves),
+        },
+        NamedConstraint {
+            name: "adds",
+            constraint: SymbolicConstraint::Base(adds),
+        },
+        NamedConstraint {
+            name: "ends",
+            constraint: SymbolicConstraint::Base(ends),
+        },
+    ];
+    let columns = TreeColumns::main(alloc, 2, 3);
+    TreeAir::from_expressions(alloc, TreeDeclaration::without_hints(columns), &constraints)
+}
+
 fn json_of<E: Display + Drop>(
     alloc: Global,
     air: Result<TreeAir<Base>, E>,
@@ -246,6 +334,11 @@ fn json_by_name(alloc: Global, name: &str) -> Result<String, Fail> {
         "expressions" => json_of(alloc, counter_by_expressions(alloc, 1)),
         "expressions with a fault" => json_of(alloc, counter_by_expressions(alloc, 0)),
         "mixed" => json_of(alloc, mixed_by_expressions(alloc)),
+        "fibonacci" => json_of(alloc, fibonacci_by_expressions(alloc)),
+        "squares" => match with_squares(alloc) {
+            Ok(air) => json_of(alloc, TreeAir::from_air(alloc, &air)),
+            Err(_) => Err(Fail::new("no AIR")),
+        },
         "hint" => {
             let air = SmallAir {
                 asked: Asked::Mixed,
@@ -264,6 +357,8 @@ lists with a fault => constraint 0 names a node that isn't there
 expressions => {\"constants\":[1],\"constraints\":[{\"base\":4},{\"base\":11}],\"nodes\":[[\"first\"],[\"main\",0],[\"public\",0],[\"sub\",1,2],[\"mul\",0,3],[\"transition\"],[\"next\",0],[\"main\",0],[\"sub\",6,7],[\"constant\",0],[\"sub\",8,9],[\"mul\",5,10]],\"periodic\":[],\"preprocessed\":null,\"publics\":1,\"width\":1}
 expressions with a fault => the constraint starts reads a column or a value that isn't there
 mixed => {\"constants\":[1,2,3],\"constraints\":[{\"base\":2},{\"ext\":5},{\"base\":8}],\"nodes\":[[\"main\",0],[\"constant\",0],[\"sub\",0,1],[\"main\",0],[\"constant\",1],[\"sub\",3,4],[\"main\",0],[\"constant\",2],[\"sub\",6,7]],\"periodic\":[],\"preprocessed\":null,\"publics\":0,\"width\":1}
+fibonacci => {\"constants\":[],\"constraints\":[{\"base\":4},{\"base\":9},{\"base\":14},{\"base\":21},{\"base\":26}],\"nodes\":[[\"first\"],[\"main\",0],[\"public\",0],[\"sub\",1,2],[\"mul\",0,3],[\"first\"],[\"main\",1],[\"public\",1],[\"sub\",6,7],[\"mul\",5,8],[\"transition\"],[\"next\",0],[\"main\",1],[\"sub\",11,12],[\"mul\",10,13],[\"transition\"],[\"next\",1],[\"main\",0],[\"main\",1],[\"add\",17,18],[\"sub\",16,19],[\"mul\",15,20],[\"last\"],[\"main\",1],[\"public\",2],[\"sub\",23,24],[\"mul\",22,25]],\"periodic\":[],\"preprocessed\":null,\"publics\":3,\"width\":2}
+squares => {\"constants\":[],\"constraints\":[{\"base\":0}],\"nodes\":[[\"main\",0]],\"periodic\":[],\"preprocessed\":null,\"publics\":0,\"width\":1}
 hint => {\"constants\":[1,2,3],\"constraints\":[{\"base\":2},{\"ext\":5},{\"base\":8}],\"max_constraint_degree\":3,\"nodes\":[[\"main\",0],[\"constant\",0],[\"sub\",0,1],[\"main\",0],[\"constant\",1],[\"sub\",3,4],[\"main\",0],[\"constant\",2],[\"sub\",6,7]],\"periodic\":[],\"preprocessed\":null,\"publics\":0,\"width\":1}
 preprocessed => {\"constants\":[],\"constraints\":[{\"base\":2}],\"nodes\":[[\"main\",0],[\"preprocessed\",0],[\"sub\",0,1]],\"periodic\":[],\"preprocessed\":{\"rows\":[[1],[2],[3],[4]],\"width\":1},\"publics\":0,\"width\":1}";
 
@@ -273,6 +368,7 @@ fn data(rt: HostRuntime) -> Result<(), Fail> {
     all_rows(&rt, rt.alloc(), REFUSED, tree_answer)?;
     all_rows(&rt, rt.alloc(), FAULTS, tree_answer)?;
     all_rows(&rt, rt.alloc(), WRITTEN, tree_answer)?;
+    all_rows(&rt, rt.alloc(), NEXT, next_columns)?;
     all_rows(&rt, rt.alloc(), BY_NAME, json_by_name)
 }
 

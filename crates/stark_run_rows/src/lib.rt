@@ -1,15 +1,23 @@
-//! Runs of the program on bytes in memory. Each number was found apart from this code. The crate has nothing but tests.
+//! Runs of the program on bytes in memory, as tables of text. Each number was found apart from this code. The crate has nothing but tests.
 #![tactic(auto)]
 
 #[cfg(test)]
-mod air_tests;
+mod check_rows;
 #[cfg(test)]
-mod hostile_tests;
+mod fault_rows;
 #[cfg(test)]
-mod prove_tests;
+mod hostile_rows;
+#[cfg(test)]
+mod prove_rows;
 #[cfg(test)]
 mod runs;
 #[cfg(test)]
+mod streams;
+#[cfg(test)]
+mod table;
+#[cfg(test)]
 mod tests;
 #[cfg(test)]
-mod verify_tests;
+mod texts;
+#[cfg(test)]
+mod verify_rows;

@@ -1,331 +1,144 @@
-use stark_input::{RunEnd, WatchedReader, WatchedWriter};
-use stark_program::run;
+use crate::check_rows::CHECK;
+use crate::fault_rows::{WHOLE, WORDS};
+use crate::hostile_rows::{HOSTILE, LINES, REPLACED};
+use crate::prove_rows::PROVE;
+use crate::runs::{
+    Faults, NO_FAULTS, Outcome, all_rows, end_of, is_said, run_at_once, run_slowly, whole_line,
+    words_of,
+};
+use crate::table::{Row, bytes_of, rows_of};
+use crate::texts::TEXTS;
+use crate::verify_rows::VERIFY;
+use stark_input::RunEnd;
 use std::alloc::{AllocError, Global};
-use std::io;
-use std::io::{ErrorKind, Read, Write};
+use std::process::Abort;
 use std::test::Fail;
 
-/// Gives one byte a read, is interrupted before each, and fails at the read after `reads`.
-#[derive(Drop)]
-struct FailingReader<'a> {
-    bytes: &'a [u8],
-    reads: usize,
-    interrupted: bool,
-}
-
-impl Read for FailingReader<'_> {
-    ghost use Rattle.std.specs.Prelude.{Some};
-
-    ghost remaining = { λ r. Some r.bytes.now };
-
-    fn read(&mut self, buffer: &mut [u8]) -> io::Result<usize> {
-        self.interrupted = !self.interrupted;
-        if self.interrupted {
-            return Err(io::Error::from(ErrorKind::Interrupted));
-        }
-        if self.reads == 0 {
-            return Err(io::Error::from(ErrorKind::Other));
-        }
-        self.reads -= 1;
-        if buffer.is_empty() {
-            return self.bytes.read(buffer);
-        }
-        self.bytes.read(&mut buffer[..1])
-    }
-}
-
-/// Takes one byte a write, is interrupted before each, and fails at the write after `writes`.
-#[derive(Drop)]
-struct FailingWriter {
-    bytes: Vec<u8>,
-    writes: usize,
-    interrupted: bool,
-}
-
-impl Write for FailingWriter {
-    ghost use Rattle.std.specs.Prelude.{Some};
-
-    ghost contents = { λ w. Some w.bytes.items };
-
-    fn write(&mut self, bytes: &[u8]) -> io::Result<usize> {
-        self.interrupted = !self.interrupted;
-        if self.interrupted {
-            return Err(io::Error::from(ErrorKind::Interrupted));
-        }
-        if self.writes == 0 {
-            return Err(io::Error::from(ErrorKind::Other));
-        }
-        self.writes -= 1;
-        if bytes.is_empty() {
-            return self.bytes.write(bytes);
-        }
-        self.bytes.write(&bytes[..1])
-    }
-
-    fn flush(&mut self) -> io::Result<()> {
-        self.bytes.flush()
-    }
-}
-
-/// Takes nothing.
-#[derive(Drop)]
-struct FullWriter;
-
-impl Write for FullWriter {
-    ghost use Rattle.std.specs.Prelude.{Some, []};
-
-    ghost contents = { λ _. Some [] };
-
-    fn write(&mut self, _bytes: &[u8]) -> io::Result<usize> {
-        Ok(0)
-    }
-
-    fn flush(&mut self) -> io::Result<()> {
-        Ok(())
-    }
-}
-
-const ACCEPTED: &str =
-    "{\"log_height\":1,\"publics\":[5],\"local\":[[4,0,0,0]],\"next\":[[7,0,0,0]],\"alpha\":[4,0,0,0],\"zeta\":[3,0,0,0],\"chunks\":[[[12288,0,0,0],[0,0,0,0],[0,0,0,0],[0,0,0,0]]]}";
-
-fn words_of(alloc: Global, texts: &[&str]) -> Result<Vec<String>, AllocError> {
-    let mut words = Vec::new(alloc);
-    for text in texts {
-        words.push(String::from_str(alloc, text)?)?;
-    }
-    Ok(words)
-}
-
-/// The end and the line of a run on bytes in memory.
-fn outcome(alloc: Global, bytes: &[u8]) -> Result<(RunEnd, Vec<u8>), AllocError> {
-    let words = words_of(alloc, &["check", "counter"])?;
-    let mut reader = bytes;
-    let mut writer = WatchedWriter::new(Vec::new(alloc));
-    let end = run(alloc, &words, &mut reader, &mut writer);
-    Ok((end, writer.into_inner()))
+#[test]
+fn check_rows(rt: HostRuntime) -> Result<(), Fail> {
+    all_rows(&rt, rt.alloc(), CHECK, 68)
 }
 
 #[test]
-fn accepted(rt: HostRuntime) -> Result<(), Fail> {
-    let alloc = rt.alloc();
-    let rows = [
-        ("", ""),
-        ("\"log_height\":1,", "\"other\":[],\"log_height\":1,"),
-        ("[3,0,0,0]", "[ 3 , 0 , 0 , 0 ]"),
-    ];
-    for (from, to) in rows {
-        let text = ACCEPTED.replacen(alloc, from, to, 1)?;
-        let (end, line) = outcome(alloc, text.as_bytes())?;
-        assert_eq!(rt; end, RunEnd::Accepted, "{to}");
-        assert_eq!(rt; line.as_slice(), b"accepted\n".as_slice(), "{to}");
-    }
-    Ok(())
+fn verify_rows(rt: HostRuntime) -> Result<(), Fail> {
+    all_rows(&rt, rt.alloc(), VERIFY, 36)
 }
 
 #[test]
-fn refused_mismatch(rt: HostRuntime) -> Result<(), Fail> {
-    let alloc = rt.alloc();
-    let rows = [
-        ("[[4,0,0,0]]", "[[5,0,0,0]]"),
-        ("[[7,0,0,0]]", "[[7,0,0,1]]"),
-        ("\"publics\":[5]", "\"publics\":[6]"),
-        ("[12288,0,0,0]", "[12287,0,0,0]"),
-        ("\"alpha\":[4,", "\"alpha\":[5,"),
-    ];
-    for (from, to) in rows {
-        let text = ACCEPTED.replacen(alloc, from, to, 1)?;
-        let (end, line) = outcome(alloc, text.as_bytes())?;
-        assert_eq!(rt; end, RunEnd::Refused, "{to}");
-        assert_eq!(rt;
-            line.as_slice(),
-            b"refused OodEvaluationMismatch\n".as_slice(),
-            "{to}"
-        );
-    }
-    Ok(())
+fn hostile_rows(rt: HostRuntime) -> Result<(), Fail> {
+    all_rows(&rt, rt.alloc(), HOSTILE, 13)
 }
 
 #[test]
-fn refused_point(rt: HostRuntime) -> Result<(), Fail> {
-    let alloc = rt.alloc();
-    let rows = [
-        ("\"zeta\":[3,", "\"zeta\":[1,"),
-        ("\"log_height\":1,", "\"log_height\":9,"),
-    ];
-    for (from, to) in rows {
-        let text = ACCEPTED.replacen(alloc, from, to, 1)?;
-        let (end, line) = outcome(alloc, text.as_bytes())?;
-        assert_eq!(rt; end, RunEnd::Refused, "{to}");
-        assert_eq!(rt;
-            line.as_slice(),
-            b"refused OodPointInDomain\n".as_slice(),
-            "{to}"
-        );
-    }
-    Ok(())
+fn prove_rows(rt: HostRuntime) -> Result<(), Fail> {
+    all_rows(&rt, rt.alloc(), PROVE, 34)
 }
 
-#[test]
-fn bad_inputs(rt: HostRuntime) -> Result<(), Fail> {
-    let alloc = rt.alloc();
-    let rows = [
-        ("\"log_height\":1,", "\"log_height\":13,"),
-        ("\"log_height\":1,", "\"log_height\":-1,"),
-        ("\"log_height\":1,", "\"log_height\":1.0,"),
-        ("\"log_height\":1,", "\"log_height\":1e0,"),
-        ("\"log_height\":1,", "\"log_height\":\"1\","),
-        ("\"log_height\":1,", "\"log_height\":null,"),
-        ("\"log_height\":1,", ""),
-        ("[[4,0,0,0]]", "[[4,0,0,0],[4,0,0,0]]"),
-        ("[[4,0,0,0]]", "[]"),
-        ("[[4,0,0,0]]", "[4,0,0,0]"),
-        ("[[4,0,0,0]]", "[[12289,0,0,0]]"),
-        ("[[4,0,0,0]]", "[[4.0,0,0,0]]"),
-        ("[[4,0,0,0]]", "[[4e0,0,0,0]]"),
-        ("[[4,0,0,0]]", "[[4,0,0]]"),
-        ("[[4,0,0,0]]", "[[4,0,0,0,0]]"),
-        ("[[7,0,0,0]]", "[[7,0,0,0],[7,0,0,0]]"),
-        ("\"publics\":[5]", "\"publics\":[5,5]"),
-        ("\"publics\":[5]", "\"publics\":[]"),
-        ("\"publics\":[5]", "\"publics\":[12289]"),
-        ("\"alpha\":[4,0,0,0]", "\"alpha\":4"),
-        (
-            "\"zeta\":[3,0,0,0]",
-            "\"zeta\":[3,0,0,18446744073709551616]",
-        ),
-        (",[0,0,0,0]]]", "]]"),
-        ("[0,0,0,0]]]", "[0,0,0,0],[0,0,0,0]]]"),
-        ("\"chunks\":[", "\"chunks\":[[],"),
-        ("\"chunks\"", "\"Chunks\""),
-        (ACCEPTED, ""),
-        (ACCEPTED, "[]"),
-    ];
-    for (from, to) in rows {
-        let text = ACCEPTED.replacen(alloc, from, to, 1)?;
-        let (end, line) = outcome(alloc, text.as_bytes())?;
-        assert_eq!(rt; end, RunEnd::BadInput, "{to}");
-        assert_eq!(rt; line.as_slice(), b"bad input\n".as_slice(), "{to}");
+/// Asserts that a row's input, cut before any byte, isn't read.
+fn cut_before_each(rt: &impl Abort, alloc: Global, row: &Row) -> Result<usize, Fail> {
+    let words = words_of(alloc, &row.commands)?;
+    let input = bytes_of(alloc, &row.input)?;
+    for length in 0..input.len() {
+        let what = format!(in alloc; "before byte {length}: {}", row.written)?;
+        let found = run_at_once(alloc, &words, &input[..length], Vec::new(alloc));
+        is_said(rt, &found, RunEnd::BadInput, b"bad input\n", &what);
     }
-    Ok(())
+    Ok(input.len())
 }
 
 #[test]
 fn cut_anywhere(rt: HostRuntime) -> Result<(), Fail> {
-    let alloc = rt.alloc();
-    for length in 0..ACCEPTED.len() {
-        let (end, line) = outcome(alloc, &ACCEPTED.as_bytes()[..length])?;
-        assert_eq!(rt; end, RunEnd::BadInput, "{length}");
-        assert_eq!(rt; line.as_slice(), b"bad input\n".as_slice(), "{length}");
+    let mut runs = 0usize;
+    for row in &rows_of(rt.alloc(), WHOLE)? {
+        runs = runs.saturating_add(cut_before_each(&rt, rt.alloc(), row)?);
     }
+    assert_eq!(rt; runs, 161 + 417 + 64);
     Ok(())
 }
 
-#[test]
-fn bytes_that_are_no_text(rt: HostRuntime) -> Result<(), Fail> {
-    let (end, line) = outcome(rt.alloc(), b"\xff")?;
-    assert_eq!(rt; end, RunEnd::BadInput);
-    assert_eq!(rt; line.as_slice(), b"bad input\n".as_slice());
-    Ok(())
+/// Asserts that a row's run ends by its reader alone where a read fails, which is any but the last, after which all was read.
+fn failing_at_each_read(rt: &impl Abort, alloc: Global, row: &Row) -> Result<usize, Fail> {
+    let words = words_of(alloc, &row.commands)?;
+    let input = bytes_of(alloc, &row.input)?;
+    let line = whole_line(alloc, &row.line)?;
+    for reads in 0..input.len() + 2 {
+        let what = format!(in alloc; "{reads} reads: {}", row.written)?;
+        let faults = Faults { reads, ..NO_FAULTS };
+        let found = run_slowly(alloc, &words, &input, faults);
+        if reads < input.len() + 1 {
+            is_said(rt, &found, RunEnd::InputFailed, b"", &what);
+        } else {
+            is_said(rt, &found, end_of(&row.line), line.as_bytes(), &what);
+        }
+    }
+    Ok(input.len() + 2)
 }
 
 #[test]
 fn failing_reads(rt: HostRuntime) -> Result<(), Fail> {
-    let alloc = rt.alloc();
-    let words = words_of(alloc, &["check", "counter"])?;
-    let needed = ACCEPTED.len() + 1;
-    for reads in 0..needed + 1 {
-        let mut reader = WatchedReader::new(FailingReader {
-            bytes: ACCEPTED.as_bytes(),
-            reads,
-            interrupted: false,
-        });
-        let mut writer = WatchedWriter::new(Vec::new(alloc));
-        let end = run(alloc, &words, &mut reader, &mut writer);
-        let line = writer.into_inner();
-        if reads < needed {
-            assert_eq!(rt; end, RunEnd::InputFailed, "{reads}");
-            assert!(rt; line.is_empty(), "{reads}");
-        } else {
-            assert_eq!(rt; end, RunEnd::Accepted);
-            assert_eq!(rt; line.as_slice(), b"accepted\n".as_slice());
-        }
+    let mut runs = 0usize;
+    for row in &rows_of(rt.alloc(), WHOLE)? {
+        runs = runs.saturating_add(failing_at_each_read(&rt, rt.alloc(), row)?);
     }
+    assert_eq!(rt; runs, 163 + 419 + 66);
     Ok(())
 }
 
-#[test]
-fn failing_writes(rt: HostRuntime) -> Result<(), Fail> {
-    let alloc = rt.alloc();
-    let words = words_of(alloc, &["check", "counter"])?;
-    let line = "accepted\n";
+/// Asserts that a row's run ends by its writer where a write fails, and has written the front of its line.
+fn failing_at_each_write(rt: &impl Abort, alloc: Global, row: &Row) -> Result<usize, Fail> {
+    let words = words_of(alloc, &row.commands)?;
+    let input = bytes_of(alloc, &row.input)?;
+    let line = whole_line(alloc, &row.line)?;
     for writes in 0..line.len() + 1 {
-        let mut reader = ACCEPTED.as_bytes();
-        let mut writer = WatchedWriter::new(FailingWriter {
-            bytes: Vec::new(alloc),
+        let what = format!(in alloc; "{writes} writes: {}", row.written)?;
+        let faults = Faults {
             writes,
-            interrupted: false,
-        });
-        let end = run(alloc, &words, &mut reader, &mut writer);
-        let expected = if writes < line.len() {
+            ..NO_FAULTS
+        };
+        let found = run_slowly(alloc, &words, &input, faults);
+        let end = if writes < line.len() {
             RunEnd::OutputFailed
         } else {
-            RunEnd::Accepted
+            end_of(&row.line)
         };
-        assert_eq!(rt; end, expected, "{writes}");
-        assert_eq!(rt;
-            writer.into_inner().bytes.as_slice(),
-            &line.as_bytes()[..writes],
-            "{writes}"
-        );
+        is_said(rt, &found, end, &line.as_bytes()[..writes], &what);
     }
-    Ok(())
+    let full = Faults {
+        full: true,
+        ..NO_FAULTS
+    };
+    let found = run_slowly(alloc, &words, &input, full);
+    is_said(rt, &found, RunEnd::OutputFailed, b"", &row.written);
+    Ok(line.len() + 2)
 }
 
+// A writer that takes nothing has failed too.
 #[test]
-fn a_writer_that_takes_nothing_has_failed(rt: HostRuntime) -> Result<(), Fail> {
-    let alloc = rt.alloc();
-    let words = words_of(alloc, &["check", "counter"])?;
-    let mut reader = ACCEPTED.as_bytes();
-    let mut writer = WatchedWriter::new(FullWriter);
-    assert_eq!(rt;
-        run(alloc, &words, &mut reader, &mut writer),
-        RunEnd::OutputFailed
-    );
+fn failing_writes(rt: HostRuntime) -> Result<(), Fail> {
+    let mut runs = 0usize;
+    for row in &rows_of(rt.alloc(), WHOLE)? {
+        runs = runs.saturating_add(failing_at_each_write(&rt, rt.alloc(), row)?);
+    }
+    assert_eq!(rt; runs, 11 + 11 + 365);
     Ok(())
 }
 
+// The reader would fail at its first read, so nothing is read.
 #[test]
 fn words_are_compared_whole(rt: HostRuntime) -> Result<(), Fail> {
     let alloc = rt.alloc();
-    let rows: [&[&str]; 10] = [
-        &[],
-        &["check"],
-        &["check", "counter", "counter"],
-        &["check", "count"],
-        &["check", "counters"],
-        &["chec", "counter"],
-        &["checks", "counter"],
-        &["Check", "counter"],
-        &["counter", "check"],
-        &["", ""],
-    ];
-    for (row, texts) in rows.iter().enumerate() {
-        let words = words_of(alloc, texts)?;
-        // It fails at its first read.
-        let mut reader = WatchedReader::new(FailingReader {
-            bytes: b"",
-            reads: 0,
-            interrupted: false,
-        });
-        let mut writer = WatchedWriter::new(Vec::new(alloc));
-        let end = run(alloc, &words, &mut reader, &mut writer);
-        assert_eq!(rt; end, RunEnd::BadInput, "{row}");
-        assert_eq!(rt;
-            writer.into_inner().as_slice(),
-            b"bad input\n".as_slice(),
-            "{row}"
-        );
+    let unread = Faults {
+        reads: 0,
+        ..NO_FAULTS
+    };
+    let mut runs = 0usize;
+    for text in WORDS.lines() {
+        let words = words_of(alloc, text)?;
+        let found = run_slowly(alloc, &words, b"", unread);
+        is_said(&rt, &found, RunEnd::BadInput, b"bad input\n", text);
+        runs = runs.saturating_add(1);
     }
+    assert_eq!(rt; runs, 10);
     Ok(())
 }
 
@@ -333,21 +146,81 @@ fn words_are_compared_whole(rt: HostRuntime) -> Result<(), Fail> {
 #[test]
 fn refused_growth(rt: HostRuntime) -> Result<(), Fail> {
     let alloc = rt.alloc();
-    let Ok(words) = words_of(alloc, &["check", "counter"]) else {
+    let (_others, text) = TEXTS
+        .split_once("<check of counter> = ")
+        .ok_or("no such text")?;
+    let input = text.lines().next().ok_or("no line")?;
+    let Ok(words) = words_of(alloc, "check counter") else {
         return Ok(());
     };
     let Ok(held) = Vec::with_capacity(alloc, 64) else {
         return Ok(());
     };
-    let mut reader = ACCEPTED.as_bytes();
-    let mut writer = WatchedWriter::new(held);
-    let end = run(alloc, &words, &mut reader, &mut writer);
-    let line = writer.into_inner();
-    if end == RunEnd::Accepted {
-        assert_eq!(rt; line.as_slice(), b"accepted\n".as_slice());
+    let found = run_at_once(alloc, &words, input.as_bytes(), held);
+    if found.end == RunEnd::Accepted {
+        is_said(&rt, &found, RunEnd::Accepted, b"accepted\n", "");
     } else {
-        assert_eq!(rt; end, RunEnd::Refused);
-        assert_eq!(rt; line.as_slice(), b"refused OutOfMemory\n".as_slice());
+        is_said(&rt, &found, RunEnd::Refused, b"refused OutOfMemory\n", "");
     }
+    Ok(())
+}
+
+/// Whether a run ended as one verdict does, and wrote its line.
+fn is_a_verdict(found: &Outcome) -> bool {
+    let Ok(text) = str::from_utf8(&found.line) else {
+        return false;
+    };
+    let Some(line) = text.strip_suffix('\n') else {
+        return false;
+    };
+    !line.is_empty() && LINES.lines().any(|known| known == line) && end_of(line) == found.end
+}
+
+/// The honest input with the names of its members that are null made unreadable: another name says the same.
+fn marked(alloc: Global, honest: &str) -> Result<String, AllocError> {
+    let text = honest.replace(alloc, "random", "??????")?;
+    let text = text.replace(alloc, "preprocessed_local", "??????????????????")?;
+    text.replace(alloc, "preprocessed_next", "?????????????????")
+}
+
+/// Asserts that a row's input with the byte at a place replaced by any of seven is answered by a verdict, and accepted only where the
+/// byte is the honest one, or is in a name that may be another.
+fn replaced_at(
+    rt: &impl Abort,
+    alloc: Global,
+    row: &Row,
+    place: usize,
+    may_differ: bool,
+) -> Result<(), Fail> {
+    let words = words_of(alloc, &row.commands)?;
+    for byte in b"\"09-]} " {
+        let mut input = bytes_of(alloc, &row.input)?;
+        if let Some(slot) = input.get_mut(place) {
+            *slot = *byte;
+        }
+        let found = run_at_once(alloc, &words, &input, Vec::new(alloc));
+        assert!(rt; is_a_verdict(&found), "{place} {byte}");
+        let is_another = may_differ && *byte != b'"';
+        let is_same = input.as_slice() == row.input.as_bytes();
+        assert_eq!(rt;
+            found.end == RunEnd::Accepted,
+            is_same || is_another,
+            "{place} {byte}"
+        );
+    }
+    Ok(())
+}
+
+#[test]
+fn one_byte_replaced(rt: HostRuntime) -> Result<(), Fail> {
+    let mut places = 0usize;
+    for row in &rows_of(rt.alloc(), REPLACED)? {
+        let marked = marked(rt.alloc(), &row.input)?;
+        for (place, mark) in marked.as_bytes().iter().enumerate() {
+            replaced_at(&rt, rt.alloc(), row, place, *mark == b'?')?;
+            places = places.saturating_add(1);
+        }
+    }
+    assert_eq!(rt; places, 417);
     Ok(())
 }

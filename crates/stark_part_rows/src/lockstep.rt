@@ -8,8 +8,9 @@ use stark_parts::{
     VectorizedVal,
 };
 use stark_support::{
-    CanObserve, ExtensionChallenger, ExtensionField, FieldChallenger, PackedExtensionField,
-    PackedField, PackedValue, PrimeField64, RowMajorMatrixView, TwoAdicField, Vectorized,
+    Algebra, CanObserve, ExtensionChallenger, ExtensionField, FieldChallenger,
+    PackedExtensionField, PackedField, PackedValue, PrimeField64, RowMajorMatrixView, TwoAdicField,
+    Vectorized,
 };
 use std::alloc::{AllocError, Global};
 use std::test::Fail;
@@ -70,6 +71,41 @@ where
     }
 }
 
+/// The lockstep folder over a main column of these values and no other, which keeps nothing yet; none where they are not two.
+fn folder_on<'a, SC: StarkGenericConfig>(
+    alloc: Global,
+    x: &VectorizedVal<SC, 2>,
+    column: &'a [VectorizedVal<SC, 2>],
+    publics: &'a [Val<SC>],
+    base_alpha_powers: &'a [Vec<Val<SC>>],
+    ext_alpha_powers: &'a [SC::Challenge],
+) -> Option<VectorizedConstraintFolder<'a, SC, 2>>
+where
+    Val<SC>: PackedField,
+    SC::Challenge: PackedExtensionField<Val<SC>>,
+{
+    if column.len() != 2 {
+        return None;
+    }
+    let none = &column[..0];
+    Some(VectorizedConstraintFolder {
+        main: RowMajorMatrixView::new(column, 1),
+        preprocessed: RowMajorMatrixView::new(none, 0),
+        preprocessed_window: RowWindow::from_two_rows(none, none),
+        periodic_values: none,
+        public_values: publics,
+        is_first_row: x.dup(),
+        is_last_row: x.dup(),
+        is_transition: x.dup(),
+        base_alpha_powers,
+        ext_alpha_powers,
+        base_constraints: Vec::new(alloc),
+        ext_constraints: Vec::new(alloc),
+        constraint_index: 0,
+        constraint_count: 3,
+    })
+}
+
 /// What the lockstep folder makes of those assertions with alpha 4; none where there are not as many elements as lanes.
 fn folded<SC: StarkGenericConfig>(
     alloc: Global,
@@ -84,25 +120,15 @@ where
         return Ok(None);
     }
     let x = VectorizedVal::<SC, 2>::from_slice(elements);
-    let column = [x, x];
+    let mut column = Vec::new(alloc);
+    column.push(x.dup())?;
+    column.push(x.dup())?;
     let base = base_powers::<Val<SC>>(alloc, SC::Challenge::DIMENSION)?;
-    let ext = [SC::Challenge::from_base(Val::<SC>::from_u8(4))];
-    let none = &column[..0];
-    let mut folder = VectorizedConstraintFolder::<'_, SC, 2> {
-        main: RowMajorMatrixView::new(&column, 1),
-        preprocessed: RowMajorMatrixView::new(none, 0),
-        preprocessed_window: RowWindow::from_two_rows(none, none),
-        periodic_values: none,
-        public_values: &elements[..0],
-        is_first_row: x,
-        is_last_row: x,
-        is_transition: x,
-        base_alpha_powers: &base,
-        ext_alpha_powers: &ext,
-        base_constraints: Vec::new(alloc),
-        ext_constraints: Vec::new(alloc),
-        constraint_index: 0,
-        constraint_count: 3,
+    let mut ext = Vec::new(alloc);
+    ext.push(SC::Challenge::from_base(Val::<SC>::from_u8(4)))?;
+    let none = &elements[..0];
+    let Some(mut folder) = folder_on::<SC>(alloc, &x, &column, none, &base, &ext) else {
+        return Ok(None);
     };
     assert_pairs(&mut folder, x)?;
     finalized(&folder, scratch)

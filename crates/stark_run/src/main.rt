@@ -6,15 +6,25 @@ ghost use Rattle.std.specs.Prelude.{◌≡◌, ◌⊎◌, IfErr};
 use stark_input::{Finding, Refusal, RunEnd, Verdict, WatchedReader, WatchedWriter, tell};
 use stark_program::run;
 use std::alloc::AllocError;
+use std::env::Args;
 use std::process::ExitCode;
 use std::{env, io};
+
+/// The words after the first, each put behind the others: a growth that is refused is told, also one that could be asked for again.
+fn words_behind(rt: &HostRuntime, all: Args) -> Result<Vec<String>, AllocError> {
+    let mut words = Vec::new(rt.alloc());
+    for word in all.skip(1) {
+        words.push(word)?;
+    }
+    Ok(words)
+}
 
 /// The words after the program's name, or what is said where there are none.
 fn words_of(rt: &HostRuntime) -> Result<Vec<String>, Verdict>
     ensures { IfErr result (λ v. (v ≡ Verdict.BadInput) ⊎ (v ≡ Verdict.Refused Refusal.OutOfMemory)) }
 {
     match env::args(rt) {
-        Ok(all) => match all.skip(1).collect(rt.alloc()) {
+        Ok(all) => match words_behind(rt, all) {
             Ok(words) => Ok(words),
             Err(AllocError) => Err(Verdict::Refused(Refusal::OutOfMemory)),
         },

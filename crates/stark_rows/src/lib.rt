@@ -46,3 +46,5 @@ mod stopped;
 mod trees;
 #[cfg(test)]
 mod verdicts;
+#[cfg(test)]
+mod without_memory;

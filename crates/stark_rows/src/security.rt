@@ -120,7 +120,7 @@ fn opening_shapes(rt: HostRuntime) -> Result<(), Fail> {
     Ok(())
 }
 
-fn regime() -> FriRegime
+pub fn regime() -> FriRegime
     ensures { result.log_blowup ≡ 1 }
 {
     FriRegime {

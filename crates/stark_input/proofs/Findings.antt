@@ -4,7 +4,6 @@ use Rattle.std.specs.Io.KnownBytes.{Appends, Keeps}
 use Rattle.stark_input.specs.Finding.{finding_end, finding_line}
 use Rattle.stark_input.specs.Running.{AcceptsOrProves, FindsSome, Found, IsFoundOrLacksMemory, IsInput, Says, SaysFound, SaysOf}
 use Rattle.stark_input.specs.Verdict.{line_of, end_of}
-use Rattle.stark_input.specs.declared.words.Command.{Command}
 use Rattle.stark_input.specs.declared.finding.Finding.{Finding}
 use Rattle.stark_input.specs.declared.finding.Finding.TheVariants as finding
 use Rattle.stark_input.specs.declared.verdict.Verdict.{Verdict}
@@ -22,7 +21,7 @@ is_some_input : (known : Option (List ℕ)) → IsInput known (some_input known)
 is_some_input None = tt
 is_some_input (Some bytes) = refl
 
-module _ (IsFound : Option Command → List ℕ → Finding → Type 0) where
+module _ {Command : Type 0} (IsFound : Option Command → List ℕ → Finding → Type 0) where
   -- Under words that name no command that is found which every input is without one.
   pub other_words_found : ((input : List ℕ) → IsFound None input (finding.Verdict verdict.BadInput)) → (result command : Option Command) (known : Option (List ℕ)) → result ≡ command
       → ((x : Command) → result ≡ Some x → ⊥) → Found IsFound command known (finding.Verdict verdict.BadInput)
@@ -51,7 +50,7 @@ says_nothing BadInput f old new e k = absurd (cc)
 abbrev no_memory : Finding
 no_memory = finding.Verdict (verdict.Refused refusal.OutOfMemory)
 
-module _ (IsFound : Option Command → List ℕ → Finding → Type 0) where
+module _ {Command : Type 0} (IsFound : Option Command → List ℕ → Finding → Type 0) where
   -- What is said is found of the reader's bytes, where the reader tells them.
   pub says_known : (command : Option Command) (known : Option (List ℕ)) (end : RunEnd) (old new : Option (List ℕ))
       → (end ≡ InputFailed) ⊎ SaysFound IsFound command known end old new → (end ≡ InputFailed → Keeps old new)
@@ -70,7 +69,7 @@ only_accepted verdict.BadInput e = absurd (let h : BadInput ≡ Accepted = e in 
 has_memory : (f : Finding) → finding_end f ≡ Accepted → f ≡ no_memory → ⊥
 has_memory f e memory = let h : Refused ≡ Accepted = sym (ap finding_end memory) ∙ e in cc
 
-module _ (IsFound : Option Command → List ℕ → Finding → Type 0) where
+module _ {Command : Type 0} (IsFound : Option Command → List ℕ → Finding → Type 0) where
   finds : (command : Option Command) (known : Option (List ℕ)) (f : Finding) → finding_end f ≡ Accepted → Found IsFound command known f → FindsSome IsFound command known f
   finds command known f e found = elim found.2 [
     | inl here ↦ (found.0, found.1, here)

@@ -5,7 +5,6 @@ use Rattle.std.proofs.lemmas.List.{append_cancel_left}
 use Rattle.std.specs.Io.KnownBytes.{Appends, Keeps}
 use Rattle.stark_input.specs.Finding.{IsProof, OpensIfProof, finding_line}
 use Rattle.stark_input.specs.Running.{IsFrontOfProof, Says, SaysOf, Wrote}
-use Rattle.stark_input.specs.declared.words.Command.{Command}
 use Rattle.stark_input.specs.declared.finding.Finding.{Finding}
 use Rattle.stark_input.specs.declared.finding.Finding.TheVariants as finding
 use Rattle.stark_input.specs.declared.verdict.Verdict.TheVariants as verdict
@@ -75,7 +74,7 @@ begins end f old new bytes c some s w e =
     let part = front end f old new bytes s w in
     first_of_front part.0 (finding_line f) c some (ap first_of (sym part.1) ∙ e)
 
-module _ (IsFound : Option Command → List ℕ → Finding → Type 0) (opens : (command : Option Command) (input : List ℕ) (f : Finding) → IsFound command input f → OpensIfProof f) where
+module _ {Command : Type 0} (IsFound : Option Command → List ℕ → Finding → Type 0) (opens : (command : Option Command) (input : List ℕ) (f : Finding) → IsFound command input f → OpensIfProof f) where
   -- In every run, what begins with `accepted` is written only where that is found.
   accepted_only : (command : Option Command) (input : List ℕ) (end : RunEnd) (old new : Option (List ℕ)) (bytes : List ℕ)
       → SaysOf IsFound command input end old new → Wrote old new bytes → take 8 bytes ≡ codes "accepted" → IsFound command input (finding.Verdict verdict.Accepted)

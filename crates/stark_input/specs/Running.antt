@@ -9,7 +9,6 @@ use Rattle.stark_input.specs.declared.verdict.Verdict.TheVariants as verdict
 use Rattle.stark_input.specs.declared.verdict.Refusal.TheVariants as refusal
 use Rattle.stark_input.specs.declared.verdict.RunEnd.{RunEnd}
 use Rattle.stark_input.specs.declared.verdict.RunEnd.TheVariants.{Accepted, Refused, BadInput, InputFailed, OutputFailed}
-use Rattle.stark_input.specs.declared.words.Command.{Command}
 
 -- This is the reader's input, where the reader tells its bytes.
 abbrev pub IsInput : Option (List ℕ) → List ℕ → Type 0
@@ -42,7 +41,7 @@ abbrev pub IsFindingEnd : RunEnd → Type 0
 IsFindingEnd end = (end ≡ Accepted) ⊎ ((end ≡ Refused) ⊎ (end ≡ BadInput))
 
 -- Over what is found of an input, under the command that the words name.
-module _ (IsFound : Option Command → List ℕ → Finding → Type 0) where
+module _ {Command : Type 0} (IsFound : Option Command → List ℕ → Finding → Type 0) where
   -- This is found, or memory was wanting.
   abbrev pub IsFoundOrLacksMemory : Option Command → List ℕ → Finding → Type 0
   IsFoundOrLacksMemory command input f = IsFound command input f ⊎ (f ≡ finding.Verdict (verdict.Refused refusal.OutOfMemory))

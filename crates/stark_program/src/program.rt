@@ -9,7 +9,9 @@ ghost use Rattle.stark_input.specs.Verdict.{line_of};
 ghost use Rattle.stark_input.specs.declared.finding.Finding.{Finding};
 ghost use Rattle.stark_input.specs.declared.verdict.Verdict.{Verdict};
 
-use stark_input::{Command, Finding, Judge, RunEnd, SampleAir, Sink, Source, run_with};
+use stark_input::{
+    Command, Finding, Judge, RunEnd, SampleAir, Sink, Source, named_command, run_with,
+};
 use stark_judge::{ProvedInput, VerifiedInput, judge_sample, prove_sample, verify_sample};
 use std::alloc::Global;
 
@@ -29,7 +31,15 @@ fn judge_command(alloc: Global, command: Command, bytes: &[u8]) -> Finding
 }
 
 impl Judge for SampleJudge {
+    type Command = Command;
+
+    ghost command_of = { command_of };
+
     ghost is_found = { IsFinding (⟦<SampleAir as VerifiedInput>⟧.verified) (⟦<SampleAir as ProvedInput>⟧.proved) };
+
+    fn named_command(&self, words: &[String]) -> Option<Command> {
+        named_command(words)
+    }
 
     fn judge(&self, alloc: Global, command: Command, bytes: &[u8]) -> Finding {
         judge_command(alloc, command, bytes)

@@ -1,5 +1,4 @@
 use Rattle.std.proofs.Common.{sym, ◌∙◌, map, string_bytes}
-use Rattle.stark_input.specs.Words.{command_of}
 use Rattle.stark_input.proofs.Findings.{command_found, memory_found, other_words_found}
 use Rattle.stark_input.proofs.running.find.Goals as goal
 
@@ -11,4 +10,4 @@ returns-in-Ok-clause-found g c =
     command_found g.J.Judge.is_found _ _ c.deref.result.now c.in-Ok.input.items c.in-Some.command _ c.in-Ok.ensures.bytes (sym c.named_command.ensures ∙ c.in-Some.is) c.deref.ensures.value c.judge.ensures
 
 pub returns-in-Err-clause-found : goal.returns-in-Err-clause-found
-returns-in-Err-clause-found g c = memory_found g.J.Judge.is_found (command_of (map string_bytes c.args.words.now)) _ _ c.unread_input.ensures.memory
+returns-in-Err-clause-found g c = memory_found g.J.Judge.is_found (g.J.Judge.command_of (map string_bytes c.args.words.now)) _ _ c.unread_input.ensures.memory

@@ -35,12 +35,12 @@ trace_numbers_in bytes = json_of bytes >>= trace_numbers_at
 abbrev pub trace_numbers : TraceInput → TraceNumbers
 trace_numbers input = record { rows = map (λ row. row.items) input.rows.items; publics = input.publics.items; challenger = named_challenger input.challenger; ood_bits = input.ood_bits }
 
--- The trace has 2 ^ log_height rows, 1 to 4096, and four beside preprocessed columns; its rows are as wide, and the public values
--- as many, as the shape says.
-pub record HasTraceShape (shape : CheckShape) (m : TraceNumbers) (log_height : ℕ) : Type 0 where
+-- The trace has 2 ^ log_height rows, 1 to 4096, and as many as these beside preprocessed columns, which have 2 ^ log_rows; its rows
+-- are as wide, and the public values as many, as the shape says.
+pub record HasTraceShape (shape : CheckShape) (log_rows : ℕ) (m : TraceNumbers) (log_height : ℕ) : Type 0 where
   pub height : length m.rows ≡ 2 ^ log_height
   pub greatest : log_height ≤ 12
-  pub four_rows : 0 < shape.preprocessed_width → length m.rows ≡ 4
+  pub fixed_rows : 0 < shape.preprocessed_width → log_height ≡ log_rows
   pub widths : list_all (λ row. length row == shape.width) m.rows ≡ true
   pub publics : length m.publics ≡ shape.num_public_values
 

@@ -26,23 +26,23 @@ pub struct TraceInput {
 }
 
 impl TraceInput {
-    /// The logarithm of the trace's height, where it is a power of two from 1 to 4096, and 4 beside preprocessed columns, and the
-    /// rows are as wide and the public values as many as those of the shape; else None.
-    pub fn log_height(&self, shape: CheckShape) -> Option<usize>
-        ensures some { IfSome result (HasTraceShape shape (trace_numbers self.now)) }
-        ensures none { IsNone result → (log_height : ℕ) → HasTraceShape shape (trace_numbers self.now) log_height → ⊥ }
+    /// The logarithm of the trace's height, where it is a power of two from 1 to 4096, and `2^log_rows` beside preprocessed columns,
+    /// and the rows are as wide and the public values as many as those of the shape; else None.
+    pub fn log_height(&self, shape: CheckShape, log_rows: usize) -> Option<usize>
+        ensures some { IfSome result (HasTraceShape shape log_rows (trace_numbers self.now)) }
+        ensures none { IsNone result → (log_height : ℕ) → HasTraceShape shape log_rows (trace_numbers self.now) log_height → ⊥ }
     {
-        let height = self.rows.len();
         if self.publics.len() != shape.num_public_values {
-            return None;
-        }
-        if shape.preprocessed_width > 0 && height != 4 {
             return None;
         }
         if !have_length(&self.rows, shape.width) {
             return None;
         }
-        log_of_height(height)
+        let log_height = log_of_height(self.rows.len())?;
+        if shape.preprocessed_width > 0 && log_height != log_rows {
+            return None;
+        }
+        Some(log_height)
     }
 }
 

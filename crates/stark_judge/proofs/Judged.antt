@@ -30,53 +30,53 @@ pub of_some : {A : Type 0} (P : A → Type 0) (o : Option A) (a : A) → o ≡ S
 of_some P (Some b) a is h = subst P (let same : b ≡ a = cc in same) h
 of_some P None a is h = absurd (cc)
 
-module _ {S F E C K T P X Y : Type 0} (ops : ProtocolOps S F E C K T P X Y) (scheme : S) (declared : Option (Trace F)) (instance : Option (PreprocessedVerifierKey K) → Instance S F C K) (proof : ProofView K E P F) where
+module _ {S F E C K T P X Y : Type 0} (ops : ProtocolOps S F E C K T P X Y) (log_rows : ℕ) (scheme : S) (declared : Option (Trace F)) (instance : Option (PreprocessedVerifierKey K) → Instance S F C K) (proof : ProofView K E P F) where
   -- With a key of the AIR, the verdict of an exact answer judges the proof.
-  pub judged_with : (key : Option (PreprocessedVerifierKey K)) (answer : Result (Unit {0}) (VerificationError X)) (v : Verdict) → v ≡ verdict_of_answer answer → IsKey ops scheme declared key
-      → IfOk answer (λ _. Accepted ops (instance key) proof) → IfErr answer (λ e. (e ≡ error.OutOfMemory) ⊎ FirstFault ops (instance key) proof e) → JudgesWithKey ops scheme declared instance proof v
+  pub judged_with : (key : Option (PreprocessedVerifierKey K)) (answer : Result (Unit {0}) (VerificationError X)) (v : Verdict) → v ≡ verdict_of_answer answer → IsKey ops log_rows scheme declared key
+      → IfOk answer (λ _. Accepted ops (instance key) proof) → IfErr answer (λ e. (e ≡ error.OutOfMemory) ⊎ FirstFault ops (instance key) proof e) → JudgesWithKey ops log_rows scheme declared instance proof v
   judged_with key answer v is is_key holds fault = elim (told_of_answer (Accepted ops (instance key) proof) (FirstFault ops (instance key) proof) answer v is holds fault) [
     | inl memory ↦ inl memory
     | inr told ↦ inr (key, is_key, told)
   ]
 
-module _ {S C K T P X Y : Type 0} (ops : ProtocolOps S Base Extension C K T P X Y) where
+module _ {S C K T P X Y : Type 0} (ops : ProtocolOps S Base Extension C K T P X Y) (log_rows : ℕ) where
   -- the same of a configuration's parts
   pub is_judged : (air : CheckedAir) (held scheme : S) (start first_state : C) (bits ood_bits : ℕ) (publics : List Base) (proof : ProofView K Extension P Base) (v : Verdict) → held ≡ scheme → start ≡ first_state → bits ≡ ood_bits
-      → JudgesWithKey ops held air.preprocessed_trace (λ key. instance_of air held start bits publics key) proof v → (v ≡ verdict.Refused refusal.OutOfMemory) ⊎ IsJudged ops scheme first_state air proof publics ood_bits v
+      → JudgesWithKey ops log_rows held air.preprocessed_trace (λ key. instance_of air held start bits publics key) proof v → (v ≡ verdict.Refused refusal.OutOfMemory) ⊎ IsJudged ops log_rows scheme first_state air proof publics ood_bits v
   unfolding IsJudged
   is_judged air held scheme start first_state bits ood_bits publics proof v named begins asks judged =
-      subst (λ k. (v ≡ verdict.Refused refusal.OutOfMemory) ⊎ IsJudged ops k first_state air proof publics ood_bits v) named
-      (subst (λ s. (v ≡ verdict.Refused refusal.OutOfMemory) ⊎ IsJudged ops held s air proof publics ood_bits v) begins
-      (subst (λ n. (v ≡ verdict.Refused refusal.OutOfMemory) ⊎ IsJudged ops held start air proof publics n v) asks
+      subst (λ k. (v ≡ verdict.Refused refusal.OutOfMemory) ⊎ IsJudged ops log_rows k first_state air proof publics ood_bits v) named
+      (subst (λ s. (v ≡ verdict.Refused refusal.OutOfMemory) ⊎ IsJudged ops log_rows held s air proof publics ood_bits v) begins
+      (subst (λ n. (v ≡ verdict.Refused refusal.OutOfMemory) ⊎ IsJudged ops log_rows held start air proof publics n v) asks
       (elim judged [
         | inl memory ↦ inl memory
         | inr found ↦ inr (found.0, found.1, found.2)
       ])))
 
-module _ {S H R K T P X Y : Type 0} (hashing_ops : ProtocolOps S Base Extension H K T P X Y) (script_ops : ProtocolOps S Base Extension R K T P X Y) (scheme : S) (hashing_start : H) (script_start : List Base → R) where
+module _ {S H R K T P X Y : Type 0} (hashing_ops : ProtocolOps S Base Extension H K T P X Y) (script_ops : ProtocolOps S Base Extension R K T P X Y) (log_rows : ℕ) (scheme : S) (hashing_start : H) (script_start : List Base → R) where
   pub judged_by_hashing : (air : CheckedAir) (m : ProofNumbers K P) (named : NamedChallenger) (start : H) (v : Verdict) → named ≡ hashing → start ≡ hashing_start
-      → (v ≡ verdict.Refused refusal.OutOfMemory) ⊎ IsJudged hashing_ops scheme start air m.proof m.publics m.ood_bits v → (v ≡ verdict.Refused refusal.OutOfMemory) ⊎ IsJudgedBy hashing_ops script_ops scheme hashing_start script_start air m named v
+      → (v ≡ verdict.Refused refusal.OutOfMemory) ⊎ IsJudged hashing_ops log_rows scheme start air m.proof m.publics m.ood_bits v → (v ≡ verdict.Refused refusal.OutOfMemory) ⊎ IsJudgedBy hashing_ops script_ops log_rows scheme hashing_start script_start air m named v
   unfolding IsJudgedBy
   judged_by_hashing air m named start v is begins judged =
-      subst (λ n. (v ≡ verdict.Refused refusal.OutOfMemory) ⊎ IsJudgedBy hashing_ops script_ops scheme hashing_start script_start air m n v) (sym is) (subst (λ s. (v ≡ verdict.Refused refusal.OutOfMemory) ⊎ IsJudged hashing_ops scheme s air m.proof m.publics m.ood_bits v) begins judged)
+      subst (λ n. (v ≡ verdict.Refused refusal.OutOfMemory) ⊎ IsJudgedBy hashing_ops script_ops log_rows scheme hashing_start script_start air m n v) (sym is) (subst (λ s. (v ≡ verdict.Refused refusal.OutOfMemory) ⊎ IsJudged hashing_ops log_rows scheme s air m.proof m.publics m.ood_bits v) begins judged)
 
   pub judged_by_script : (air : CheckedAir) (m : ProofNumbers K P) (named : NamedChallenger) (numbers : List Base) (start : R) (v : Verdict) → named ≡ scripted numbers → start ≡ script_start numbers
-      → (v ≡ verdict.Refused refusal.OutOfMemory) ⊎ IsJudged script_ops scheme start air m.proof m.publics m.ood_bits v → (v ≡ verdict.Refused refusal.OutOfMemory) ⊎ IsJudgedBy hashing_ops script_ops scheme hashing_start script_start air m named v
+      → (v ≡ verdict.Refused refusal.OutOfMemory) ⊎ IsJudged script_ops log_rows scheme start air m.proof m.publics m.ood_bits v → (v ≡ verdict.Refused refusal.OutOfMemory) ⊎ IsJudgedBy hashing_ops script_ops log_rows scheme hashing_start script_start air m named v
   unfolding IsJudgedBy
   judged_by_script air m named numbers start v is begins judged =
-      subst (λ n. (v ≡ verdict.Refused refusal.OutOfMemory) ⊎ IsJudgedBy hashing_ops script_ops scheme hashing_start script_start air m n v) (sym is) (subst (λ s. (v ≡ verdict.Refused refusal.OutOfMemory) ⊎ IsJudged script_ops scheme s air m.proof m.publics m.ood_bits v) begins judged)
+      subst (λ n. (v ≡ verdict.Refused refusal.OutOfMemory) ⊎ IsJudgedBy hashing_ops script_ops log_rows scheme hashing_start script_start air m n v) (sym is) (subst (λ s. (v ≡ verdict.Refused refusal.OutOfMemory) ⊎ IsJudged script_ops log_rows scheme s air m.proof m.publics m.ood_bits v) begins judged)
 
   pub verified_read : (air : CheckedAir) (read : Option (ProofNumbers K P)) (proof : ProofView K Extension P Base) (listed publics : List Base) (named : NamedChallenger) (ood_bits : ℕ) (v : Verdict)
       → read ≡ Some (record { proof = proof; publics = publics; challenger = named; ood_bits = ood_bits }) → listed ≡ publics
-      → (v ≡ verdict.Refused refusal.OutOfMemory) ⊎ IsJudgedBy hashing_ops script_ops scheme hashing_start script_start air (record { proof = proof; publics = listed; challenger = named; ood_bits = ood_bits }) named v
-      → (v ≡ verdict.Refused refusal.OutOfMemory) ⊎ IsVerified hashing_ops script_ops scheme hashing_start script_start air read v
+      → (v ≡ verdict.Refused refusal.OutOfMemory) ⊎ IsJudgedBy hashing_ops script_ops log_rows scheme hashing_start script_start air (record { proof = proof; publics = listed; challenger = named; ood_bits = ood_bits }) named v
+      → (v ≡ verdict.Refused refusal.OutOfMemory) ⊎ IsVerified hashing_ops script_ops log_rows scheme hashing_start script_start air read v
   unfolding IsVerified
   verified_read air read proof listed publics named ood_bits v is same judged =
-      subst (λ r. (v ≡ verdict.Refused refusal.OutOfMemory) ⊎ IsVerified hashing_ops script_ops scheme hashing_start script_start air r v) (sym is)
-      (subst (λ ps. (v ≡ verdict.Refused refusal.OutOfMemory) ⊎ IsJudgedBy hashing_ops script_ops scheme hashing_start script_start air (record { proof = proof; publics = ps; challenger = named; ood_bits = ood_bits }) named v) same judged)
+      subst (λ r. (v ≡ verdict.Refused refusal.OutOfMemory) ⊎ IsVerified hashing_ops script_ops log_rows scheme hashing_start script_start air r v) (sym is)
+      (subst (λ ps. (v ≡ verdict.Refused refusal.OutOfMemory) ⊎ IsJudgedBy hashing_ops script_ops log_rows scheme hashing_start script_start air (record { proof = proof; publics = ps; challenger = named; ood_bits = ood_bits }) named v) same judged)
 
   -- What is found for an AIR is found for its name.
   pub verified_by_name : (air name : SampleAir) (read : Option (ProofNumbers K P)) (v : Verdict) → air ≡ name
-      → (v ≡ verdict.Refused refusal.OutOfMemory) ⊎ IsVerified hashing_ops script_ops scheme hashing_start script_start (sample name) read v → IsVerified hashing_ops script_ops scheme hashing_start script_start (sample air) read v ⊎ (v ≡ verdict.Refused refusal.OutOfMemory)
+      → (v ≡ verdict.Refused refusal.OutOfMemory) ⊎ IsVerified hashing_ops script_ops log_rows scheme hashing_start script_start (sample name) read v → IsVerified hashing_ops script_ops log_rows scheme hashing_start script_start (sample air) read v ⊎ (v ≡ verdict.Refused refusal.OutOfMemory)
   verified_by_name air name read v is (inl memory) = inr memory
-  verified_by_name air name read v is (inr found) = inl (subst (λ a. IsVerified hashing_ops script_ops scheme hashing_start script_start (sample a) read v) (sym is) found)
+  verified_by_name air name read v is (inr found) = inl (subst (λ a. IsVerified hashing_ops script_ops log_rows scheme hashing_start script_start (sample a) read v) (sym is) found)

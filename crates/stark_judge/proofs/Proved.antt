@@ -90,16 +90,16 @@ module _ {S C T X Y : Type 0} (ops : ProtocolOps S Base Extension C (Listed Base
   memory_told (Err error) f tells memory = tells ∙ ap (λ e. finding.Verdict (verdict.Refused (prover_refusal_of e))) (let same : error ≡ ProvingError.OutOfMemory = cc in same)
 
   -- With a configuration's parts, what tells of an answer tells of the trace.
-  pub is_proved : (air : CheckedAir) (held_scheme scheme : S) (start first_state : C) (bits ood_bits : ℕ) (publics : List Base) (height : ℕ) (trace : Trace Base)
+  pub is_proved : (log_rows : ℕ) (air : CheckedAir) (held_scheme scheme : S) (start first_state : C) (bits ood_bits : ℕ) (publics : List Base) (height : ℕ) (trace : Trace Base)
       (answer : Result (Proof (Listed Base) Extension ClearProof Base) (ProvingError Y)) (f : Finding) → held_scheme ≡ scheme → start ≡ first_state → bits ≡ ood_bits
       → (f ≡ no_memory) ⊎ TellsAnswer program_writing answer f
-      → AnswersWithHeld ops coordinates held_scheme air.preprocessed_trace (λ held. instance_of air held_scheme start bits publics (option_map key_of held)) height trace answer
-      → (f ≡ no_memory) ⊎ IsProved ops coordinates scheme first_state air height trace publics ood_bits f
+      → AnswersWithHeld ops coordinates log_rows held_scheme air.preprocessed_trace (λ held. instance_of air held_scheme start bits publics (option_map key_of held)) height trace answer
+      → (f ≡ no_memory) ⊎ IsProved ops coordinates log_rows scheme first_state air height trace publics ood_bits f
   unfolding IsProved AnswersWithHeld
-  is_proved air held_scheme scheme start first_state bits ood_bits publics height trace answer f named begins asks tells answers =
-      subst (λ k. (f ≡ no_memory) ⊎ IsProved ops coordinates k first_state air height trace publics ood_bits f) named
-      (subst (λ s. (f ≡ no_memory) ⊎ IsProved ops coordinates held_scheme s air height trace publics ood_bits f) begins
-      (subst (λ n. (f ≡ no_memory) ⊎ IsProved ops coordinates held_scheme start air height trace publics n f) asks
+  is_proved log_rows air held_scheme scheme start first_state bits ood_bits publics height trace answer f named begins asks tells answers =
+      subst (λ k. (f ≡ no_memory) ⊎ IsProved ops coordinates log_rows k first_state air height trace publics ood_bits f) named
+      (subst (λ s. (f ≡ no_memory) ⊎ IsProved ops coordinates log_rows held_scheme s air height trace publics ood_bits f) begins
+      (subst (λ n. (f ≡ no_memory) ⊎ IsProved ops coordinates log_rows held_scheme start air height trace publics n f) asks
       (elim tells [
         | inl memory ↦ inl memory
         | inr told ↦ elim answers [
@@ -109,55 +109,55 @@ module _ {S C T X Y : Type 0} (ops : ProtocolOps S Base Extension C (Listed Base
       ])))
 
 module _ {S H R T X Y : Type 0} (hashing_ops : ProtocolOps S Base Extension H (Listed Base) T ClearProof X Y) (script_ops : ProtocolOps S Base Extension R (Listed Base) T ClearProof X Y) (coordinates : Extension → List Base)
-    (scheme : S) (hashing_start : H) (script_start : List Base → R) where
+    (log_rows : ℕ) (scheme : S) (hashing_start : H) (script_start : List Base → R) where
   pub proved_by_hashing : (air : CheckedAir) (height : ℕ) (trace : Trace Base) (publics : List Base) (ood_bits : ℕ) (named : NamedChallenger) (start : H) (f : Finding) → named ≡ hashing → start ≡ hashing_start
-      → (f ≡ no_memory) ⊎ IsProved hashing_ops coordinates scheme start air height trace publics ood_bits f
-      → (f ≡ no_memory) ⊎ IsProvedBy hashing_ops script_ops coordinates scheme hashing_start script_start air height trace publics ood_bits named f
+      → (f ≡ no_memory) ⊎ IsProved hashing_ops coordinates log_rows scheme start air height trace publics ood_bits f
+      → (f ≡ no_memory) ⊎ IsProvedBy hashing_ops script_ops coordinates log_rows scheme hashing_start script_start air height trace publics ood_bits named f
   unfolding IsProvedBy
   proved_by_hashing air height trace publics ood_bits named start f is begins proved =
-      subst (λ n. (f ≡ no_memory) ⊎ IsProvedBy hashing_ops script_ops coordinates scheme hashing_start script_start air height trace publics ood_bits n f) (sym is)
-      (subst (λ s. (f ≡ no_memory) ⊎ IsProved hashing_ops coordinates scheme s air height trace publics ood_bits f) begins proved)
+      subst (λ n. (f ≡ no_memory) ⊎ IsProvedBy hashing_ops script_ops coordinates log_rows scheme hashing_start script_start air height trace publics ood_bits n f) (sym is)
+      (subst (λ s. (f ≡ no_memory) ⊎ IsProved hashing_ops coordinates log_rows scheme s air height trace publics ood_bits f) begins proved)
 
   pub proved_by_script : (air : CheckedAir) (height : ℕ) (trace : Trace Base) (publics : List Base) (ood_bits : ℕ) (named : NamedChallenger) (numbers : List Base) (start : R) (f : Finding) → named ≡ scripted numbers → start ≡ script_start numbers
-      → (f ≡ no_memory) ⊎ IsProved script_ops coordinates scheme start air height trace publics ood_bits f
-      → (f ≡ no_memory) ⊎ IsProvedBy hashing_ops script_ops coordinates scheme hashing_start script_start air height trace publics ood_bits named f
+      → (f ≡ no_memory) ⊎ IsProved script_ops coordinates log_rows scheme start air height trace publics ood_bits f
+      → (f ≡ no_memory) ⊎ IsProvedBy hashing_ops script_ops coordinates log_rows scheme hashing_start script_start air height trace publics ood_bits named f
   unfolding IsProvedBy
   proved_by_script air height trace publics ood_bits named numbers start f is begins proved =
-      subst (λ n. (f ≡ no_memory) ⊎ IsProvedBy hashing_ops script_ops coordinates scheme hashing_start script_start air height trace publics ood_bits n f) (sym is)
-      (subst (λ s. (f ≡ no_memory) ⊎ IsProved script_ops coordinates scheme s air height trace publics ood_bits f) begins proved)
+      subst (λ n. (f ≡ no_memory) ⊎ IsProvedBy hashing_ops script_ops coordinates log_rows scheme hashing_start script_start air height trace publics ood_bits n f) (sym is)
+      (subst (λ s. (f ≡ no_memory) ⊎ IsProved script_ops coordinates log_rows scheme s air height trace publics ood_bits f) begins proved)
 
   -- of what was read in the AIR's widths and counts
-  pub proved_shaped : (air : CheckedAir) (shape : CheckShape) (m : TraceNumbers) (height : ℕ) (trace : Trace Base) (listed : List Base) (f : Finding) → shape ≡ shape_of air → HasTraceShape shape m height
+  pub proved_shaped : (air : CheckedAir) (shape : CheckShape) (m : TraceNumbers) (height : ℕ) (trace : Trace Base) (listed : List Base) (f : Finding) → shape ≡ shape_of air → HasTraceShape shape log_rows m height
       → trace ≡ trace_of air.layout.main m.rows → listed ≡ m.publics
-      → (f ≡ no_memory) ⊎ IsProvedBy hashing_ops script_ops coordinates scheme hashing_start script_start air height trace listed m.ood_bits m.challenger f
-      → (f ≡ no_memory) ⊎ IsProvedRead hashing_ops script_ops coordinates scheme hashing_start script_start air (Some m) f
+      → (f ≡ no_memory) ⊎ IsProvedBy hashing_ops script_ops coordinates log_rows scheme hashing_start script_start air height trace listed m.ood_bits m.challenger f
+      → (f ≡ no_memory) ⊎ IsProvedRead hashing_ops script_ops coordinates log_rows scheme hashing_start script_start air (Some m) f
   unfolding IsProvedRead
   proved_shaped air shape m height trace listed f same fits is lists proved = elim proved [
     | inl memory ↦ inl memory
     | inr found ↦ inr (inl (
       height,
-      subst (λ s. HasTraceShape s m height) same fits,
-      subst (λ ps. IsProvedBy hashing_ops script_ops coordinates scheme hashing_start script_start air height (trace_of air.layout.main m.rows) ps m.ood_bits m.challenger f) lists
-          (subst (λ t. IsProvedBy hashing_ops script_ops coordinates scheme hashing_start script_start air height t listed m.ood_bits m.challenger f) is found),
+      subst (λ s. HasTraceShape s log_rows m height) same fits,
+      subst (λ ps. IsProvedBy hashing_ops script_ops coordinates log_rows scheme hashing_start script_start air height (trace_of air.layout.main m.rows) ps m.ood_bits m.challenger f) lists
+          (subst (λ t. IsProvedBy hashing_ops script_ops coordinates log_rows scheme hashing_start script_start air height t listed m.ood_bits m.challenger f) is found),
     ))
   ]
 
   -- of what was read otherwise
-  pub unproved_unshaped : (air : CheckedAir) (shape : CheckShape) (m : TraceNumbers) (f : Finding) → shape ≡ shape_of air → ((height : ℕ) → HasTraceShape shape m height → ⊥) → f ≡ finding.Verdict verdict.BadInput
-      → (f ≡ no_memory) ⊎ IsProvedRead hashing_ops script_ops coordinates scheme hashing_start script_start air (Some m) f
+  pub unproved_unshaped : (air : CheckedAir) (shape : CheckShape) (m : TraceNumbers) (f : Finding) → shape ≡ shape_of air → ((height : ℕ) → HasTraceShape shape log_rows m height → ⊥) → f ≡ finding.Verdict verdict.BadInput
+      → (f ≡ no_memory) ⊎ IsProvedRead hashing_ops script_ops coordinates log_rows scheme hashing_start script_start air (Some m) f
   unfolding IsProvedRead
-  unproved_unshaped air shape m f same none is = inr (inr (λ height fits. none height (subst (λ s. HasTraceShape s m height) (sym same) fits), is))
+  unproved_unshaped air shape m f same none is = inr (inr (λ height fits. none height (subst (λ s. HasTraceShape s log_rows m height) (sym same) fits), is))
 
   -- What is found of the numbers that were read is found of the bytes.
   pub proved_as_read : (air : CheckedAir) (read : Option TraceNumbers) (m : TraceNumbers) (f : Finding) → read ≡ Some m
-      → (f ≡ no_memory) ⊎ IsProvedRead hashing_ops script_ops coordinates scheme hashing_start script_start air (Some m) f
-      → (f ≡ no_memory) ⊎ IsProvedRead hashing_ops script_ops coordinates scheme hashing_start script_start air read f
+      → (f ≡ no_memory) ⊎ IsProvedRead hashing_ops script_ops coordinates log_rows scheme hashing_start script_start air (Some m) f
+      → (f ≡ no_memory) ⊎ IsProvedRead hashing_ops script_ops coordinates log_rows scheme hashing_start script_start air read f
   proved_as_read air read m f is found =
-      subst (λ n. (f ≡ no_memory) ⊎ IsProvedRead hashing_ops script_ops coordinates scheme hashing_start script_start air n f) (sym is) found
+      subst (λ n. (f ≡ no_memory) ⊎ IsProvedRead hashing_ops script_ops coordinates log_rows scheme hashing_start script_start air n f) (sym is) found
 
   -- What is found for an AIR is found for its name.
   pub proved_by_name : (air name : SampleAir) (read : Option TraceNumbers) (f : Finding) → air ≡ name
-      → (f ≡ no_memory) ⊎ IsProvedRead hashing_ops script_ops coordinates scheme hashing_start script_start (sample name) read f
-      → IsProvedRead hashing_ops script_ops coordinates scheme hashing_start script_start (sample air) read f ⊎ (f ≡ no_memory)
+      → (f ≡ no_memory) ⊎ IsProvedRead hashing_ops script_ops coordinates log_rows scheme hashing_start script_start (sample name) read f
+      → IsProvedRead hashing_ops script_ops coordinates log_rows scheme hashing_start script_start (sample air) read f ⊎ (f ≡ no_memory)
   proved_by_name air name read f is (inl memory) = inr memory
-  proved_by_name air name read f is (inr found) = inl (subst (λ a. IsProvedRead hashing_ops script_ops coordinates scheme hashing_start script_start (sample a) read f) (sym is) found)
+  proved_by_name air name read f is (inr found) = inl (subst (λ a. IsProvedRead hashing_ops script_ops coordinates log_rows scheme hashing_start script_start (sample a) read f) (sym is) found)

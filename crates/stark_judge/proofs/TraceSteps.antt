@@ -1,12 +1,10 @@
 -- From what is set up and read to a prover's conditions and answer.
 use Rattle.std.proofs.Common.{◌≡◌, ◌∙◌, ◌⊎◌, inl, inr, ap, refl, sym, arith, ℕ, suc, ◌+◌, ◌*◌, ◌^◌, ◌<◌, ◌≤◌, ◌==◌, ◌&&◌, ◌%◌, Bool, true, false, List, [], ◌∷◌, ◌++◌, length, length-append, Option, Result, Ok, Err, IfOk, IfErr}
 use Rattle.std.proofs.lemmas.Bool.{eqb-true}
-use Rattle.std.proofs.lemmas.Nat.{pow_below}
 use Rattle.std.proofs.Math.Nat.{mul-mod_left, suc-mul, zero-mul}
 use Rattle.std.specs.List.{flat_map, list_all}
 use Rattle.stark_support.specs.Scheme.{SchemeOps}
 use Rattle.stark_support.specs.Ring.{RingOps}
-use Rattle.stark_support.specs.LogarithmFacts.{at_most_or_above}
 use Rattle.stark_air.specs.Declaration.{Trace}
 use Rattle.stark_air.specs.Layout.{Layout}
 use Rattle.stark_parts.specs.declared.error.ProvingError.{ProvingError}
@@ -22,8 +20,8 @@ use Rattle.stark_input.specs.declared.input.CheckShape.{CheckShape}
 use Rattle.stark_input.specs.TraceInput.{HasTraceShape, TraceNumbers}
 use Rattle.stark_judge.specs.Prove.{AnswersWithHeld, IsCause, IsHeld, IsTraceFor}
 
-pub same_degree : (d h zk : ℕ) → d ≡ 2 + zk → h ≡ 2 → d ≡ h + zk
-same_degree d h zk e two = omega arith
+pub same_degree : (d h n zk : ℕ) → d ≡ n + zk → h ≡ n → d ≡ h + zk
+same_degree d h n zk e same = omega arith
 
 -- ---- answers
 
@@ -40,19 +38,19 @@ pub at_columns : {R X B : Type 0} (Stands : B → Type 0) (IsHeight : ℕ → Ty
 at_columns Stands IsHeight Holds fixed stands (Ok proof) made = λ h is. made h is fixed stands
 at_columns Stands IsHeight Holds fixed stands (Err error) made = tt
 
-module _ {S F E C K T P X Y : Type 0} (ops : ProtocolOps S F E C K T P X Y) (coordinates : E → List F) (scheme : S) (declared : Option (Trace F)) (instance : Option (PreprocessedProverData K T) → Instance S F C K) (height : ℕ) (trace : Trace F) where
-  pub lacks_memory : (answer : Result (Proof K E P F) (ProvingError Y)) (error : ProvingError Y) → answer ≡ Err error → error ≡ ProvingError.OutOfMemory → AnswersWithHeld ops coordinates scheme declared instance height trace answer
+module _ {S F E C K T P X Y : Type 0} (ops : ProtocolOps S F E C K T P X Y) (coordinates : E → List F) (log_rows : ℕ) (scheme : S) (declared : Option (Trace F)) (instance : Option (PreprocessedProverData K T) → Instance S F C K) (height : ℕ) (trace : Trace F) where
+  pub lacks_memory : (answer : Result (Proof K E P F) (ProvingError Y)) (error : ProvingError Y) → answer ≡ Err error → error ≡ ProvingError.OutOfMemory → AnswersWithHeld ops coordinates log_rows scheme declared instance height trace answer
   unfolding AnswersWithHeld
   lacks_memory answer error is memory = inl (is ∙ ap (λ e. Err e) memory)
 
   -- The answer with what is held is the AIR's.
-  pub answers : (held : Option (PreprocessedProverData K T)) (fixed : List (List F)) → IsHeld ops scheme declared held → ops.opening.scheme.log_min_trace_height scheme ≡ 0 → ops.opening.scheme.Whole scheme → length trace.values ≡ 2 ^ height * trace.width
+  pub answers : (held : Option (PreprocessedProverData K T)) (fixed : List (List F)) → IsHeld ops log_rows scheme declared held → ops.opening.scheme.log_min_trace_height scheme ≡ 0 → ops.opening.scheme.Whole scheme → length trace.values ≡ 2 ^ height * trace.width
       → (answer : Result (Proof K E P F) (ProvingError Y))
       → IfOk answer (λ proof. (h : ℕ) → length trace.values ≡ 2 ^ h * trace.width → IsProofOfTrace ops (instance held) coordinates held h trace fixed (proof_view proof))
       → IfOk answer (λ proof. (h : ℕ) → length trace.values ≡ 2 ^ h * trace.width → ops.opening.scheme.log_min_trace_height scheme ≤ h → ops.opening.scheme.Whole scheme
       → IsAcceptable ops (instance held) (proof_view proof))
       → IfErr answer (λ error. (h : ℕ) → length trace.values ≡ 2 ^ h * trace.width → (error ≡ ProvingError.OutOfMemory) ⊎ IsCause ops coordinates (instance held) held h trace error)
-      → AnswersWithHeld ops coordinates scheme declared instance height trace answer
+      → AnswersWithHeld ops coordinates log_rows scheme declared instance height trace answer
   unfolding AnswersWithHeld
   answers held fixed is lowest whole rows (Ok proof) made acceptable fault = inr (held, is, record { fixed = fixed; of_trace = made height rows; acceptable = acceptable height rows (omega arith) whole })
   answers held fixed is lowest whole rows (Err error) made acceptable fault = elim (fault height rows) [
@@ -77,16 +75,7 @@ rows_count width (row ∷ rows) all =
     let more : suc (length rows) * width ≡ length rows * width + width = suc-mul (length rows) width in
     joined ∙ (let sum : length row + length (flat_map (λ r. r) rows) ≡ length rows * width + width = omega arith in sum) ∙ sym more
 
-two_if_four : (h : ℕ) → 2 ^ h ≡ 4 → h ≡ 2
-two_if_four h e = elim (at_most_or_above 2 h) [
-  | inl within ↦ elim (at_most_or_above h 2) [
-    | inl below ↦ omega arith
-    | inr above ↦ absurd (let more : 2 ^ 2 < 2 ^ h = pow_below 2 h above in omega arith)
-  ]
-  | inr less ↦ absurd (let fewer : 2 ^ h < 2 ^ 2 = pow_below h 2 less in omega arith)
-]
-
-module _ (shape : CheckShape) (m : TraceNumbers) (height : ℕ) (fits : HasTraceShape shape m height) where
+module _ (shape : CheckShape) (log_rows : ℕ) (m : TraceNumbers) (height : ℕ) (fits : HasTraceShape shape log_rows m height) where
   values_number : (values : List Base) → values ≡ flat_map (λ row. row) m.rows → length values ≡ 2 ^ height * shape.width
   values_number values is = ap (λ v. length v) is ∙ rows_count shape.width m.rows fits.widths ∙ ap (λ n. n * shape.width) fits.height
 
@@ -100,14 +89,14 @@ module _ (shape : CheckShape) (m : TraceNumbers) (height : ℕ) (fits : HasTrace
 
   -- The trace is one for the AIR.
   pub trace_fits : (layout : Layout) (width num : ℕ) (values : List Base) → 0 < layout.main → shape.width ≡ layout.main → shape.num_public_values ≡ layout.publics → shape.preprocessed_width ≡ layout.preprocessed
-      → width ≡ shape.width → values ≡ flat_map (λ row. row) m.rows → num ≡ length m.publics → IsTraceFor layout (record { width = width; values = values }) num 0 12
+      → width ≡ shape.width → values ≡ flat_map (λ row. row) m.rows → num ≡ length m.publics → IsTraceFor layout log_rows (record { width = width; values = values }) num 0 12
   trace_fits layout width num values some main publics fixed wide is count = record {
     columns = omega arith;
     width = wide ∙ main;
     height = height;
     rows = trace_rows width values wide is;
     within = omega (arith, fits.greatest);
-    four_rows = λ there. two_if_four height (sym fits.height ∙ fits.four_rows (omega arith));
+    fixed_rows = λ there. fits.fixed_rows (omega arith);
     publics = count ∙ fits.publics ∙ publics;
   }
 

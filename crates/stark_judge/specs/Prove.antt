@@ -32,22 +32,22 @@ use Rattle.stark_judge.specs.SoundRun.{Listed}
 use Rattle.stark_judge.specs.Verify.{instance_of}
 
 -- A trace of an AIR's width, and public values as many as the AIR's: 2 ^ height rows, with height + zk at most a greatest one, and
--- four rows beside preprocessed columns.
-pub record IsTraceFor {F : Type 0} (layout : Layout) (trace : Trace F) (num_publics zk greatest : ℕ) : Type 0 where
+-- 2 ^ log_rows beside preprocessed columns.
+pub record IsTraceFor {F : Type 0} (layout : Layout) (log_rows : ℕ) (trace : Trace F) (num_publics zk greatest : ℕ) : Type 0 where
   pub columns : 0 < trace.width
   pub width : trace.width ≡ layout.main
   pub height : ℕ
   pub rows : length trace.values ≡ 2 ^ height * trace.width
   pub within : height + zk ≤ greatest
-  pub four_rows : 0 < layout.preprocessed → height ≡ 2
+  pub fixed_rows : 0 < layout.preprocessed → height ≡ log_rows
   pub publics : num_publics ≡ layout.publics
 
-module _ {S F E C K T P X Y : Type 0} (ops : ProtocolOps S F E C K T P X Y) where
-  -- What is held of an AIR's preprocessed columns: nothing without any, else what is set up for them at four rows.
+module _ {S F E C K T P X Y : Type 0} (ops : ProtocolOps S F E C K T P X Y) (log_rows : ℕ) where
+  -- What is held of an AIR's preprocessed columns: nothing without any, else what is set up for them at 2 ^ log_rows rows.
   abbrev pub IsHeld : S → Option (Trace F) → Option (PreprocessedProverData K T) → Type 0
   IsHeld scheme declared None = has_columns declared ≡ false
   IsHeld scheme declared (Some held) = (trace : Trace F) × (declared ≡ Some trace) × (key : PreprocessedVerifierKey K)
-      × IsSetUp ops.opening.scheme scheme ops.opening.fields.base ops.opening.fields.root ops.opening.is_zk 2 trace held key
+      × IsSetUp ops.opening.scheme scheme ops.opening.fields.base ops.opening.fields.root ops.opening.is_zk log_rows trace held key
 
 module _ {S F E C K T P X Y : Type 0} (ops : ProtocolOps S F E C K T P X Y) (coordinates : E → List F) where
   -- A proof of a trace of 2 ^ height rows, made with what is held, which stands for these fixed columns, of which all of acceptance holds but that zeta may lie in H and
@@ -67,9 +67,9 @@ module _ {S F E C K T P X Y : Type 0} (ops : ProtocolOps S F E C K T P X Y) (coo
   IsAnswer i held height trace (Err error) = IsCause i held height trace error
 
   -- It is, with what is held of the AIR's preprocessed columns; or memory was wanting.
-  unfoldable pub AnswersWithHeld : S → Option (Trace F) → (Option (PreprocessedProverData K T) → Instance S F C K) → ℕ → Trace F → Result (Proof K E P F) (ProvingError Y) → Type 0
-  AnswersWithHeld scheme declared instance height trace answer = (answer ≡ Err ProvingError.OutOfMemory)
-      ⊎ ((held : Option (PreprocessedProverData K T)) × IsHeld ops scheme declared held × IsAnswer (instance held) held height trace answer)
+  unfoldable pub AnswersWithHeld : ℕ → S → Option (Trace F) → (Option (PreprocessedProverData K T) → Instance S F C K) → ℕ → Trace F → Result (Proof K E P F) (ProvingError Y) → Type 0
+  AnswersWithHeld log_rows scheme declared instance height trace answer = (answer ≡ Err ProvingError.OutOfMemory)
+      ⊎ ((held : Option (PreprocessedProverData K T)) × IsHeld ops log_rows scheme declared held × IsAnswer (instance held) held height trace answer)
 
 -- The bytes are a proof's line: its JSON without spaces, and a newline.
 abbrev pub IsLineOf : {K E P F : Type 0} → (ProofView K E P F → Data) → ProofView K E P F → List ℕ → Type 0
@@ -93,39 +93,39 @@ module _ {K E P F Y : Type 0} (writing : ProofView K E P F → Data) where
 abbrev pub program_writing : ProofView (Listed Base) Extension ClearProof Base → Data
 program_writing = proof_writing (commitment_written base_written) (element_written base_written) proof_written base_written
 
-module _ {S C T X Y : Type 0} (ops : ProtocolOps S Base Extension C (Listed Base) T ClearProof X Y) (coordinates : Extension → List Base) where
+module _ {S C T X Y : Type 0} (ops : ProtocolOps S Base Extension C (Listed Base) T ClearProof X Y) (coordinates : Extension → List Base) (log_rows : ℕ) where
   -- With the scheme and what is held of the AIR's preprocessed columns, the finding is the line of a proof of the trace, or names
   -- the first cause why there is none.
   unfoldable pub IsProved : S → C → CheckedAir → ℕ → Trace Base → List Base → ℕ → Finding → Type 0
-  IsProved scheme first_state air height trace publics ood_bits f = (held : Option (PreprocessedProverData (Listed Base) T)) × IsHeld ops scheme air.preprocessed_trace held
+  IsProved scheme first_state air height trace publics ood_bits f = (held : Option (PreprocessedProverData (Listed Base) T)) × IsHeld ops log_rows scheme air.preprocessed_trace held
       × TellsProver program_writing (IsMadeOf ops coordinates (instance_of air scheme first_state ood_bits publics (option_map key_of held)) held height trace)
       (IsCause ops coordinates (instance_of air scheme first_state ood_bits publics (option_map key_of held)) held height trace) f
 
   -- The bytes are the line of a proof of the trace.
   unfoldable pub IsProofLine : S → C → CheckedAir → ℕ → Trace Base → List Base → ℕ → List ℕ → Type 0
-  IsProofLine scheme first_state air height trace publics ood_bits line = (held : Option (PreprocessedProverData (Listed Base) T)) × IsHeld ops scheme air.preprocessed_trace held
+  IsProofLine scheme first_state air height trace publics ood_bits line = (held : Option (PreprocessedProverData (Listed Base) T)) × IsHeld ops log_rows scheme air.preprocessed_trace held
       × (p : ProofView (Listed Base) Extension ClearProof Base) × IsMadeOf ops coordinates (instance_of air scheme first_state ood_bits publics (option_map key_of held)) held height trace p
       × IsLineOf program_writing p line
 
 -- With the challenger that is named.
 module _ {S H R T X Y : Type 0} (hashing_ops : ProtocolOps S Base Extension H (Listed Base) T ClearProof X Y) (script_ops : ProtocolOps S Base Extension R (Listed Base) T ClearProof X Y) (coordinates : Extension → List Base)
-    (scheme : S) (hashing_start : H) (script_start : List Base → R) where
+    (log_rows : ℕ) (scheme : S) (hashing_start : H) (script_start : List Base → R) where
   unfoldable pub IsProvedBy : CheckedAir → ℕ → Trace Base → List Base → ℕ → NamedChallenger → Finding → Type 0
-  IsProvedBy air height trace publics ood_bits hashing f = IsProved hashing_ops coordinates scheme hashing_start air height trace publics ood_bits f
-  IsProvedBy air height trace publics ood_bits (scripted numbers) f = IsProved script_ops coordinates scheme (script_start numbers) air height trace publics ood_bits f
+  IsProvedBy air height trace publics ood_bits hashing f = IsProved hashing_ops coordinates log_rows scheme hashing_start air height trace publics ood_bits f
+  IsProvedBy air height trace publics ood_bits (scripted numbers) f = IsProved script_ops coordinates log_rows scheme (script_start numbers) air height trace publics ood_bits f
 
   unfoldable pub IsProofLineBy : CheckedAir → ℕ → Trace Base → List Base → ℕ → NamedChallenger → List ℕ → Type 0
-  IsProofLineBy air height trace publics ood_bits hashing line = IsProofLine hashing_ops coordinates scheme hashing_start air height trace publics ood_bits line
-  IsProofLineBy air height trace publics ood_bits (scripted numbers) line = IsProofLine script_ops coordinates scheme (script_start numbers) air height trace publics ood_bits line
+  IsProofLineBy air height trace publics ood_bits hashing line = IsProofLine hashing_ops coordinates log_rows scheme hashing_start air height trace publics ood_bits line
+  IsProofLineBy air height trace publics ood_bits (scripted numbers) line = IsProofLine script_ops coordinates log_rows scheme (script_start numbers) air height trace publics ood_bits line
 
   -- Of what was read, if it was, in the AIR's widths and counts.
   unfoldable pub IsProvedRead : CheckedAir → Option TraceNumbers → Finding → Type 0
   IsProvedRead air None f = f ≡ finding.Verdict verdict.BadInput
   IsProvedRead air (Some m) f =
-      ((height : ℕ) × HasTraceShape (shape_of air) m height × IsProvedBy air height (trace_of air.layout.main m.rows) m.publics m.ood_bits m.challenger f)
-      ⊎ (((height : ℕ) → HasTraceShape (shape_of air) m height → ⊥) × (f ≡ finding.Verdict verdict.BadInput))
+      ((height : ℕ) × HasTraceShape (shape_of air) log_rows m height × IsProvedBy air height (trace_of air.layout.main m.rows) m.publics m.ood_bits m.challenger f)
+      ⊎ (((height : ℕ) → HasTraceShape (shape_of air) log_rows m height → ⊥) × (f ≡ finding.Verdict verdict.BadInput))
 
   -- The bytes are the line of a proof of the trace that was read, in the AIR's widths and counts.
   unfoldable pub IsProofOfRead : CheckedAir → Option TraceNumbers → List ℕ → Type 0
   IsProofOfRead air None line = ⊥
-  IsProofOfRead air (Some m) line = (height : ℕ) × HasTraceShape (shape_of air) m height × IsProofLineBy air height (trace_of air.layout.main m.rows) m.publics m.ood_bits m.challenger line
+  IsProofOfRead air (Some m) line = (height : ℕ) × HasTraceShape (shape_of air) log_rows m height × IsProofLineBy air height (trace_of air.layout.main m.rows) m.publics m.ood_bits m.challenger line

@@ -39,29 +39,29 @@ TellsProof Holds Fault verdict.Accepted = Holds
 TellsProof {X = X} Holds Fault (verdict.Refused why) = (error : VerificationError X) × Fault error × (why ≡ refusal_of error)
 TellsProof Holds Fault verdict.BadInput = ⊥
 
-module _ {S F E C K T P X Y : Type 0} (ops : ProtocolOps S F E C K T P X Y) where
-  -- The key of an AIR: none without preprocessed columns, else one that is set up for them at four rows.
+module _ {S F E C K T P X Y : Type 0} (ops : ProtocolOps S F E C K T P X Y) (log_rows : ℕ) where
+  -- The key of an AIR: none without preprocessed columns, else one that is set up for them at 2 ^ log_rows rows.
   abbrev pub IsKey : S → Option (Trace F) → Option (PreprocessedVerifierKey K) → Type 0
   IsKey scheme declared None = has_columns declared ≡ false
   IsKey scheme declared (Some key) = (trace : Trace F) × (declared ≡ Some trace) × (prover : PreprocessedProverData K T)
-      × IsSetUp ops.opening.scheme scheme ops.opening.fields.base ops.opening.fields.root ops.opening.is_zk 2 trace prover key
+      × IsSetUp ops.opening.scheme scheme ops.opening.fields.base ops.opening.fields.root ops.opening.is_zk log_rows trace prover key
 
   -- With an AIR's key, the verdict says whether the proof is accepted, or names its first fault; or memory was wanting.
   abbrev pub JudgesWithKey : S → Option (Trace F) → (Option (PreprocessedVerifierKey K) → Instance S F C K) → ProofView K E P F → Verdict → Type 0
   JudgesWithKey scheme declared instance proof v = (v ≡ verdict.Refused refusal.OutOfMemory)
       ⊎ ((key : Option (PreprocessedVerifierKey K)) × IsKey scheme declared key × TellsProof (Accepted ops (instance key) proof) (FirstFault ops (instance key) proof) v)
 
-module _ {S C K T P X Y : Type 0} (ops : ProtocolOps S Base Extension C K T P X Y) where
+module _ {S C K T P X Y : Type 0} (ops : ProtocolOps S Base Extension C K T P X Y) (log_rows : ℕ) where
   -- With the scheme and the AIR's key, the verdict says whether the proof is accepted, or names its first fault.
   unfoldable pub IsJudged : S → C → CheckedAir → ProofView K Extension P Base → List Base → ℕ → Verdict → Type 0
-  IsJudged scheme first_state air proof publics ood_bits v = (key : Option (PreprocessedVerifierKey K)) × IsKey ops scheme air.preprocessed_trace key
+  IsJudged scheme first_state air proof publics ood_bits v = (key : Option (PreprocessedVerifierKey K)) × IsKey ops log_rows scheme air.preprocessed_trace key
       × TellsProof (Accepted ops (instance_of air scheme first_state ood_bits publics key) proof) (FirstFault ops (instance_of air scheme first_state ood_bits publics key) proof) v
 
 -- With the challenger that is named.
-module _ {S H R K T P X Y : Type 0} (hashing_ops : ProtocolOps S Base Extension H K T P X Y) (script_ops : ProtocolOps S Base Extension R K T P X Y) (scheme : S) (hashing_start : H) (script_start : List Base → R) where
+module _ {S H R K T P X Y : Type 0} (hashing_ops : ProtocolOps S Base Extension H K T P X Y) (script_ops : ProtocolOps S Base Extension R K T P X Y) (log_rows : ℕ) (scheme : S) (hashing_start : H) (script_start : List Base → R) where
   unfoldable pub IsJudgedBy : CheckedAir → ProofNumbers K P → NamedChallenger → Verdict → Type 0
-  IsJudgedBy air m hashing v = IsJudged hashing_ops scheme hashing_start air m.proof m.publics m.ood_bits v
-  IsJudgedBy air m (scripted numbers) v = IsJudged script_ops scheme (script_start numbers) air m.proof m.publics m.ood_bits v
+  IsJudgedBy air m hashing v = IsJudged hashing_ops log_rows scheme hashing_start air m.proof m.publics m.ood_bits v
+  IsJudgedBy air m (scripted numbers) v = IsJudged script_ops log_rows scheme (script_start numbers) air m.proof m.publics m.ood_bits v
 
   -- of what was read, if it was
   unfoldable pub IsVerified : CheckedAir → Option (ProofNumbers K P) → Verdict → Type 0

@@ -14,7 +14,7 @@ use stark_support::JsonFault;
 use std::alloc::Global;
 
 /// What the check of an AIR finds of the bytes of an input.
-fn judge<A: Air<F12289>>(alloc: Global, air: &A, bytes: &[u8]) -> Verdict
+pub fn judge_air<A: Air<F12289>>(alloc: Global, air: &A, bytes: &[u8]) -> Verdict
     ensures { (log_chunks : ℕ) → IsCutInto (⟦<A as DeclaredAir>⟧.declared air.now) log_chunks
         → (result ≡ judged (⟦<A as DeclaredAir>⟧.declared air.now) log_chunks
         (numbers_in (shape_of (⟦<A as DeclaredAir>⟧.declared air.now)) bytes.now))
@@ -41,14 +41,14 @@ pub fn judge_sample(alloc: Global, air: SampleAir, bytes: &[u8]) -> Verdict
     ensures { (result ≡ judged (sample air) (log_chunks_of air) (numbers_in (shape_of (sample air)) bytes.now)) ⊎ (result ≡ Verdict.Refused Refusal.OutOfMemory) }
 {
     match air {
-        SampleAir::Counter => judge(alloc, &CounterAir, bytes),
-        SampleAir::Cubic => judge(alloc, &CubicAir, bytes),
-        SampleAir::Fibonacci => judge(alloc, &FibonacciAir, bytes),
+        SampleAir::Counter => judge_air(alloc, &CounterAir, bytes),
+        SampleAir::Cubic => judge_air(alloc, &CubicAir, bytes),
+        SampleAir::Fibonacci => judge_air(alloc, &FibonacciAir, bytes),
         SampleAir::Periodic => match PeriodicAir::new(alloc) {
-            Ok(air) => judge(alloc, &air, bytes),
+            Ok(air) => judge_air(alloc, &air, bytes),
             Err(_) => Verdict::Refused(Refusal::OutOfMemory),
         },
-        SampleAir::Preprocessed => judge(alloc, &PreprocessedAir, bytes),
-        SampleAir::Pair => judge(alloc, &PairAir, bytes),
+        SampleAir::Preprocessed => judge_air(alloc, &PreprocessedAir, bytes),
+        SampleAir::Pair => judge_air(alloc, &PairAir, bytes),
     }
 }

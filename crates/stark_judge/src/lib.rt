@@ -7,6 +7,6 @@ mod point;
 mod prove;
 mod verify;
 
-pub use judge::judge_sample;
-pub use prove::{ProvedInput, prove_sample};
-pub use verify::{ProgramConfig, VerifiedInput, verify_sample};
+pub use judge::{judge_air, judge_sample};
+pub use prove::{ProvedInput, prove_air, prove_sample};
+pub use verify::{ProgramConfig, VerifiedInput, verify_air, verify_sample};

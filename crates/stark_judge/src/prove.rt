@@ -65,31 +65,32 @@ pub trait ProvedInput {
 impl ProvedInput for SampleAir {
     ghost proved = { λ air input f. IsProvedRead
         (⟦<ProgramConfig<Sha256Challenger<F12289>> as StarkOperations>⟧.operations) (⟦<ProgramConfig<ScriptChallenger<F12289>> as StarkOperations>⟧.operations)
-        (⟦<Extension as ExtensionField<F12289>>⟧.coordinates) clear_pcs (replicate 32 0) (λ numbers. (numbers, 0)) (sample air) (trace_numbers_in input) f };
+        (⟦<Extension as ExtensionField<F12289>>⟧.coordinates) 2 clear_pcs (replicate 32 0) (λ numbers. (numbers, 0)) (sample air) (trace_numbers_in input) f };
 
     ghost proof_line = { λ air input line. IsProofOfRead
         (⟦<ProgramConfig<Sha256Challenger<F12289>> as StarkOperations>⟧.operations) (⟦<ProgramConfig<ScriptChallenger<F12289>> as StarkOperations>⟧.operations)
-        (⟦<Extension as ExtensionField<F12289>>⟧.coordinates) clear_pcs (replicate 32 0) (λ numbers. (numbers, 0)) (sample air) (trace_numbers_in input) line };
+        (⟦<Extension as ExtensionField<F12289>>⟧.coordinates) 2 clear_pcs (replicate 32 0) (λ numbers. (numbers, 0)) (sample air) (trace_numbers_in input) line };
 
     ghost finds_proofs = { λ air input f found is. proved_line
         (⟦<ProgramConfig<Sha256Challenger<F12289>> as StarkOperations>⟧.operations) (⟦<ProgramConfig<ScriptChallenger<F12289>> as StarkOperations>⟧.operations)
-        (⟦<Extension as ExtensionField<F12289>>⟧.coordinates) clear_pcs (replicate 32 0) (λ numbers. (numbers, 0)) (sample air) (trace_numbers_in input) f found is };
+        (⟦<Extension as ExtensionField<F12289>>⟧.coordinates) 2 clear_pcs (replicate 32 0) (λ numbers. (numbers, 0)) (sample air) (trace_numbers_in input) f found is };
 
     ghost opens = { λ air input f found. proved_opens
         (⟦<ProgramConfig<Sha256Challenger<F12289>> as StarkOperations>⟧.operations) (⟦<ProgramConfig<ScriptChallenger<F12289>> as StarkOperations>⟧.operations)
-        (⟦<Extension as ExtensionField<F12289>>⟧.coordinates) clear_pcs (replicate 32 0) (λ numbers. (numbers, 0)) (sample air) (trace_numbers_in input) f found };
+        (⟦<Extension as ExtensionField<F12289>>⟧.coordinates) 2 clear_pcs (replicate 32 0) (λ numbers. (numbers, 0)) (sample air) (trace_numbers_in input) f found };
 
     ghost accepts_none = { λ air input found. proved_accepts_none
         (⟦<ProgramConfig<Sha256Challenger<F12289>> as StarkOperations>⟧.operations) (⟦<ProgramConfig<ScriptChallenger<F12289>> as StarkOperations>⟧.operations)
-        (⟦<Extension as ExtensionField<F12289>>⟧.coordinates) clear_pcs (replicate 32 0) (λ numbers. (numbers, 0)) (sample air) (trace_numbers_in input) found };
+        (⟦<Extension as ExtensionField<F12289>>⟧.coordinates) 2 clear_pcs (replicate 32 0) (λ numbers. (numbers, 0)) (sample air) (trace_numbers_in input) found };
 }
 
-/// A prover's answer for a trace, with what is held of the AIR's preprocessed columns, which have four rows. The scheme sets up all
-/// columns of so few rows.
+/// A prover's answer for a trace, with what is held of the AIR's preprocessed columns, which have `2^log_rows` rows. The scheme
+/// sets up all columns.
 fn prove_with<SC, A>(
     alloc: Global,
     config: &SC,
     air: &A,
+    log_rows: usize,
     trace: RowMajorMatrix<Val<SC>>,
     publics: &[Val<SC>],
 ) -> Result<StarkProof<SC>, ProvingError<PcsProverError<SC>>>
@@ -99,16 +100,16 @@ where
     SC::Challenger: GrindingChallenger<Witness = Val<SC>>,
     Val<SC>: PackedField,
     A: Air<Val<SC>>,
-    requires fitting { IsTraceFor (A.layout air.now) (record { width = trace.width; values = trace.values.items }) (length publics.now) (zk_bits SC.Pcs.ZK) (SC.Pcs.scheme.log_max_trace_height (SC.config.scheme config.now)) }
-    requires four_rows { HasHeight 2 (A.preprocessed_trace air.now) }
-    requires within { 2 + zk_bits SC.Pcs.ZK ≤ SC.Pcs.scheme.log_max_trace_height (SC.config.scheme config.now) }
+    requires fitting { IsTraceFor (A.layout air.now) log_rows (record { width = trace.width; values = trace.values.items }) (length publics.now) (zk_bits SC.Pcs.ZK) (SC.Pcs.scheme.log_max_trace_height (SC.config.scheme config.now)) }
+    requires height { HasHeight log_rows (A.preprocessed_trace air.now) }
+    requires within { log_rows + zk_bits SC.Pcs.ZK ≤ SC.Pcs.scheme.log_max_trace_height (SC.config.scheme config.now) }
     requires any_height { SC.Pcs.scheme.log_min_trace_height (SC.config.scheme config.now) ≡ 0 }
     requires whole { SC.Pcs.scheme.Whole (SC.config.scheme config.now) }
     requires sets_up { (coset : TwoAdicCoset SC.Pcs.Domain.Val) (values : List SC.Pcs.Domain.Val) (width : ℕ) (reason : SC.Pcs.ProverError) → SC.Pcs.scheme.RefusesPreprocessing (SC.config.scheme config.now) coset values width reason → ⊥ }
     ensures { (height : ℕ) → length trace.values.items ≡ 2 ^ height * trace.width
-        → AnswersWithHeld ⟦<SC as StarkOperations>⟧.operations SC.Challenge.coordinates (SC.config.scheme config.now) (A.preprocessed_trace air.now) (λ held. ⟦<SC as StarkInstance<A>>⟧.instance config.now air.now publics.now (option_map key_of held)) height (record { width = trace.width; values = trace.values.items }) result }
+        → AnswersWithHeld ⟦<SC as StarkOperations>⟧.operations SC.Challenge.coordinates log_rows (SC.config.scheme config.now) (A.preprocessed_trace air.now) (λ held. ⟦<SC as StarkInstance<A>>⟧.instance config.now air.now publics.now (option_map key_of held)) height (record { width = trace.width; values = trace.values.items }) result }
 {
-    match setup_preprocessed(alloc, config, air, 2) {
+    match setup_preprocessed(alloc, config, air, log_rows) {
         Ok(None) => prove(alloc, config, air, trace, publics),
         Ok(Some((data, _key))) => {
             prove_with_preprocessed(alloc, config, air, trace, publics, Some(&data))
@@ -122,6 +123,7 @@ fn prove_over<F, EF, C, A>(
     alloc: Global,
     config: &ClearConfig<F, EF, C>,
     air: &A,
+    log_rows: usize,
     trace: RowMajorMatrix<F>,
     publics: &[F],
 ) -> Result<Proof<ClearCommitment<F>, EF, ClearProof, F>, ProvingError<ClearProverError>>
@@ -134,14 +136,14 @@ where
         + ExtensionChallenger<F, EF>
         + Clone,
     A: Air<F>,
-    requires fitting { IsTraceFor (A.layout air.now) (record { width = trace.width; values = trace.values.items }) (length publics.now) 0 F.TWO_ADICITY }
-    requires four_rows { HasHeight 2 (A.preprocessed_trace air.now) }
-    requires within { 2 ≤ F.TWO_ADICITY }
+    requires fitting { IsTraceFor (A.layout air.now) log_rows (record { width = trace.width; values = trace.values.items }) (length publics.now) 0 F.TWO_ADICITY }
+    requires height { HasHeight log_rows (A.preprocessed_trace air.now) }
+    requires within { log_rows ≤ F.TWO_ADICITY }
     requires stops_nowhere { config.now.pcs ≡ clear_pcs }
     ensures { (height : ℕ) → length trace.values.items ≡ 2 ^ height * trace.width
-        → AnswersWithHeld ⟦<ClearConfig<F, EF, C> as StarkOperations>⟧.operations EF.coordinates config.now.pcs (A.preprocessed_trace air.now) (λ held. ⟦<ClearConfig<F, EF, C> as StarkInstance<A>>⟧.instance config.now air.now publics.now (option_map key_of held)) height (record { width = trace.width; values = trace.values.items }) result }
+        → AnswersWithHeld ⟦<ClearConfig<F, EF, C> as StarkOperations>⟧.operations EF.coordinates log_rows config.now.pcs (A.preprocessed_trace air.now) (λ held. ⟦<ClearConfig<F, EF, C> as StarkInstance<A>>⟧.instance config.now air.now publics.now (option_map key_of held)) height (record { width = trace.width; values = trace.values.items }) result }
 {
-    prove_with(alloc, config, air, trace, publics)
+    prove_with(alloc, config, air, log_rows, trace, publics)
 }
 
 /// The line of a proof, with its newline.
@@ -180,6 +182,7 @@ fn told_of_prover(
 fn prove_trace<C, A>(
     alloc: Global,
     air: &A,
+    log_rows: usize,
     challenger: C,
     trace: RowMajorMatrix<F12289>,
     publics: &[F12289],
@@ -192,17 +195,18 @@ where
         + ExtensionChallenger<F12289, Extension>
         + Clone,
     A: Air<F12289>,
-    requires fitting { IsTraceFor (A.layout air.now) (record { width = trace.width; values = trace.values.items }) (length publics.now) 0 12 }
-    requires four_rows { HasHeight 2 (A.preprocessed_trace air.now) }
+    requires fitting { IsTraceFor (A.layout air.now) log_rows (record { width = trace.width; values = trace.values.items }) (length publics.now) 0 12 }
+    requires height { HasHeight log_rows (A.preprocessed_trace air.now) }
+    requires within { log_rows ≤ 12 }
     ensures { (height : ℕ) → length trace.values.items ≡ 2 ^ height * trace.width
-        → (result ≡ Finding.Verdict (Verdict.Refused Refusal.OutOfMemory)) ⊎ IsProved (⟦<ProgramConfig<C> as StarkOperations>⟧.operations) (⟦<Extension as ExtensionField<F12289>>⟧.coordinates) clear_pcs challenger
+        → (result ≡ Finding.Verdict (Verdict.Refused Refusal.OutOfMemory)) ⊎ IsProved (⟦<ProgramConfig<C> as StarkOperations>⟧.operations) (⟦<Extension as ExtensionField<F12289>>⟧.coordinates) log_rows clear_pcs challenger
         (⟦<A as DeclaredAir>⟧.declared air.now) height (record { width = trace.width; values = trace.values.items }) publics.now ood_bits result }
 {
     let config: ProgramConfig<C> = StarkConfig::new(
         ClearPcs::new(),
         challenger,
     ).with_ood_proof_of_work_bits(ood_bits);
-    let answer = prove_over(alloc, &config, air, trace, publics);
+    let answer = prove_over(alloc, &config, air, log_rows, trace, publics);
     told_of_prover(alloc, &answer)
 }
 
@@ -210,18 +214,20 @@ where
 fn prove_by<A: Air<F12289>>(
     alloc: Global,
     air: &A,
+    log_rows: usize,
     challenger: ChosenChallenger,
     trace: RowMajorMatrix<F12289>,
     publics: &[F12289],
     ood_bits: usize,
 ) -> Finding
-    requires fitting { IsTraceFor (A.layout air.now) (record { width = trace.width; values = trace.values.items }) (length publics.now) 0 12 }
-    requires four_rows { HasHeight 2 (A.preprocessed_trace air.now) }
+    requires fitting { IsTraceFor (A.layout air.now) log_rows (record { width = trace.width; values = trace.values.items }) (length publics.now) 0 12 }
+    requires height { HasHeight log_rows (A.preprocessed_trace air.now) }
+    requires within { log_rows ≤ 12 }
     requires some { HasSomeNumber challenger }
     ensures { (height : ℕ) → length trace.values.items ≡ 2 ^ height * trace.width
         → (result ≡ Finding.Verdict (Verdict.Refused Refusal.OutOfMemory)) ⊎ IsProvedBy
         (⟦<ProgramConfig<Sha256Challenger<F12289>> as StarkOperations>⟧.operations) (⟦<ProgramConfig<ScriptChallenger<F12289>> as StarkOperations>⟧.operations)
-        (⟦<Extension as ExtensionField<F12289>>⟧.coordinates) clear_pcs (replicate 32 0) (λ numbers. (numbers, 0)) (⟦<A as DeclaredAir>⟧.declared air.now) height
+        (⟦<Extension as ExtensionField<F12289>>⟧.coordinates) log_rows clear_pcs (replicate 32 0) (λ numbers. (numbers, 0)) (⟦<A as DeclaredAir>⟧.declared air.now) height
         (record { width = trace.width; values = trace.values.items }) publics.now ood_bits (named_challenger challenger) result }
 {
     match challenger {
@@ -229,6 +235,7 @@ fn prove_by<A: Air<F12289>>(
             prove_trace(
                 alloc,
                 air,
+                log_rows,
                 Sha256Challenger::new(),
                 trace,
                 publics,
@@ -237,7 +244,7 @@ fn prove_by<A: Air<F12289>>(
         }
         ChosenChallenger::Script(numbers) => {
             let script = ScriptChallenger::new(numbers);
-            prove_trace(alloc, air, script, trace, publics, ood_bits)
+            prove_trace(alloc, air, log_rows, script, trace, publics, ood_bits)
         }
     }
 }
@@ -246,19 +253,21 @@ fn prove_by<A: Air<F12289>>(
 fn prove_input<A: Air<F12289>>(
     alloc: Global,
     air: &A,
+    log_rows: usize,
     shape: CheckShape,
     input: TraceInput,
 ) -> Finding
-    requires four_rows { HasHeight 2 (A.preprocessed_trace air.now) }
+    requires height { HasHeight log_rows (A.preprocessed_trace air.now) }
+    requires within { log_rows ≤ 12 }
     requires columns { 0 < (A.layout air.now).main }
     requires some { HasSomeNumber input.challenger }
     requires shape { shape ≡ shape_of (⟦<A as DeclaredAir>⟧.declared air.now) }
     ensures { (result ≡ Finding.Verdict (Verdict.Refused Refusal.OutOfMemory)) ⊎ IsProvedRead
         (⟦<ProgramConfig<Sha256Challenger<F12289>> as StarkOperations>⟧.operations) (⟦<ProgramConfig<ScriptChallenger<F12289>> as StarkOperations>⟧.operations)
-        (⟦<Extension as ExtensionField<F12289>>⟧.coordinates) clear_pcs (replicate 32 0) (λ numbers. (numbers, 0)) (⟦<A as DeclaredAir>⟧.declared air.now)
+        (⟦<Extension as ExtensionField<F12289>>⟧.coordinates) log_rows clear_pcs (replicate 32 0) (λ numbers. (numbers, 0)) (⟦<A as DeclaredAir>⟧.declared air.now)
         (Some (trace_numbers input)) result }
 {
-    let Some(_log_height) = input.log_height(shape) else {
+    let Some(_log_height) = input.log_height(shape, log_rows) else {
         return Finding::Verdict(Verdict::BadInput);
     };
     let TraceInput {
@@ -271,24 +280,26 @@ fn prove_input<A: Air<F12289>>(
         return Finding::Verdict(Verdict::Refused(Refusal::OutOfMemory));
     };
     let trace = RowMajorMatrix::new(values, shape.width);
-    prove_by(alloc, air, challenger, trace, &publics, ood_bits)
+    prove_by(alloc, air, log_rows, challenger, trace, &publics, ood_bits)
 }
 
-/// What a prover of an AIR finds of the bytes of an input.
+/// What a prover of an AIR that has main columns, and whose preprocessed columns have `2^log_rows` rows, finds of the bytes of an
+/// input.
 #[tactic(auto, unfolding(crate::specs::Prove::IsProvedRead))]
-fn prove_air<A: Air<F12289>>(alloc: Global, air: &A, bytes: &[u8]) -> Finding
-    requires four_rows { HasHeight 2 (A.preprocessed_trace air.now) }
+pub fn prove_air<A: Air<F12289>>(alloc: Global, air: &A, log_rows: usize, bytes: &[u8]) -> Finding
+    requires height { HasHeight log_rows (A.preprocessed_trace air.now) }
+    requires within { log_rows ≤ 12 }
     requires columns { 0 < (A.layout air.now).main }
     ensures { (result ≡ Finding.Verdict (Verdict.Refused Refusal.OutOfMemory)) ⊎ IsProvedRead
         (⟦<ProgramConfig<Sha256Challenger<F12289>> as StarkOperations>⟧.operations) (⟦<ProgramConfig<ScriptChallenger<F12289>> as StarkOperations>⟧.operations)
-        (⟦<Extension as ExtensionField<F12289>>⟧.coordinates) clear_pcs (replicate 32 0) (λ numbers. (numbers, 0)) (⟦<A as DeclaredAir>⟧.declared air.now)
+        (⟦<Extension as ExtensionField<F12289>>⟧.coordinates) log_rows clear_pcs (replicate 32 0) (λ numbers. (numbers, 0)) (⟦<A as DeclaredAir>⟧.declared air.now)
         (trace_numbers_in bytes.now) result }
 {
     let Ok(shape) = CheckShape::from_air(alloc, air) else {
         return Finding::Verdict(Verdict::Refused(Refusal::OutOfMemory));
     };
     match trace_input_from(alloc, bytes) {
-        Ok(input) => prove_input(alloc, air, shape, input),
+        Ok(input) => prove_input(alloc, air, log_rows, shape, input),
         Err(JsonFault::Invalid) => Finding::Verdict(Verdict::BadInput),
         Err(JsonFault::OutOfMemory) => Finding::Verdict(Verdict::Refused(Refusal::OutOfMemory)),
     }
@@ -298,18 +309,18 @@ fn prove_air<A: Air<F12289>>(alloc: Global, air: &A, bytes: &[u8]) -> Finding
 pub fn prove_sample(alloc: Global, air: SampleAir, bytes: &[u8]) -> Finding
     ensures { IsProvedRead
         (⟦<ProgramConfig<Sha256Challenger<F12289>> as StarkOperations>⟧.operations) (⟦<ProgramConfig<ScriptChallenger<F12289>> as StarkOperations>⟧.operations)
-        (⟦<Extension as ExtensionField<F12289>>⟧.coordinates) clear_pcs (replicate 32 0) (λ numbers. (numbers, 0)) (sample air)
+        (⟦<Extension as ExtensionField<F12289>>⟧.coordinates) 2 clear_pcs (replicate 32 0) (λ numbers. (numbers, 0)) (sample air)
         (trace_numbers_in bytes.now) result ⊎ (result ≡ Finding.Verdict (Verdict.Refused Refusal.OutOfMemory)) }
 {
     match air {
-        SampleAir::Counter => prove_air(alloc, &CounterAir, bytes),
-        SampleAir::Cubic => prove_air(alloc, &CubicAir, bytes),
-        SampleAir::Fibonacci => prove_air(alloc, &FibonacciAir, bytes),
+        SampleAir::Counter => prove_air(alloc, &CounterAir, 2, bytes),
+        SampleAir::Cubic => prove_air(alloc, &CubicAir, 2, bytes),
+        SampleAir::Fibonacci => prove_air(alloc, &FibonacciAir, 2, bytes),
         SampleAir::Periodic => match PeriodicAir::new(alloc) {
-            Ok(air) => prove_air(alloc, &air, bytes),
+            Ok(air) => prove_air(alloc, &air, 2, bytes),
             Err(_) => Finding::Verdict(Verdict::Refused(Refusal::OutOfMemory)),
         },
-        SampleAir::Preprocessed => prove_air(alloc, &PreprocessedAir, bytes),
-        SampleAir::Pair => prove_air(alloc, &PairAir, bytes),
+        SampleAir::Preprocessed => prove_air(alloc, &PreprocessedAir, 2, bytes),
+        SampleAir::Pair => prove_air(alloc, &PairAir, 2, bytes),
     }
 }

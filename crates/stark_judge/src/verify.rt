@@ -50,21 +50,22 @@ pub trait VerifiedInput {
 impl VerifiedInput for SampleAir {
     ghost verified = { λ air input v. IsVerified
         (⟦<ProgramConfig<Sha256Challenger<F12289>> as StarkOperations>⟧.operations) (⟦<ProgramConfig<ScriptChallenger<F12289>> as StarkOperations>⟧.operations)
-        clear_pcs (replicate 32 0) (λ numbers. (numbers, 0)) (sample air)
+        2 clear_pcs (replicate 32 0) (λ numbers. (numbers, 0)) (sample air)
         (proof_numbers_in (⟦<ClearCommitment<F12289> as JsonCodec>⟧.reading) (⟦<ClearProof as JsonCodec>⟧.reading) input) v };
 
     ghost sound = { λ air input. IsSoundlyRead
         (⟦<ProgramConfig<Sha256Challenger<F12289>> as StarkOperations>⟧.operations) (⟦<ProgramConfig<ScriptChallenger<F12289>> as StarkOperations>⟧.operations)
-        clear_pcs (replicate 32 0) (λ numbers. (numbers, 0)) (sample air)
+        2 clear_pcs (replicate 32 0) (λ numbers. (numbers, 0)) (sample air)
         (proof_numbers_in (⟦<ClearCommitment<F12289> as JsonCodec>⟧.reading) (⟦<ClearProof as JsonCodec>⟧.reading) input) };
 }
 
-/// What a verifier finds of a proof, with the key of the AIR's preprocessed columns, which have four rows. The scheme sets
-/// up all columns of so few rows.
+/// What a verifier finds of a proof, with the key of the AIR's preprocessed columns, which have `2^log_rows` rows. The scheme
+/// sets up all columns.
 fn judge_with<SC, A>(
     alloc: Global,
     config: &SC,
     air: &A,
+    log_rows: usize,
     proof: &StarkProof<SC>,
     publics: &[Val<SC>],
 ) -> Verdict
@@ -72,12 +73,12 @@ where
     SC: StarkGenericConfig,
     SC::Challenger: GrindingChallenger<Witness = Val<SC>>,
     A: Air<Val<SC>>,
-    requires height { HasHeight 2 (A.preprocessed_trace air.now) }
-    requires within { 2 + zk_bits SC.Pcs.ZK ≤ SC.Pcs.scheme.log_max_trace_height (SC.config.scheme config.now) }
+    requires height { HasHeight log_rows (A.preprocessed_trace air.now) }
+    requires within { log_rows + zk_bits SC.Pcs.ZK ≤ SC.Pcs.scheme.log_max_trace_height (SC.config.scheme config.now) }
     requires sets_up { (coset : TwoAdicCoset SC.Pcs.Domain.Val) (values : List SC.Pcs.Domain.Val) (width : ℕ) (reason : SC.Pcs.ProverError) → SC.Pcs.scheme.RefusesPreprocessing (SC.config.scheme config.now) coset values width reason → ⊥ }
-    ensures { JudgesWithKey ⟦<SC as StarkOperations>⟧.operations (SC.config.scheme config.now) (A.preprocessed_trace air.now) (⟦<SC as StarkInstance<A>>⟧.instance config.now air.now publics.now) (proof_view proof.now) result }
+    ensures { JudgesWithKey ⟦<SC as StarkOperations>⟧.operations log_rows (SC.config.scheme config.now) (A.preprocessed_trace air.now) (⟦<SC as StarkInstance<A>>⟧.instance config.now air.now publics.now) (proof_view proof.now) result }
 {
-    match setup_preprocessed(alloc, config, air, 2) {
+    match setup_preprocessed(alloc, config, air, log_rows) {
         Ok(None) => {
             let answer = verify(alloc, config, air, proof, publics);
             told(&answer)
@@ -96,6 +97,7 @@ fn judge_over<F, EF, C, A>(
     alloc: Global,
     config: &ClearConfig<F, EF, C>,
     air: &A,
+    log_rows: usize,
     proof: &Proof<ClearCommitment<F>, EF, ClearProof, F>,
     publics: &[F],
 ) -> Verdict
@@ -108,18 +110,19 @@ where
         + ExtensionChallenger<F, EF>
         + Clone,
     A: Air<F>,
-    requires height { HasHeight 2 (A.preprocessed_trace air.now) }
-    requires within { 2 ≤ F.TWO_ADICITY }
+    requires height { HasHeight log_rows (A.preprocessed_trace air.now) }
+    requires within { log_rows ≤ F.TWO_ADICITY }
     requires stops_nowhere { config.now.pcs ≡ clear_pcs }
-    ensures { JudgesWithKey ⟦<ClearConfig<F, EF, C> as StarkOperations>⟧.operations config.now.pcs (A.preprocessed_trace air.now) (⟦<ClearConfig<F, EF, C> as StarkInstance<A>>⟧.instance config.now air.now publics.now) (proof_view proof.now) result }
+    ensures { JudgesWithKey ⟦<ClearConfig<F, EF, C> as StarkOperations>⟧.operations log_rows config.now.pcs (A.preprocessed_trace air.now) (⟦<ClearConfig<F, EF, C> as StarkInstance<A>>⟧.instance config.now air.now publics.now) (proof_view proof.now) result }
 {
-    judge_with(alloc, config, air, proof, publics)
+    judge_with(alloc, config, air, log_rows, proof, publics)
 }
 
 /// The same with a challenger in its first state, and so many bits of work.
 fn judge_proof<C, A>(
     alloc: Global,
     air: &A,
+    log_rows: usize,
     challenger: C,
     proof: &ProgramProof,
     publics: &[F12289],
@@ -132,31 +135,34 @@ where
         + ExtensionChallenger<F12289, Extension>
         + Clone,
     A: Air<F12289>,
-    requires height { HasHeight 2 (A.preprocessed_trace air.now) }
-    ensures { (result ≡ Verdict.Refused Refusal.OutOfMemory) ⊎ IsJudged (⟦<ProgramConfig<C> as StarkOperations>⟧.operations) clear_pcs challenger
+    requires height { HasHeight log_rows (A.preprocessed_trace air.now) }
+    requires within { log_rows ≤ 12 }
+    ensures { (result ≡ Verdict.Refused Refusal.OutOfMemory) ⊎ IsJudged (⟦<ProgramConfig<C> as StarkOperations>⟧.operations) log_rows clear_pcs challenger
         (⟦<A as DeclaredAir>⟧.declared air.now) (proof_view proof.now) publics.now ood_bits result }
 {
     let config: ProgramConfig<C> = StarkConfig::new(
         ClearPcs::new(),
         challenger,
     ).with_ood_proof_of_work_bits(ood_bits);
-    judge_over(alloc, &config, air, proof, publics)
+    judge_over(alloc, &config, air, log_rows, proof, publics)
 }
 
 /// The same with the challenger that is named.
 fn judge_by<A: Air<F12289>>(
     alloc: Global,
     air: &A,
+    log_rows: usize,
     challenger: ChosenChallenger,
     proof: &ProgramProof,
     publics: &[F12289],
     ood_bits: usize,
 ) -> Verdict
-    requires height { HasHeight 2 (A.preprocessed_trace air.now) }
+    requires height { HasHeight log_rows (A.preprocessed_trace air.now) }
+    requires within { log_rows ≤ 12 }
     requires some { HasSomeNumber challenger }
     ensures { (result ≡ Verdict.Refused Refusal.OutOfMemory) ⊎ IsJudgedBy
         (⟦<ProgramConfig<Sha256Challenger<F12289>> as StarkOperations>⟧.operations) (⟦<ProgramConfig<ScriptChallenger<F12289>> as StarkOperations>⟧.operations)
-        clear_pcs (replicate 32 0) (λ numbers. (numbers, 0)) (⟦<A as DeclaredAir>⟧.declared air.now)
+        log_rows clear_pcs (replicate 32 0) (λ numbers. (numbers, 0)) (⟦<A as DeclaredAir>⟧.declared air.now)
         (record { proof = proof_view proof.now; publics = publics.now; challenger = named_challenger challenger; ood_bits = ood_bits }) (named_challenger challenger) result }
 {
     match challenger {
@@ -164,6 +170,7 @@ fn judge_by<A: Air<F12289>>(
             judge_proof(
                 alloc,
                 air,
+                log_rows,
                 Sha256Challenger::new(),
                 proof,
                 publics,
@@ -172,18 +179,19 @@ fn judge_by<A: Air<F12289>>(
         }
         ChosenChallenger::Script(numbers) => {
             let script = ScriptChallenger::new(numbers);
-            judge_proof(alloc, air, script, proof, publics, ood_bits)
+            judge_proof(alloc, air, log_rows, script, proof, publics, ood_bits)
         }
     }
 }
 
-/// What a verifier of an AIR finds of the bytes of an input.
+/// What a verifier of an AIR, whose preprocessed columns have `2^log_rows` rows, finds of the bytes of an input.
 #[tactic(auto, unfolding(crate::specs::Verify::IsVerified))]
-fn verify_air<A: Air<F12289>>(alloc: Global, air: &A, bytes: &[u8]) -> Verdict
-    requires height { HasHeight 2 (A.preprocessed_trace air.now) }
+pub fn verify_air<A: Air<F12289>>(alloc: Global, air: &A, log_rows: usize, bytes: &[u8]) -> Verdict
+    requires height { HasHeight log_rows (A.preprocessed_trace air.now) }
+    requires within { log_rows ≤ 12 }
     ensures { (result ≡ Verdict.Refused Refusal.OutOfMemory) ⊎ IsVerified
         (⟦<ProgramConfig<Sha256Challenger<F12289>> as StarkOperations>⟧.operations) (⟦<ProgramConfig<ScriptChallenger<F12289>> as StarkOperations>⟧.operations)
-        clear_pcs (replicate 32 0) (λ numbers. (numbers, 0)) (⟦<A as DeclaredAir>⟧.declared air.now)
+        log_rows clear_pcs (replicate 32 0) (λ numbers. (numbers, 0)) (⟦<A as DeclaredAir>⟧.declared air.now)
         (proof_numbers_in (⟦<ClearCommitment<F12289> as JsonCodec>⟧.reading) (⟦<ClearProof as JsonCodec>⟧.reading) bytes.now) result }
 {
     match proof_input_from::<ClearCommitment<F12289>, ClearProof>(alloc, bytes) {
@@ -194,7 +202,7 @@ fn verify_air<A: Air<F12289>>(alloc: Global, air: &A, bytes: &[u8]) -> Verdict
                 challenger,
                 ood_bits,
             } = input;
-            judge_by(alloc, air, challenger, &proof, &publics, ood_bits)
+            judge_by(alloc, air, log_rows, challenger, &proof, &publics, ood_bits)
         }
         Err(JsonFault::Invalid) => Verdict::BadInput,
         Err(JsonFault::OutOfMemory) => Verdict::Refused(Refusal::OutOfMemory),
@@ -205,18 +213,18 @@ fn verify_air<A: Air<F12289>>(alloc: Global, air: &A, bytes: &[u8]) -> Verdict
 pub fn verify_sample(alloc: Global, air: SampleAir, bytes: &[u8]) -> Verdict
     ensures { IsVerified
         (⟦<ProgramConfig<Sha256Challenger<F12289>> as StarkOperations>⟧.operations) (⟦<ProgramConfig<ScriptChallenger<F12289>> as StarkOperations>⟧.operations)
-        clear_pcs (replicate 32 0) (λ numbers. (numbers, 0)) (sample air)
+        2 clear_pcs (replicate 32 0) (λ numbers. (numbers, 0)) (sample air)
         (proof_numbers_in (⟦<ClearCommitment<F12289> as JsonCodec>⟧.reading) (⟦<ClearProof as JsonCodec>⟧.reading) bytes.now) result ⊎ (result ≡ Verdict.Refused Refusal.OutOfMemory) }
 {
     match air {
-        SampleAir::Counter => verify_air(alloc, &CounterAir, bytes),
-        SampleAir::Cubic => verify_air(alloc, &CubicAir, bytes),
-        SampleAir::Fibonacci => verify_air(alloc, &FibonacciAir, bytes),
+        SampleAir::Counter => verify_air(alloc, &CounterAir, 2, bytes),
+        SampleAir::Cubic => verify_air(alloc, &CubicAir, 2, bytes),
+        SampleAir::Fibonacci => verify_air(alloc, &FibonacciAir, 2, bytes),
         SampleAir::Periodic => match PeriodicAir::new(alloc) {
-            Ok(air) => verify_air(alloc, &air, bytes),
+            Ok(air) => verify_air(alloc, &air, 2, bytes),
             Err(_) => Verdict::Refused(Refusal::OutOfMemory),
         },
-        SampleAir::Preprocessed => verify_air(alloc, &PreprocessedAir, bytes),
-        SampleAir::Pair => verify_air(alloc, &PairAir, bytes),
+        SampleAir::Preprocessed => verify_air(alloc, &PreprocessedAir, 2, bytes),
+        SampleAir::Pair => verify_air(alloc, &PairAir, 2, bytes),
     }
 }

@@ -41,25 +41,25 @@ sample_declared Pair = record { preprocessed_width = refl; periodic_columns = re
 bad_input_clash : verdict.Accepted ≡ verdict.BadInput → ⊥
 bad_input_clash h = cc
 
-judged_soundly : {S C T P X Y : Type 0} (ops : ProtocolOps S Base Extension C (Listed Base) T P X Y) → InTheClear ops → (name : SampleAir) (scheme : S) (first_state : C) (proof : ProofView (Listed Base) Extension P Base) (publics : List Base) (ood_bits : ℕ)
-    → IsJudged ops scheme first_state (sample name) proof publics ood_bits verdict.Accepted → IsSoundWithKey ops scheme first_state (sample name) proof publics ood_bits
+judged_soundly : {S C T P X Y : Type 0} (ops : ProtocolOps S Base Extension C (Listed Base) T P X Y) (log_rows : ℕ) → InTheClear ops log_rows → (name : SampleAir) (scheme : S) (first_state : C) (proof : ProofView (Listed Base) Extension P Base) (publics : List Base) (ood_bits : ℕ)
+    → IsJudged ops log_rows scheme first_state (sample name) proof publics ood_bits verdict.Accepted → IsSoundWithKey ops log_rows scheme first_state (sample name) proof publics ood_bits
 unfolding IsJudged IsSoundWithKey
-judged_soundly ops clear name scheme first_state proof publics ood_bits judged = (
+judged_soundly ops log_rows clear name scheme first_state proof publics ood_bits judged = (
   judged.0,
   judged.1,
-  accepted_columns_are_sound ops clear (instance_of (sample name) scheme first_state ood_bits publics judged.0) proof (sample name).preprocessed_trace (sample_within name) (sample_declared name) judged.1 judged.2,
+  accepted_columns_are_sound ops log_rows clear (instance_of (sample name) scheme first_state ood_bits publics judged.0) proof (sample name).preprocessed_trace (sample_within name) (sample_declared name) judged.1 judged.2,
 )
 
-module _ {S H R T P X Y : Type 0} (hashing_ops : ProtocolOps S Base Extension H (Listed Base) T P X Y) (script_ops : ProtocolOps S Base Extension R (Listed Base) T P X Y) (scheme : S) (hashing_start : H) (script_start : List Base → R)
-    (hashing_clear : InTheClear hashing_ops) (script_clear : InTheClear script_ops) where
-  judged_soundly_by : (name : SampleAir) (m : ProofNumbers (Listed Base) P) (named : NamedChallenger) → IsJudgedBy hashing_ops script_ops scheme hashing_start script_start (sample name) m named verdict.Accepted
-      → IsSoundBy hashing_ops script_ops scheme hashing_start script_start (sample name) m named
+module _ {S H R T P X Y : Type 0} (hashing_ops : ProtocolOps S Base Extension H (Listed Base) T P X Y) (script_ops : ProtocolOps S Base Extension R (Listed Base) T P X Y) (log_rows : ℕ) (scheme : S) (hashing_start : H) (script_start : List Base → R)
+    (hashing_clear : InTheClear hashing_ops log_rows) (script_clear : InTheClear script_ops log_rows) where
+  judged_soundly_by : (name : SampleAir) (m : ProofNumbers (Listed Base) P) (named : NamedChallenger) → IsJudgedBy hashing_ops script_ops log_rows scheme hashing_start script_start (sample name) m named verdict.Accepted
+      → IsSoundBy hashing_ops script_ops log_rows scheme hashing_start script_start (sample name) m named
   unfolding IsJudgedBy IsSoundBy
-  judged_soundly_by name m hashing judged = judged_soundly hashing_ops hashing_clear name scheme hashing_start m.proof m.publics m.ood_bits judged
-  judged_soundly_by name m (scripted numbers) judged = judged_soundly script_ops script_clear name scheme (script_start numbers) m.proof m.publics m.ood_bits judged
+  judged_soundly_by name m hashing judged = judged_soundly hashing_ops log_rows hashing_clear name scheme hashing_start m.proof m.publics m.ood_bits judged
+  judged_soundly_by name m (scripted numbers) judged = judged_soundly script_ops log_rows script_clear name scheme (script_start numbers) m.proof m.publics m.ood_bits judged
 
-  pub verified_soundly : (name : SampleAir) (read : Option (ProofNumbers (Listed Base) P)) → IsVerified hashing_ops script_ops scheme hashing_start script_start (sample name) read verdict.Accepted
-      → IsSoundlyRead hashing_ops script_ops scheme hashing_start script_start (sample name) read
+  pub verified_soundly : (name : SampleAir) (read : Option (ProofNumbers (Listed Base) P)) → IsVerified hashing_ops script_ops log_rows scheme hashing_start script_start (sample name) read verdict.Accepted
+      → IsSoundlyRead hashing_ops script_ops log_rows scheme hashing_start script_start (sample name) read
   unfolding IsVerified IsSoundlyRead
   verified_soundly name None verified = absurd (bad_input_clash verified)
   verified_soundly name (Some m) verified = judged_soundly_by name m m.challenger verified

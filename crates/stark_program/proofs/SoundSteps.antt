@@ -76,6 +76,11 @@ no_random true commitment row plain clear = absurd (cc)
 no_random false None row plain clear = refl
 no_random false (Some commitment) row plain clear = absurd (cc)
 
+-- Where nothing is masked, the committed height is the declared one.
+unmasked : (is_zk : Bool) (n : ℕ) → is_zk ≡ false → n + zk_bits is_zk ≡ n
+unmasked true n plain = absurd (cc)
+unmasked false n plain = omega arith
+
 no_lists : {A : Type 0} (xs : List A) → length xs ≡ 0 → xs ≡ []
 no_lists [] e = refl
 no_lists (x ∷ xs) e = absurd (omega (arith, e))
@@ -100,21 +105,21 @@ none_interpolate field root log_size (Some trace) none =
 
 -- ---- the operations of the scheme in the clear
 
--- A configuration's fields are lawful and have the group of four points; its scheme masks nothing, accepts true claims alone, and a
+-- A configuration's fields are lawful and have the group of 2 ^ log_rows points; its scheme masks nothing, accepts true claims alone, and a
 -- commitment lists the columns that it stands for, each with as many coefficients as its domain has points.
-pub record InTheClear {S F E C T P X Y : Type 0} (ops : ProtocolOps S F E C (Listed F) T P X Y) : Type 0 where
+pub record InTheClear {S F E C T P X Y : Type 0} (ops : ProtocolOps S F E C (Listed F) T P X Y) (log_rows : ℕ) : Type 0 where
   pub plain : ops.opening.is_zk ≡ false
   pub base_laws : FieldLaws ops.opening.fields.base ops.opening.fields.base_inverse
   pub laws : FieldLaws ops.opening.fields.ring ops.opening.fields.inverse
   pub embeds : IsEmbedding ops.opening.fields.base ops.opening.fields.ring ops.opening.fields.embed
   pub two_adic : TwoAdicLaws ops.opening.fields.base ops.opening.fields.adicity ops.opening.fields.root ops.opening.fields.generator
-  pub four_points : 2 ≤ ops.opening.fields.adicity
+  pub has_group : log_rows ≤ ops.opening.fields.adicity
   pub accepts : (s : S) (claims : List (RoundClaim F E (Listed F))) (proof : P) (state : C) (index : Option ℕ) → ops.opening.scheme.Accepts s claims proof state index
       → ClaimsAreTrue ops.opening.fields.ring ops.opening.fields.embed claims
   pub stands : (s : S) (commitment : Listed F) (prover_data : T) (matrices : List (CommittedMatrix F)) → ops.opening.scheme.Stands s commitment prover_data matrices
       → (commitment ≡ columns_of matrices) × AllByRecursion IsFull matrices
 
-module _ {S F E C T P X Y : Type 0} (ops : ProtocolOps S F E C (Listed F) T P X Y) (clear : InTheClear ops) where
+module _ {S F E C T P X Y : Type 0} (ops : ProtocolOps S F E C (Listed F) T P X Y) (log_rows : ℕ) (clear : InTheClear ops log_rows) where
   -- A power of the generator of H that is one.
   group_closes : (k : ℕ) → k ≤ ops.opening.fields.adicity → power ops.opening.fields.ring (ops.opening.fields.embed (ops.opening.fields.root k)) (2 ^ k) ≡ ops.opening.fields.ring.one
   group_closes k within =
@@ -122,44 +127,44 @@ module _ {S F E C T P X Y : Type 0} (ops : ProtocolOps S F E C (Listed F) T P X 
       (root_has_order clear.laws fields.adicity (λ n. fields.embed (fields.root n)) (fields.embed fields.generator) (embedded_two_adic clear.embeds fields.adicity fields.root fields.generator clear.two_adic) k within).reaches
 
   -- Two interpolations of the declared rows have equal values everywhere.
-  interpolations_agree : (declared : Option (Trace F)) (columns others : List (List F)) → InterpolateDeclared ops.opening.fields.base ops.opening.fields.root 2 declared columns
-      → InterpolateDeclared ops.opening.fields.base ops.opening.fields.root 2 declared others
+  interpolations_agree : (declared : Option (Trace F)) (columns others : List (List F)) → InterpolateDeclared ops.opening.fields.base ops.opening.fields.root log_rows declared columns
+      → InterpolateDeclared ops.opening.fields.base ops.opening.fields.root log_rows declared others
       → (x : E) → row_at ops.opening.fields.ring ops.opening.fields.embed columns x ≡ row_at ops.opening.fields.ring ops.opening.fields.embed others x
   interpolations_agree None columns others takes also x = ap (λ cs. row_at ops.opening.fields.ring ops.opening.fields.embed cs x) (takes ∙ sym also)
   interpolations_agree (Some trace) columns others takes also x =
       let fields = ops.opening.fields in
-      same_rows fields.base fields.base_inverse fields.ring fields.inverse fields.embed fields.adicity fields.root fields.generator clear.base_laws clear.laws clear.embeds clear.two_adic 2 clear.four_points
+      same_rows fields.base fields.base_inverse fields.ring fields.inverse fields.embed fields.adicity fields.root fields.generator clear.base_laws clear.laws clear.embeds clear.two_adic log_rows clear.has_group
       columns others (takes.0.count ∙ sym also.0.count) takes.1 also.1 (λ r less. sym (takes.0.rows r less) ∙ also.0.rows r less) x
 
-module _ {S F E C T P X Y : Type 0} (ops : ProtocolOps S F E C (Listed F) T P X Y) (clear : InTheClear ops) (s : S) (declared : Option (Trace F)) where
+module _ {S F E C T P X Y : Type 0} (ops : ProtocolOps S F E C (Listed F) T P X Y) (log_rows : ℕ) (clear : InTheClear ops log_rows) (s : S) (declared : Option (Trace F)) where
   -- The key lists an interpolation of the declared rows.
-  key_interpolates : (key : Option (PreprocessedVerifierKey (Listed F))) → IsKey ops s declared key → InterpolateDeclared ops.opening.fields.base ops.opening.fields.root 2 declared (key_columns key)
-  key_interpolates None is = none_interpolate ops.opening.fields.base ops.opening.fields.root 2 declared is
+  key_interpolates : (key : Option (PreprocessedVerifierKey (Listed F))) → IsKey ops log_rows s declared key → InterpolateDeclared ops.opening.fields.base ops.opening.fields.root log_rows declared (key_columns key)
+  key_interpolates None is = none_interpolate ops.opening.fields.base ops.opening.fields.root log_rows declared is
   key_interpolates (Some key) is =
       let fields = ops.opening.fields in
       let made = is.3 in
       let held = made.columns in
-      let stands = clear.stands s is.2.commitment is.2.prover_data (record { domain = natural_coset fields.base (2 + zk_bits ops.opening.is_zk); columns = held } ∷ []) made.stands in
+      let stands = clear.stands s is.2.commitment is.2.prover_data (record { domain = natural_coset fields.base (log_rows + zk_bits ops.opening.is_zk); columns = held } ∷ []) made.stands in
       let listed : only_matrix key.commitment ≡ held = ap only_matrix (made.same ∙ stands.0) in
-      let below : AllByRecursion (HasDegreeBelow (2 ^ 2)) held
-      = subst (λ masked. AllByRecursion (HasDegreeBelow (2 ^ (2 + zk_bits masked))) held) clear.plain (all_below (2 ^ (2 + zk_bits ops.opening.is_zk)) held stands.1.0) in
-      subst (λ d. InterpolateDeclared fields.base fields.root 2 d (only_matrix key.commitment)) (sym is.1)
-      (subst (λ cs. InterpolateDeclared fields.base fields.root 2 (Some is.0) cs) (sym listed) (made.takes, below))
+      let below : AllByRecursion (HasDegreeBelow (2 ^ log_rows)) held
+      = subst (λ bits. AllByRecursion (HasDegreeBelow (2 ^ bits)) held) (unmasked ops.opening.is_zk log_rows clear.plain) (all_below (2 ^ (log_rows + zk_bits ops.opening.is_zk)) held stands.1.0) in
+      subst (λ d. InterpolateDeclared fields.base fields.root log_rows d (only_matrix key.commitment)) (sym is.1)
+      (subst (λ cs. InterpolateDeclared fields.base fields.root log_rows (Some is.0) cs) (sym listed) (made.takes, below))
 
   -- An interpolation's degrees are below the proof's height.
-  declared_fit : (degree_bits : ℕ) (key : Option (PreprocessedVerifierKey (Listed F))) → IsKey ops s declared key → key_degree_fault key degree_bits ≡ None → (columns : List (List F))
-      → InterpolateDeclared ops.opening.fields.base ops.opening.fields.root 2 declared columns → AllByRecursion (HasDegreeBelow (2 ^ degree_bits)) (embedded_polynomials ops.opening.fields.embed columns)
+  declared_fit : (degree_bits : ℕ) (key : Option (PreprocessedVerifierKey (Listed F))) → IsKey ops log_rows s declared key → key_degree_fault key degree_bits ≡ None → (columns : List (List F))
+      → InterpolateDeclared ops.opening.fields.base ops.opening.fields.root log_rows declared columns → AllByRecursion (HasDegreeBelow (2 ^ degree_bits)) (embedded_polynomials ops.opening.fields.embed columns)
   declared_fit degree_bits None is same columns takes =
-      subst (λ cs. AllByRecursion (HasDegreeBelow (2 ^ degree_bits)) (embedded_polynomials ops.opening.fields.embed cs)) (sym (no_columns ops.opening.fields.base ops.opening.fields.root 2 declared columns is takes)) tt
+      subst (λ cs. AllByRecursion (HasDegreeBelow (2 ^ degree_bits)) (embedded_polynomials ops.opening.fields.embed cs)) (sym (no_columns ops.opening.fields.base ops.opening.fields.root log_rows declared columns is takes)) tt
   declared_fit degree_bits (Some key) is same columns takes =
-      let bits : degree_bits ≡ 2 = sym (eqb-true key.degree_bits degree_bits (met (key.degree_bits == degree_bits) _ same)) ∙ is.3.key_degree ∙ ap (λ masked. 2 + zk_bits masked) clear.plain in
-      let rows = subst (λ d. InterpolateDeclared ops.opening.fields.base ops.opening.fields.root 2 d columns) is.1 takes in
-      subst (λ n. AllByRecursion (HasDegreeBelow (2 ^ n)) (embedded_polynomials ops.opening.fields.embed columns)) (sym bits) (embedded_fit ops.opening.fields.embed (2 ^ 2) columns rows.1)
+      let bits : degree_bits ≡ log_rows = sym (eqb-true key.degree_bits degree_bits (met (key.degree_bits == degree_bits) _ same)) ∙ is.3.key_degree ∙ unmasked ops.opening.is_zk log_rows clear.plain in
+      let rows = subst (λ d. InterpolateDeclared ops.opening.fields.base ops.opening.fields.root log_rows d columns) is.1 takes in
+      subst (λ n. AllByRecursion (HasDegreeBelow (2 ^ n)) (embedded_polynomials ops.opening.fields.embed columns)) (sym bits) (embedded_fit ops.opening.fields.embed (2 ^ log_rows) columns rows.1)
 
-module _ {S F E C T P X Y : Type 0} (ops : ProtocolOps S F E C (Listed F) T P X Y) (clear : InTheClear ops) (i : Instance S F C (Listed F)) (p : ProofView (Listed F) E P F) (declared : Option (Trace F)) where
+module _ {S F E C T P X Y : Type 0} (ops : ProtocolOps S F E C (Listed F) T P X Y) (log_rows : ℕ) (clear : InTheClear ops log_rows) (i : Instance S F C (Listed F)) (p : ProofView (Listed F) E P F) (declared : Option (Trace F)) where
   -- With the AIR's key, an accepted proof's columns are sound.
   pub accepted_columns_are_sound : LeavesWithin i.layout i.constraints → IsDeclared i.layout declared i.periodic_columns i.main_next_columns i.preprocessed_next_columns
-      → IsKey ops i.scheme declared i.key → Accepted ops i p → ColumnsAreSound ops i p 2 declared
+      → IsKey ops log_rows i.scheme declared i.key → Accepted ops i p → ColumnsAreSound ops i p log_rows declared
   accepted_columns_are_sound within is_declared is_key accepted =
       let fields = ops.opening.fields in
       let zeta = accepted.zeta in
@@ -179,7 +184,7 @@ module _ {S F E C T P X Y : Type 0} (ops : ProtocolOps S F E C (Listed F) T P X 
       = subst (λ commitment. ClaimsAreTrue fields.ring fields.embed (claims_of coset zeta next i.key p.commitments.trace p.commitments.quotient_chunks commitment p.opened_values)) random
       (clear.accepts i.scheme _ p.opening_proof _ _ accepted.run.opened.accepted) in
       let fit = commitments_fit coset zeta next i.key fields.embed p.commitments.trace p.commitments.quotient_chunks p.opened_values true_claims.0 in
-      let interpolated = key_interpolates ops clear i.scheme declared i.key is_key in
+      let interpolated = key_interpolates ops log_rows clear i.scheme declared i.key is_key in
       record {
         alpha = accepted.alpha;
         zeta = zeta;
@@ -187,13 +192,13 @@ module _ {S F E C T P X Y : Type 0} (ops : ProtocolOps S F E C (Listed F) T P X 
         interpolated = interpolated;
         one_matrix = one_trace coset zeta next i.key fields.embed p.commitments.trace p.commitments.quotient_chunks p.opened_values true_claims.0;
         chunks_fit = fit.1;
-        columns_fit = λ preprocessed takes. record { main = fit.0; preprocessed = declared_fit ops clear i.scheme declared p.degree_bits i.key is_key degree_clear preprocessed takes };
+        columns_fit = λ preprocessed takes. record { main = fit.0; preprocessed = declared_fit ops log_rows clear i.scheme declared p.degree_bits i.key is_key degree_clear preprocessed takes };
         sound = λ preprocessed takes.
             satisfied_or (proved_air ops i p) clear.laws (committed_columns ops i p preprocessed) _
             (accepted_is_sound ops i p clear.laws within declared is_declared accepted accepted.alpha zeta accepted.run.drawn (committed_columns ops i p preprocessed) (committed_chunks ops i p) refl
             (commitments_take (proved_air ops i p) coset zeta i.key p.commitments.trace p.commitments.quotient_chunks p.opened_values i.public_values preprocessed
-            (interpolations_agree ops clear declared (key_columns i.key) preprocessed interpolated takes)
+            (interpolations_agree ops log_rows clear declared (key_columns i.key) preprocessed interpolated takes)
             (no_key_no_rows i.layout.preprocessed (opens_next_row i.preprocessed_next_columns) p.degree_bits i.key p.opened_values.preprocessed key_clear) true_claims.1));
         shifts_counted = length-map-range_with_len _ 0 (chunk_count ops i p);
-        few = few_bad_draws (proved_air ops i p) clear.laws (group_closes ops clear (log_height ops.opening.is_zk p.degree_bits) within_field) (2 ^ p.degree_bits) (chunk_count ops i p);
+        few = few_bad_draws (proved_air ops i p) clear.laws (group_closes ops log_rows clear (log_height ops.opening.is_zk p.degree_bits) within_field) (2 ^ p.degree_bits) (chunk_count ops i p);
       }

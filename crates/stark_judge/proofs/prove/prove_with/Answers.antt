@@ -19,7 +19,7 @@ pub prove_with_preprocessed-requires-clause-height : goal.prove_with_preprocesse
 prove_with_preprocessed-requires-clause-height g c =
     let made = of_some _ c.in-Ok-Some.field-0 (c.in-Ok-Some.data, c.in-Ok-Some._key) c.in-Ok-Some.field-0-is c.in-Ok-Some.ensures.set_up in
     let there = sym (ap is_some c.in-Ok-Some.field-0-is) ∙ c.in-Ok-Some.ensures.there ∙ same_columns (g.A.BaseAir.preprocessed_trace c.args.air.now) _ (g.met.A.BaseAir.as_declared c.args.air.now).preprocessed_width in
-    (c.requires.fitting.height, c.requires.fitting.rows, c.requires.fitting.within, same_degree _ _ _ made.2.prover_degree (c.requires.fitting.four_rows (some_columns _ there)))
+    (c.requires.fitting.height, c.requires.fitting.rows, c.requires.fitting.within, same_degree _ _ _ _ made.2.prover_degree (c.requires.fitting.fixed_rows (some_columns _ there)))
 
 pub prove_with_preprocessed-requires-clause-stands : goal.prove_with_preprocessed-requires-clause-stands
 prove_with_preprocessed-requires-clause-stands g c =
@@ -29,14 +29,14 @@ prove_with_preprocessed-requires-clause-stands g c =
 
 pub returns-in-Ok-None : goal.returns-in-Ok-None
 returns-in-Ok-None g c = λ height rows.
-    answers _ _ (g.SC.StarkGenericConfig.config.scheme c.args.config.now) (g.A.BaseAir.preprocessed_trace c.args.air.now) _ height _ None [] (sym c.in-Ok-None.ensures.there ∙ ap is_some c.in-Ok-None.field-0-is)
+    answers _ _ c.args.log_rows (g.SC.StarkGenericConfig.config.scheme c.args.config.now) (g.A.BaseAir.preprocessed_trace c.args.air.now) _ height _ None [] (sym c.in-Ok-None.ensures.there ∙ ap is_some c.in-Ok-None.field-0-is)
     c.requires.any_height c.requires.whole rows _ c.prove.ensures.made c.prove.ensures.acceptable c.prove.ensures.fault
 
 pub returns-in-Ok-Some : goal.returns-in-Ok-Some
 returns-in-Ok-Some g c = λ height rows.
     let made = of_some _ c.in-Ok-Some.field-0 (c.in-Ok-Some.data, c.in-Ok-Some._key) c.in-Ok-Some.field-0-is c.in-Ok-Some.ensures.set_up in
-    answers _ _ (g.SC.StarkGenericConfig.config.scheme c.args.config.now) (g.A.BaseAir.preprocessed_trace c.args.air.now) _ height _ (Some c.in-Ok-Some.data) made.2.columns (made.0, made.1, c.in-Ok-Some._key, made.2)
+    answers _ _ c.args.log_rows (g.SC.StarkGenericConfig.config.scheme c.args.config.now) (g.A.BaseAir.preprocessed_trace c.args.air.now) _ height _ (Some c.in-Ok-Some.data) made.2.columns (made.0, made.1, c.in-Ok-Some._key, made.2)
     c.requires.any_height c.requires.whole rows _ (at_columns _ _ _ made.2.columns (stands_for_set_up made.2) _ c.prove_with_preprocessed.ensures.made) c.prove_with_preprocessed.ensures.acceptable c.prove_with_preprocessed.ensures.fault
 
 pub returns-in-Err : goal.returns-in-Err
-returns-in-Err g c = λ height rows. lacks_memory _ _ _ _ _ height _ _ _ refl (only_memory _ _ _ _ _ _ _ _ c.requires.sets_up c.in-Err.ensures.fault)
+returns-in-Err g c = λ height rows. lacks_memory _ _ _ _ _ _ height _ _ _ refl (only_memory _ _ _ _ _ _ _ _ c.requires.sets_up c.in-Err.ensures.fault)

@@ -10,4 +10,4 @@ judge_over-requires-clause-stops_nowhere g c = ap (λ (k : StarkConfig _ _ _). k
 pub returns : goal.returns
 returns g c =
     let made = c.with_ood_proof_of_work_bits-config.ensures in
-    is_judged _ (checked_air (g.A.BaseAir.layout c.args.air.now) (g.A.BaseAir.main_next_row_columns c.args.air.now) (g.A.BaseAir.periodic_columns c.args.air.now) (g.A.BaseAir.degree_hint c.args.air.now) (g.A.Air.constraints c.args.air.now) (g.A.BaseAir.preprocessed_trace c.args.air.now) (g.A.BaseAir.preprocessed_next_row_columns c.args.air.now)) _ _ _ _ _ _ _ _ _ (ap (λ (k : StarkConfig _ _ _). k.pcs) made ∙ c.new-2.ensures.pcs ∙ c.new.ensures) (ap (λ (k : StarkConfig _ _ _). k.challenger) made ∙ c.new-2.ensures.challenger) (ap (λ (k : StarkConfig _ _ _). k.ood_proof_of_work_bits) made) c.judge_over.ensures
+    is_judged _ _ (checked_air (g.A.BaseAir.layout c.args.air.now) (g.A.BaseAir.main_next_row_columns c.args.air.now) (g.A.BaseAir.periodic_columns c.args.air.now) (g.A.BaseAir.degree_hint c.args.air.now) (g.A.Air.constraints c.args.air.now) (g.A.BaseAir.preprocessed_trace c.args.air.now) (g.A.BaseAir.preprocessed_next_row_columns c.args.air.now)) _ _ _ _ _ _ _ _ _ (ap (λ (k : StarkConfig _ _ _). k.pcs) made ∙ c.new-2.ensures.pcs ∙ c.new.ensures) (ap (λ (k : StarkConfig _ _ _). k.challenger) made ∙ c.new-2.ensures.challenger) (ap (λ (k : StarkConfig _ _ _). k.ood_proof_of_work_bits) made) c.judge_over.ensures

@@ -4,7 +4,7 @@ use Rattle.stark_input.specs.Airs.{checked_air}
 use Rattle.stark_input.specs.Input.{has_shape, numbers_in}
 use Rattle.stark_input.specs.Numbers.{numbers}
 use Rattle.stark_judge.proofs.PointSteps.{judged_unread}
-use Rattle.stark_judge.proofs.judge.judge.Goals as goal
+use Rattle.stark_judge.proofs.judge.judge_air.Goals as goal
 
 pub check-requires-clause-shape : goal.check-requires-clause-shape
 check-requires-clause-shape g c = ap (λ s. has_shape s (numbers c.in-Ok-numbers_from.input)) (sym c.in-Ok.ensures) ∙ sym c.if-has_shape.ensures

@@ -14,7 +14,7 @@ use Rattle.stark_bench.specs.Ext4Field.{embedded_is_embedding}
 use Rattle.stark_input.specs.Airs.{CheckedAir, IsCutInto, log_chunks_of, sample, shape_of}
 use Rattle.stark_judge.specs.Check.{checked, CheckHolds, IsBalanced, IsPointOfH, element_of, found_at_point, folded, if_none, laws_of_elements, periodic_fault, quotient, vanishing}
 use Rattle.stark_input.specs.Input.{CheckNumbers, elements, has_shape, numbers_in}
-use Rattle.stark_program.specs.Run.{CheckHoldsOf, HoldsOf, IsFinding}
+use Rattle.stark_program.specs.Run.{HoldsOf, IsFinding}
 use Rattle.stark_judge.specs.Check.{judged}
 use Rattle.stark_judge.proofs.Sizes.{cut_of_sample}
 use Rattle.stark_input.specs.declared.words.Command.{Command}
@@ -104,11 +104,13 @@ module _ (air : CheckedAir) (log_chunks : ℕ) (m : CheckNumbers) where
         balanced = point.2;
       }
 
-spelled : (air : SampleAir) (input : List ℕ) (o : Option CheckNumbers) → numbers_in (shape_of (sample air)) input ≡ o → judged (sample air) (log_chunks_of air) o ≡ Accepted → CheckHoldsOf (Some (Check air)) input
-spelled air input None is h = absurd (bad_input_clash h)
-spelled air input (Some m) is h =
-    let shaped = true_if_accepted (has_shape (shape_of (sample air)) m) (checked (sample air) (log_chunks_of air) m) BadInput bad_input_clash h in
-    (air, refl, m, is, shaped.0, holds_if_accepted (sample air) (log_chunks_of air) m (cut_of_sample air) shaped.1)
+-- What is accepted was read, in the AIR's shape, and the AIR's check holds of it.
+pub holds_of_read : (air : CheckedAir) (log_chunks : ℕ) → IsCutInto air log_chunks → (read : Option CheckNumbers) → judged air log_chunks read ≡ Accepted
+    → (m : CheckNumbers) × (read ≡ Some m) × (has_shape (shape_of air) m ≡ true) × CheckHolds air log_chunks m
+holds_of_read air log_chunks cut None h = absurd (bad_input_clash h)
+holds_of_read air log_chunks cut (Some m) h =
+    let shaped = true_if_accepted (has_shape (shape_of air) m) (checked air log_chunks m) BadInput bad_input_clash h in
+    (m, refl, shaped.0, holds_if_accepted air log_chunks m cut shaped.1)
 
 same_verdict : (v w : Verdict) → finding.Verdict v ≡ finding.Verdict w → v ≡ w
 same_verdict v w e = cc
@@ -117,7 +119,9 @@ module _ (verified : SampleAir → List ℕ → Verdict → Type 0) (proved : Sa
   holds_of_finding : (command : Option Command) (input : List ℕ) → IsFinding verified proved command input (finding.Verdict Accepted) → HoldsOf verified proved command input
   unfolding IsFinding
   holds_of_finding None input h = absurd (bad_input_clash (sym (same_verdict _ _ h)))
-  holds_of_finding (Some (Check air)) input h = inl (spelled air input (numbers_in (shape_of (sample air)) input) refl (sym (same_verdict _ _ h)))
+  holds_of_finding (Some (Check air)) input h =
+      let held = holds_of_read (sample air) (log_chunks_of air) (cut_of_sample air) (numbers_in (shape_of (sample air)) input) (sym (same_verdict _ _ h)) in
+      inl (air, refl, held.0, held.1, held.2, held.3)
   holds_of_finding (Some (Verify air)) input h = inr (air, refl, subst (λ v. verified air input v) (sym (same_verdict _ _ h.1)) h.2)
   holds_of_finding (Some (Prove air)) input h = absurd (accepts_none air input h)
 

@@ -1,7 +1,8 @@
 use Rattle.std.proofs.Common.{arith, refl}
 use Rattle.stark_program.proofs.Findings.{ends_accepted, proves_known}
 use Rattle.stark_program.proofs.Meaning.{holds_known}
-use Rattle.stark_program.proofs.SoundFindings.{sound_known, verified_soundly}
+use Rattle.stark_program.proofs.SoundFindings.{sample_declared, sample_within, sound_known, verified_soundly}
+use Rattle.stark_input.specs.Airs.{sample}
 use Rattle.stark_bench.specs.Residues.{residue, residue_laws}
 use Rattle.stark_bench.specs.Roots.{two_adic_laws}
 use Rattle.stark_bench.specs.Ext4Field.{embedded_is_embedding}
@@ -18,7 +19,7 @@ returns-clause-sound g c =
     (λ air input verified. verified_soundly _ _ 2 _ _ _
     (record { plain = refl; base_laws = residue_laws; laws = laws_of_elements; embeds = embedded_is_embedding residue_laws.of_ring (residue 11); two_adic = two_adic_laws; has_group = omega arith; accepts = λ s claims proof state index h. h.0; stands = λ s commitment prover_data matrices h. (h.0, h.2) })
     (record { plain = refl; base_laws = residue_laws; laws = laws_of_elements; embeds = embedded_is_embedding residue_laws.of_ring (residue 11); two_adic = two_adic_laws; has_group = omega arith; accepts = λ s claims proof state index h. h.0; stands = λ s commitment prover_data matrices h. (h.0, h.2) })
-    air _ verified) _ _ _ _ c.run_with.ensures.accepted
+    (sample air) (sample_within air) (sample_declared air) _ verified) _ _ _ _ c.run_with.ensures.accepted
 
 pub returns-clause-proved : goal.returns-clause-proved
 returns-clause-proved g c = proves_known _ _ _ (λ air input f found is. proved_line _ _ _ _ _ _ _ _ _ f found is) _ _ _ _ c.run_with.ensures.proved

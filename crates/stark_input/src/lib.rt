@@ -21,6 +21,6 @@ pub use refusal::{ProofRefusal, refusal_of_prover, told};
 pub use running::{Judge, run_with, tell};
 pub use sources::{WatchedReader, WatchedWriter};
 pub use streams::{InputFault, ReadFailed, Sink, Source, WriteFailed, read_to_end, write_all};
-pub use trace_input::{TraceInput, trace_input_from, values_of};
+pub use trace_input::{TraceInput, log_of_height, trace_input_from, values_of};
 pub use verdict::{Refusal, RunEnd, Verdict};
 pub use words::{Command, SampleAir, named_command};

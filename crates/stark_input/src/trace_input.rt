@@ -47,7 +47,7 @@ impl TraceInput {
 }
 
 /// The logarithm of a power of two from 1 to 4096; None for another number.
-fn log_of_height(height: usize) -> Option<usize>
+pub fn log_of_height(height: usize) -> Option<usize>
     ensures some { IfSome result (λ n. height ≡ 2 ^ n) }
     ensures within { IfSome result (λ n. n ≤ 12) }
     ensures none { IsNone result → (n : ℕ) → n ≤ 12 → height ≢ 2 ^ n }

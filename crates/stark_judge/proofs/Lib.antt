@@ -6,3 +6,4 @@ pub mod PointSteps
 pub mod Judged
 pub mod Proved
 pub mod TraceSteps
+pub mod Heights

@@ -5,8 +5,10 @@ mod check;
 mod judge;
 mod point;
 mod prove;
+mod rows;
 mod verify;
 
 pub use judge::{judge_air, judge_sample};
 pub use prove::{ProvedInput, prove_air, prove_sample};
+pub use rows::log_rows_of;
 pub use verify::{ProgramConfig, VerifiedInput, verify_air, verify_sample};

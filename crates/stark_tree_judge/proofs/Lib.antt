@@ -1,0 +1,2 @@
+pub mod ReadAirs
+pub mod Rows

@@ -1,3 +1,4 @@
+use Rattle.std.proofs.lemmas.Grind.{common_steps}
 use Rattle.std.proofs.Common.{◌≡◌, ◌≢◌, ◌∙◌, option_map, subst, ◌-◌, ◌+◌, [], Some, ap, sym, arith, drop, length, map}
 use Rattle.std.specs.List.{slice_get}
 use Rattle.std.proofs.lemmas.Option.{get_or_from_slice_get, slice_get-map, slice_get-get_or}
@@ -41,3 +42,6 @@ loop-index-preserved g c =
       ap (λ y. ring.mul y (list_product ring (drop (i + 1) values))) (g.met.F.Field.mul_is _ _ _ c.mul-inverse.ensures) ∙
           next_left laws c.loop-index.inverse x (list_product ring (drop (i + 1) values)) (list_product ring (drop i values)) left c.loop-index.invariant.1,
     )
+
+pub returns : goal.returns
+returns g c = grind (arith, common_steps)

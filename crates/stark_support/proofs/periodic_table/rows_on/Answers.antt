@@ -1,4 +1,4 @@
-use Rattle.std.proofs.Common.{◌∙◌, ◌≡◌, ◌≤◌, ap, sym, subst, map}
+use Rattle.std.proofs.Common.{◌∙◌, ◌≡◌, ◌≤◌, ap, sym, subst, map, rules}
 use Rattle.stark_support.specs.PartFacts.{first_shift, next_shift}
 use Rattle.stark_support.specs.PeriodicTable.{folded_view}
 use Rattle.stark_support.proofs.TableSteps.{no_rows, one_more_row, own_exponent}
@@ -33,3 +33,6 @@ loop-row-preserved g c =
       g.met.D.Val.Field.mul_is _ _ _ c.mul-point.ensures ∙ ap (ring.mul x) (c.two_adic_generator-step.ensures ∙ ap root same) ∙ next_shift laws root coset 0 n x c.loop-row.invariant.0,
       one_more_row ring root coset (map folded_view c.args.folded.now) n c.loop-row.values.items c.push_row.new.values.items x c.loop-row.invariant.1 c.loop-row.invariant.0 c.in_ok-push_row.ensures,
     )
+
+pub returns : goal.returns
+returns g c = search rules

@@ -1,4 +1,4 @@
-use Rattle.std.proofs.Common.{◌∙◌, ◌-◌, ap, sym, arith}
+use Rattle.std.proofs.Common.{◌∙◌, ◌-◌, ap, sym, arith, rules}
 use Rattle.stark_support.specs.Polynomial.{value_over}
 use Rattle.stark_support.proofs.Places.{from_place}
 use Rattle.stark_support.proofs.polynomial.polynomial_value_in.Goals as goal
@@ -12,3 +12,6 @@ loop-index-preserved g c =
           ∙ ap (ring.add (g.EF.ExtensionField.embed c.index-coefficients-index.result)) (field.mul_is _ _ _ c.mul.ensures ∙ ap (λ t. ring.mul t c.args.point) c.loop-index.invariant.1)
           ∙ ap (λ t. value_over ring g.EF.ExtensionField.embed t c.args.point) (sym (from_place c.args.coefficients.now (c.loop-index.index - 1) c.loop-index.index c.index-coefficients-index.result (omega arith) (omega arith) c.index-coefficients-index.is)),
     )
+
+pub returns : goal.returns
+returns g c = search rules

@@ -1,4 +1,4 @@
-use Rattle.std.proofs.Common.{◌-◌, length, arith, subst}
+use Rattle.std.proofs.Common.{◌-◌, length, arith, subst, rules}
 use Rattle.std.proofs.lemmas.List.{drop_all}
 use Rattle.stark_support.proofs.CombinationSteps.{no_term, one_more_term}
 use Rattle.stark_support.proofs.Places.{from_place}
@@ -26,3 +26,6 @@ loop-index-preserved g c =
           (λ v w sv sw. algebra.plus_stands c.mul.result c.loop-index.sum c.add-sum.result (operations.times v (operations.embed k)) w c.add-sum.ensures
           (algebra.times_stands c.dup.result c.from.result c.mul.result v (operations.embed k) c.mul.ensures (c.dup.ensures v sv) (algebra.embed_stands k c.from.result c.from.ensures)) sw),
     )
+
+pub returns : goal.returns
+returns g c = search rules

@@ -1,4 +1,4 @@
-use Rattle.std.proofs.Common.{◌≡◌, ℕ, ◌+◌, List, [], ◌∷◌, ◌++◌, refl, sym, ◌∙◌, ap, map, arith}
+use Rattle.std.proofs.Common.{◌≡◌, ℕ, ◌+◌, List, [], ◌∷◌, ◌++◌, refl, sym, ◌∙◌, ap, map, arith, rules}
 use Rattle.std.specs.List.{range_with_len}
 use Rattle.std.proofs.lemmas.List.FromFn.{map-range_with_len_more}
 use Rattle.stark_air.proofs.air.every_column.Goals as goal
@@ -15,3 +15,9 @@ pub loop-column-preserved : goal.loop-column-preserved
 loop-column-preserved c =
     let so_far : c.loop-column.columns.items ≡ range_with_len 0 c.loop-column.column = c.loop-column.invariant in
     c.in_ok-push.ensures.items ∙ ap (λ (xs : List ℕ). xs ++ c.loop-column.column ∷ []) so_far ∙ sym (more c.loop-column.column)
+
+pub returns : goal.returns
+returns c = search rules
+
+pub returns-in_err-push : goal.returns-in_err-push
+returns-in_err-push c = search rules

@@ -1,3 +1,4 @@
+use Rattle.std.proofs.Common.{rules}
 use Rattle.stark_air.specs.SymbolicTrees.{base_part_is, extension_part_is}
 use Rattle.stark_air.proofs.symbolic.constraints.get_all_symbolic_constraints.Goals as goal
 
@@ -6,3 +7,6 @@ returns-clause-base g c = rw (← base_part_is g.F.Field.ring (g.A.Air.constrain
 
 pub returns-clause-extension : goal.returns-clause-extension
 returns-clause-extension g c = rw (← extension_part_is g.F.Field.ring (g.A.Air.constraints c.args.air.now), ← c.in_ok-constraints.ensures) c.parts_of.ensures.extension
+
+pub returns-in_err-constraints : goal.returns-in_err-constraints
+returns-in_err-constraints c = search rules

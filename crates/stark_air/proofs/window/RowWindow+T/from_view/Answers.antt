@@ -1,0 +1,5 @@
+use Rattle.std.proofs.Common.{rules}
+use Rattle.stark_air.proofs.window.RowWindow+T.from_view.Goals as goal
+
+pub returns : goal.returns
+returns c = search rules

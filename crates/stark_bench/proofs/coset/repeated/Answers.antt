@@ -1,4 +1,4 @@
-use Rattle.std.proofs.Common.{◌∙◌, ◌%◌, Some, ap, length, sym}
+use Rattle.std.proofs.Common.{◌∙◌, ◌%◌, Some, ap, length, sym, rules}
 use Rattle.std.proofs.Math.Nat.{mod-lt}
 use Rattle.std.proofs.lemmas.Option.{slice_get-get_or}
 use Rattle.stark_bench.proofs.PointLists.{nothing_repeated, one_more_repeated}
@@ -14,3 +14,6 @@ loop-index-preserved g c =
     let x = c.index-list-index.result in
     one_more_repeated list n c.loop-index.all.items c.push.new.self.items x c.loop-index.invariant c.in_ok-push.ensures.items
     (slice_get-get_or list (n % length list) x (mod-lt n c.requires) ∙ ap Some (sym c.index-list-index.is))
+
+pub returns : goal.returns
+returns g c = search rules

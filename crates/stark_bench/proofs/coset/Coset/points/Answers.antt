@@ -1,4 +1,4 @@
-use Rattle.std.proofs.Common.{◌∙◌, ap, refl}
+use Rattle.std.proofs.Common.{◌∙◌, ap, refl, rules}
 use Rattle.stark_support.specs.Coset.{TwoAdicCoset}
 use Rattle.stark_support.specs.CosetValueFacts.{no_values, one_more_value}
 use Rattle.stark_support.specs.PartFacts.{first_shift, next_shift}
@@ -26,3 +26,6 @@ loop-row-preserved g c =
       point = g.met.F.Field.mul_is _ _ _ c.mul-point.ensures ∙ ap (ring.mul x) c.two_adic_generator-step.ensures ∙ next_shift g.met.F.Field.field_laws root coset 0 n x at;
       points = one_more_value ring root coset (λ y. y) n _ _ x x c.loop-row.invariant.points c.in_ok-push.ensures.items at refl;
     }
+
+pub returns : goal.returns
+returns c = search rules

@@ -8,5 +8,5 @@ mod verify;
 
 pub use check::check_input;
 pub use prove::{ProvedSpelling, prove_input};
-pub use spelled::{SpelledAir, air_of_input};
+pub use spelled::{SpelledAir, air_of_input, verdict_without_air};
 pub use verify::{VerifiedSpelling, verify_input};

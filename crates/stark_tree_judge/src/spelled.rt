@@ -34,8 +34,8 @@ pub fn air_of_input(alloc: Global, bytes: &[u8]) -> Result<TreeAir<F12289>, Tree
     }
 }
 
-/// What is said of an input that spells no AIR.
-pub(crate) fn verdict_without_air(error: &TreeJsonError) -> Verdict
+/// What is said of an input that spells no AIR: that it is bad, or that memory was wanting.
+pub fn verdict_without_air(error: &TreeJsonError) -> Verdict
     ensures { result ≡ verdict_without_air (tree_fault error.now) }
 {
     match error {

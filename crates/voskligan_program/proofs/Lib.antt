@@ -1,0 +1,5 @@
+pub mod Findings
+pub mod Meaning
+pub mod SoundInputs
+pub mod Showings
+pub mod ShownLines

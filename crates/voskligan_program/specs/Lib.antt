@@ -1,0 +1,4 @@
+pub mod Words
+pub mod Run
+pub mod Showing
+pub mod Shown

@@ -46,10 +46,10 @@ where
 pub type VerifiedProof<SC> = (StarkProof<SC>, Result<(), VerificationError<PcsError<SC>>>);
 
 /// `prove_with_preprocessed`, and then `verify_with_preprocessed` of the proof that it made: the proof and the verifier's verdict on
-/// it, with the conditions and the errors of both. An honest proof is refused for want of memory alone: where what the prover
-/// holds and the verifier's key are the two parts of one set-up (there is neither for an AIR without preprocessed columns), the
-/// trace satisfies the AIR, the constraints' degrees fit the quotient's domain, and the point that was drawn lies outside the
-/// trace's domain.
+/// it, with the conditions and the errors of both. An honest proof is refused for want of memory alone: over a scheme that refuses
+/// no true opening, from its least height on, where what the prover holds and the verifier's key are the two parts of one set-up
+/// (there is neither for an AIR without preprocessed columns), the trace satisfies the AIR, the constraints' degrees fit the
+/// quotient's domain, and the point that was drawn lies outside the trace's domain.
 pub fn prove_and_verify<SC, A>(
     alloc: Global,
     config: &SC,

@@ -1,9 +1,9 @@
 -- Vectors of four numbers below 12289: what the operations ask, and what each lane then holds.
-use Rattle.std.proofs.Common.{◌≡◌, ℕ, ◌+◌, ◌-◌, ◌*◌, ◌/◌, ◌%◌, ◌^◌, ◌<◌, ◌≤◌, min, List, [], ◌∷◌, length, map, get_or, slice_set, refl, sym, ◌∙◌, ap, arith, Fits, w32, zero, suc, lit<, subst}
+use Rattle.std.proofs.Common.{◌≡◌, ℕ, ◌+◌, ◌-◌, ◌*◌, ◌/◌, ◌%◌, ◌^◌, ◌<◌, ◌≤◌, min, List, [], ◌∷◌, length, map, get_or, slice_set, refl, sym, ◌∙◌, ap, arith, Fits, w32, bit_and, zero, suc, lit<, subst}
 use Rattle.std.proofs.lemmas.Simd.{Each2-of, Each1-from_get_or, zip2_splat_left, length-zip2, tops_compared}
 use Rattle.std.proofs.lemmas.Bool.{cond_both, ltb-true, ltb-false}
 use Rattle.std.proofs.lemmas.List.{length-map}
-use Rattle.std.proofs.lemmas.Nat.{mul-le, mul-mod_first, mul-mod_second, mod_below}
+use Rattle.std.proofs.lemmas.Nat.{and_mask, mul-le, mul-mod_first, mul-mod_second, mod_below}
 use Rattle.std.proofs.Math.Nat.{add-mod-mod, mod-add-mod, mod-eq_of_lt}
 use lib.Lanes.{zip2, Each1, Each2, sel_l, top}
 use lib.Dec.{ltb}
@@ -28,6 +28,16 @@ all_moduli = (refl, (refl, (refl, (refl, tt))))
 all_below : (xs : List ℕ) → ((j : ℕ) → get_or xs j 0 < 12289) → Each1 Below xs
 all_below xs h = Each1-from_get_or Below xs 0 (λ i _. h i)
 
+-- ---- a mask of 14 bits takes nothing away
+short : (n : ℕ) → n < 12289 → bit_and n 16383 ≡ n
+short n h = and_mask n 14 ∙ mod-eq_of_lt (omega arith)
+
+pub short_are : {M : Type 0} (x : Lanes M) → zip2 bit_and x.numbers (16383 ∷ 16383 ∷ 16383 ∷ 16383 ∷ []) ≡ x.numbers
+short_are x =
+    ap (λ us. zip2 bit_and us (16383 ∷ 16383 ∷ 16383 ∷ 16383 ∷ [])) (sym (four_numbers x.numbers x.four))
+    ∙ in_fours_same (λ i. bit_and (get_or x.numbers i 0) 16383) (λ i. get_or x.numbers i 0) (λ i _. short (get_or x.numbers i 0) (x.in_range i))
+    ∙ four_numbers x.numbers x.four
+
 -- ---- no lane wraps
 module _ {M : Type 0} (x y : Lanes M) where
   pub sums_are : zip2 (λ a b. a + b) x.numbers y.numbers ≡ number_sums x y
@@ -46,6 +56,12 @@ module _ {M : Type 0} (x y : Lanes M) where
       Each2-of Below Below _ (λ a b h k. record { fits = omega (arith, mul-le a b 12288 12288 (omega arith) (omega arith)) }) _ _
       (all_below _ x.in_range) (all_below _ y.in_range)
 
+  pub products_fit_in : (xs ys : List ℕ) → xs ≡ x.numbers → ys ≡ y.numbers → Each2 (λ a b. Fits w32 (a * b)) xs ys
+  products_fit_in xs ys e f = subst (λ us. Each2 (λ a b. Fits w32 (a * b)) us ys) (sym e) (subst (λ us. Each2 (λ a b. Fits w32 (a * b)) x.numbers us) (sym f) products_fit)
+
+  pub products_are_of : (xs ys : List ℕ) → xs ≡ x.numbers → ys ≡ y.numbers → zip2 (λ a b. a * b) xs ys ≡ number_products x y
+  products_are_of xs ys e f = (λ i. zip2 (λ a b. a * b) (e i) (f i)) ∙ products_are
+
 module _ {M : Type 0} (x : Lanes M) where
   pub complements_fit : Each2 (λ (a b : ℕ). b ≤ a) moduli x.numbers
   complements_fit = Each2-of IsModulus Below (λ (a b : ℕ). b ≤ a) (λ a b h k. omega arith) moduli _ all_moduli (all_below _ x.in_range)
@@ -58,25 +74,29 @@ module _ {M : Type 0} (x : Lanes M) where
 once_lane : (n : ℕ) → n < 24578 → min n ((n + (2 ^ 32 - 12289)) % 2 ^ 32) ≡ n % 12289
 once_lane n h = omega arith
 
-abbrev quotient_near : ℕ → ℕ
-quotient_near n = (n / 2 ^ 13 * 43687) % 2 ^ 32 / 2 ^ 16
+-- n less 12289 times the quotient that a factor and a shift give
+abbrev rest_near : ℕ → ℕ → ℕ → ℕ
+rest_near factor shift n = (n + (2 ^ 32 - ((n / 2 ^ 13 * factor) % 2 ^ 32 / 2 ^ shift * 12289) % 2 ^ 32)) % 2 ^ 32
 
-abbrev rest_near : ℕ → ℕ
-rest_near n = (n + (2 ^ 32 - (quotient_near n * 12289) % 2 ^ 32)) % 2 ^ 32
-
-rest_below : (n : ℕ) → n ≤ 603979776 → rest_near n < 24578
+rest_below : (n : ℕ) → n ≤ 754987008 → rest_near 43687 16 n < 24578
 rest_below n h = omega arith
 
-rest_same : (n : ℕ) → n ≤ 603979776 → rest_near n % 12289 ≡ n % 12289
+rest_same : (n : ℕ) → n ≤ 754987008 → rest_near 43687 16 n % 12289 ≡ n % 12289
 rest_same n h = omega arith
+
+product_rest_below : (n : ℕ) → n ≤ 150994944 → rest_near 21843 15 n < 24578
+product_rest_below n h = omega arith
+
+product_rest_same : (n : ℕ) → n ≤ 150994944 → rest_near 21843 15 n % 12289 ≡ n % 12289
+product_rest_same n h = omega arith
 
 abbrev fours : ℕ → List ℕ
 fours n = n ∷ n ∷ n ∷ n ∷ []
 
-abbrev rests : List ℕ → List ℕ
-rests xs =
+abbrev rests : ℕ → ℕ → List ℕ → List ℕ
+rests factor shift xs =
     zip2 (λ a b. (a + (2 ^ 32 - b)) % 2 ^ 32) xs
-    (zip2 (λ a b. (a * b) % 2 ^ 32) (zip2 (λ a b. a / 2 ^ b) (zip2 (λ a b. (a * b) % 2 ^ 32) (zip2 (λ a b. a / 2 ^ b) xs (fours 13)) (fours 43687)) (fours 16)) moduli)
+    (zip2 (λ a b. (a * b) % 2 ^ 32) (zip2 (λ a b. a / 2 ^ b) (zip2 (λ a b. (a * b) % 2 ^ 32) (zip2 (λ a b. a / 2 ^ b) xs (fours 13)) (fours factor)) (fours shift)) moduli)
 
 abbrev pub AtMost : ℕ → List ℕ → Type 0
 AtMost n xs = (j : ℕ) → get_or xs j 0 ≤ n
@@ -88,22 +108,35 @@ at_four f n h (suc (suc zero)) = h 2
 at_four f n h (suc (suc (suc zero))) = h 3
 at_four f n h (suc (suc (suc (suc j)))) = omega (arith, h 0)
 
-module _ (xs : List ℕ) (four : length xs ≡ 4) where
-  rests_at : rests xs ≡ in_fours (λ i. rest_near (get_or xs i 0))
-  rests_at = ap rests (sym (four_numbers xs four))
+module _ (factor shift : ℕ) (xs : List ℕ) (four : length xs ≡ 4) where
+  rests_at : rests factor shift xs ≡ in_fours (λ i. rest_near factor shift (get_or xs i 0))
+  rests_at = ap (rests factor shift) (sym (four_numbers xs four))
 
-  pub rests_four : length (rests xs) ≡ 4
+  pub rests_four : length (rests factor shift xs) ≡ 4
   rests_four = ap length rests_at
 
-  pub rests_below : AtMost 603979776 xs → (j : ℕ) → get_or (rests xs) j 0 < 24578
-  rests_below h j = subst (λ us. get_or us j 0 < 24578) (sym rests_at) (at_four (λ i. rest_near (get_or xs i 0)) 24578 (λ i. rest_below (get_or xs i 0) (h i)) j)
+  all_rests_below : ((i : ℕ) → rest_near factor shift (get_or xs i 0) < 24578) → (j : ℕ) → get_or (rests factor shift xs) j 0 < 24578
+  all_rests_below h j = subst (λ us. get_or us j 0 < 24578) (sym rests_at) (at_four (λ i. rest_near factor shift (get_or xs i 0)) 24578 h j)
 
-  pub rests_same : AtMost 603979776 xs → number_remainders (rests xs) ≡ number_remainders xs
+  all_rests_same : ((i : ℕ) → rest_near factor shift (get_or xs i 0) % 12289 ≡ get_or xs i 0 % 12289) → number_remainders (rests factor shift xs) ≡ number_remainders xs
   unfolding number_remainders
-  rests_same h =
+  all_rests_same h =
       ap (map (λ n. n % 12289)) rests_at
-      ∙ in_fours_same (λ i. rest_near (get_or xs i 0) % 12289) (λ i. get_or xs i 0 % 12289) (λ i _. rest_same (get_or xs i 0) (h i))
+      ∙ in_fours_same (λ i. rest_near factor shift (get_or xs i 0) % 12289) (λ i. get_or xs i 0 % 12289) (λ i _. h i)
       ∙ ap (map (λ n. n % 12289)) (four_numbers xs four)
+
+module _ (xs : List ℕ) (four : length xs ≡ 4) where
+  pub rests_below : AtMost 754987008 xs → (j : ℕ) → get_or (rests 43687 16 xs) j 0 < 24578
+  rests_below h = all_rests_below 43687 16 xs four (λ i. rest_below (get_or xs i 0) (h i))
+
+  pub rests_same : AtMost 754987008 xs → number_remainders (rests 43687 16 xs) ≡ number_remainders xs
+  rests_same h = all_rests_same 43687 16 xs four (λ i. rest_same (get_or xs i 0) (h i))
+
+  pub product_rests_below : AtMost 150994944 xs → (j : ℕ) → get_or (rests 21843 15 xs) j 0 < 24578
+  product_rests_below h = all_rests_below 21843 15 xs four (λ i. product_rest_below (get_or xs i 0) (h i))
+
+  pub product_rests_same : AtMost 150994944 xs → number_remainders (rests 21843 15 xs) ≡ number_remainders xs
+  product_rests_same h = all_rests_same 21843 15 xs four (λ i. product_rest_same (get_or xs i 0) (h i))
 
 -- the lesser number of each two
 lesser : (a b : ℕ) → cond (ltb a b) a b ≡ min a b
@@ -185,9 +218,6 @@ module _ {M : Type 0} (x y : Lanes M) where
   unfolding number_products
   products_at_most = product_at_most 12288 12288 x.numbers y.numbers (numbers_at_most x) (numbers_at_most y)
 
-  pub products_below : AtMost 603979776 (number_products x y)
-  products_below j = omega (arith, products_at_most j)
-
 abbrev pub added : List ℕ → List ℕ → List ℕ
 added xs ys = zip2 (λ a b. a + b) xs ys
 
@@ -195,16 +225,16 @@ module _ {M : Type 0} (x y z w : Lanes M) where
   pub two_at_most : AtMost 301989888 (added (number_products x y) (number_products z w))
   two_at_most = sum_at_most 150994944 150994944 _ _ (products_at_most x y) (products_at_most z w)
 
-  pub two_below : AtMost 603979776 (added (number_products x y) (number_products z w))
+  pub two_below : AtMost 754987008 (added (number_products x y) (number_products z w))
   two_below j = omega (arith, two_at_most j)
 
 module _ {M : Type 0} (x y z w u v : Lanes M) where
-  pub three_below : AtMost 603979776 (added (added (number_products x y) (number_products z w)) (number_products u v))
+  pub three_below : AtMost 754987008 (added (added (number_products x y) (number_products z w)) (number_products u v))
   three_below j = omega (arith, sum_at_most 301989888 150994944 _ _ (two_at_most x y z w) (products_at_most u v) j)
 
 module _ {M : Type 0} (x y z w u v s t : Lanes M) where
-  pub four_below : AtMost 603979776 (added (added (number_products x y) (number_products z w)) (added (number_products u v) (number_products s t)))
-  four_below = sum_at_most 301989888 301989888 _ _ (two_at_most x y z w) (two_at_most u v s t)
+  pub four_below : AtMost 754987008 (added (added (number_products x y) (number_products z w)) (added (number_products u v) (number_products s t)))
+  four_below j = omega (arith, sum_at_most 301989888 301989888 _ _ (two_at_most x y z w) (two_at_most u v s t) j)
 
 pub added_same : {xs us ys vs : List ℕ} → xs ≡ us → ys ≡ vs → added xs ys ≡ added us vs
 added_same e f = λ i. added (e i) (f i)
@@ -308,6 +338,31 @@ module _ {M : Type 0} (x y z w u v s t : Lanes M) where
       subst (λ ns. Stand ns (lanes_ring.add (lanes_ring.add (lanes_ring.mul x y) (lanes_ring.add (lanes_ring.mul z w) (lanes_ring.mul u v))) (lanes_ring.mul s t)))
       (added_assoc (added (number_products x y) (number_products z w)) (number_products u v) (number_products s t))
       (sums_stand _ _ _ _ (three_stand_last x y z w u v) (products_stand s t))
+
+-- ---- sums of products, one more after the other
+-- numbers that are at most n and stand for residues
+pub record Standing {M : Type 0} (n : ℕ) (ns : List ℕ) (r : Lanes M) : Type 0 where
+  pub at_most : AtMost n ns
+  pub stand : Stand ns r
+
+module _ {M : Type 0} where
+  pub numbers_standing : (x : Lanes M) → Standing 12288 x.numbers x
+  unfolding number_remainders
+  numbers_standing x = record {
+    at_most = numbers_at_most x;
+    stand = (
+      x.four,
+      ap (map (λ n. n % 12289)) (sym (four_numbers x.numbers x.four))
+          ∙ in_fours_same (λ i. get_or x.numbers i 0 % 12289) (λ i. get_or x.numbers i 0) (λ i _. mod-eq_of_lt (x.in_range i))
+          ∙ four_numbers x.numbers x.four,
+    );
+  }
+
+  pub one_more_standing : (n : ℕ) (x y : Lanes M) (ns ms : List ℕ) (r : Lanes M) → Standing n ns r → ms ≡ added (number_products x y) ns
+      → Standing (150994944 + n) ms (lanes_ring.add (lanes_ring.mul x y) r)
+  one_more_standing n x y ns ms r h e =
+      subst (λ us. Standing (150994944 + n) us (lanes_ring.add (lanes_ring.mul x y) r)) (sym e)
+      (record { at_most = sum_at_most 150994944 n _ _ (products_at_most x y) h.at_most; stand = sums_stand _ _ _ _ (products_stand x y) h.stand })
 
 module _ {M : Type 0} (x : Lanes M) where
   pub complements_four : length (number_complements x) ≡ 4

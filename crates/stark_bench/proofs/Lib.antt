@@ -2,3 +2,7 @@ pub mod LaneFacts
 pub mod ExtensionLaneFacts
 pub mod PointLists
 pub mod SelectorLists
+pub mod TurnedLists
+pub mod PairLists
+pub mod CoordinateFacts
+pub mod WeightedSums

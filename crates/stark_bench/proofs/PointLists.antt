@@ -7,14 +7,14 @@ use Rattle.std.proofs.lemmas.Option.{get_or_from_slice_get, slice_get-map}
 use Rattle.std.proofs.Math.Nat.{mod-lt, mod-add-div}
 use Rattle.stark_support.specs.CosetValueFacts.{all_values}
 use Rattle.stark_support.specs.LogarithmFacts.{two_power_at_most}
-use Rattle.stark_support.specs.SelectorFacts.{IsSubgroup, first_is_quotient, last_is_quotient, not_first_point, not_last_point}
-use Rattle.stark_support.specs.Selectors.{Subgroup, first_row_selector, last_row_selector, transition_selector}
+use Rattle.stark_support.specs.SelectorFacts.{IsSubgroup, first_is_quotient, not_first_point}
+use Rattle.stark_support.specs.Selectors.{Subgroup, first_row_selector, transition_selector}
 use Rattle.stark_support.specs.Powers.{power}
 use Rattle.stark_support.specs.PowerFacts.{power-add, power-mul, power-one, power-power}
 use Rattle.stark_support.specs.Ring.{RingOps, RingLaws, FieldLaws, difference}
 use Rattle.stark_support.specs.Coset.{TwoAdicCoset, AreValuesOn, coset_point, subgroup_vanishing}
 use Rattle.stark_support.specs.ListFacts.{one_more_number, one_more_listed}
-use Rattle.stark_bench.specs.PointLists.{AreQuotients, AreRepeated}
+use Rattle.stark_bench.specs.PointLists.{AreQuotients, AreRepeated, AreTurned}
 
 module _ {K : Type 0} (ring : RingOps K) (inverse : K → K) (elements divisors : List K) where
   pub no_quotients : (over : List K) → over ≡ [] → AreQuotients ring inverse elements divisors 0 over
@@ -35,6 +35,17 @@ module _ {K : Type 0} (list : List K) where
   one_more_repeated n before after x so_far e is = record {
     number = one_more_number before after x n so_far.number e;
     at_place = one_more_listed (λ i. slice_get list (i % length list)) before after x n so_far.number so_far.at_place is e;
+  }
+
+module _ {K : Type 0} (ring : RingOps K) (factor : K) (elements : List K) (further : ℕ) where
+  pub nothing_turned : (all : List K) → all ≡ [] → AreTurned ring factor elements further 0 all
+  nothing_turned all e = record { number = ap length e; at_place = λ i h. absurd (omega arith) }
+
+  pub one_more_turned : (n : ℕ) (before after : List K) (x : K) → AreTurned ring factor elements further n before → after ≡ before ++ x ∷ [] → x ≡ ring.mul factor (get_or elements ((n + further) % length elements) ring.zero)
+      → AreTurned ring factor elements further (n + 1) after
+  one_more_turned n before after x so_far e is = record {
+    number = one_more_number before after x n so_far.number e;
+    at_place = one_more_listed (λ i. Some (ring.mul factor (get_or elements ((i + further) % length elements) ring.zero))) before after x n so_far.number so_far.at_place (ap Some (sym is)) e;
   }
 
 slice_get-take : {A : Type 0} (xs : List A) (k i : ℕ) → i < k → slice_get (take k xs) i ≡ slice_get xs i
@@ -148,10 +159,6 @@ module _ {K : Type 0} {ring : RingOps K} {inverse : K → K} (laws : FieldLaws r
   none_is_first c ds is e = all_are ring root coset n (λ x. difference ring x c) (λ d. d ≢ ring.zero) ds
       (λ i h. subst (λ y. difference ring (coset_point ring root coset i) y ≢ ring.zero) (sym is) (not_first_point laws group is_group (coset_point ring root coset i) (outside i))) (less_listed c ds e)
 
-  pub none_is_last : (c : K) (ds : List K) → c ≡ group.generator_inverse → ds ≡ map (λ x. difference ring x c) points → All (λ d. d ≢ ring.zero) ds
-  none_is_last c ds is e = all_are ring root coset n (λ x. difference ring x c) (λ d. d ≢ ring.zero) ds
-      (λ i h. subst (λ y. difference ring (coset_point ring root coset i) y ≢ ring.zero) (sym is) (not_last_point laws group is_group (coset_point ring root coset i) (outside i))) (less_listed c ds e)
-
   pub transitions : (c : K) (ds : List K) → c ≡ group.generator_inverse → ds ≡ map (λ x. difference ring x c) points → AreValuesOn ring root coset n (transition_selector ring (λ k. k) group) ds
   transitions c ds is e = same_values ring root coset n (λ x. difference ring x c) (transition_selector ring (λ k. k) group) ds (λ i h. ap (difference ring (coset_point ring root coset i)) is) (less_listed c ds e)
 
@@ -161,10 +168,4 @@ module _ {K : Type 0} {ring : RingOps K} {inverse : K → K} (laws : FieldLaws r
     first_rows is =
         same_values ring root coset n (λ x. ring.mul (subgroup_vanishing ring group.size x) (inverse (difference ring x c))) (first_row_selector ring (λ k. k) group) over
         (λ i h. ap (λ y. ring.mul (subgroup_vanishing ring group.size (coset_point ring root coset i)) (inverse (difference ring (coset_point ring root coset i) y))) is ∙ first_is_quotient laws group is_group (coset_point ring root coset i) (outside i))
-        (quotient_values ring root coset inverse n (λ x. subgroup_vanishing ring group.size x) (λ x. difference ring x c) vanishing ds over values (less_listed c ds e) quotients)
-
-    pub last_rows : c ≡ group.generator_inverse → AreValuesOn ring root coset n (last_row_selector ring (λ k. k) group) over
-    last_rows is =
-        same_values ring root coset n (λ x. ring.mul (subgroup_vanishing ring group.size x) (inverse (difference ring x c))) (last_row_selector ring (λ k. k) group) over
-        (λ i h. ap (λ y. ring.mul (subgroup_vanishing ring group.size (coset_point ring root coset i)) (inverse (difference ring (coset_point ring root coset i) y))) is ∙ last_is_quotient laws group is_group (coset_point ring root coset i) (outside i))
         (quotient_values ring root coset inverse n (λ x. subgroup_vanishing ring group.size x) (λ x. difference ring x c) vanishing ds over values (less_listed c ds e) quotients)

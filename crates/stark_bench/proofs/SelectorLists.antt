@@ -3,12 +3,12 @@ use Rattle.std.proofs.Common.{◌≡◌, ◌≢◌, ◌∙◌, ◌^◌, ℕ, Lis
 use Rattle.stark_support.specs.Coset.{TwoAdicCoset, IsTwoAdicCoset, AreDisjoint, AreValuesOn, coset_point, coset_size, coset_vanishing, subgroup_vanishing}
 use Rattle.stark_support.specs.CosetValueFacts.{own_subgroup, unshifted_vanishing, apart_outside}
 use Rattle.stark_support.specs.Ring.{RingOps, FieldLaws, difference}
-use Rattle.stark_support.specs.SelectorFacts.{IsSubgroup}
+use Rattle.stark_support.specs.SelectorFacts.{IsSubgroup, last_is_quotient, not_last_point}
 use Rattle.stark_support.specs.Selectors.{Subgroup, first_row_selector, last_row_selector, transition_selector}
 use Rattle.stark_support.specs.Subgroup.{group_of}
 use Rattle.stark_support.specs.TwoAdic.{TwoAdicLaws}
 use Rattle.stark_bench.specs.PointLists.{AreQuotients}
-use Rattle.stark_bench.proofs.PointLists.{first_rows, last_rows, none_is_first, none_is_last, same_values, transitions}
+use Rattle.stark_bench.proofs.PointLists.{all_are, first_rows, none_is_first, quotient_values, same_values, transitions}
 
 module _ {K : Type 0} {ring : RingOps K} {inverse : K → K} (laws : FieldLaws ring inverse) (adicity : ℕ) (root : ℕ → K) (generator : K) (two_adic : TwoAdicLaws ring adicity root generator)
     (c : TwoAdicCoset K) (valid : IsTwoAdicCoset ring adicity c) where
@@ -26,6 +26,18 @@ module _ {K : Type 0} {ring : RingOps K} {inverse : K → K} (laws : FieldLaws r
         → AreValuesOn ring root coset n (λ x. inverse (coset_vanishing ring (λ y. y) inverse (coset_size c) c.shift x)) inverses
     inverses_listed n inverses = same_values ring root coset n _ _ inverses (λ i h. ap inverse (sym (unshifted_vanishing laws adicity root generator two_adic c valid unshifted (coset_point ring root coset i))))
 
+    -- the last row selector, from the vanishing values and the differences
+    module _ (n : ℕ) (transitions : List K) (differences : AreValuesOn ring root coset n (transition_selector ring (λ k. k) group) transitions) where
+      pub no_last_listed : All (λ d. d ≢ ring.zero) transitions
+      no_last_listed = all_are ring root coset n (transition_selector ring (λ k. k) group) (λ d. d ≢ ring.zero) transitions (λ i h. not_last_point laws group is_group (coset_point ring root coset i) (outside i)) differences
+
+      pub last_rows_divided : (vanishing over : List K) → AreValuesOn ring root coset n (λ x. subgroup_vanishing ring group.size x) vanishing → AreQuotients ring inverse vanishing transitions (length transitions) over
+          → AreValuesOn ring root coset n (last_row_selector ring (λ k. k) group) over
+      last_rows_divided vanishing over values quotients =
+          same_values ring root coset n (λ x. ring.mul (subgroup_vanishing ring group.size x) (inverse (transition_selector ring (λ k. k) group x))) (last_row_selector ring (λ k. k) group) over
+          (λ i h. last_is_quotient laws group is_group (coset_point ring root coset i) (outside i))
+          (quotient_values ring root coset inverse n (λ x. subgroup_vanishing ring group.size x) (transition_selector ring (λ k. k) group) vanishing transitions over values differences quotients)
+
     -- the points, one of them or the first divisor's number, and what is left where it is taken from each
     module _ (n : ℕ) (points : List K) (at : AreValuesOn ring root coset n (λ x. x) points) (one : K) (ds list : List K) (less : ds ≡ map (λ x. difference ring x one) list) (same : list ≡ points) where
       less_points : ds ≡ map (λ x. difference ring x one) points
@@ -33,9 +45,6 @@ module _ {K : Type 0} {ring : RingOps K} {inverse : K → K} (laws : FieldLaws r
 
       pub no_first : one ≡ ring.one → (shown : List K) → shown ≡ ds → All (λ d. d ≢ ring.zero) shown
       no_first is shown e = subst (λ xs. All (λ d. d ≢ ring.zero) xs) (sym e) (none_is_first laws root group is_group coset outside n points at one ds is less_points)
-
-      pub no_last : one ≡ group.generator_inverse → (shown : List K) → shown ≡ ds → All (λ d. d ≢ ring.zero) shown
-      no_last is shown e = subst (λ xs. All (λ d. d ≢ ring.zero) xs) (sym e) (none_is_last laws root group is_group coset outside n points at one ds is less_points)
 
       pub transitions_listed : one ≡ group.generator_inverse → AreValuesOn ring root coset n (transition_selector ring (λ k. k) group) ds
       transitions_listed is = transitions laws root group is_group coset outside n points at one ds is less_points
@@ -47,6 +56,3 @@ module _ {K : Type 0} {ring : RingOps K} {inverse : K → K} (laws : FieldLaws r
 
         pub first_rows_listed : one ≡ ring.one → AreValuesOn ring root coset n (first_row_selector ring (λ k. k) group) over
         first_rows_listed = first_rows laws root group is_group coset outside n points at vanishing values one ds over less_points over_listed
-
-        pub last_rows_listed : one ≡ group.generator_inverse → AreValuesOn ring root coset n (last_row_selector ring (λ k. k) group) over
-        last_rows_listed = last_rows laws root group is_group coset outside n points at vanishing values one ds over less_points over_listed

@@ -1,11 +1,12 @@
 //! The two-adic cosets of a field, as domains.
-ghost use Rattle.std.specs.Prelude.{◌≡◌, ◌≢◌, ◌<◌, ◌≤◌, ◌-◌, ℕ, ⊤, ◌^◌, All, IfOk, length, map, refl};
+ghost use Rattle.std.specs.Prelude.{◌≡◌, ◌≢◌, ◌<◌, ◌≤◌, ◌+◌, ◌-◌, ◌*◌, ◌/◌, ◌%◌, ℕ, ⊤, ◌^◌, All, IfOk, Some, length, map, refl};
 ghost use Rattle.stark_support.specs.Coset.{AreDisjoint, AreValuesOn, TwoAdicCoset, coset_size, subgroup_vanishing};
 ghost use Rattle.stark_support.specs.Ring.{difference};
 ghost use Rattle.stark_support.specs.SelectorFacts.{IsSubgroup};
 ghost use Rattle.stark_support.specs.Selectors.{first_row_selector, last_row_selector, transition_selector};
 ghost use Rattle.stark_support.specs.Subgroup.{group_of};
-ghost use Rattle.stark_bench.specs.PointLists.{AreQuotients, AreRepeated};
+ghost use Rattle.std.specs.List.{slice_get};
+ghost use Rattle.stark_bench.specs.PointLists.{ArePairProducts, AreQuotients, AreRepeated, AreTurned};
 
 use stark_support::{
     DomainShape, Element, ExtensionField, Field, LagrangeSelectors, PeriodicColumns,
@@ -100,18 +101,83 @@ fn differences<F: Field>(alloc: Global, elements: &[F], c: F) -> Result<Vec<F>, 
     Ok(left)
 }
 
-/// Each element over the one at its place in the other list, which is as long.
+/// The element at a place, or one past the end.
+fn element_or_one<F: Field>(elements: &[F], place: usize) -> F
+    ensures there { place < length elements.now → slice_get elements.now place ≡ Some result }
+    ensures past { length elements.now ≤ place → result ≡ F.ring.one }
+{
+    match elements.get(place) {
+        Some(x) => *x,
+        None => F::ONE,
+    }
+}
+
+/// The other place of a pair, where each even place and the one behind it are a pair.
+fn other_of_pair(place: usize) -> usize
+    requires { place + 1 < 2 ^ 64 }
+    ensures { result ≡ place + 1 - 2 * (place % 2) }
+{
+    if place % 2 == 0 { place + 1 } else { place - 1 }
+}
+
+/// The products of the elements in pairs: the first and the second, the third and the fourth and so on; a last one without another
+/// stands alone.
+fn pair_products<F: Field>(alloc: Global, elements: &[F]) -> Result<Vec<F>, AllocError>
+    ensures { IfOk result (λ products. ArePairProducts F.ring elements.now (length elements.now - length elements.now / 2) products.items) }
+{
+    let count = elements.len() - elements.len() / 2;
+    let mut products = Vec::with_capacity(alloc, count)?;
+    for pair in 0..count {
+        products.push(elements[2 * pair] * element_or_one(elements, 2 * pair + 1))?;
+    }
+    Ok(products)
+}
+
+/// Each element over the one at its place in the other list, which is as long. Each two divisors have one inverse, which is that of their
+/// product; so there are half as many to take, one after the other, and half as much memory is asked for.
 fn quotients<F: Field>(alloc: Global, elements: &[F], divisors: &[F]) -> Result<Vec<F>, AllocError>
     requires number { length elements.now ≡ length divisors.now }
     requires nonzero { All (λ d. d ≢ F.ring.zero) divisors.now }
     ensures { IfOk result (λ over. AreQuotients F.ring F.inverse_of elements.now divisors.now (length divisors.now) over.items) }
 {
-    let inverses = batch_multiplicative_inverse(alloc, divisors)?;
+    let products = pair_products(alloc, divisors)?;
+    let inverses = batch_multiplicative_inverse(alloc, products.as_slice())?;
     let mut over = Vec::with_capacity(alloc, elements.len())?;
     for index in 0..elements.len() {
-        over.push(elements[index] * inverses[index])?;
+        let other = element_or_one(divisors, other_of_pair(index));
+        over.push(elements[index] * (inverses[index / 2] * other))?;
     }
     Ok(over)
+}
+
+/// The place that lies `further` behind one of so many, taken round the end.
+fn place_behind(place: usize, further: usize, count: usize) -> usize
+    requires place { place < count }
+    requires further { further ≤ count }
+    ensures { result ≡ (place + further) % count }
+{
+    if place < count - further {
+        place + further
+    } else {
+        place - (count - further)
+    }
+}
+
+/// At each place a factor times the element that lies `further` behind, taken round the end.
+fn turned<F: Field>(
+    alloc: Global,
+    elements: &[F],
+    further: usize,
+    factor: F,
+) -> Result<Vec<F>, AllocError>
+    requires { further ≤ length elements.now }
+    ensures { IfOk result (λ all. AreTurned F.ring factor elements.now further (length elements.now) all.items) }
+{
+    let mut all = Vec::with_capacity(alloc, elements.len())?;
+    for index in 0..elements.len() {
+        all.push(factor * elements[place_behind(index, further, elements.len())])?;
+    }
+    Ok(all)
 }
 
 /// So many elements, which are those of a list over and over.
@@ -193,6 +259,36 @@ impl<F: TwoAdicField> Coset<F> {
             inverses: repeated(alloc, inverses.as_slice(), points.len())?,
         })
     }
+
+    /// A subgroup's last row selector at the points of a coset apart from it. Times the generator each point is again one of the coset
+    /// if the coset is as large as the subgroup, and there the first row selector has the value over the generator; else
+    /// the vanishing values are divided.
+    fn last_rows_on(
+        &self,
+        alloc: Global,
+        coset: &Coset<F>,
+        vanishing: &[F],
+        first_rows: &[F],
+        transitions: &[F],
+    ) -> Result<Vec<F>, AllocError>
+        requires subgroup { self.now.shift ≡ F.ring.one }
+        requires disjoint { AreDisjoint F.ring F.root (record { shift = self.now.shift; log_size = self.now.log_size }) (record { shift = coset.now.shift; log_size = coset.now.log_size }) }
+        requires vanishing { AreValuesOn F.ring F.root (record { shift = coset.now.shift; log_size = coset.now.log_size }) (2 ^ coset.now.log_size) (λ x. subgroup_vanishing F.ring (2 ^ self.now.log_size) x) vanishing.now }
+        requires first_rows { AreValuesOn F.ring F.root (record { shift = coset.now.shift; log_size = coset.now.log_size }) (2 ^ coset.now.log_size) (first_row_selector F.ring (λ c. c) (group_of F.inverse_of (F.root self.now.log_size) self.now.log_size)) first_rows.now }
+        requires transitions { AreValuesOn F.ring F.root (record { shift = coset.now.shift; log_size = coset.now.log_size }) (2 ^ coset.now.log_size) (transition_selector F.ring (λ c. c) (group_of F.inverse_of (F.root self.now.log_size) self.now.log_size)) transitions.now }
+        ensures { IfOk result (λ l. AreValuesOn F.ring F.root (record { shift = coset.now.shift; log_size = coset.now.log_size }) (2 ^ coset.now.log_size) (last_row_selector F.ring (λ c. c) (group_of F.inverse_of (F.root self.now.log_size) self.now.log_size)) l.items) }
+    {
+        if self.log_size > coset.log_size {
+            return quotients(alloc, vanishing, transitions);
+        }
+        let further = points_for_each(coset.log_size, self.log_size);
+        turned(
+            alloc,
+            first_rows,
+            further,
+            F::two_adic_generator(self.log_size),
+        )
+    }
 }
 
 impl<F: TwoAdicField> DomainShape for Coset<F> {
@@ -268,7 +364,13 @@ impl<F: TwoAdicField> PolynomialSpace for Coset<F> {
         let is_transition = differences(alloc, points.as_slice(), generator.inverse())?;
         let values = vanishing.values.as_slice();
         let is_first_row = quotients(alloc, values, to_first.as_slice())?;
-        let is_last_row = quotients(alloc, values, is_transition.as_slice())?;
+        let is_last_row = self.last_rows_on(
+            alloc,
+            coset,
+            values,
+            is_first_row.as_slice(),
+            is_transition.as_slice(),
+        )?;
         Ok(LagrangeSelectors {
             is_first_row,
             is_last_row,

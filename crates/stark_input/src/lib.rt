@@ -1,8 +1,9 @@
-//! What the program reads and says: its words, what an AIR declares, inputs from JSON, streams of bytes, verdicts.
+//! What the program reads and says: its words, what an AIR declares, inputs from JSON, streams of bytes, verdicts, the process's end.
 #![tactic(auto)]
 
 mod airs;
 mod finding;
+mod host;
 mod input;
 mod proof_input;
 mod refusal;
@@ -15,6 +16,7 @@ mod words;
 
 pub use airs::DeclaredAir;
 pub use finding::Finding;
+pub use host::{exit_code, words_of};
 pub use input::{CheckInput, CheckShape, Extension, numbers_from, zeros};
 pub use proof_input::{ChosenChallenger, ProofInput, proof_input_from};
 pub use refusal::{ProofRefusal, refusal_of_prover, told};

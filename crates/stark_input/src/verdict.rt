@@ -57,11 +57,11 @@ pub enum Refusal {
 /// What is said of an input.
 #[derive(Clone, Copy, Debug, PartialEq, Eq)]
 pub enum Verdict {
-    /// The checks hold.
+    /// The checks hold, or the verifier accepts.
     Accepted,
-    /// The numbers were read and a check does not hold, or memory was wanting.
+    /// What was read is refused or not proved, or memory was wanting.
     Refused(Refusal),
-    /// No numbers of the right widths and counts were read.
+    /// The words name no command, or the input isn't one for it.
     BadInput,
 }
 

@@ -1,177 +1,165 @@
-//! The two challengers. The draws after SHA-256 were computed by another implementation of it.
-use crate::elements::{Base, Extension, coordinates, numbers};
-use stark_bench::{
-    ClearCommitment, Ext4, F12289, P12289, Residue, ScriptChallenger, Sha256Challenger,
+//! The challengers. The draws after SHA-256 were computed by another implementation of it.
+use crate::elements::element;
+use crate::rows::{apart, numbers_in};
+use stark_bench::ClearCommitment;
+use stark_support::{
+    CanObserve, CanSample, CanSampleBits, ExtensionChallenger, ExtensionField, FieldChallenger,
+    GrindingChallenger, JsonCodec, PrimeField64, value_from_bytes,
 };
-use stark_support::{CanObserve, CanSample, CanSampleBits, FieldChallenger, GrindingChallenger};
-use std::alloc::{AllocError, Global};
+use std::alloc::Global;
+use std::fmt::Debug;
 use std::test::Fail;
 
-/// The next draw of any challenger.
-fn draw<T, C: CanSample<T>>(challenger: &mut C) -> T {
-    challenger.sample()
+// The challenger | what is done with it in turn: each step answers something.
+pub const ROWS: &str = r#"
+# Elements from digests, bits from digests, and an element of the extension, whose coordinates are drawn in turn.
+sha256 | draw; draw => 9721 571
+sha256 | observe 5; draw; bits 10; bits 63 => observed 1315 822 9148466495236240315
+sha256 | above => Ext4 { c0: 9721, c1: 571, c2: 8937, c3: 1088 }
+
+# A commitment to two matrices.
+sha256 | commit [[[1,2],[3,4]],[[5]]]; draw => 2 4562
+
+# Work: the witness that is found, and the next draw after it.
+sha256 | grind 0; draw => Some(0) 9721
+sha256 | grind 1; draw => Some(1) 3954
+sha256 | grind 8; draw => Some(166) 497
+sha256 | grind 12; draw => Some(166) 497
+sha256 | grind 20; draw => None 9721
+
+# The next draw, and that of a copy.
+sha256 | observe 5; copy => observed (1315, 1315)
+script 4 3 | draw; copy => 4 (3, 3)
+
+# A script hands out its numbers round and round, whatever is observed.
+script 4 0 0 0 3 0 0 0 | observe 7; above; bits 1; above; above => observed Ext4 { c0: 4, c1: 0, c2: 0, c3: 0 } 1 Ext4 { c0: 0, c1: 0, c2: 0, c3: 4 } Ext4 { c0: 0, c1: 0, c2: 0, c3: 3 }
+
+# Work over a script, and the bits and the number of a witness that passes or doesn't. The script stays where it was.
+script 4 3 | grind 0; grind 1; grind 13; grind 14; grind 64; draw => Some(0) Some(1) Some(8191) None None 4
+script 4 3 | check 0 5; check 3 7; check 3 8; check 64 0; draw => true true false false 4
+"#;
+
+/// The answers to a row's steps.
+pub fn answer<F, EF, C>(alloc: Global, mut challenger: C, row: &str) -> Result<String, Fail>
+where
+    F: PrimeField64 + JsonCodec + Debug,
+    EF: ExtensionField<F> + Debug,
+    C: FieldChallenger<F>
+        + CanObserve<ClearCommitment<F>>
+        + ExtensionChallenger<F, EF>
+        + GrindingChallenger<Witness = F>,
+{
+    let (_challenger, text) = apart(row)?;
+    let mut answers = String::new(alloc);
+    for one in text.split("; ") {
+        let answer = step::<F, EF, C>(alloc, &mut challenger, one)?;
+        if !answers.is_empty() {
+            answers.push_str(" ")?;
+        }
+        answers.push_str(&answer)?;
+    }
+    Ok(answers)
 }
 
-/// The next draw of any challenger, and that of its copy.
-fn draw_beside_a_copy<F, C: FieldChallenger<F>>(
+/// The answer to one step.
+fn step<F, EF, C>(alloc: Global, challenger: &mut C, text: &str) -> Result<String, Fail>
+where
+    F: PrimeField64 + JsonCodec + Debug,
+    EF: ExtensionField<F> + Debug,
+    C: FieldChallenger<F>
+        + CanObserve<ClearCommitment<F>>
+        + ExtensionChallenger<F, EF>
+        + GrindingChallenger<Witness = F>,
+{
+    let (name, given) = text.split_once(' ').unwrap_or((text, ""));
+    match name {
+        "draw" => draw::<F, C>(alloc, challenger),
+        "above" => draw::<EF, C>(alloc, challenger),
+        "observe" => observe::<F, C>(alloc, challenger, given),
+        "commit" => commit::<F, C>(alloc, challenger, given),
+        "bits" => bits(alloc, challenger, given),
+        "grind" => grind::<F, C>(alloc, challenger, given),
+        "check" => check::<F, C>(alloc, challenger, given),
+        "copy" => copy::<F, C>(alloc, challenger),
+        _ => Err(Fail::new("no such step")),
+    }
+}
+
+/// The next draw of any challenger.
+fn draw<T: Debug + Drop, C: CanSample<T>>(
     alloc: Global,
     challenger: &mut C,
-) -> Result<(F, F), AllocError> {
-    let mut copy = challenger.duplicate(alloc)?;
-    Ok((challenger.sample(), copy.sample()))
+) -> Result<String, Fail> {
+    let found = challenger.sample();
+    Ok(format!(in alloc; "{found:?}")?)
 }
 
-/// Two draws of a new challenger, and one after the observed number 5.
-fn first_draws<Kind>() -> [u32; 3] {
-    let mut challenger = Sha256Challenger::<Residue<Kind>>::new();
-    let first: Residue<Kind> = challenger.sample();
-    let second: Residue<Kind> = challenger.sample();
-    let mut other = Sha256Challenger::<Residue<Kind>>::new();
-    other.observe(&Residue::<Kind>::new(5));
-    let after_five: Residue<Kind> = other.sample();
-    [first.value(), second.value(), after_five.value()]
+fn observe<F: PrimeField64, C: CanObserve<F>>(
+    alloc: Global,
+    challenger: &mut C,
+    text: &str,
+) -> Result<String, Fail> {
+    let [number] = numbers_in::<1>(text)?;
+    challenger.observe(&element(number));
+    Ok(String::from_str(alloc, "observed")?)
 }
 
-#[test]
-fn elements_from_digests(rt: HostRuntime) -> Result<(), Fail> {
-    let expected = [9721, 571, 1315];
-    assert_eq!(rt; first_draws::<stark_bench::Scalar>(), expected);
-    assert_eq!(rt; first_draws::<stark_bench::Packed>(), expected);
-    assert_eq!(rt; first_draws::<stark_bench::Lockstep>(), expected);
-    Ok(())
-}
-
-#[test]
-fn bits_from_digests(rt: HostRuntime) -> Result<(), Fail> {
-    let mut challenger = Sha256Challenger::<P12289>::new();
-    challenger.observe(&P12289::new(5));
-    let drawn: P12289 = draw(&mut challenger);
-    assert_eq!(rt; drawn.value(), 1315);
-    assert_eq!(rt; challenger.sample_bits(10), 822);
-    assert_eq!(rt; challenger.sample_bits(63), 9148466495236240315);
-    Ok(())
-}
-
-#[test]
-fn coordinates_in_turn(rt: HostRuntime) -> Result<(), Fail> {
-    let mut challenger = Sha256Challenger::<F12289>::new();
-    let x: Ext4<F12289> = draw(&mut challenger);
-    assert_eq!(rt;
-        [x.c0.value(), x.c1.value(), x.c2.value(), x.c3.value()],
-        [9721, 571, 8937, 1088]
-    );
-    Ok(())
-}
-
-/// The challenger that hands out these numbers, of which there is one at least.
-fn script(alloc: Global, list: &[u32]) -> Result<ScriptChallenger<Base>, Fail> {
-    let elements = numbers(alloc, list)?;
-    if elements.is_empty() {
-        return Err(Fail::new("a script of no elements"));
-    }
-    Ok(ScriptChallenger::new(elements))
-}
-
-#[test]
-fn commitments(rt: HostRuntime) -> Result<(), Fail> {
-    let alloc = rt.alloc();
-    let first = vec![in alloc; numbers(alloc, &[1, 2])?, numbers(alloc, &[3, 4])?]?;
-    let second = vec![in alloc; numbers(alloc, &[5])?]?;
-    let commitment = ClearCommitment::new(vec![in alloc; first, second]?);
-    assert_eq!(rt; commitment.matrices().len(), 2);
-    let mut challenger = Sha256Challenger::<Base>::new();
+/// Takes a commitment; the number of its matrices.
+fn commit<F: JsonCodec + Drop, C: CanObserve<ClearCommitment<F>>>(
+    alloc: Global,
+    challenger: &mut C,
+    text: &str,
+) -> Result<String, Fail> {
+    let value = value_from_bytes(alloc, text.as_bytes())
+        .ok()
+        .ok_or("no JSON")?;
+    let commitment = ClearCommitment::<F>::from_json(alloc, &value)
+        .ok()
+        .ok_or("no commitment")?;
     challenger.observe(&commitment);
-    let drawn: Base = draw(&mut challenger);
-    assert_eq!(rt; drawn.value(), 4562);
-    Ok(())
+    Ok(format!(in alloc; "{}", commitment.matrices().len())?)
 }
 
-// What is found, and the next draw after it.
-fn ground(bits: usize) -> (Option<u32>, u32) {
-    let mut challenger = Sha256Challenger::<F12289>::new();
-    let found = challenger.grind(bits).map(|witness| witness.value());
-    let next: F12289 = challenger.sample();
-    (found, next.value())
-}
-
-#[test]
-fn work_over_digests(rt: HostRuntime) -> Result<(), Fail> {
-    for (bits, expected) in [
-        (0, (Some(0), 9721)),
-        (1, (Some(1), 3954)),
-        (8, (Some(166), 497)),
-        (12, (Some(166), 497)),
-        (20, (None, 9721)),
-    ] {
-        assert_eq!(rt; ground(bits), expected);
+fn bits<C: CanSampleBits<usize>>(
+    alloc: Global,
+    challenger: &mut C,
+    text: &str,
+) -> Result<String, Fail> {
+    let [number] = numbers_in::<1>(text)?;
+    if number >= 64 {
+        return Err(Fail::new("too many bits"));
     }
-    Ok(())
-}
-
-#[test]
-fn copies(rt: HostRuntime) -> Result<(), Fail> {
-    let alloc = rt.alloc();
-    let mut challenger = Sha256Challenger::<Base>::new();
-    challenger.observe(&Base::new(5));
-    let (one, other): (Base, Base) = draw_beside_a_copy(alloc, &mut challenger)?;
-    assert_eq!(rt; (one.value(), other.value()), (1315, 1315));
-    let mut script = script(alloc, &[4, 3])?;
-    let first: Base = draw(&mut script);
-    assert_eq!(rt; first.value(), 4);
-    let (one, other): (Base, Base) = draw_beside_a_copy(alloc, &mut script)?;
-    assert_eq!(rt; (one.value(), other.value()), (3, 3));
-    Ok(())
-}
-
-#[test]
-fn a_script(rt: HostRuntime) -> Result<(), Fail> {
-    let mut script = script(rt.alloc(), &[4, 0, 0, 0, 3, 0, 0, 0])?;
-    script.observe(&Base::new(7));
-    let alpha: Extension = draw(&mut script);
-    assert_eq!(rt; coordinates(alpha), [4, 0, 0, 0]);
-    assert_eq!(rt; script.sample_bits(1), 1);
-    let second: Extension = draw(&mut script);
-    assert_eq!(rt; (second.c0.value(), second.c3.value()), (0, 4));
-    let third: Extension = draw(&mut script);
-    assert_eq!(rt; (third.c0.value(), third.c3.value()), (0, 3));
-    Ok(())
+    Ok(format!(in alloc; "{}", challenger.sample_bits(number as usize))?)
 }
 
 /// The witness that any challenger finds.
-fn found<F, C: GrindingChallenger<Witness = F>>(challenger: &mut C, bits: usize) -> Option<F> {
-    challenger.grind(bits)
+fn grind<F: Debug + Drop, C: GrindingChallenger<Witness = F>>(
+    alloc: Global,
+    challenger: &mut C,
+    text: &str,
+) -> Result<String, Fail> {
+    let [number] = numbers_in::<1>(text)?;
+    let found = challenger.grind(number as usize);
+    Ok(format!(in alloc; "{found:?}")?)
 }
 
 /// Whether any challenger lets a witness pass.
-fn passes<F, C: GrindingChallenger<Witness = F>>(
+fn check<F: PrimeField64, C: GrindingChallenger<Witness = F>>(
+    alloc: Global,
     challenger: &mut C,
-    bits: usize,
-    witness: F,
-) -> bool {
-    challenger.check_witness(bits, witness)
+    text: &str,
+) -> Result<String, Fail> {
+    let [number, witness] = numbers_in::<2>(text)?;
+    let passes = challenger.check_witness(number as usize, element(witness));
+    Ok(format!(in alloc; "{passes}")?)
 }
 
-#[test]
-fn work_over_a_script(rt: HostRuntime) -> Result<(), Fail> {
-    let alloc = rt.alloc();
-    let mut script = script(alloc, &[4, 3])?;
-    for (bits, number) in [(0, 0), (1, 1), (13, 8191)] {
-        assert!(rt;
-            found(&mut script, bits) == Some(Base::new(number)),
-            "{bits} bits"
-        );
-    }
-    for bits in [14, 64] {
-        assert!(rt; found(&mut script, bits).is_none(), "{bits} bits");
-    }
-    for (bits, witness, expected) in [(0, 5, true), (3, 7, true), (3, 8, false), (64, 0, false)] {
-        assert_eq!(rt;
-            passes(&mut script, bits, Base::new(witness)),
-            expected,
-            "{bits} bits"
-        );
-    }
-    let next: Base = draw(&mut script);
-    assert_eq!(rt; next.value(), 4);
-    Ok(())
+/// The next draw of any challenger, and that of its copy.
+fn copy<F: Debug + Drop, C: FieldChallenger<F>>(
+    alloc: Global,
+    challenger: &mut C,
+) -> Result<String, Fail> {
+    let mut copy = challenger.duplicate(alloc)?;
+    let found = (challenger.sample(), copy.sample());
+    Ok(format!(in alloc; "{found:?}")?)
 }

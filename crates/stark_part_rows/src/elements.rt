@@ -1,43 +1,46 @@
-//! Elements of the base field and of the extension, by their numbers.
-use stark_bench::{Ext4, S12289};
-use std::alloc::{AllocError, Global};
+//! Elements of any base field and of its extension, by their numbers as text.
+use crate::rows::list_in;
+use stark_support::{ExtensionField, PrimeField64};
+use std::alloc::Global;
+use std::test::Fail;
 
-pub type Base = S12289;
-
-pub type Extension = Ext4<Base>;
-
-pub fn element(coordinates: [u32; 4]) -> Extension {
-    let [c0, c1, c2, c3] = coordinates;
-    Ext4 {
-        c0: Base::new(c0),
-        c1: Base::new(c1),
-        c2: Base::new(c2),
-        c3: Base::new(c3),
-    }
+/// The element of a number below 2^16.
+pub fn element<F: PrimeField64>(number: u32) -> F {
+    let [_, _, high, low] = number.to_be_bytes();
+    F::from_u8(high) * (F::from_u8(16) * F::from_u8(16)) + F::from_u8(low)
 }
 
-pub fn coordinates(x: Extension) -> [u32; 4] {
-    [x.c0.value(), x.c1.value(), x.c2.value(), x.c3.value()]
+/// The elements of a text's numbers.
+pub fn elements_in<F: PrimeField64>(alloc: Global, text: &str) -> Result<Vec<F>, Fail> {
+    let mut list = Vec::new(alloc);
+    for number in list_in(alloc, text)? {
+        list.push(element(number))?;
+    }
+    Ok(list)
+}
+
+/// The element of the extension with these coordinates.
+pub fn above_in<F: PrimeField64, EF: ExtensionField<F>>(
+    alloc: Global,
+    text: &str,
+) -> Result<EF, Fail> {
+    let coordinates = elements_in::<F>(alloc, text)?;
+    Ok(EF::from_basis_coefficients_slice(&coordinates).ok_or("other coordinates")?)
+}
+
+/// Elements of the extension, with commas between them.
+pub fn all_above_in<F: PrimeField64, EF: ExtensionField<F>>(
+    alloc: Global,
+    text: &str,
+) -> Result<Vec<EF>, Fail> {
+    let mut list = Vec::new(alloc);
+    for coordinates in text.split(", ") {
+        list.push(above_in::<F, EF>(alloc, coordinates)?)?;
+    }
+    Ok(list)
 }
 
 /// A number, as an element of the extension.
-pub fn number(n: u32) -> Extension {
-    element([n, 0, 0, 0])
-}
-
-pub fn numbers(alloc: Global, values: &[u32]) -> Result<Vec<Base>, AllocError> {
-    let mut list = Vec::new(alloc);
-    for value in values {
-        list.push(Base::new(*value))?;
-    }
-    Ok(list)
-}
-
-/// The numbers of elements.
-pub fn values(alloc: Global, elements: &[Base]) -> Result<Vec<u32>, AllocError> {
-    let mut list = Vec::new(alloc);
-    for x in elements {
-        list.push(x.value())?;
-    }
-    Ok(list)
+pub fn above<F: PrimeField64, EF: ExtensionField<F>>(number: u32) -> EF {
+    EF::from_base(element(number))
 }

@@ -1,15 +1,69 @@
-//! Elements in four lanes: each lane computes what the field does of the element in it, and so does the prover's folder.
-use crate::row_field::ClearConfig;
+//! Elements in lanes: each lane computes what the field does of the element in it, and so does the prover's folder.
+use crate::elements::{all_above_in, elements_in};
+use crate::lockstep;
+use crate::rows::apart;
 use stark_air::{AirBuilder, ExtensionBuilder, RowWindow};
-use stark_bench::{ClearCommitment, Ext4, F12289, P12289, Sha256Challenger};
-use stark_parts::{PackedChallenge, PackedVal, ProverConstraintFolder, StarkGenericConfig, Val};
+use stark_bench::ClearCommitment;
+use stark_clear::ClearPcs;
+use stark_parts::{
+    PackedChallenge, PackedVal, ProverConstraintFolder, StarkConfig, StarkGenericConfig, Val,
+};
 use stark_support::{
-    CanObserve, Element, ExtensionChallenger, ExtensionField, Field, FieldChallenger,
-    PackedExtensionField, PackedField, PackedValue, PrimeField64, QuarticBase, RowMajorMatrixView,
-    TwoAdicField,
+    CanObserve, ExtensionChallenger, ExtensionField, Field, FieldChallenger, PackedExtensionField,
+    PackedField, PackedValue, PrimeField64, RowMajorMatrixView, TwoAdicField,
 };
 use std::alloc::{AllocError, Global};
+use std::fmt::Debug;
 use std::test::Fail;
+
+// A table's name | what is given. `lanes`: elements | as many of the extension: how many lanes there are, and whether the lanes of
+// both agree with the fields, at -1, 1, 0 and half of -1, and with these as coordinates. `folded`: what the prover's folder makes of
+// elements x, 16 (x - 1) + 4 (x - 2) + (x - 3) in each lane. `pairs of lanes`: whether the lanes of two packs agree with the field.
+// `folded in pairs`: how many other values the scratch vector held | the elements that two packs at a time fold.
+pub const SCALAR_ROWS: &str = r#"
+lanes | 12288 | 12288 1 0 6144 => 1 true true
+folded | 5 => Some([Ext4 { c0: 78, c1: 0, c2: 0, c3: 0 }])
+pairs of lanes | 250 251 => true
+folded in pairs | 0 | 5 6 => Some([Ext4 { c0: 78, c1: 0, c2: 0, c3: 0 }, Ext4 { c0: 99, c1: 0, c2: 0, c3: 0 }])
+folded in pairs | 7 | 5 6 => Some([Ext4 { c0: 78, c1: 0, c2: 0, c3: 0 }, Ext4 { c0: 99, c1: 0, c2: 0, c3: 0 }])
+"#;
+
+pub const WIDE_ROWS: &str = r#"
+lanes | 12288 1 0 6144 | 12288 1 0 6144, 1 0 6144 12288, 0 6144 12288 1, 6144 12288 1 0 => 4 true true
+folded | 5 6 7 8 => Some([Ext4 { c0: 78, c1: 0, c2: 0, c3: 0 }, Ext4 { c0: 99, c1: 0, c2: 0, c3: 0 }, Ext4 { c0: 120, c1: 0, c2: 0, c3: 0 }, Ext4 { c0: 141, c1: 0, c2: 0, c3: 0 }])
+pairs of lanes | 250 251 252 253 254 255 0 1 => true
+folded in pairs | 0 | 5 6 7 8 9 10 11 12 => Some([Ext4 { c0: 78, c1: 0, c2: 0, c3: 0 }, Ext4 { c0: 99, c1: 0, c2: 0, c3: 0 }, Ext4 { c0: 120, c1: 0, c2: 0, c3: 0 }, Ext4 { c0: 141, c1: 0, c2: 0, c3: 0 }, Ext4 { c0: 162, c1: 0, c2: 0, c3: 0 }, Ext4 { c0: 183, c1: 0, c2: 0, c3: 0 }, Ext4 { c0: 204, c1: 0, c2: 0, c3: 0 }, Ext4 { c0: 225, c1: 0, c2: 0, c3: 0 }])
+folded in pairs | 7 | 5 6 7 8 9 10 11 12 => Some([Ext4 { c0: 78, c1: 0, c2: 0, c3: 0 }, Ext4 { c0: 99, c1: 0, c2: 0, c3: 0 }, Ext4 { c0: 120, c1: 0, c2: 0, c3: 0 }, Ext4 { c0: 141, c1: 0, c2: 0, c3: 0 }, Ext4 { c0: 162, c1: 0, c2: 0, c3: 0 }, Ext4 { c0: 183, c1: 0, c2: 0, c3: 0 }, Ext4 { c0: 204, c1: 0, c2: 0, c3: 0 }, Ext4 { c0: 225, c1: 0, c2: 0, c3: 0 }])
+"#;
+
+/// The answer to a row of these tables.
+pub fn answer<F, EF, C>(alloc: Global, row: &str) -> Result<String, Fail>
+where
+    F: TwoAdicField + PrimeField64 + PackedField + Debug,
+    EF: PackedExtensionField<F> + Debug,
+    C: FieldChallenger<F> + CanObserve<ClearCommitment<F>> + ExtensionChallenger<F, EF> + Clone,
+{
+    let (table, text) = apart(row)?;
+    match table {
+        "lanes" => lanes::<F, EF>(alloc, text),
+        "folded" => folded_text::<StarkConfig<ClearPcs<F>, EF, C>>(alloc, text),
+        "pairs of lanes" => lockstep::pairs_of_lanes::<F>(alloc, text),
+        "folded in pairs" => lockstep::folded_text::<StarkConfig<ClearPcs<F>, EF, C>>(alloc, text),
+        _ => Err(Fail::new("no such table")),
+    }
+}
+
+/// How many lanes there are, and whether the lanes of the base field and of its extension agree with the fields.
+fn lanes<F, EF>(alloc: Global, text: &str) -> Result<String, Fail>
+where
+    F: PrimeField64 + PackedField,
+    EF: PackedExtensionField<F>,
+{
+    let (base, above) = apart(text)?;
+    let base = lanes_agree::<F::Packing>(&elements_in::<F>(alloc, base)?);
+    let above = lanes_agree::<EF::ExtensionPacking>(&all_above_in::<F, EF>(alloc, above)?);
+    Ok(format!(in alloc; "{} {base} {above}", F::Packing::WIDTH)?)
+}
 
 /// Whether each lane of the elements' squares, opposites and doubles has what the field computes of the element in it.
 pub(crate) fn lanes_agree<P: PackedValue>(elements: &[P::Value]) -> bool
@@ -31,75 +85,6 @@ where
         }
     }
     true
-}
-
-/// A list of four.
-fn listed<X: Drop>(alloc: Global, a: X, b: X, c: X, d: X) -> Result<Vec<X>, AllocError> {
-    let mut list = Vec::new(alloc);
-    list.push(a)?;
-    list.push(b)?;
-    list.push(c)?;
-    list.push(d)?;
-    Ok(list)
-}
-
-/// -1, 1, 0 and half of -1.
-fn edges<F: PrimeField64>() -> (F, F, F, F) {
-    (-F::ONE, F::ONE, F::ZERO, F::from_u8(96) * F::from_u8(64))
-}
-
-/// Four elements of the extension, with those numbers as coordinates, each time from the next one on.
-fn edges_above<F: QuarticBase + PrimeField64>(alloc: Global) -> Result<Vec<Ext4<F>>, AllocError> {
-    let (a, b, c, d) = edges::<F>();
-    listed(
-        alloc,
-        Ext4 {
-            c0: a,
-            c1: b,
-            c2: c,
-            c3: d,
-        },
-        Ext4 {
-            c0: b,
-            c1: c,
-            c2: d,
-            c3: a,
-        },
-        Ext4 {
-            c0: c,
-            c1: d,
-            c2: a,
-            c3: b,
-        },
-        Ext4 {
-            c0: d,
-            c1: a,
-            c2: b,
-            c3: c,
-        },
-    )
-}
-
-/// Whether there are four lanes, and those of the base field and of its extension agree with the fields.
-fn edges_agree<F, EF>(alloc: Global, above: &[EF]) -> Result<bool, AllocError>
-where
-    F: PrimeField64 + PackedField,
-    EF: PackedExtensionField<F>,
-{
-    let (a, b, c, d) = edges::<F>();
-    let edges = listed(alloc, a, b, c, d)?;
-    let agree = lanes_agree::<F::Packing>(&edges) && lanes_agree::<EF::ExtensionPacking>(above);
-    Ok(F::Packing::WIDTH == 4 && agree)
-}
-
-#[test]
-fn each_lane_is_the_fields_own(rt: HostRuntime) -> Result<(), Fail> {
-    let alloc = rt.alloc();
-    let packed = edges_above::<P12289>(alloc)?;
-    assert!(rt; edges_agree::<P12289, Ext4<P12289>>(alloc, &packed)?);
-    let lockstep = edges_above::<F12289>(alloc)?;
-    assert!(rt; edges_agree::<F12289, Ext4<F12289>>(alloc, &lockstep)?);
-    Ok(())
 }
 
 /// The powers of alpha, 4, of the first and the last of three constraints, which are over the base field: for each coordinate
@@ -228,46 +213,24 @@ where
     }
 }
 
-/// Whether the lanes have these numbers.
-fn has_numbers<F: PrimeField64, EF: ExtensionField<F>, P: PackedValue<Value = EF>>(
-    packed: P,
-    numbers: [u8; 4],
-) -> bool {
-    if P::WIDTH != 4 {
-        return false;
+/// The values in the lanes.
+pub fn lanes_of<P: PackedValue>(alloc: Global, pack: P) -> Result<Vec<P::Value>, AllocError> {
+    let mut values = Vec::new(alloc);
+    for lane in 0..P::WIDTH {
+        values.push(pack.extract(lane))?;
     }
-    for (lane, number) in numbers.iter().enumerate() {
-        if packed.extract(lane) != EF::from_base(F::from_u8(*number)) {
-            return false;
-        }
-    }
-    true
+    Ok(values)
 }
 
-/// Whether the folded sums of 5, 6, 7 and 8 in lanes are 16 (x - 1) + 4 (x - 2) + (x - 3) each.
-fn folds_in_lanes<F, EF, C>(alloc: Global) -> Result<bool, AllocError>
+fn folded_text<SC: StarkGenericConfig>(alloc: Global, text: &str) -> Result<String, Fail>
 where
-    F: TwoAdicField + PrimeField64 + PackedField,
-    EF: PackedExtensionField<F>,
-    C: FieldChallenger<F> + CanObserve<ClearCommitment<F>> + ExtensionChallenger<F, EF> + Clone,
+    Val<SC>: PackedField,
+    SC::Challenge: PackedExtensionField<Val<SC>> + Debug,
 {
-    let elements = listed(
-        alloc,
-        F::from_u8(5),
-        F::from_u8(6),
-        F::from_u8(7),
-        F::from_u8(8),
-    )?;
-    Ok(match folded::<ClearConfig<F, EF, C>>(alloc, &elements)? {
-        Some(packed) => has_numbers::<F, EF, EF::ExtensionPacking>(packed, [78, 99, 120, 141]),
-        None => false,
-    })
-}
-
-#[test]
-fn four_rows_are_folded_at_once(rt: HostRuntime) -> Result<(), Fail> {
-    let alloc = rt.alloc();
-    assert!(rt; folds_in_lanes::<P12289, Ext4<P12289>, Sha256Challenger<P12289>>(alloc)?);
-    assert!(rt; folds_in_lanes::<F12289, Ext4<F12289>, Sha256Challenger<F12289>>(alloc)?);
-    Ok(())
+    let elements = elements_in::<Val<SC>>(alloc, text)?;
+    let found = match folded::<SC>(alloc, &elements)? {
+        Some(pack) => Some(lanes_of(alloc, pack)?),
+        None => None,
+    };
+    Ok(format!(in alloc; "{found:?}")?)
 }

@@ -1,31 +1,27 @@
 //! Two packed values at a time: each lane computes what the field does of the element in it, and so does the lockstep folder.
-use crate::lanes::{base_powers, lanes_agree};
-use crate::row_field::ClearConfig;
+use crate::elements::elements_in;
+use crate::lanes::{base_powers, lanes_agree, lanes_of};
+use crate::rows::{apart, numbers_in};
 use stark_air::{AirBuilder, ExtensionBuilder, RowWindow};
-use stark_bench::{ClearCommitment, Ext4, F12289, P12289, Sha256Challenger};
 use stark_parts::{
     PackedVal, StarkGenericConfig, Val, VectorizedChallenge, VectorizedConstraintFolder,
     VectorizedVal,
 };
 use stark_support::{
-    Algebra, CanObserve, ExtensionChallenger, ExtensionField, FieldChallenger,
-    PackedExtensionField, PackedField, PackedValue, PrimeField64, RowMajorMatrixView, TwoAdicField,
-    Vectorized,
+    Algebra, ExtensionField, PackedExtensionField, PackedField, PackedValue, PrimeField64,
+    RowMajorMatrixView, Vectorized,
 };
 use std::alloc::{AllocError, Global};
+use std::fmt::Debug;
 use std::test::Fail;
 
-/// The elements of as many numbers as are asked for, from one on.
-fn numbers_from<F: PrimeField64>(
+/// Whether the lanes of two packs agree with the field.
+pub fn pairs_of_lanes<F: PrimeField64 + PackedField>(
     alloc: Global,
-    first: u8,
-    count: u8,
-) -> Result<Vec<F>, AllocError> {
-    let mut elements = Vec::new(alloc);
-    for step in 0..count {
-        elements.push(F::from_u8(first.wrapping_add(step)))?;
-    }
-    Ok(elements)
+    text: &str,
+) -> Result<String, Fail> {
+    let agree = lanes_agree::<Vectorized<F, 2>>(&elements_in::<F>(alloc, text)?);
+    Ok(format!(in alloc; "{agree}")?)
 }
 
 /// A number in each lane.
@@ -134,42 +130,22 @@ where
     finalized(&folder, scratch)
 }
 
-/// Whether the folded sums of 5 to 12 in lanes are 16 (x - 1) + 4 (x - 2) + (x - 3) each, the second time with a scratch
-/// vector that held seven other values.
-fn folds_in_pairs<F, EF, C>(alloc: Global) -> Result<bool, AllocError>
+/// What is folded of elements in lanes, with a scratch vector that held so many other values.
+pub fn folded_text<SC: StarkGenericConfig>(alloc: Global, text: &str) -> Result<String, Fail>
 where
-    F: TwoAdicField + PrimeField64 + PackedField,
-    EF: PackedExtensionField<F>,
-    C: FieldChallenger<F> + CanObserve<ClearCommitment<F>> + ExtensionChallenger<F, EF> + Clone,
+    Val<SC>: PackedField,
+    SC::Challenge: PackedExtensionField<Val<SC>> + Debug,
 {
-    let elements = numbers_from::<F>(alloc, 5, 8)?;
+    let (held, elements) = apart(text)?;
+    let [held] = numbers_in::<1>(held)?;
+    let elements = elements_in::<Val<SC>>(alloc, elements)?;
     let mut scratch = Vec::new(alloc);
-    for held in [0, 7] {
-        scratch.clear();
-        for _value in 0..held {
-            scratch.push(F::Packing::from(F::from_u8(9)))?;
-        }
-        let Some(packed) = folded::<ClearConfig<F, EF, C>>(alloc, &elements, &mut scratch)? else {
-            return Ok(false);
-        };
-        let sums: [u8; 8] = [78, 99, 120, 141, 162, 183, 204, 225];
-        for (lane, number) in sums.iter().enumerate() {
-            if VectorizedVal::<ClearConfig<F, EF, C>, 2>::WIDTH != 8
-                || packed.extract(lane) != EF::from_base(F::from_u8(*number))
-            {
-                return Ok(false);
-            }
-        }
+    for _value in 0..held {
+        scratch.push(PackedVal::<SC>::from(Val::<SC>::from_u8(9)))?;
     }
-    Ok(true)
-}
-
-#[test]
-fn eight_rows_are_folded_at_once(rt: HostRuntime) -> Result<(), Fail> {
-    let alloc = rt.alloc();
-    assert!(rt; folds_in_pairs::<P12289, Ext4<P12289>, Sha256Challenger<P12289>>(alloc)?);
-    assert!(rt; folds_in_pairs::<F12289, Ext4<F12289>, Sha256Challenger<F12289>>(alloc)?);
-    let elements = numbers_from::<F12289>(alloc, 250, 8)?;
-    assert!(rt; lanes_agree::<Vectorized<F12289, 2>>(&elements));
-    Ok(())
+    let found = match folded::<SC>(alloc, &elements, &mut scratch)? {
+        Some(pack) => Some(lanes_of(alloc, pack)?),
+        None => None,
+    };
+    Ok(format!(in alloc; "{found:?}")?)
 }

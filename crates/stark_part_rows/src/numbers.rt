@@ -1,14 +1,154 @@
 //! Logarithms, powers of two, sums of products, matrices and row views.
-use crate::elements::{Base, Extension, element, numbers, values};
-use crate::row_field::RowField;
-use stark_bench::Ext4;
+use crate::elements::{all_above_in, elements_in};
+use crate::rows::{apart, numbers_in};
 use stark_support::{
-    Algebra, ExtensionField, Field, PackedValue, RowMajorMatrix, RowMajorMatrixView, VerticalPair,
-    ViewPair, batched_linear_combination, checked_log_size_sum, checked_pow2, log2_ceil_usize,
-    log2_strict_usize,
+    Algebra, ExtensionField, Field, PackedExtensionField, PackedField, PackedValue, PrimeField64,
+    RowMajorMatrix, RowMajorMatrixView, VerticalPair, ViewPair, batched_linear_combination,
+    checked_log_size_sum, checked_pow2, log2_ceil_usize, log2_strict_usize,
 };
 use std::alloc::{AllocError, Global};
+use std::fmt::Debug;
 use std::test::Fail;
+
+// A table's name | what is given.
+pub const ROWS: &str = r#"
+# Numbers | as many coefficients. Answered is the sum of the products, by packed values, in their first lane; then the same of
+# elements of the extension.
+sums | 1 2 3 | 4 5 4096 => Some(13)
+sums | empty | empty => Some(0)
+sums above | 0 1 0 0, 1 0 0 2 | 4 5 => Some(Ext4 { c0: 5, c1: 4, c2: 0, c3: 10 })
+
+# A column of elements of the extension, as rows of their coordinates.
+flat | 1 2 3 4, 5 6 7 8 => 2 rows: RowMajorMatrix { values: [1, 2, 3, 4, 5, 6, 7, 8], width: 4 }
+
+# Rows of two columns | the first of the rows that are packed, made anew and in a lent buffer, by their first lanes. The fourth
+# row of two is the second.
+packed rows | 1 2 3 4 | 1 => [[3, 4], [3, 4]]
+packed rows | 1 2 3 4 | 3 => [[3, 4], [3, 4]]
+"#;
+
+/// The answer to a row of these tables.
+pub fn answer<F, EF>(alloc: Global, row: &str) -> Result<String, Fail>
+where
+    F: PrimeField64 + PackedField + Debug,
+    EF: PackedExtensionField<F> + Debug,
+{
+    let (table, text) = apart(row)?;
+    match table {
+        "sums" => sums::<F>(alloc, text),
+        "sums above" => sums_above::<F, EF>(alloc, text),
+        "flat" => flat::<F, EF>(alloc, text),
+        "packed rows" => packed_rows::<F>(alloc, text),
+        _ => Err(Fail::new("no such table")),
+    }
+}
+
+/// The sum of the values times the coefficients, of which there are as many.
+fn combined<F: Field, A: Algebra<F>>(values: &[A], coefficients: &[F]) -> Option<A> {
+    if values.len() == coefficients.len() {
+        Some(batched_linear_combination(values, coefficients))
+    } else {
+        None
+    }
+}
+
+/// The value in the first lane; none where there is no lane.
+fn first_lane<P: PackedValue>(pack: P) -> Option<P::Value> {
+    if P::WIDTH > 0 {
+        Some(pack.extract(0))
+    } else {
+        None
+    }
+}
+
+fn sums<F: PrimeField64 + PackedField + Debug>(alloc: Global, text: &str) -> Result<String, Fail> {
+    let (numbers, coefficients) = apart(text)?;
+    let mut values = Vec::new(alloc);
+    for number in elements_in::<F>(alloc, numbers)? {
+        values.push(F::Packing::from(number))?;
+    }
+    let sum = combined::<F, F::Packing>(&values, &elements_in::<F>(alloc, coefficients)?);
+    let found = match sum {
+        Some(pack) => first_lane(pack),
+        None => None,
+    };
+    Ok(format!(in alloc; "{found:?}")?)
+}
+
+fn sums_above<F: PrimeField64, EF: ExtensionField<F> + Debug>(
+    alloc: Global,
+    text: &str,
+) -> Result<String, Fail> {
+    let (elements, coefficients) = apart(text)?;
+    let elements = all_above_in::<F, EF>(alloc, elements)?;
+    let found = combined::<F, EF>(&elements, &elements_in::<F>(alloc, coefficients)?);
+    Ok(format!(in alloc; "{found:?}")?)
+}
+
+/// A column of elements, as rows of their coordinates.
+fn flattened<F: Field, EF: ExtensionField<F>>(
+    alloc: Global,
+    elements: Vec<EF>,
+) -> Result<RowMajorMatrix<F>, AllocError> {
+    let _dimension = EF::DIMENSION;
+    RowMajorMatrix::new_col(elements).flatten_to_base(alloc)
+}
+
+fn flat<F: PrimeField64 + Debug, EF: ExtensionField<F>>(
+    alloc: Global,
+    text: &str,
+) -> Result<String, Fail> {
+    let matrix = flattened::<F, EF>(alloc, all_above_in::<F, EF>(alloc, text)?)?;
+    Ok(format!(in alloc; "{} rows: {matrix:?}", matrix.height())?)
+}
+
+/// The packed rows from this one on, made anew and in a lent buffer; none where there is no row.
+fn packed_row<P: PackedValue>(
+    alloc: Global,
+    matrix: &RowMajorMatrix<P::Value>,
+    r: usize,
+    mut lent: Vec<P>,
+) -> Result<Option<[Vec<P>; 2]>, AllocError> {
+    if matrix.height() == 0 {
+        return Ok(None);
+    }
+    let made = matrix.vertically_packed_row(alloc, r)?;
+    matrix.vertically_packed_row_into(r, &mut lent)?;
+    Ok(Some([made, lent]))
+}
+
+/// The values in the first lanes.
+fn first_lanes<P: PackedValue>(alloc: Global, packs: &[P]) -> Result<Vec<P::Value>, AllocError> {
+    let mut values = Vec::new(alloc);
+    if P::WIDTH > 0 {
+        for pack in packs {
+            values.push(pack.extract(0))?;
+        }
+    }
+    Ok(values)
+}
+
+fn packed_rows<F: PrimeField64 + PackedField + Debug>(
+    alloc: Global,
+    text: &str,
+) -> Result<String, Fail> {
+    let (values, first) = apart(text)?;
+    let values = elements_in::<F>(alloc, values)?;
+    let [first] = numbers_in::<1>(first)?;
+    if values.len() % 2 != 0 {
+        return Err(Fail::new("a row that isn't whole"));
+    }
+    let matrix = RowMajorMatrix::new(values, 2);
+    let mut lent = Vec::new(alloc);
+    lent.push(F::Packing::from(F::from_u8(9)))?;
+    match packed_row::<F::Packing>(alloc, &matrix, first as usize, lent)? {
+        Some([made, lent]) => {
+            let found = [first_lanes(alloc, &made)?, first_lanes(alloc, &lent)?];
+            Ok(format!(in alloc; "{found:?}")?)
+        }
+        None => Err(Fail::new("no row")),
+    }
+}
 
 #[test]
 fn logarithms(rt: HostRuntime) -> Result<(), Fail> {
@@ -53,33 +193,6 @@ fn two_rows(rt: HostRuntime) -> Result<(), Fail> {
     Ok(())
 }
 
-/// The sum of the values times the coefficients, of which there are as many.
-fn combined<F: Field, A: Algebra<F>>(values: &[A], coefficients: &[F]) -> Option<A> {
-    if values.len() == coefficients.len() {
-        Some(batched_linear_combination(values, coefficients))
-    } else {
-        None
-    }
-}
-
-fn combined_above<F: RowField>(values: &[F::Above], coefficients: &[F]) -> Option<F::Above> {
-    combined(values, coefficients)
-}
-
-#[test]
-fn sums_of_products(rt: HostRuntime) -> Result<(), Fail> {
-    let alloc = rt.alloc();
-    let coefficients = numbers(alloc, &[4, 5, 4096])?;
-    let sum: Option<Base> = combined(&numbers(alloc, &[1, 2, 3])?, &coefficients);
-    assert!(rt; sum == Some(Base::new(13)));
-    let none: Option<Base> = combined::<Base, Base>(&[], &[]);
-    assert!(rt; none == Some(Base::new(0)));
-    let above = [element([0, 1, 0, 0]), element([1, 0, 0, 2])];
-    let sum: Option<Extension> = combined_above(&above, &numbers(alloc, &[4, 5])?);
-    assert!(rt; sum == Some(element([5, 4, 0, 10])));
-    Ok(())
-}
-
 /// The row of this index; empty where there is none.
 fn row_at<T>(matrix: &RowMajorMatrix<T>, r: usize) -> &[T] {
     if r < matrix.height() {
@@ -101,69 +214,5 @@ fn owned_rows(rt: HostRuntime) -> Result<(), Fail> {
     assert_eq!(rt; row_at(&column, 1), [8].as_slice());
     let none = RowMajorMatrix::new(Vec::<u8>::new(alloc), 0);
     assert_eq!(rt; none.height(), 0);
-    Ok(())
-}
-
-/// A column of elements, as rows of their coordinates.
-fn flattened<F: Field, EF: ExtensionField<F>>(
-    alloc: Global,
-    elements: Vec<EF>,
-) -> Result<RowMajorMatrix<F>, AllocError> {
-    let _dimension = EF::DIMENSION;
-    RowMajorMatrix::new_col(elements).flatten_to_base(alloc)
-}
-
-fn flattened_over<F: RowField>(
-    alloc: Global,
-    elements: Vec<F::Above>,
-) -> Result<RowMajorMatrix<F>, AllocError> {
-    flattened(alloc, elements)
-}
-
-#[test]
-fn flat_rows(rt: HostRuntime) -> Result<(), Fail> {
-    let alloc = rt.alloc();
-    let elements = vec![in alloc; element([1, 2, 3, 4]), element([5, 6, 7, 8])]?;
-    let flat: RowMajorMatrix<Base> = flattened_over(alloc, elements)?;
-    assert_eq!(rt; (flat.width(), flat.height()), (4, 2));
-    assert_eq!(rt;
-        values(alloc, &flat.values)?.as_slice(),
-        [1, 2, 3, 4, 5, 6, 7, 8].as_slice()
-    );
-    Ok(())
-}
-
-/// The packed rows from this one on, made anew and in a lent buffer; none where there is no row.
-fn packed_row<P: PackedValue>(
-    alloc: Global,
-    matrix: &RowMajorMatrix<P::Value>,
-    r: usize,
-    mut lent: Vec<P>,
-) -> Result<Option<[Vec<P>; 2]>, AllocError> {
-    if matrix.height() == 0 {
-        return Ok(None);
-    }
-    let made = matrix.vertically_packed_row(alloc, r)?;
-    matrix.vertically_packed_row_into(r, &mut lent)?;
-    Ok(Some([made, lent]))
-}
-
-// One lane: the row itself. The fourth row of two is the second.
-#[test]
-fn packed_rows(rt: HostRuntime) -> Result<(), Fail> {
-    let alloc = rt.alloc();
-    let list = numbers(alloc, &[1, 2, 3, 4])?;
-    if list.len() != 4 {
-        return Err(Fail::new("other rows"));
-    }
-    let matrix = RowMajorMatrix::new(list, 2);
-    for r in [1, 3] {
-        let lent = numbers(alloc, &[9])?;
-        let Some([made, lent]) = packed_row::<Base>(alloc, &matrix, r, lent)? else {
-            return Err(Fail::new("no row"));
-        };
-        assert_eq!(rt; values(alloc, &made)?.as_slice(), [3, 4].as_slice());
-        assert_eq!(rt; values(alloc, &lent)?.as_slice(), [3, 4].as_slice());
-    }
     Ok(())
 }

@@ -1,4 +1,5 @@
-//! Worked rows as text: a row a line, what is given before ` => ` and the answer behind it.
+//! Worked rows as text: a row a line, what is given before ` => ` and the answer behind it. Lines that begin with `#` say what
+//! the rows behind them are.
 use std::alloc::Global;
 use std::process::Abort;
 use std::test::Fail;
@@ -7,14 +8,18 @@ use std::test::Fail;
 pub fn all_rows(
     rt: &impl Abort,
     alloc: Global,
+    subject: &str,
     rows: &str,
-    answer: fn(Global, &str) -> Result<String, Fail>,
+    answer: fn(Global, &str, &str) -> Result<String, Fail>,
 ) -> Result<(), Fail>
     requires { IsAlwaysCallable answer }
 {
     for row in rows.lines() {
-        let (input, expected) = row.split_once(" => ").ok_or("a row without an answer")?;
-        assert_eq!(rt; answer(alloc, input)?.as_str(), expected, "{input}");
+        if !row.is_empty() && !row.starts_with('#') {
+            let (input, expected) = row.split_once(" => ").ok_or("a row without an answer")?;
+            let found = answer(alloc, subject, input)?;
+            assert_eq!(rt; found.as_str(), expected, "{subject}: {input}");
+        }
     }
     Ok(())
 }

@@ -4,143 +4,108 @@ ghost use Rattle.std.specs.List.{range_with_len};
 ghost use Rattle.std.proofs.Common.{rules};
 ghost use Rattle.std.proofs.lemmas.List.{length-map};
 
-use crate::elements::Base;
-use crate::row_field::RowField;
+use crate::rows::{apart, numbers_in};
 use stark_air::{BaseAir, every_column};
-use stark_bench::Ext4;
+use stark_bench::S12289;
 use stark_parts::StarkShape;
-use stark_support::{DomainSeparator, InteractionPattern, RowMajorMatrix};
+use stark_support::{DomainSeparator, ExtensionField, Field, RowMajorMatrix};
 use std::alloc::{AllocError, Global};
 use std::test::Fail;
 
-fn small() -> StarkShape {
-    StarkShape {
-        log_ext_degree: 1,
-        log_degree: 1,
-        main_width: 1,
-        preprocessed_width: 0,
-        num_public_values: 1,
-        num_periodic_columns: 0,
-        num_quotient_chunks: 1,
-        opens_main_next_row: true,
-        opens_preprocessed_next_row: false,
-        has_randomization: false,
-        ood_pow_bits: 0,
+// A table's name | a shape by its fields in their order, 1 for what it has or opens.
+pub const ROWS: &str = r#"
+# The number of steps, the seed's length and its first 29 bytes.
+seed | 1 1 1 0 1 0 1 1 0 0 0 => 7 steps, 443 bytes: Some([1, 0, 0, 0, 0, 0, 0, 0, 12, 112, 51, 45, 117, 110, 105, 45, 115, 116, 97, 114, 107, 0, 0, 0, 0, 0, 0, 0, 7])
+
+# The seed's length, with work, with randomization and with preprocessed columns.
+length | 1 1 1 0 1 0 1 1 0 0 6 => 477
+length | 1 1 1 0 1 0 1 1 0 1 0 => 487
+length | 1 1 1 3 1 0 1 1 0 0 0 => 493
+
+# A shape, and the same with one field changed: no two have one seed.
+different | 5 5 2 0 1 0 2 1 0 0 0, 6 5 2 0 1 0 2 1 0 0 0, 5 6 2 0 1 0 2 1 0 0 0, 5 5 3 0 1 0 2 1 0 0 0, 5 5 2 1 1 0 2 1 0 0 0, 5 5 2 0 2 0 2 1 0 0 0, 5 5 2 0 1 1 2 1 0 0 0, 5 5 2 0 1 0 3 1 0 0 0, 5 5 2 0 1 0 2 0 0 0 0, 5 5 2 0 1 0 2 1 1 0 0, 5 5 2 0 1 0 2 1 0 1 0, 5 5 2 0 1 0 2 1 0 0 1 => 12 seeds
+"#;
+
+/// The answer to a row of these tables.
+pub fn answer<F: Field, EF: ExtensionField<F>>(alloc: Global, row: &str) -> Result<String, Fail> {
+    let (table, text) = apart(row)?;
+    match table {
+        "seed" => first_bytes::<F, EF>(alloc, text),
+        "length" => length::<F, EF>(alloc, text),
+        "different" => different::<F, EF>(alloc, text),
+        _ => Err(Fail::new("no such table")),
     }
 }
 
-fn pattern_over<F: RowField>(
+fn shape_in(text: &str) -> Result<StarkShape, Fail> {
+    let [
+        log_ext_degree,
+        log_degree,
+        main_width,
+        preprocessed_width,
+        num_public_values,
+        num_periodic_columns,
+        num_quotient_chunks,
+        opens_main,
+        opens_preprocessed,
+        randomization,
+        ood_pow_bits,
+    ] = numbers_in::<11>(text)?.map(|number| number as usize);
+    Ok(StarkShape {
+        log_ext_degree,
+        log_degree,
+        main_width,
+        preprocessed_width,
+        num_public_values,
+        num_periodic_columns,
+        num_quotient_chunks,
+        opens_main_next_row: opens_main == 1,
+        opens_preprocessed_next_row: opens_preprocessed == 1,
+        has_randomization: randomization == 1,
+        ood_pow_bits,
+    })
+}
+
+fn separator<F: Field, EF: ExtensionField<F>>(
     alloc: Global,
-    shape: &StarkShape,
-) -> Result<InteractionPattern, AllocError> {
-    shape.pattern::<F, F::Above>(alloc)
+    text: &str,
+) -> Result<DomainSeparator, Fail> {
+    Ok(shape_in(text)?.domain_separator::<F, EF>(alloc)?)
 }
 
-fn separator_over<F: RowField>(
-    alloc: Global,
-    shape: &StarkShape,
-) -> Result<DomainSeparator, AllocError> {
-    shape.domain_separator::<F, F::Above>(alloc)
+fn first_bytes<F: Field, EF: ExtensionField<F>>(alloc: Global, text: &str) -> Result<String, Fail> {
+    let pattern = shape_in(text)?.pattern::<F, EF>(alloc)?;
+    let steps = pattern.steps().len();
+    let separator = separator::<F, EF>(alloc, text)?;
+    let (length, front) = (separator.seed().len(), separator.seed().get(..29));
+    Ok(format!(in alloc; "{steps} steps, {length} bytes: {front:?}")?)
 }
 
-fn separator(alloc: Global, shape: &StarkShape) -> Result<DomainSeparator, AllocError> {
-    separator_over::<Base>(alloc, shape)
+fn length<F: Field, EF: ExtensionField<F>>(alloc: Global, text: &str) -> Result<String, Fail> {
+    let separator = separator::<F, EF>(alloc, text)?;
+    Ok(format!(in alloc; "{}", separator.seed().len())?)
 }
 
-#[test]
-fn first_bytes(rt: HostRuntime) -> Result<(), Fail> {
-    let alloc = rt.alloc();
-    let shape = small();
-    assert_eq!(rt; pattern_over::<Base>(alloc, &shape)?.steps().len(), 7);
-    let separator = separator(alloc, &shape)?;
-    let seed = separator.seed();
-    assert_eq!(rt; seed.len(), 443);
-    assert_eq!(rt; seed.first(), Some(&1));
-    assert!(rt;
-        seed.starts_with(
-            b"\x01\x00\x00\x00\x00\x00\x00\x00\x0cp3-uni-stark\x00\x00\x00\x00\x00\x00\x00\x07"
-        )
-    );
-    Ok(())
-}
-
-#[test]
-fn lengths(rt: HostRuntime) -> Result<(), Fail> {
-    let alloc = rt.alloc();
-    let worked = StarkShape {
-        ood_pow_bits: 6,
-        ..small()
-    };
-    let random = StarkShape {
-        has_randomization: true,
-        ..small()
-    };
-    let preprocessed = StarkShape {
-        preprocessed_width: 3,
-        ..small()
-    };
-    for (shape, length) in [(worked, 477), (random, 487), (preprocessed, 493)] {
-        assert_eq!(rt; separator(alloc, &shape)?.seed().len(), length);
-    }
-    Ok(())
-}
-
-fn base() -> StarkShape {
-    StarkShape {
-        log_ext_degree: 5,
-        log_degree: 5,
-        main_width: 2,
-        preprocessed_width: 0,
-        num_public_values: 1,
-        num_periodic_columns: 0,
-        num_quotient_chunks: 2,
-        opens_main_next_row: true,
-        opens_preprocessed_next_row: false,
-        has_randomization: false,
-        ood_pow_bits: 0,
-    }
-}
-
-/// The shape of `base` with one field changed, or `base` itself.
-fn changed(field: usize) -> StarkShape {
-    let mut shape = base();
-    match field {
-        1 => shape.log_ext_degree = 6,
-        2 => shape.log_degree = 6,
-        3 => shape.main_width = 3,
-        4 => shape.preprocessed_width = 1,
-        5 => shape.num_public_values = 2,
-        6 => shape.num_periodic_columns = 1,
-        7 => shape.num_quotient_chunks = 3,
-        8 => shape.opens_main_next_row = false,
-        9 => shape.opens_preprocessed_next_row = true,
-        10 => shape.has_randomization = true,
-        11 => shape.ood_pow_bits = 1,
-        _ => {}
-    }
-    shape
-}
-
-#[test]
-fn one_field_changed(rt: HostRuntime) -> Result<(), Fail> {
-    let alloc = rt.alloc();
-    for first in 0..12usize {
-        let one = separator(alloc, &changed(first))?;
-        for second in 0..first {
-            let other = separator(alloc, &changed(second))?;
-            assert!(rt; one.seed() != other.seed(), "{first}, {second}");
+/// How many seeds of the shapes there are, where no two are the same; else the shape whose seed another one has.
+fn different<F: Field, EF: ExtensionField<F>>(alloc: Global, text: &str) -> Result<String, Fail> {
+    let mut found: Vec<DomainSeparator> = Vec::new(alloc);
+    for shape in text.split(", ") {
+        let next = separator::<F, EF>(alloc, shape)?;
+        if found.iter().any(|other| other.seed() == next.seed()) {
+            return Ok(format!(in alloc; "{shape} has another's")?);
         }
+        found.push(next)?;
     }
-    Ok(())
+    Ok(format!(in alloc; "{} seeds", found.len())?)
 }
 
 /// Seven columns, three preprocessed ones and five public values, beside periodic columns; all next rows are read.
 #[derive(Drop)]
 struct WideAir {
-    periodic: Vec<Vec<Base>>,
+    periodic: Vec<Vec<S12289>>,
 }
 
-impl BaseAir<Base> for WideAir {
+impl BaseAir<S12289> for WideAir {
     ghost layout = { λ air. record { main = 7; main_next = 7; preprocessed = 3; preprocessed_next = 3; publics = 5; periodics = length air.periodic.items } };
 
     ghost preprocessed_trace = { λ _. Some (record { width = 3; values = [] }) };
@@ -166,7 +131,7 @@ impl BaseAir<Base> for WideAir {
     fn preprocessed_trace(
         &self,
         alloc: Global,
-    ) -> Result<Option<RowMajorMatrix<Base>>, AllocError> {
+    ) -> Result<Option<RowMajorMatrix<S12289>>, AllocError> {
         Ok(Some(RowMajorMatrix::new(Vec::new(alloc), 3)))
     }
 
@@ -174,7 +139,7 @@ impl BaseAir<Base> for WideAir {
         5
     }
 
-    fn periodic_columns(&self) -> &[Vec<Base>] {
+    fn periodic_columns(&self) -> &[Vec<S12289>] {
         &self.periodic
     }
 
@@ -204,8 +169,8 @@ fn shape_of_an_air(rt: HostRuntime) -> Result<(), Fail> {
     let alloc = rt.alloc();
     let air = WideAir {
         periodic: vec![in alloc;
-            vec![in alloc; Base::new(1)]?,
-            vec![in alloc; Base::new(2)]?,
+            vec![in alloc; S12289::new(1)]?,
+            vec![in alloc; S12289::new(2)]?,
         ]?,
     };
     let shape = StarkShape::new(alloc, &air, 3, 9, 8, 4, true, 6)?;

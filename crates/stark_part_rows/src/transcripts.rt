@@ -1,18 +1,68 @@
-//! Transcripts of both sides, over the two challengers.
-ghost use Rattle.std.specs.Prelude.{◌≡◌, length};
+//! Transcripts of both sides, over any challenger.
+ghost use Rattle.std.specs.Prelude.{◌≡◌, IfOk, length};
 
-use crate::elements::{Base, Extension};
-use crate::row_field::RowField;
-use crate::rows::{all_rows, numbers_in};
-use stark_bench::{ClearCommitment, Ext4, ScriptChallenger, Sha256Challenger};
+use crate::elements::element;
+use crate::rows::{apart, numbers_in};
+use stark_bench::ClearCommitment;
 use stark_parts::{
     StarkProverTranscript, StarkShape, StarkTranscriptFailure, StarkVerifierTranscript,
 };
-use stark_support::{CanObserve, CanSample, Field, GrindingChallenger};
+use stark_support::{
+    CanObserve, CanSample, ExtensionChallenger, ExtensionField, FieldChallenger,
+    GrindingChallenger, PrimeField64,
+};
 use std::alloc::{AllocError, Global};
+use std::fmt::Debug;
 use std::test::Fail;
 
-fn commitment<F: RowField>(alloc: Global, x: F) -> Result<ClearCommitment<F>, AllocError> {
+// The challenger | a table's name | what is given.
+pub const ROWS: &str = r#"
+# The preprocessed columns, and whether a commitment to them is given: the failure of a verifier's first phase.
+sha256 | first | 3 0 => Some(MissingPreprocessedCommitment { width: 3 })
+sha256 | first | 0 1 => Some(UnexpectedPreprocessedCommitment)
+sha256 | first | 3 1 => None
+sha256 | first | 0 0 => None
+
+# Whether there is randomization, the bits of work, and whether a random commitment is given: the failure of the second phase.
+script 4 3 | second | 1 0 0 => Some(MissingRandomCommitment)
+script 4 3 | second | 0 0 1 => Some(UnexpectedRandomCommitment)
+script 4 3 | second | 0 16 0 => Some(OodPowWitness { bits: 16 })
+script 4 3 | second | 1 0 1 => None
+
+# What is committed to and handed over: the trace, the preprocessed columns, a public value, the quotient and a random commitment.
+# A verifier draws what a prover does, and so does a prover that stops behind zeta.
+sha256 | sides | 1 2 7 3 4 => the same
+
+# The same with one of them changed. Answered is whether the next draw is another one, and whether alpha is.
+sha256 | changed | 1 2 7 3 4 | 8 2 7 3 4 => true true
+sha256 | changed | 1 2 7 3 4 | 1 8 7 3 4 => true true
+sha256 | changed | 1 2 7 3 4 | 1 2 8 3 4 => true true
+sha256 | changed | 1 2 7 3 4 | 1 2 7 8 4 => true false
+sha256 | changed | 1 2 7 3 4 | 1 2 7 3 8 => true false
+"#;
+
+/// The answer to a row of these tables.
+pub fn answer<F, EF, C>(alloc: Global, challenger: C, row: &str) -> Result<String, Fail>
+where
+    F: PrimeField64 + Debug,
+    EF: ExtensionField<F> + Debug,
+    C: FieldChallenger<F>
+        + CanObserve<ClearCommitment<F>>
+        + ExtensionChallenger<F, EF>
+        + GrindingChallenger<Witness = F>,
+{
+    let (_challenger, row) = apart(row)?;
+    let (table, text) = apart(row)?;
+    match table {
+        "first" => first_phase::<F, EF, C>(alloc, challenger, text),
+        "second" => second_phase::<F, EF, C>(alloc, challenger, text),
+        "sides" => both_sides::<F, EF, C>(alloc, challenger, text),
+        "changed" => changed::<F, EF, C>(alloc, challenger, text),
+        _ => Err(Fail::new("no such table")),
+    }
+}
+
+fn commitment<F: PrimeField64>(alloc: Global, x: F) -> Result<ClearCommitment<F>, AllocError> {
     let mut column = Vec::new(alloc);
     column.push(x)?;
     let matrix = vec![in alloc; column]?;
@@ -39,8 +89,8 @@ fn shape(preprocessed_width: usize, has_randomization: bool, ood_pow_bits: usize
     }
 }
 
-// The first phase of a verifier, over any challenger; its failure.
-fn first_failure<F, C>(
+/// The first phase of a verifier, over any challenger; its failure.
+fn first_failure<F, EF, C>(
     alloc: Global,
     challenger: &mut C,
     x: F,
@@ -49,39 +99,107 @@ fn first_failure<F, C>(
     preprocessed: Option<&ClearCommitment<F>>,
 ) -> Result<Option<StarkTranscriptFailure>, AllocError>
 where
-    F: RowField,
+    F: PrimeField64,
+    EF: ExtensionField<F>,
     C: CanObserve<F>
         + CanObserve<ClearCommitment<F>>
-        + CanSample<F::Above>
+        + CanSample<EF>
         + GrindingChallenger<Witness = F>,
     requires { length publics.now ≡ 1 }
 {
     let trace = commitment(alloc, x)?;
     let shape = shape(preprocessed_width, false, 0);
-    let mut transcript = StarkVerifierTranscript::<C, F, F::Above>::new(alloc, challenger, shape)?;
+    let mut transcript = StarkVerifierTranscript::<C, F, EF>::new(alloc, challenger, shape)?;
     let answer = transcript.constraint_phase::<ClearCommitment<F>>(&trace, preprocessed, publics);
     transcript.abort();
     Ok(answer.err())
 }
 
-// The preprocessed columns, and whether a commitment to them is given.
-const FIRST_PHASES: &str = "\
-3 0 => Some(MissingPreprocessedCommitment { width: 3 })
-0 1 => Some(UnexpectedPreprocessedCommitment)
-3 1 => None
-0 0 => None";
-
-fn first_phase(alloc: Global, text: &str) -> Result<String, Fail> {
+fn first_phase<F, EF, C>(alloc: Global, mut challenger: C, text: &str) -> Result<String, Fail>
+where
+    F: PrimeField64,
+    EF: ExtensionField<F>,
+    C: CanObserve<F>
+        + CanObserve<ClearCommitment<F>>
+        + CanSample<EF>
+        + GrindingChallenger<Witness = F>
+        + Drop,
+{
     let [width, is_given] = numbers_in::<2>(text)?;
-    let other = commitment(alloc, Base::new(2))?;
+    let other = commitment(alloc, F::from_u8(2))?;
     let given = if is_given == 1 { Some(&other) } else { None };
-    let mut challenger = Sha256Challenger::<Base>::new();
-    let x = Base::new(5);
-    let failure = first_failure(alloc, &mut challenger, x, &[x], width as usize, given)?;
+    let publics = one(alloc, F::from_u8(5))?;
+    let failure = first_failure::<F, EF, C>(
+        alloc,
+        &mut challenger,
+        F::from_u8(5),
+        &publics,
+        width as usize,
+        given,
+    )?;
     Ok(format!(in alloc; "{failure:?}")?)
 }
 
-// What is committed to and handed over in a run.
+/// The failure of a verifier's second phase.
+fn second_failure<'r, F, EF, C>(
+    alloc: Global,
+    challenger: &mut C,
+    x: F,
+    publics: &[F],
+    has_randomization: bool,
+    bits: usize,
+    random: Option<&'r ClearCommitment<F>>,
+) -> Result<Option<StarkTranscriptFailure>, AllocError>
+where
+    F: PrimeField64,
+    EF: ExtensionField<F>,
+    C: CanObserve<F>
+        + CanObserve<ClearCommitment<F>>
+        + CanSample<EF>
+        + GrindingChallenger<Witness = F>,
+    requires { length publics.now ≡ 1 }
+{
+    let trace = commitment(alloc, x)?;
+    let shape = shape(0, has_randomization, bits);
+    let mut transcript = StarkVerifierTranscript::<C, F, EF>::new(alloc, challenger, shape)?;
+    let absent: Option<&'r ClearCommitment<F>> = None;
+    let first = transcript.constraint_phase::<ClearCommitment<F>>(&trace, absent, publics);
+    if let Err(failure) = first {
+        transcript.abort();
+        return Ok(Some(failure));
+    }
+    let second = transcript.ood_phase::<ClearCommitment<F>>(&trace, random, F::ZERO);
+    transcript.abort();
+    Ok(second.err())
+}
+
+fn second_phase<F, EF, C>(alloc: Global, mut challenger: C, text: &str) -> Result<String, Fail>
+where
+    F: PrimeField64,
+    EF: ExtensionField<F>,
+    C: CanObserve<F>
+        + CanObserve<ClearCommitment<F>>
+        + CanSample<EF>
+        + GrindingChallenger<Witness = F>
+        + Drop,
+{
+    let [is_random, bits, is_given] = numbers_in::<3>(text)?;
+    let other = commitment(alloc, F::from_u8(2))?;
+    let given = if is_given == 1 { Some(&other) } else { None };
+    let publics = one(alloc, F::from_u8(5))?;
+    let failure = second_failure::<F, EF, C>(
+        alloc,
+        &mut challenger,
+        F::from_u8(5),
+        &publics,
+        is_random == 1,
+        bits as usize,
+        given,
+    )?;
+    Ok(format!(in alloc; "{failure:?}")?)
+}
+
+/// What is committed to and handed over in a run.
 #[derive(Drop)]
 struct Inputs<F> {
     trace: ClearCommitment<F>,
@@ -91,35 +209,46 @@ struct Inputs<F> {
     random: ClearCommitment<F>,
 }
 
-fn inputs_of<F: RowField>(alloc: Global, numbers: [F; 5]) -> Result<Inputs<F>, AllocError> {
-    let [trace, preprocessed, public, quotient, random] = numbers;
+/// The inputs by their numbers, in that order.
+fn inputs_in<F: PrimeField64>(alloc: Global, text: &str) -> Result<Inputs<F>, Fail> {
+    let [trace, preprocessed, public, quotient, random] = numbers_in::<5>(text)?;
     Ok(Inputs {
-        trace: commitment(alloc, trace)?,
-        preprocessed: commitment(alloc, preprocessed)?,
-        public,
-        quotient: commitment(alloc, quotient)?,
-        random: commitment(alloc, random)?,
+        trace: commitment(alloc, element(trace))?,
+        preprocessed: commitment(alloc, element(preprocessed))?,
+        public: element(public),
+        quotient: commitment(alloc, element(quotient))?,
+        random: commitment(alloc, element(random))?,
     })
 }
 
-// A prover's run up to the end, or aborted after zeta: alpha, zeta and the witness.
-fn proved<F, C>(
+/// The list of one public value.
+fn one<F: Drop>(alloc: Global, x: F) -> Result<Vec<F>, AllocError>
+    ensures { IfOk result (λ v. length v.items ≡ 1) }
+{
+    let mut publics = Vec::new(alloc);
+    publics.push(x)?;
+    Ok(publics)
+}
+
+/// A prover's run up to the end, or aborted after zeta: alpha, zeta and the witness.
+fn proved<F, EF, C>(
     alloc: Global,
     challenger: &mut C,
     inputs: &Inputs<F>,
     publics: &[F],
     delegates: bool,
-) -> Result<Option<(F::Above, F::Above, F)>, AllocError>
+) -> Result<Option<(EF, EF, F)>, AllocError>
 where
-    F: RowField,
+    F: PrimeField64,
+    EF: ExtensionField<F>,
     C: CanObserve<F>
         + CanObserve<ClearCommitment<F>>
-        + CanSample<F::Above>
+        + CanSample<EF>
         + GrindingChallenger<Witness = F>,
     requires { length publics.now ≡ 1 }
 {
     let shape = shape(3, true, 1);
-    let mut transcript = StarkProverTranscript::<C, F, F::Above>::new(alloc, challenger, shape)?;
+    let mut transcript = StarkProverTranscript::<C, F, EF>::new(alloc, challenger, shape)?;
     let alpha = transcript.constraint_phase::<ClearCommitment<F>>(
         &inputs.trace,
         Some(&inputs.preprocessed),
@@ -144,24 +273,25 @@ where
     }
 }
 
-// A verifier's run: alpha and zeta.
-fn verified<F, C>(
+/// A verifier's run: alpha and zeta.
+fn verified<F, EF, C>(
     alloc: Global,
     challenger: &mut C,
     inputs: &Inputs<F>,
     publics: &[F],
     witness: F,
-) -> Result<Option<(F::Above, F::Above)>, AllocError>
+) -> Result<Option<(EF, EF)>, AllocError>
 where
-    F: RowField,
+    F: PrimeField64,
+    EF: ExtensionField<F>,
     C: CanObserve<F>
         + CanObserve<ClearCommitment<F>>
-        + CanSample<F::Above>
+        + CanSample<EF>
         + GrindingChallenger<Witness = F>,
     requires { length publics.now ≡ 1 }
 {
     let shape = shape(3, true, 1);
-    let mut transcript = StarkVerifierTranscript::<C, F, F::Above>::new(alloc, challenger, shape)?;
+    let mut transcript = StarkVerifierTranscript::<C, F, EF>::new(alloc, challenger, shape)?;
     let Ok(alpha) = transcript.constraint_phase::<ClearCommitment<F>>(
         &inputs.trace,
         Some(&inputs.preprocessed),
@@ -183,130 +313,89 @@ where
     Ok(Some((alpha, zeta)))
 }
 
-/// Alpha, zeta, the witness and the next draw of a prover over SHA-256.
-type Run = (Extension, Extension, Base, Base);
-
-fn sha256_run(
+/// Alpha, zeta, the witness and the next draw of a prover that has this challenger first; none where there is no witness of one bit.
+fn run<F, EF, C>(
     alloc: Global,
-    numbers: [u32; 5],
+    fresh: &C,
+    inputs: &Inputs<F>,
     delegates: bool,
-) -> Result<Option<Run>, AllocError> {
-    let inputs = inputs_of(alloc, numbers.map(Base::new))?;
-    let mut challenger = Sha256Challenger::<Base>::new();
-    let publics = [inputs.public];
-    let played = proved(alloc, &mut challenger, &inputs, &publics, delegates)?;
-    let next: Base = challenger.sample();
+) -> Result<Option<(EF, EF, F, F)>, AllocError>
+where
+    F: PrimeField64 + Debug,
+    EF: ExtensionField<F> + Debug,
+    C: FieldChallenger<F>
+        + CanObserve<ClearCommitment<F>>
+        + ExtensionChallenger<F, EF>
+        + GrindingChallenger<Witness = F>,
+{
+    let mut challenger = fresh.duplicate(alloc)?;
+    let publics = one(alloc, inputs.public)?;
+    let played = proved::<F, EF, C>(alloc, &mut challenger, inputs, &publics, delegates)?;
+    let next: F = challenger.sample();
     match played {
         Some((alpha, zeta, witness)) => Ok(Some((alpha, zeta, witness, next))),
         None => Ok(None),
     }
 }
 
-/// What a verifier over SHA-256 draws in the run with this witness.
-fn sha256_check(
+/// What a verifier that has this challenger first draws in the run with this witness.
+fn check<F, EF, C>(
     alloc: Global,
-    numbers: [u32; 5],
-    witness: Base,
-) -> Result<Option<Run>, AllocError> {
-    let inputs = inputs_of(alloc, numbers.map(Base::new))?;
-    let mut challenger = Sha256Challenger::<Base>::new();
-    let publics = [inputs.public];
-    let drawn = verified(alloc, &mut challenger, &inputs, &publics, witness)?;
-    let next: Base = challenger.sample();
+    fresh: &C,
+    inputs: &Inputs<F>,
+    witness: F,
+) -> Result<Option<(EF, EF, F, F)>, AllocError>
+where
+    F: PrimeField64 + Debug,
+    EF: ExtensionField<F> + Debug,
+    C: FieldChallenger<F>
+        + CanObserve<ClearCommitment<F>>
+        + ExtensionChallenger<F, EF>
+        + GrindingChallenger<Witness = F>,
+{
+    let mut challenger = fresh.duplicate(alloc)?;
+    let publics = one(alloc, inputs.public)?;
+    let drawn = verified::<F, EF, C>(alloc, &mut challenger, inputs, &publics, witness)?;
+    let next: F = challenger.sample();
     match drawn {
         Some((alpha, zeta)) => Ok(Some((alpha, zeta, witness, next))),
         None => Ok(None),
     }
 }
 
-#[test]
-fn both_sides(rt: HostRuntime) -> Result<(), Fail> {
-    let alloc = rt.alloc();
-    let numbers = [1, 2, 7, 3, 4];
-    let run = sha256_run(alloc, numbers, true)?;
-    let Some((_, _, witness, _)) = run else {
-        return Err(Fail::new("no witness of one bit"));
-    };
-    let checked = sha256_check(alloc, numbers, witness)?;
-    let aborted = sha256_run(alloc, numbers, false)?;
-    assert!(rt; checked == run && aborted == run);
-    Ok(())
-}
-
-#[test]
-fn other_events(rt: HostRuntime) -> Result<(), Fail> {
-    let alloc = rt.alloc();
-    let numbers = [1, 2, 7, 3, 4];
-    let Some((alpha, _, _, next)) = sha256_run(alloc, numbers, true)? else {
-        return Err(Fail::new("no witness of one bit"));
-    };
-    for event in 0..5usize {
-        let mut changed = numbers;
-        changed[event] = 8;
-        let Some((other_alpha, _, _, other_next)) = sha256_run(alloc, changed, true)? else {
-            return Err(Fail::new("no witness of one bit"));
-        };
-        assert_eq!(rt;
-            (other_next != next, other_alpha != alpha),
-            (true, event < 3),
-            "event {event}"
-        );
-    }
-    Ok(())
-}
-
-// The failure of a verifier's second phase.
-fn second_failure<'r, F, C>(
-    alloc: Global,
-    challenger: &mut C,
-    x: F,
-    publics: &[F],
-    has_randomization: bool,
-    bits: usize,
-    random: Option<&'r ClearCommitment<F>>,
-) -> Result<Option<StarkTranscriptFailure>, AllocError>
+fn both_sides<F, EF, C>(alloc: Global, challenger: C, text: &str) -> Result<String, Fail>
 where
-    F: RowField,
-    C: CanObserve<F>
+    F: PrimeField64 + Debug,
+    EF: ExtensionField<F> + Debug,
+    C: FieldChallenger<F>
         + CanObserve<ClearCommitment<F>>
-        + CanSample<F::Above>
+        + ExtensionChallenger<F, EF>
         + GrindingChallenger<Witness = F>,
-    requires { length publics.now ≡ 1 }
 {
-    let trace = commitment(alloc, x)?;
-    let shape = shape(0, has_randomization, bits);
-    let mut transcript = StarkVerifierTranscript::<C, F, F::Above>::new(alloc, challenger, shape)?;
-    let absent: Option<&'r ClearCommitment<F>> = None;
-    let first = transcript.constraint_phase::<ClearCommitment<F>>(&trace, absent, publics);
-    if let Err(failure) = first {
-        transcript.abort();
-        return Ok(Some(failure));
+    let inputs = inputs_in::<F>(alloc, text)?;
+    let played = run::<F, EF, C>(alloc, &challenger, &inputs, true)?;
+    let (_, _, witness, _) = played.ok_or("no witness of one bit")?;
+    let checked = check::<F, EF, C>(alloc, &challenger, &inputs, witness)?;
+    let aborted = run::<F, EF, C>(alloc, &challenger, &inputs, false)?;
+    if checked != played || aborted != played {
+        return Ok(format!(in alloc; "{played:?} {checked:?} {aborted:?}")?);
     }
-    let second = transcript.ood_phase::<ClearCommitment<F>>(&trace, random, F::ZERO);
-    transcript.abort();
-    Ok(second.err())
+    Ok(String::from_str(alloc, "the same")?)
 }
 
-// Whether there is randomization, the bits of work, and whether a random commitment is given.
-const SECOND_PHASES: &str = "\
-1 0 0 => Some(MissingRandomCommitment)
-0 0 1 => Some(UnexpectedRandomCommitment)
-0 16 0 => Some(OodPowWitness { bits: 16 })
-1 0 1 => None";
-
-fn second_phase(alloc: Global, text: &str) -> Result<String, Fail> {
-    let [is_random, bits, is_given] = numbers_in::<3>(text)?;
-    let other = commitment(alloc, Base::new(2))?;
-    let given = if is_given == 1 { Some(&other) } else { None };
-    let mut script = ScriptChallenger::new(vec![in alloc; Base::new(4), Base::new(3)]?);
-    let x = Base::new(5);
-    let bits = bits as usize;
-    let failure = second_failure(alloc, &mut script, x, &[x], is_random == 1, bits, given)?;
-    Ok(format!(in alloc; "{failure:?}")?)
-}
-
-#[test]
-fn failures(rt: HostRuntime) -> Result<(), Fail> {
-    all_rows(&rt, rt.alloc(), FIRST_PHASES, first_phase)?;
-    all_rows(&rt, rt.alloc(), SECOND_PHASES, second_phase)
+fn changed<F, EF, C>(alloc: Global, challenger: C, text: &str) -> Result<String, Fail>
+where
+    F: PrimeField64 + Debug,
+    EF: ExtensionField<F> + Debug,
+    C: FieldChallenger<F>
+        + CanObserve<ClearCommitment<F>>
+        + ExtensionChallenger<F, EF>
+        + GrindingChallenger<Witness = F>,
+{
+    let (honest, other) = apart(text)?;
+    let honest = run::<F, EF, C>(alloc, &challenger, &inputs_in::<F>(alloc, honest)?, true)?;
+    let (alpha, _, _, next) = honest.ok_or("no witness of one bit")?;
+    let other = run::<F, EF, C>(alloc, &challenger, &inputs_in::<F>(alloc, other)?, true)?;
+    let (other_alpha, _, _, other_next) = other.ok_or("no witness of one bit")?;
+    Ok(format!(in alloc; "{} {}", other_next != next, other_alpha != alpha)?)
 }

@@ -4,7 +4,6 @@ use Rattle.std.specs.List.{slice_get}
 use Rattle.std.proofs.lemmas.Option.{slice_get_within, get_or_from_slice_get}
 use Rattle.stark_support.specs.Ring.{RingOps, RingLaws}
 use Rattle.stark_support.specs.RingFacts.{zero_add}
-use Rattle.stark_support.specs.Combination.{EachStands}
 use Rattle.stark_support.specs.Extension.{basis_sum}
 use Rattle.stark_support.proofs.Places.{from_place}
 
@@ -26,10 +25,6 @@ pub one_more_coordinate : {E : Type 0} (ring : RingOps E) (start : E) (basis val
 one_more_coordinate ring start basis vals i n e v rest new next at_e at_v so_far is =
     is ∙ ap (ring.add (ring.mul e v)) so_far
     ∙ sym (ap (λ l. onto ring start l (drop i vals)) (dropped basis i n e next at_e) ∙ ap (onto ring start (e ∷ drop n basis)) (dropped vals i n v next at_v))
-
-pub each_itself : {E : Type 0} (stands : E → E → Type 0) → ((x : E) → stands x x) → (xs : List E) → EachStands stands xs xs
-each_itself stands itself [] = tt
-each_itself stands itself (x ∷ xs) = (itself x, each_itself stands itself xs)
 
 pub mapped_at : {A B : Type 0} (f : A → B) (xs : List A) (i : ℕ) (a : A) (b : B) → i < length xs → slice_index_or (map f xs) i b ≡ f (slice_index_or xs i a)
 mapped_at f [] i a b h = absurd (omega arith)

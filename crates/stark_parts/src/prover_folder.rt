@@ -11,7 +11,7 @@ use crate::config::{PackedChallenge, PackedVal, StarkGenericConfig, Val};
 use stark_air::{AirBuilder, ExtensionBuilder, RowWindow};
 use stark_support::{
     ExtensionField, Field, PackedExtensionField, PackedField, PackedValue, RowMajorMatrixView,
-    batched_linear_combination,
+    packed_linear_combination,
 };
 use std::alloc::AllocError;
 
@@ -196,9 +196,8 @@ where
     let mut index = SC::Challenge::DIMENSION;
     while index > 0 {
         index -= 1;
-        let coordinate = packed_sum::<Val<SC>, PackedVal<SC>>(values, powers[index].as_slice());
-        let element = SC::Challenge::basis_element(index);
-        sum = plus_coordinate::<SC>(element, coordinate, sum);
+        let coordinate = Val::<SC>::packed_sum(values, powers[index].as_slice());
+        sum = SC::Challenge::plus_packed_coordinate(sum, index, coordinate);
     }
     sum
 }
@@ -208,23 +207,5 @@ pub(crate) fn packed_sum<F: Field, P: PackedValue<Value = F>>(values: &[P], coef
     requires { length values.now ≡ length coefficients.now }
     ensures { (i : ℕ) → i < P.WIDTH → slice_index_or (P.lanes result) i F.ring.zero ≡ sum_of_products P.lane_ring F.ZERO (lane_values P.lanes i F.ring.zero values.now) coefficients.now }
 {
-    batched_linear_combination::<F, P>(values, coefficients)
-}
-
-/// An element times a packed coordinate, and the rest.
-fn plus_coordinate<SC: StarkGenericConfig>(
-    element: SC::Challenge,
-    coordinate: PackedVal<SC>,
-    rest: PackedChallenge<SC>,
-) -> PackedChallenge<SC>
-where
-    Val<SC>: PackedField,
-    SC::Challenge: PackedExtensionField<Val<SC>>,
-    ensures { (i : ℕ) → i < SC.Challenge.ExtensionPacking.WIDTH → slice_index_or (SC.Challenge.ExtensionPacking.lanes result) i SC.Challenge.ring.zero
-        ≡ SC.Challenge.ExtensionPacking.lane_ring.add (SC.Challenge.ExtensionPacking.lane_ring.mul element (slice_index_or (map SC.Challenge.embed (SC.Pcs.Domain.Val.Packing.lanes coordinate)) i SC.Challenge.ring.zero)) (slice_index_or (SC.Challenge.ExtensionPacking.lanes rest) i SC.Challenge.ring.zero) }
-{
-    let scale = PackedChallenge::<SC>::from(element);
-    let lifted = PackedChallenge::<SC>::from(coordinate);
-    let product = scale * lifted;
-    product + rest
+    packed_linear_combination::<F, P>(values, coefficients)
 }

@@ -1,210 +1,298 @@
 //! The sample AIRs: what they declare, and their constraints folded at 3 over the subgroup of two points with alpha 4. The
 //! selectors there are 4 for the first row, 2 for the last and 4 for the transition.
-ghost use Rattle.std.specs.Prelude.{◌≡◌, []};
+ghost use Rattle.std.specs.Prelude.{◌≡◌, [], IfOk, IsTrue};
+ghost use Rattle.stark_air.specs.Declaration.{next_width};
 ghost use Rattle.stark_air.specs.Layout.{Covers};
 ghost use Rattle.stark_air.specs.Rows.{layout_of};
 
-use crate::calls;
-use crate::calls::RowField;
-use crate::elements::{Base, Extension, number};
+use crate::calls::{self, reads_of_a_part, selectors_at};
+use crate::elements::{above, elements_in};
+use crate::rows::{apart, list_in, numbers_in};
 use stark_air::{Air, BaseAir, every_column};
-use stark_bench::Sha256Challenger;
+use stark_bench::{ClearCommitment, S12289};
 use stark_clear::{
     Asked, CounterAir, CubicAir, FibonacciAir, PairAir, PeriodicAir, PreprocessedAir, SmallAir,
 };
-use stark_support::RowMajorMatrix;
+use stark_support::{
+    CanObserve, ExtensionChallenger, ExtensionField, FieldChallenger, PrimeField64, RowMajorMatrix,
+    TwoAdicField,
+};
 use std::alloc::{AllocError, Global};
+use std::fmt::Debug;
 use std::test::Fail;
 
-/// The folded sum over a main row and the one after it, a preprocessed row, periodic values and public values.
-pub fn folded<A: Air<Base>>(
-    air: &A,
-    local: &[Extension],
-    next: &[Extension],
-    fixed: &[Extension],
-    periodic: &[Extension],
-    publics: &[Base],
-) -> Result<Extension, AllocError>
-    requires { Covers (layout_of local.now next.now fixed.now [] publics.now periodic.now) (A.layout air.now) }
+// A table's name | what is given.
+pub const ROWS: &str = r#"
+# The AIR | the main row | the one after it | the preprocessed row | the periodic values | the public values: the folded sum. The
+# counter: 4 * (4 * (4 - 5)) + 4 * (7 - 4 - 1) is -8. Of the mixed constraints 16 * (5 - 1) + 4 * (5 - 2) + (5 - 3): in their
+# order, base and extension ones alike. Then the first row's selector less one; the column alone, under an author's bound; and
+# nothing.
+folded | counter | 4 | 7 | empty | empty | 5 => Ext4 { c0: 12281, c1: 0, c2: 0, c3: 0 }
+folded | counter | 5 | 7 | empty | empty | 5 => Ext4 { c0: 4, c1: 0, c2: 0, c3: 0 }
+folded | mixed | 5 | empty | empty | empty | empty => Ext4 { c0: 78, c1: 0, c2: 0, c3: 0 }
+folded | first row | 5 | empty | empty | empty | empty => Ext4 { c0: 3, c1: 0, c2: 0, c3: 0 }
+folded | zeros | 5 | empty | empty | empty | empty => Ext4 { c0: 5, c1: 0, c2: 0, c3: 0 }
+folded | nothing | 5 | empty | empty | empty | empty => Ext4 { c0: 0, c1: 0, c2: 0, c3: 0 }
+
+# Each half of a pair has 4 * (4 - 5) and 4 * (7 - 4 - 1): 64 * -4 + 16 * 8 + 4 * -4 + 8 is -136. Where the columns differ:
+# 64 * (4 * (1 - 5)) + 16 * (4 * (3 - 1 - 1)) + 4 * (4 * (2 - 5)) + 4 * (9 - 2 - 1) is -984.
+folded | pair | 4 4 | 7 7 | empty | empty | 5 => Ext4 { c0: 12153, c1: 0, c2: 0, c3: 0 }
+folded | pair | 1 2 | 3 9 | empty | empty | 5 => Ext4 { c0: 11305, c1: 0, c2: 0, c3: 0 }
+
+# Fibonacci: 4 * (1 - 5), 4 * (2 - 6), 4 * (3 - 2), 4 * (4 - (1 + 2)) and 2 * (2 - 7), times 256, 64, 16, 4 and 1: -5050. The
+# cube of 3. The preprocessed column: 5 - 3. The periodic column of zero and one takes the value -1 at 3.
+folded | fibonacci | 1 2 | 3 4 | empty | empty | 5 6 7 => Ext4 { c0: 7239, c1: 0, c2: 0, c3: 0 }
+folded | cubic | 3 | empty | empty | empty | empty => Ext4 { c0: 27, c1: 0, c2: 0, c3: 0 }
+folded | preprocessed | 5 | empty | 3 | empty | empty => Ext4 { c0: 2, c1: 0, c2: 0, c3: 0 }
+folded | periodic | 12288 | empty | empty | 12288 | empty => Ext4 { c0: 0, c1: 0, c2: 0, c3: 0 }
+folded | periodic | 5 | empty | empty | 12288 | empty => Ext4 { c0: 6, c1: 0, c2: 0, c3: 0 }
+
+# The AIR: its main and preprocessed columns, public values and periodic columns; how many main and preprocessed columns' next rows
+# are read; what the author says of the degree, of the number of constraints, and of the public values at the ends; the periodic
+# columns and the preprocessed trace.
+declared | counter => [1, 0, 1, 0] [1, 0] None None 0 [] None
+declared | cubic => [1, 0, 0, 0] [0, 0] None None 0 [] None
+declared | fibonacci => [2, 0, 3, 0] [2, 0] None None 0 [] None
+declared | preprocessed => [1, 1, 0, 0] [0, 0] None None 0 [] Some(RowMajorMatrix { values: [1, 2, 3, 4], width: 1 })
+declared | pair => [2, 0, 1, 0] [2, 0] None None 0 [] None
+declared | hinted => [1, 0, 0, 0] [0, 0] Some(5) None 0 [] None
+declared | zeros without a bound => [1, 0, 0, 0] [0, 0] None None 0 [] None
+declared | periodic => [1, 0, 0, 1] [0, 0] None None 0 [[0, 1]] None
+
+# The start of a part of two of three columns | the row | the next one. Of the current row the columns 0 and 2 of the part are read, of
+# the next one 1 and 2. A part sees the first two columns, or the last two, and no third.
+part | 0 | 1 2 3 | 4 5 6 => Some([Some(Ext4 { c0: 1, c1: 0, c2: 0, c3: 0 }), None, Some(Ext4 { c0: 5, c1: 0, c2: 0, c3: 0 }), None])
+part | 1 | 1 2 3 | 4 5 6 => Some([Some(Ext4 { c0: 2, c1: 0, c2: 0, c3: 0 }), None, Some(Ext4 { c0: 6, c1: 0, c2: 0, c3: 0 }), None])
+"#;
+
+/// The answer to a row of these tables.
+pub fn answer<F, EF, C>(alloc: Global, row: &str) -> Result<String, Fail>
+where
+    F: PrimeField64 + TwoAdicField + Debug,
+    EF: ExtensionField<F> + Debug,
+    C: FieldChallenger<F> + CanObserve<ClearCommitment<F>> + ExtensionChallenger<F, EF> + Clone,
 {
-    let Some(selectors) = calls::selectors_at::<Base>(1, number(3)) else {
-        return Ok(number(0));
-    };
-    calls::folded::<Base, Sha256Challenger<Base>, A>(
-        air,
-        local,
-        next,
-        fixed,
-        periodic,
-        publics,
-        selectors,
-        number(4),
-    )
+    let (table, text) = apart(row)?;
+    match table {
+        "folded" => folded_by_name::<F, EF, C>(alloc, text),
+        "declared" => declared_by_name::<F>(alloc, text),
+        "part" => part::<F, EF, C>(alloc, text),
+        _ => Err(Fail::new("no such table")),
+    }
 }
 
-// Of the mixed constraints 16 * (5 - 1) + 4 * (5 - 2) + (5 - 3): in their order, base and extension ones alike. Then the first
-// row's selector less one; the column alone, under an author's bound; and nothing.
-fn sums_of_small_airs() -> Result<[Extension; 4], AllocError> {
-    let local = [number(5)];
-    let hinted = SmallAir {
-        asked: Asked::Zeros,
-        max_degree: Some(3),
-    };
-    Ok([
-        folded(&SmallAir::new(Asked::Mixed), &local, &[], &[], &[], &[])?,
-        folded(&SmallAir::new(Asked::FirstRow), &local, &[], &[], &[], &[])?,
-        folded(&hinted, &local, &[], &[], &[], &[])?,
-        folded(&SmallAir::new(Asked::Nothing), &local, &[], &[], &[], &[])?,
-    ])
+/// Numbers, as elements of the extension.
+pub fn row_in<F: PrimeField64, EF: ExtensionField<F>>(
+    alloc: Global,
+    text: &str,
+) -> Result<Vec<EF>, Fail> {
+    let mut list = Vec::new(alloc);
+    for number in list_in(alloc, text)? {
+        list.push(above::<F, EF>(number))?;
+    }
+    Ok(list)
 }
 
-// Each half has 4 * (4 - 5) and 4 * (7 - 4 - 1): 64 * -4 + 16 * 8 + 4 * -4 + 8 is -136. Where the columns differ:
-// 64 * (4 * (1 - 5)) + 16 * (4 * (3 - 1 - 1)) + 4 * (4 * (2 - 5)) + 4 * (9 - 2 - 1) is -984.
-fn sums_of_pairs() -> Result<[Extension; 2], AllocError> {
-    let [one, two, three, nine] = [1, 2, 3, 9].map(number);
-    let publics = [Base::new(5)];
-    let (local, next) = ([number(4), number(4)], [number(7), number(7)]);
-    Ok([
-        folded(&PairAir, &local, &next, &[], &[], &publics)?,
-        folded(&PairAir, &[one, two], &[three, nine], &[], &[], &publics)?,
-    ])
+/// How much of a next row is read: nothing, or the whole row.
+fn next_width(columns: &[usize], width: usize) -> usize
+    ensures { result ≡ next_width columns.now width }
+{
+    match columns {
+        [] => 0,
+        _ => width,
+    }
 }
 
-// Fibonacci: 4 * (1 - 5), 4 * (2 - 6), 4 * (3 - 2), 4 * (4 - (1 + 2)) and 2 * (2 - 7), times 256, 64, 16, 4 and 1: -5050. The
-// cube of 3. The preprocessed column: 5 - 3.
-fn sums_of_samples() -> Result<[Extension; 3], AllocError> {
-    let [one, two, three, four] = [1, 2, 3, 4].map(number);
-    let publics = [Base::new(5), Base::new(6), Base::new(7)];
-    Ok([
-        folded(
-            &FibonacciAir,
-            &[one, two],
-            &[three, four],
-            &[],
-            &[],
-            &publics,
-        )?,
-        folded(&CubicAir, &[three], &[], &[], &[], &[])?,
-        folded(&PreprocessedAir, &[number(5)], &[], &[three], &[], &[])?,
-    ])
+/// How much an AIR reads of the main row after the current one, and of the preprocessed one.
+fn next_widths<F, A: BaseAir<F>>(alloc: Global, air: &A) -> Result<(usize, usize), AllocError>
+    ensures main { IfOk result (λ widths. widths.0 ≡ (A.layout air.now).main_next) }
+    ensures preprocessed { IfOk result (λ widths. widths.1 ≡ (A.layout air.now).preprocessed_next) }
+{
+    let columns = air.main_next_row_columns(alloc)?;
+    let fixed_columns = air.preprocessed_next_row_columns(alloc)?;
+    let main = next_width(&columns, air.width());
+    let preprocessed = next_width(&fixed_columns, air.preprocessed_width());
+    Ok((main, preprocessed))
 }
 
-// The column of zero and one takes the value -1 at 3.
-fn sums_of_periodic(air: &PeriodicAir<Base>) -> Result<[Extension; 2], AllocError> {
-    let value = number(12288);
-    Ok([
-        folded(air, &[value], &[], &[], &[value], &[])?,
-        folded(air, &[number(5)], &[], &[], &[value], &[])?,
-    ])
+/// Whether rows have at least what an AIR reads of them that reads so much of the next ones, and nothing of the preprocessed next one.
+fn are_covered<F, EF, A: BaseAir<F>>(
+    air: &A,
+    next_widths: (usize, usize),
+    local: &[EF],
+    next: &[EF],
+    fixed: &[EF],
+    periodic: &[EF],
+    publics: &[F],
+) -> bool
+    requires main { next_widths.0 ≡ (A.layout air.now).main_next }
+    requires preprocessed { next_widths.1 ≡ (A.layout air.now).preprocessed_next }
+    ensures { IsTrue result → Covers (layout_of local.now next.now fixed.now [] publics.now periodic.now) (A.layout air.now) }
+{
+    let (main_next, fixed_next) = next_widths;
+    local.len() >= air.width()
+        && next.len() >= main_next
+        && fixed.len() >= air.preprocessed_width()
+        && fixed_next == 0
+        && publics.len() >= air.num_public_values()
+        && periodic.len() >= air.num_periodic_columns()
 }
 
-#[test]
-fn folded_sums(rt: HostRuntime) -> Result<(), Fail> {
-    assert!(rt; sums_of_small_airs()? == [78, 3, 5, 0].map(number));
-    assert!(rt; sums_of_pairs()? == [12153, 11305].map(number));
-    assert!(rt; sums_of_samples()? == [7239, 27, 2].map(number));
-    let air: PeriodicAir<Base> = PeriodicAir::new(rt.alloc())?;
-    assert!(rt; sums_of_periodic(&air)? == [0, 6].map(number));
-    Ok(())
+/// Whether rows have at least what an AIR reads of them, and it reads nothing of a preprocessed row after the current one.
+fn covers<F, EF, A: BaseAir<F>>(
+    alloc: Global,
+    air: &A,
+    local: &[EF],
+    next: &[EF],
+    fixed: &[EF],
+    periodic: &[EF],
+    publics: &[F],
+) -> Result<bool, AllocError>
+    ensures { IfOk result (λ covers. IsTrue covers → Covers (layout_of local.now next.now fixed.now [] publics.now periodic.now) (A.layout air.now)) }
+{
+    let widths = next_widths(alloc, air)?;
+    Ok(are_covered(air, widths, local, next, fixed, periodic, publics))
 }
 
-/// Main columns, preprocessed columns, public values, periodic columns; how many main and preprocessed columns' next rows are
-/// read; what the author says of the degree, of the number of constraints, and of the public values at the ends.
-type Declared = ([usize; 4], [usize; 2], Option<usize>, Option<usize>, usize);
+/// The folded sum: the main row | the one after it | the preprocessed row | the periodic values | the public values.
+pub fn folded<F, EF, C, A>(alloc: Global, air: &A, text: &str) -> Result<String, Fail>
+where
+    F: PrimeField64 + TwoAdicField,
+    EF: ExtensionField<F> + Debug,
+    C: FieldChallenger<F> + CanObserve<ClearCommitment<F>> + ExtensionChallenger<F, EF> + Clone,
+    A: Air<F>,
+{
+    let (local, rest) = apart(text)?;
+    let (next, rest) = apart(rest)?;
+    let (fixed, rest) = apart(rest)?;
+    let (periodic, publics) = apart(rest)?;
+    let local = row_in::<F, EF>(alloc, local)?;
+    let next = row_in::<F, EF>(alloc, next)?;
+    let fixed = row_in::<F, EF>(alloc, fixed)?;
+    let periodic = row_in::<F, EF>(alloc, periodic)?;
+    let publics = elements_in::<F>(alloc, publics)?;
+    let sum = folded_of::<F, EF, C, A>(alloc, air, &local, &next, &fixed, &periodic, &publics)?;
+    Ok(format!(in alloc; "{sum:?}")?)
+}
 
-fn declared<F: RowField, A: BaseAir<F>>(alloc: Global, air: &A) -> Result<Declared, AllocError> {
+fn folded_of<F, EF, C, A>(
+    alloc: Global,
+    air: &A,
+    local: &[EF],
+    next: &[EF],
+    fixed: &[EF],
+    periodic: &[EF],
+    publics: &[F],
+) -> Result<EF, Fail>
+where
+    F: PrimeField64 + TwoAdicField,
+    EF: ExtensionField<F>,
+    C: FieldChallenger<F> + CanObserve<ClearCommitment<F>> + ExtensionChallenger<F, EF> + Clone,
+    A: Air<F>,
+{
+    if !covers(alloc, air, local, next, fixed, periodic, publics)? {
+        return Err(Fail::new("a short row"));
+    }
+    let (zeta, alpha) = (above::<F, EF>(3), above::<F, EF>(4));
+    let selectors = selectors_at::<F, EF>(1, zeta).ok_or("3 lies in the domain")?;
+    Ok(calls::folded::<F, EF, C, A>(air, local, next, fixed, periodic, publics, selectors, alpha)?)
+}
+
+fn folded_by_name<F, EF, C>(alloc: Global, text: &str) -> Result<String, Fail>
+where
+    F: PrimeField64 + TwoAdicField,
+    EF: ExtensionField<F> + Debug,
+    C: FieldChallenger<F> + CanObserve<ClearCommitment<F>> + ExtensionChallenger<F, EF> + Clone,
+{
+    let (name, rest) = apart(text)?;
+    match name {
+        "counter" => folded::<F, EF, C, CounterAir>(alloc, &CounterAir, rest),
+        "pair" => folded::<F, EF, C, PairAir>(alloc, &PairAir, rest),
+        "fibonacci" => folded::<F, EF, C, FibonacciAir>(alloc, &FibonacciAir, rest),
+        "cubic" => folded::<F, EF, C, CubicAir>(alloc, &CubicAir, rest),
+        "preprocessed" => folded::<F, EF, C, PreprocessedAir>(alloc, &PreprocessedAir, rest),
+        "periodic" => folded::<F, EF, C, PeriodicAir<F>>(alloc, &PeriodicAir::new(alloc)?, rest),
+        _ => folded::<F, EF, C, SmallAir>(alloc, &small_air(name), rest),
+    }
+}
+
+/// A small AIR by what is asked of its column.
+pub fn small_air(name: &str) -> SmallAir {
+    match name {
+        "mixed" => SmallAir::new(Asked::Mixed),
+        "first row" => SmallAir::new(Asked::FirstRow),
+        "nothing" => SmallAir::new(Asked::Nothing),
+        "zeros" => SmallAir {
+            asked: Asked::Zeros,
+            max_degree: Some(3),
+        },
+        "hinted" => SmallAir {
+            asked: Asked::Zeros,
+            max_degree: Some(5),
+        },
+        _ => SmallAir {
+            asked: Asked::Zeros,
+            max_degree: None,
+        },
+    }
+}
+
+fn declared<F: Debug + Drop, A: BaseAir<F>>(alloc: Global, air: &A) -> Result<String, Fail> {
     let columns = [
         air.width(),
         air.preprocessed_width(),
         air.num_public_values(),
         air.num_periodic_columns(),
     ];
-    let main = air.main_next_row_columns(alloc)?.len();
-    let preprocessed = air.preprocessed_next_row_columns(alloc)?.len();
-    Ok((
-        columns,
-        [main, preprocessed],
-        air.max_constraint_degree(),
-        air.num_constraints(),
-        air.public_boundary_io().len(),
-    ))
+    let next = [
+        air.main_next_row_columns(alloc)?.len(),
+        air.preprocessed_next_row_columns(alloc)?.len(),
+    ];
+    let trace = air.preprocessed_trace(alloc)?;
+    let (degree, count) = (air.max_constraint_degree(), air.num_constraints());
+    let boundary = air.public_boundary_io().len();
+    let periodic = air.periodic_columns();
+    Ok(format!(in alloc;
+        "{columns:?} {next:?} {degree:?} {count:?} {boundary} {periodic:?} {trace:?}"
+    )?)
 }
 
-fn samples_declare<F: RowField>(alloc: Global) -> Result<[Declared; 7], AllocError> {
-    let small = |max_degree| SmallAir {
-        asked: Asked::Zeros,
-        max_degree,
-    };
-    Ok([
-        declared::<F, CounterAir>(alloc, &CounterAir)?,
-        declared::<F, CubicAir>(alloc, &CubicAir)?,
-        declared::<F, FibonacciAir>(alloc, &FibonacciAir)?,
-        declared::<F, PreprocessedAir>(alloc, &PreprocessedAir)?,
-        declared::<F, PairAir>(alloc, &PairAir)?,
-        declared::<F, SmallAir>(alloc, &small(Some(5)))?,
-        declared::<F, SmallAir>(alloc, &small(None))?,
-    ])
-}
-
-#[test]
-fn declared_numbers(rt: HostRuntime) -> Result<(), Fail> {
-    let found = samples_declare::<Base>(rt.alloc())?;
-    assert_eq!(rt;
-        found,
-        [
-            ([1, 0, 1, 0], [1, 0], None, None, 0),
-            ([1, 0, 0, 0], [0, 0], None, None, 0),
-            ([2, 0, 3, 0], [2, 0], None, None, 0),
-            ([1, 1, 0, 0], [0, 0], None, None, 0),
-            ([2, 0, 1, 0], [2, 0], None, None, 0),
-            ([1, 0, 0, 0], [0, 0], Some(5), None, 0),
-            ([1, 0, 0, 0], [0, 0], None, None, 0),
-        ]
-    );
-    Ok(())
-}
-
-/// What the periodic AIR declares, with its columns.
-fn periodic_declared<F: RowField>(
-    alloc: Global,
-    air: &PeriodicAir<F>,
-) -> Result<(Declared, Vec<Vec<F>>), AllocError> {
-    let declared = declared::<F, PeriodicAir<F>>(alloc, air)?;
-    let mut columns = Vec::new(alloc);
-    for column in BaseAir::<F>::periodic_columns(air) {
-        columns.push(column.to_vec(alloc)?)?;
+fn declared_by_name<F: PrimeField64 + Debug>(alloc: Global, name: &str) -> Result<String, Fail> {
+    match name {
+        "counter" => declared::<F, CounterAir>(alloc, &CounterAir),
+        "cubic" => declared::<F, CubicAir>(alloc, &CubicAir),
+        "fibonacci" => declared::<F, FibonacciAir>(alloc, &FibonacciAir),
+        "preprocessed" => declared::<F, PreprocessedAir>(alloc, &PreprocessedAir),
+        "pair" => declared::<F, PairAir>(alloc, &PairAir),
+        "periodic" => declared::<F, PeriodicAir<F>>(alloc, &PeriodicAir::new(alloc)?),
+        _ => declared::<F, SmallAir>(alloc, &small_air(name)),
     }
-    Ok((declared, columns))
+}
+
+fn part<F, EF, C>(alloc: Global, text: &str) -> Result<String, Fail>
+where
+    F: PrimeField64 + TwoAdicField,
+    EF: ExtensionField<F> + Debug,
+    C: FieldChallenger<F> + CanObserve<ClearCommitment<F>> + ExtensionChallenger<F, EF> + Clone,
+{
+    let (start, rest) = apart(text)?;
+    let (local, next) = apart(rest)?;
+    let [start] = numbers_in::<1>(start)?;
+    let local = row_in::<F, EF>(alloc, local)?;
+    let next = row_in::<F, EF>(alloc, next)?;
+    let none = elements_in::<F>(alloc, "empty")?;
+    let reads = reads_of_a_part::<F, EF, C>(start as usize, &local, &next, &none)?;
+    Ok(format!(in alloc; "{reads:?}")?)
 }
 
 #[test]
-fn declared_columns(rt: HostRuntime) -> Result<(), Fail> {
+fn columns_and_traces(rt: HostRuntime) -> Result<(), Fail> {
     let alloc = rt.alloc();
-    let periodic: PeriodicAir<Base> = PeriodicAir::new(alloc)?;
-    let declared = periodic_declared(alloc, &periodic)?;
-    let trace: Option<RowMajorMatrix<Base>> = PreprocessedAir.preprocessed_trace(alloc)?;
+    let trace: Option<RowMajorMatrix<S12289>> = PreprocessedAir.preprocessed_trace(alloc)?;
     let columns = [every_column(alloc, 3)?, every_column(alloc, 0)?];
     assert_eq!(rt;
-        format!(in alloc; "{declared:?} {trace:?} {columns:?}")?.as_str(),
-        "(([1, 0, 0, 1], [0, 0], None, None, 0), [[0, 1]]) Some(RowMajorMatrix { values: [1, 2, 3, 4], width: 1 }) [[0, 1, 2], []]"
+        format!(in alloc; "{trace:?} {columns:?}")?.as_str(),
+        "Some(RowMajorMatrix { values: [1, 2, 3, 4], width: 1 }) [[0, 1, 2], []]"
     );
-    Ok(())
-}
-
-/// What the part of two of the columns 1, 2, 3 reads, with 4, 5, 6 in the next row.
-fn part_from(start: usize) -> Result<Option<[Option<Extension>; 4]>, Fail> {
-    let local = [number(1), number(2), number(3)];
-    let next = [number(4), number(5), number(6)];
-    let reads = calls::reads_of_a_part::<Base, Sha256Challenger<Base>>(start, &local, &next, &[])?;
-    Ok(reads)
-}
-
-// A part sees the first two columns, or the last two, and no third.
-#[test]
-fn parts_of_the_columns(rt: HostRuntime) -> Result<(), Fail> {
-    for (start, current, following) in [(0, 1, 5), (1, 2, 6)] {
-        let seen = [Some(number(current)), None, Some(number(following)), None];
-        assert!(rt; part_from(start)? == Some(seen));
-    }
     Ok(())
 }

@@ -1,20 +1,17 @@
-//! The library's calls that the rows make of a configuration. At closed types such a call has the evidence of all its types
-//! written out, which takes a minute to prove. So each stands here once: over any base field and extension, then over any base
-//! field and its extension. The rows make it at one field, where only that field's evidence is left.
+//! The library's calls that the rows make of a configuration, over any base field, extension and challenger.
 ghost use Rattle.std.specs.Prelude.{◌≡◌, ◌↔◌, ◌+◌, ◌^◌, ◌≤◌, ◌<◌, All, IfOk, IsTrue, [], length, vec_len};
 ghost use Rattle.stark_air.specs.Layout.{Covers};
 ghost use Rattle.stark_air.specs.Rows.{layout_of};
 ghost use Rattle.stark_support.specs.Coset.{coset_size, coset_vanishing};
 ghost use Rattle.stark_protocol.specs.Preprocessing.{HasHeight, IsCommittedWithin};
 
-use crate::elements::Base;
 use p3_uni_stark::{
     PreprocessedProverData, PreprocessedVerifierKey, Proof, StarkProof,
     recompose_quotient_from_chunks, setup_preprocessed, verify, verify_constraints,
     verify_with_preprocessed,
 };
 use stark_air::{Air, AirBuilder, BaseAir, RowWindow, SubAirBuilder, WindowAccess};
-use stark_bench::{ClearCommitment, Coset, Ext4, F12289, P12289};
+use stark_bench::{ClearCommitment, Coset};
 use stark_clear::{ClearPcs, ClearProof, CounterAir};
 use stark_parts::{
     Com, PcsError, StarkConfig, StarkGenericConfig, Val, VerificationError,
@@ -29,28 +26,11 @@ use stark_support::{
 use std::alloc::{AllocError, Global};
 use std::fmt::Debug;
 
-/// A base field of the rows, with the extension that stands above it.
-pub trait RowField: PrimeField64 + TwoAdicField {
-    type Above: ExtensionField<Self>;
-}
-
-impl RowField for Base {
-    type Above = Ext4<Base>;
-}
-
-impl RowField for P12289 {
-    type Above = Ext4<P12289>;
-}
-
-impl RowField for F12289 {
-    type Above = Ext4<F12289>;
-}
-
 /// The configuration with the scheme in the clear.
 pub type ClearConfig<F, EF, C> = StarkConfig<ClearPcs<F>, EF, C>;
 
-/// The folded sum.
-fn folded_above<F, EF, C, A>(
+/// The folded sum over a main row and the one after it, a preprocessed row, periodic values and public values.
+pub fn folded<F, EF, C, A>(
     air: &A,
     local: &[EF],
     next: &[EF],
@@ -80,29 +60,6 @@ where
     )
 }
 
-/// The folded sum over a main row and the one after it, a preprocessed row, periodic values and public values.
-pub fn folded<F, C, A>(
-    air: &A,
-    local: &[F::Above],
-    next: &[F::Above],
-    fixed: &[F::Above],
-    periodic: &[F::Above],
-    publics: &[F],
-    selectors: LagrangeSelectors<F::Above>,
-    alpha: F::Above,
-) -> Result<F::Above, AllocError>
-where
-    F: RowField,
-    C: FieldChallenger<F>
-        + CanObserve<ClearCommitment<F>>
-        + ExtensionChallenger<F, F::Above>
-        + Clone,
-    A: Air<F>,
-    requires { Covers (layout_of local.now next.now fixed.now [] publics.now periodic.now) (A.layout air.now) }
-{
-    folded_above::<F, F::Above, C, A>(air, local, next, fixed, periodic, publics, selectors, alpha)
-}
-
 /// Whether a domain's vanishing value at a point is zero.
 fn vanishes_at<D: PolynomialSpace, EF: ExtensionField<D::Val>>(domain: &D, point: EF) -> bool
     ensures { IsTrue result ↔ (coset_vanishing EF.ring (λ c. c) EF.inverse_of (coset_size (D.coset_of domain.now)) (EF.embed (D.coset_of domain.now).shift) point ≡ EF.ring.zero) }
@@ -111,7 +68,7 @@ fn vanishes_at<D: PolynomialSpace, EF: ExtensionField<D::Val>>(domain: &D, point
 }
 
 /// The selectors of the subgroup of `2^log_size` points; none where there is no such group, or the point lies in it.
-fn selectors_above<F: TwoAdicField, EF: ExtensionField<F>>(
+pub fn selectors_at<F: TwoAdicField, EF: ExtensionField<F>>(
     log_size: usize,
     point: EF,
 ) -> Option<LagrangeSelectors<EF>> {
@@ -123,13 +80,6 @@ fn selectors_above<F: TwoAdicField, EF: ExtensionField<F>>(
         return None;
     }
     Some(domain.selectors_at_point(point))
-}
-
-pub fn selectors_at<F: RowField>(
-    log_size: usize,
-    point: F::Above,
-) -> Option<LagrangeSelectors<F::Above>> {
-    selectors_above::<F, F::Above>(log_size, point)
 }
 
 /// The value recomposed from as many chunks as a coset has parts.
@@ -163,7 +113,7 @@ fn chunk<X: Copy + Drop>(alloc: Global, x: X, zero: X) -> Result<Vec<X>, AllocEr
     Ok(values)
 }
 
-fn recomposed_alone_above<F, EF, C>(
+fn recomposed_alone<F, EF, C>(
     alloc: Global,
     domain: Coset<F>,
     chunk: Vec<EF>,
@@ -183,24 +133,22 @@ where
 
 /// The value recomposed from one chunk, whose first coordinate is given and the others zero; none where the extension has
 /// another degree than four.
-pub fn recomposed_of_one<F, C>(
+pub fn recomposed_of_one<F, EF, C>(
     alloc: Global,
     domain: Coset<F>,
-    first: F::Above,
-    zeta: F::Above,
-) -> Result<Option<F::Above>, AllocError>
+    first: EF,
+    zeta: EF,
+) -> Result<Option<EF>, AllocError>
 where
-    F: RowField,
-    C: FieldChallenger<F>
-        + CanObserve<ClearCommitment<F>>
-        + ExtensionChallenger<F, F::Above>
-        + Clone,
+    F: TwoAdicField + PrimeField64,
+    EF: ExtensionField<F>,
+    C: FieldChallenger<F> + CanObserve<ClearCommitment<F>> + ExtensionChallenger<F, EF> + Clone,
 {
-    if F::Above::DIMENSION != 4 {
+    if EF::DIMENSION != 4 {
         return Ok(None);
     }
-    let chunk = chunk(alloc, first, F::Above::ZERO)?;
-    let value = recomposed_alone_above::<F, F::Above, C>(alloc, domain, chunk, zeta)?;
+    let chunk = chunk(alloc, first, EF::ZERO)?;
+    let value = recomposed_alone::<F, EF, C>(alloc, domain, chunk, zeta)?;
     Ok(Some(value))
 }
 
@@ -270,7 +218,8 @@ fn part_reads<'a, SC: StarkGenericConfig>(
     part_of(&mut parent, start, &local[start..end], &next[start..end])
 }
 
-fn part_reads_above<'a, F, EF, C>(
+/// What the part of two of three columns reads, as `part_of`; none where there are other columns.
+pub fn reads_of_a_part<'a, F, EF, C>(
     start: usize,
     local: &'a [EF],
     next: &'a [EF],
@@ -284,29 +233,12 @@ where
     part_reads::<ClearConfig<F, EF, C>>(start, local, next, publics)
 }
 
-/// What the part of two of three columns reads, as `part_of`; none where there are other columns.
-pub fn reads_of_a_part<'a, F, C>(
-    start: usize,
-    local: &'a [F::Above],
-    next: &'a [F::Above],
-    publics: &'a [F],
-) -> Result<Option<[Option<F::Above>; 4]>, AllocError>
-where
-    F: RowField,
-    C: FieldChallenger<F>
-        + CanObserve<ClearCommitment<F>>
-        + ExtensionChallenger<F, F::Above>
-        + Clone,
-{
-    part_reads_above::<F, F::Above, C>(start, local, next, publics)
-}
-
 /// No scheme's refusal.
 #[derive(Debug, Drop)]
 pub struct NoScheme;
 
 /// The test of the constraints on the subgroup of `2^log_size` points; none where there is no such group, or zeta lies in it.
-fn equation_above<'p, F, EF, C, A>(
+pub fn equation<'p, F, EF, C, A>(
     air: &A,
     local: &[EF],
     next: &[EF],
@@ -347,40 +279,6 @@ where
     ))
 }
 
-/// The test of the constraints on the subgroup of `2^log_size` points, at rows as in `folded`.
-pub fn equation<F, C, A>(
-    air: &A,
-    local: &[F::Above],
-    next: &[F::Above],
-    preprocessed_local: Option<&[F::Above]>,
-    publics: &[F],
-    log_size: usize,
-    zeta: F::Above,
-    alpha: F::Above,
-    quotient: F::Above,
-) -> Option<Result<(), VerificationError<NoScheme>>>
-where
-    F: RowField,
-    C: FieldChallenger<F>
-        + CanObserve<ClearCommitment<F>>
-        + ExtensionChallenger<F, F::Above>
-        + Clone,
-    A: Air<F>,
-    requires widths { Covers (layout_of local.now next.now [] [] publics.now []) (A.layout air.now) }
-{
-    equation_above::<F, F::Above, C, A>(
-        air,
-        local,
-        next,
-        preprocessed_local,
-        publics,
-        log_size,
-        zeta,
-        alpha,
-        quotient,
-    )
-}
-
 /// A proof over the scheme in the clear.
 pub type ClearShown<F, EF> = Proof<ClearCommitment<F>, EF, ClearProof, F>;
 
@@ -406,7 +304,8 @@ where
     format!(in alloc; "{answer:?}")
 }
 
-fn answer_above<F, EF, C, A>(
+/// What the verifier answers, in words.
+pub fn answer<F, EF, C, A>(
     alloc: Global,
     config: &ClearConfig<F, EF, C>,
     air: &A,
@@ -427,34 +326,14 @@ where
     verified::<ClearConfig<F, EF, C>, A>(alloc, config, air, proof, publics, key)
 }
 
-/// What the verifier answers, in words.
-pub fn answer<F, C, A>(
-    alloc: Global,
-    config: &ClearConfig<F, F::Above, C>,
-    air: &A,
-    proof: &ClearShown<F, F::Above>,
-    publics: &[F],
-    key: Option<&PreprocessedVerifierKey<ClearCommitment<F>>>,
-) -> Result<String, AllocError>
-where
-    F: RowField,
-    C: FieldChallenger<F>
-        + CanObserve<ClearCommitment<F>>
-        + ExtensionChallenger<F, F::Above>
-        + GrindingChallenger<Witness = F>
-        + Clone,
-    A: Air<F>,
-{
-    answer_above::<F, F::Above, C, A>(alloc, config, air, proof, publics, key)
-}
-
 /// What is set up for an AIR with preprocessed columns.
 pub type Keys<F> = (
     PreprocessedProverData<ClearCommitment<F>, ClearCommitment<F>>,
     PreprocessedVerifierKey<ClearCommitment<F>>,
 );
 
-fn set_up_above<F, EF, C, A>(
+/// What is set up for an AIR at a height; nothing where it was refused.
+pub fn set_up<F, EF, C, A>(
     alloc: Global,
     config: &ClearConfig<F, EF, C>,
     air: &A,
@@ -469,24 +348,4 @@ where
     requires within { IsCommittedWithin degree_bits F.TWO_ADICITY (A.preprocessed_trace air.now) }
 {
     setup_preprocessed(alloc, config, air, degree_bits).ok()
-}
-
-/// What is set up for an AIR at a height; nothing where it was refused.
-pub fn set_up<F, C, A>(
-    alloc: Global,
-    config: &ClearConfig<F, F::Above, C>,
-    air: &A,
-    degree_bits: usize,
-) -> Option<Option<Keys<F>>>
-where
-    F: RowField,
-    C: FieldChallenger<F>
-        + CanObserve<ClearCommitment<F>>
-        + ExtensionChallenger<F, F::Above>
-        + Clone,
-    A: BaseAir<F>,
-    requires height { HasHeight degree_bits (A.preprocessed_trace air.now) }
-    requires within { IsCommittedWithin degree_bits F.TWO_ADICITY (A.preprocessed_trace air.now) }
-{
-    set_up_above::<F, F::Above, C, A>(alloc, config, air, degree_bits)
 }

@@ -1,86 +1,76 @@
-//! The counter's constraints, folded at 3 over the subgroup of two points with alpha 4.
-use crate::calls::{NoScheme, equation, folded, selectors_at};
-use crate::elements::{Base, Extension, number};
-use stark_bench::Sha256Challenger;
+//! The test of the counter's constraints over the subgroup of two points, at zeta 3 and alpha 4.
+use crate::airs::row_in;
+use crate::calls::equation;
+use crate::elements::{above, elements_in};
+use crate::rows::{apart, numbers_in};
+use stark_bench::ClearCommitment;
 use stark_clear::CounterAir;
-use stark_parts::{InvalidProofShapeError, VerificationError};
+use stark_support::{
+    CanObserve, ExtensionChallenger, ExtensionField, FieldChallenger, PrimeField64, TwoAdicField,
+};
+use std::alloc::Global;
+use std::fmt::Debug;
 use std::test::Fail;
 
-fn folded_counter(local: u32) -> Result<Extension, Fail> {
-    let Some(selectors) = selectors_at::<Base>(1, number(3)) else {
-        return Err(Fail::new("3 lies in the domain"));
-    };
-    let sum = folded::<Base, Sha256Challenger<Base>, CounterAir>(
-        &CounterAir,
-        &[number(local)],
-        &[number(7)],
-        &[],
-        &[],
-        &[Base::new(5)],
-        selectors,
-        number(4),
-    )?;
-    Ok(sum)
-}
+pub const ROWS: &str = r#"
+# The current value and the quotient | the current preprocessed row, where there is one. The next value is 7, the public one 5. The
+# vanishing value is 8: the quotient -1 fits -8, and nothing else does.
+4 12288 | none => Some(Ok(()))
+5 12288 | none => Some(Err(OodEvaluationMismatch { index: None }))
+4 1 | none => Some(Err(OodEvaluationMismatch { index: None }))
+4 0 | none => Some(Err(OodEvaluationMismatch { index: None }))
 
-// Local 4 and next 7 with the public value 5: 4 * (4 * (4 - 5)) + 4 * (7 - 4 - 1) is -8. With local 5 it is 4.
-#[test]
-fn folded_sums(rt: HostRuntime) -> Result<(), Fail> {
-    for (local, sum) in [(4, 12281), (5, 4)] {
-        assert!(rt; folded_counter(local)? == number(sum));
-    }
-    Ok(())
-}
+# A present current row of one preprocessed column beside no next row.
+4 12288 | 1 => Some(Err(InvalidProofShape(PreprocessedTraceWidthMismatch { expected_local: 1, expected_next: 1, got_local: 1, got_next: 0 })))
+"#;
 
-/// The test of the equation, with the current row of a preprocessed trace or without.
-fn verified(
+/// What is answered at one point of the counter, whose public value is 5 and whose next row has 7. The preprocessed values are given
+/// where they are there.
+fn equation_text<F, EF, C>(
+    alloc: Global,
     local: u32,
+    values: &[EF],
+    is_there: bool,
     quotient: u32,
-    preprocessed: Option<&[Extension]>,
-) -> Option<Result<(), VerificationError<NoScheme>>> {
-    equation::<Base, Sha256Challenger<Base>, CounterAir>(
-        &CounterAir,
-        &[number(local)],
-        &[number(7)],
-        preprocessed,
-        &[Base::new(5)],
-        1,
-        number(3),
-        number(4),
-        number(quotient),
-    )
-}
-
-// The vanishing value is 8: the quotient -1 fits -8, and nothing else does.
-#[test]
-fn equations(rt: HostRuntime) -> Result<(), Fail> {
-    assert!(rt; matches!(verified(4, 12288, None), Some(Ok(()))));
-    for (local, quotient) in [(5, 12288), (4, 1), (4, 0)] {
-        assert!(rt;
-            matches!(
-                verified(local, quotient, None),
-                Some(Err(VerificationError::OodEvaluationMismatch { index: None }))
-            ),
-            "{local}, {quotient}"
-        );
+) -> Result<String, Fail>
+where
+    F: PrimeField64 + TwoAdicField,
+    EF: ExtensionField<F> + Debug,
+    C: FieldChallenger<F> + CanObserve<ClearCommitment<F>> + ExtensionChallenger<F, EF> + Clone,
+{
+    let mut current = Vec::new(alloc);
+    current.push(above::<F, EF>(local))?;
+    let next = row_in::<F, EF>(alloc, "7")?;
+    let publics = elements_in::<F>(alloc, "5")?;
+    if current.len() != 1 || next.len() != 1 || publics.len() != 1 {
+        return Err(Fail::new("other rows"));
     }
-    Ok(())
+    let fixed = if is_there { Some(values) } else { None };
+    let answer = equation::<F, EF, C, CounterAir>(
+        &CounterAir,
+        &current,
+        &next,
+        fixed,
+        &publics,
+        1,
+        above::<F, EF>(3),
+        above::<F, EF>(4),
+        above::<F, EF>(quotient),
+    );
+    Ok(format!(in alloc; "{answer:?}")?)
 }
 
-// A present current row of one preprocessed column beside no next row.
-#[test]
-fn preprocessed_widths(rt: HostRuntime) -> Result<(), Fail> {
-    let is_widths = matches!(
-        verified(4, 12288, Some(&[number(1)])),
-        Some(Err(VerificationError::InvalidProofShape(
-            InvalidProofShapeError::PreprocessedTraceWidthMismatch {
-                expected_local: 1,
-                expected_next: 1,
-                got_local: 1,
-                got_next: 0,
-            }
-        )))
-    );
-    assert!(rt; is_widths);
-    Ok(())
+/// The answer to a row of this table.
+pub fn answer<F, EF, C>(alloc: Global, row: &str) -> Result<String, Fail>
+where
+    F: PrimeField64 + TwoAdicField,
+    EF: ExtensionField<F> + Debug,
+    C: FieldChallenger<F> + CanObserve<ClearCommitment<F>> + ExtensionChallenger<F, EF> + Clone,
+{
+    let (numbers, fixed) = apart(row)?;
+    let [local, quotient] = numbers_in::<2>(numbers)?;
+    let is_there = fixed != "none";
+    let text = if is_there { fixed } else { "" };
+    let values = row_in::<F, EF>(alloc, text)?;
+    equation_text::<F, EF, C>(alloc, local, &values, is_there, quotient)
 }

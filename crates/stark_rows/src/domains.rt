@@ -1,45 +1,134 @@
 //! Cosets, their parts and selectors, and the recomposition of a quotient.
-ghost use Rattle.std.specs.Prelude.{◌≡◌, ◌^◌, All, IfOk, length, vec_len};
-
-use crate::calls::{RowField, recomposed_on_parts, selectors_at};
-use crate::elements::{Base, Extension, number, numbers, values};
-use stark_bench::{CircleShape, Coset, Ext4, Sha256Challenger};
+use crate::calls::{recomposed_on_parts, selectors_at};
+use crate::elements::{above, element, elements_in};
+use crate::rows::{apart, list_in, numbers_in};
+use stark_bench::{CircleShape, ClearCommitment, Coset, S12289};
+use stark_protocol::power_of_two;
 use stark_support::{
-    DomainShape, Element, Field, LagrangeSelectors, PeriodicColumnShapeError, PeriodicColumns,
-    PolynomialSpace, TwoAdicField,
+    CanObserve, DomainShape, ExtensionChallenger, ExtensionField, Field, FieldChallenger,
+    LagrangeSelectors, PeriodicColumnShapeError, PeriodicColumns, PolynomialSpace, PrimeField64,
+    TwoAdicField,
 };
 use std::alloc::{AllocError, Global};
+use std::fmt::Debug;
 use std::test::Fail;
 
-fn coset(shift: u32, log_size: usize) -> Option<Coset<Base>> {
-    let shift = Base::new(shift);
-    if shift == Base::ZERO || log_size > 12 {
+// A table's name | what is given.
+pub const ROWS: &str = r#"
+# The logarithm of a subgroup's size, and a point: the vanishing value there.
+vanishing | 1 12288 => Some(Ext4 { c0: 0, c1: 0, c2: 0, c3: 0 })
+vanishing | 1 3 => Some(Ext4 { c0: 8, c1: 0, c2: 0, c3: 0 })
+
+# The selectors of a subgroup at a point. At 3 on the subgroup of two points they are 4, 2 and 4, and the vanishing value is 8.
+selectors | 1 3 => Ext4 { c0: 4, c1: 0, c2: 0, c3: 0 } Ext4 { c0: 2, c1: 0, c2: 0, c3: 0 } Ext4 { c0: 4, c1: 0, c2: 0, c3: 0 } Ext4 { c0: 10753, c1: 0, c2: 0, c3: 0 }
+
+# How many points a subgroup has, and its degree multiple of the transition.
+size | 1 => 2 0
+
+# The selectors of a subgroup at a coset beside it of as many points: of the subgroup of two points, at 11 and -11.
+beside | 1 => [12, 12279] [10, 12277] [12, 12279] [7271, 7271]
+
+# The shift and the logarithm of the size of a coset: its first point and its two parts, by theirs.
+parts | 11 2 => 11 [(11, 1), (3980, 1)]
+
+# The size of a domain beside the subgroup of two points: its shift and its size's logarithm.
+disjoint | 0 => Some((11, 0))
+disjoint | 1 => Some((11, 0))
+disjoint | 2 => Some((11, 1))
+disjoint | 3 => Some((11, 2))
+disjoint | 4096 => Some((11, 12))
+disjoint | 4097 => None
+
+# On the subgroup of two points the row after 3 is at -3.
+next | 1 3 => Some(Ext4 { c0: 12286, c1: 0, c2: 0, c3: 0 })
+
+# The lengths of columns beside a trace of four rows: whether they fit, or what is wrong.
+fitting | 0 => Err(Empty { column: 0 })
+fitting | 3 => Err(NotPowerOfTwo { column: 0 })
+fitting | 8 => Err(TooLong { column: 0 })
+fitting | 4 1 => Ok(())
+
+# The logarithm of a subgroup's size, and a point | the columns beside it: their values there.
+periodic | 2 3 | 0 1 | 7 => Some([Ext4 { c0: 12285, c1: 0, c2: 0, c3: 0 }, Ext4 { c0: 7, c1: 0, c2: 0, c3: 0 }])
+
+# The logarithms of the size of a coset with shift 11 and of the number of chunks | the chunks: the value at 3. On the cosets of
+# size 2 with shifts 11 and 3980; then the chunks of the counter's proof with masks of ones, which cancel.
+recomposed | 2 1 | 121 0 0 0, 12168 0 0 0 => Some(Ext4 { c0: 9, c1: 0, c2: 0, c3: 0 })
+recomposed | 2 1 | 7684 0 0 0, 7684 0 0 0 => Some(Ext4 { c0: 7684, c1: 0, c2: 0, c3: 0 })
+recomposed | 3 2 | 9603 9340 9340 9340, 6903 5345 5345 5345, 2720 2941 2941 2941, 2254 3770 3770 3770 => Some(Ext4 { c0: 39, c1: 0, c2: 0, c3: 0 })
+"#;
+
+/// The answer to a row of these tables.
+pub fn answer<F, EF, C>(alloc: Global, row: &str) -> Result<String, Fail>
+where
+    F: PrimeField64 + TwoAdicField + Debug,
+    EF: ExtensionField<F> + Debug,
+    C: FieldChallenger<F> + CanObserve<ClearCommitment<F>> + ExtensionChallenger<F, EF> + Clone,
+{
+    let (table, text) = apart(row)?;
+    match table {
+        "vanishing" => vanishing::<F, EF>(alloc, text),
+        "selectors" => selectors::<F, EF>(alloc, text),
+        "size" => size::<F>(alloc, text),
+        "beside" => beside::<F>(alloc, text),
+        "parts" => parts::<F>(alloc, text),
+        "disjoint" => disjoint::<F>(alloc, text),
+        "next" => next::<F, EF>(alloc, text),
+        "fitting" => fitting::<F>(alloc, text),
+        "periodic" => periodic::<F, EF>(alloc, text),
+        "recomposed" => recomposed::<F, EF, C>(alloc, text),
+        _ => Err(Fail::new("no such table")),
+    }
+}
+
+/// The subgroup of `2^log_size` points; none where there is no such group.
+fn subgroup<F: TwoAdicField>(log_size: usize) -> Option<Coset<F>> {
+    if log_size > F::TWO_ADICITY {
+        return None;
+    }
+    Some(Coset::subgroup(log_size))
+}
+
+/// The coset with this shift of `2^log_size` points; none where there is no such coset.
+fn coset<F: TwoAdicField>(shift: F, log_size: usize) -> Option<Coset<F>> {
+    if shift == F::ZERO || log_size > F::TWO_ADICITY {
         return None;
     }
     Some(Coset::new(shift, log_size))
 }
 
-fn vanishing_at<F: RowField>(domain: &Coset<F>, point: F::Above) -> F::Above {
-    domain.vanishing_poly_at_point(point)
+fn vanishing<F, EF>(alloc: Global, text: &str) -> Result<String, Fail>
+where
+    F: PrimeField64 + TwoAdicField,
+    EF: ExtensionField<F> + Debug,
+{
+    let [log_size, point] = numbers_in::<2>(text)?;
+    let found: Option<EF> = match subgroup::<F>(log_size as usize) {
+        Some(domain) => Some(domain.vanishing_poly_at_point(above::<F, EF>(point))),
+        None => None,
+    };
+    Ok(format!(in alloc; "{found:?}")?)
 }
 
-// At 3 on the subgroup of two points: the selectors 4, 2 and 4, the vanishing value 8, and 1/8.
-#[test]
-fn selectors(rt: HostRuntime) -> Result<(), Fail> {
-    let domain: Coset<Base> = Coset::subgroup(1);
-    for (point, value) in [(12288, 0), (3, 8)] {
-        assert!(rt; vanishing_at(&domain, number(point)) == number(value));
-    }
-    let Some(selectors) = selectors_at::<Base>(1, number(3)) else {
-        return Err(Fail::new("3 lies in the domain"));
-    };
-    assert!(rt; selectors.is_first_row == number(4));
-    assert!(rt; selectors.is_last_row == number(2));
-    assert!(rt; selectors.is_transition == number(4));
-    assert!(rt; selectors.inv_vanishing == number(10753));
-    assert_eq!(rt; domain.size(), 2);
-    assert_eq!(rt; domain.transition_degree_multiple(), 0);
-    Ok(())
+fn selectors<F, EF>(alloc: Global, text: &str) -> Result<String, Fail>
+where
+    F: PrimeField64 + TwoAdicField,
+    EF: ExtensionField<F> + Debug,
+{
+    let [log_size, point] = numbers_in::<2>(text)?;
+    let point = above::<F, EF>(point);
+    let found = selectors_at::<F, EF>(log_size as usize, point).ok_or("a point of the domain")?;
+    Ok(format!(in alloc;
+        "{:?} {:?} {:?} {:?}",
+        found.is_first_row, found.is_last_row, found.is_transition, found.inv_vanishing
+    )?)
+}
+
+fn size<F: TwoAdicField>(alloc: Global, text: &str) -> Result<String, Fail> {
+    let [log_size] = numbers_in::<1>(text)?;
+    let domain = subgroup::<F>(log_size as usize).ok_or("no such group")?;
+    let (size, multiple) = (domain.size(), domain.transition_degree_multiple());
+    Ok(format!(in alloc; "{size} {multiple}")?)
 }
 
 /// The selectors of the subgroup of `2^log_size` points at a coset beside it of as many points.
@@ -57,22 +146,13 @@ fn selectors_beside<F: TwoAdicField>(
     }
 }
 
-// Of the subgroup of two points, at 11 and -11.
-#[test]
-fn selectors_on_a_coset(rt: HostRuntime) -> Result<(), Fail> {
-    let alloc = rt.alloc();
-    let Some(selectors) = selectors_beside::<Base>(alloc, 1)? else {
-        return Err(Fail::new("no coset"));
-    };
-    for (found, expected) in [
-        (selectors.is_first_row, [12, 12279]),
-        (selectors.is_last_row, [10, 12277]),
-        (selectors.is_transition, [12, 12279]),
-        (selectors.inv_vanishing, [7271, 7271]),
-    ] {
-        assert_eq!(rt; values(alloc, &found)?.as_slice(), expected.as_slice());
-    }
-    Ok(())
+fn beside<F: TwoAdicField + Debug>(alloc: Global, text: &str) -> Result<String, Fail> {
+    let [log_size] = numbers_in::<1>(text)?;
+    let found = selectors_beside::<F>(alloc, log_size as usize)?.ok_or("no coset")?;
+    Ok(format!(in alloc;
+        "{:?} {:?} {:?} {:?}",
+        found.is_first_row, found.is_last_row, found.is_transition, found.inv_vanishing
+    )?)
 }
 
 /// The two parts of a coset, by their shifts and their sizes' logarithms.
@@ -86,99 +166,72 @@ fn parts_of<F: TwoAdicField>(
     domain.split_domains(alloc, 2)
 }
 
-#[test]
-fn parts(rt: HostRuntime) -> Result<(), Fail> {
-    let Some(domain) = coset(11, 2) else {
-        return Err(Fail::new("no coset"))
-    };
-    assert_eq!(rt; domain.first_point().value(), 11);
-    let parts = parts_of(rt.alloc(), &domain)?;
-    let [first, second] = parts.as_slice() else {
-        return Err(Fail::new("no two parts"));
-    };
-    assert_eq!(rt; (first.shift.value(), first.log_size), (11, 1));
-    assert_eq!(rt; (second.shift.value(), second.log_size), (3980, 1));
-    Ok(())
-}
-
-fn disjoint<F: TwoAdicField>(domain: &Coset<F>, size: usize) -> Option<Coset<F>> {
-    domain.try_create_disjoint_domain(size)
-}
-
-#[test]
-fn disjoint_domains(rt: HostRuntime) -> Result<(), Fail> {
-    let domain: Coset<Base> = Coset::subgroup(1);
-    for (size, log_size) in [(0, 0), (1, 0), (2, 1), (3, 2), (4096, 12)] {
-        let Some(other) = disjoint(&domain, size) else {
-            return Err(Fail::new("no domain"))
-        };
-        assert_eq!(rt; (other.shift.value(), other.log_size), (11, log_size));
-    }
-    assert!(rt; disjoint(&domain, 4097).is_none());
-    let other = domain.create_disjoint_domain(3);
-    assert_eq!(rt; (other.shift.value(), other.log_size), (11, 2));
-    Ok(())
-}
-
-fn point_after<F: RowField>(domain: &Coset<F>, x: F::Above) -> Option<F::Above> {
-    domain.next_point(x)
-}
-
-// On the subgroup of two points the row after 3 is at -3.
-#[test]
-fn next_points(rt: HostRuntime) {
-    assert!(rt; point_after::<Base>(&Coset::subgroup(1), number(3)) == Some(number(12286)));
-}
-
-#[test]
-fn circle_shapes(rt: HostRuntime) -> Result<(), Fail> {
-    let shape = CircleShape { size: 8 };
-    assert_eq!(rt; shape.size(), 8);
-    assert_eq!(rt; shape.transition_degree_multiple(), 1);
-    Ok(())
-}
-
-/// Whether columns of these lengths fit a trace of four rows, or what is wrong.
-fn fitting(
+fn parts<F: PrimeField64 + TwoAdicField + Debug>(
     alloc: Global,
-    lengths: &[usize],
-) -> Result<Result<(), PeriodicColumnShapeError>, AllocError> {
+    text: &str,
+) -> Result<String, Fail> {
+    let [shift, log_size] = numbers_in::<2>(text)?;
+    let domain = coset::<F>(element(shift), log_size as usize).ok_or("no such coset")?;
+    let mut found = Vec::new(alloc);
+    for part in parts_of(alloc, &domain)? {
+        found.push((part.shift, part.log_size))?;
+    }
+    Ok(format!(in alloc; "{:?} {found:?}", domain.first_point())?)
+}
+
+/// The domain beside the subgroup of two points that has at least so many.
+fn disjoint_of<F: TwoAdicField>(size: usize) -> Option<Coset<F>> {
+    subgroup::<F>(1)?.try_create_disjoint_domain(size)
+}
+
+fn disjoint<F: TwoAdicField + Debug>(alloc: Global, text: &str) -> Result<String, Fail> {
+    let [size] = numbers_in::<1>(text)?;
+    let found = match disjoint_of::<F>(size as usize) {
+        Some(other) => Some((other.shift, other.log_size)),
+        None => None,
+    };
+    Ok(format!(in alloc; "{found:?}")?)
+}
+
+fn next<F, EF>(alloc: Global, text: &str) -> Result<String, Fail>
+where
+    F: PrimeField64 + TwoAdicField,
+    EF: ExtensionField<F> + Debug,
+{
+    let [log_size, point] = numbers_in::<2>(text)?;
+    let domain = subgroup::<F>(log_size as usize).ok_or("no such group")?;
+    let found: Option<EF> = domain.next_point(above::<F, EF>(point));
+    Ok(format!(in alloc; "{found:?}")?)
+}
+
+/// Whether columns fit a trace of four rows, or what is wrong.
+fn fits<F>(columns: &[Vec<F>]) -> Result<(), PeriodicColumnShapeError> {
+    match PeriodicColumns::new(columns, 4) {
+        Ok(_) => Ok(()),
+        Err(fault) => Err(fault),
+    }
+}
+
+fn fitting<F: Field>(alloc: Global, text: &str) -> Result<String, Fail> {
     let mut columns = Vec::new(alloc);
-    for length in lengths {
+    for length in list_in(alloc, text)? {
         let mut column = Vec::new(alloc);
-        for _row in 0..*length {
-            column.push(Base::ONE)?;
+        for _row in 0..length {
+            column.push(F::ONE)?;
         }
         columns.push(column)?;
     }
-    match PeriodicColumns::new(&columns, 4) {
-        Ok(_) => Ok(Ok(())),
-        Err(fault) => Ok(Err(fault)),
-    }
-}
-
-#[test]
-fn periodic_columns(rt: HostRuntime) -> Result<(), Fail> {
-    let alloc = rt.alloc();
-    for (lengths, expected) in [
-        ([0].as_slice(), "Err(Empty { column: 0 })"),
-        ([3].as_slice(), "Err(NotPowerOfTwo { column: 0 })"),
-        ([8].as_slice(), "Err(TooLong { column: 0 })"),
-        ([4, 1].as_slice(), "Ok(())"),
-    ] {
-        let found = fitting(alloc, lengths)?;
-        assert_eq!(rt; format!(in alloc; "{found:?}")?.as_str(), expected);
-    }
-    Ok(())
+    let found = fits(&columns);
+    Ok(format!(in alloc; "{found:?}")?)
 }
 
 /// The values at a point of columns beside the subgroup of `2^log_size` points.
-fn periodic_values<F: RowField>(
+fn periodic_values<F: TwoAdicField, EF: ExtensionField<F>>(
     alloc: Global,
     log_size: usize,
     columns: &[Vec<F>],
-    point: F::Above,
-) -> Result<Option<Vec<F::Above>>, AllocError> {
+    point: EF,
+) -> Result<Option<Vec<EF>>, AllocError> {
     if log_size > F::TWO_ADICITY {
         return Ok(None);
     }
@@ -189,84 +242,83 @@ fn periodic_values<F: RowField>(
     }
 }
 
-// The column [0, 1] on the subgroup of four points, at 3.
-#[test]
-fn values_of_periodic_columns(rt: HostRuntime) -> Result<(), Fail> {
-    let alloc = rt.alloc();
-    let columns = [numbers(alloc, &[0, 1])?, numbers(alloc, &[7])?];
-    let Some(found) = periodic_values(alloc, 2, &columns, number(3))? else {
-        return Err(Fail::new("the columns fit"))
-    };
-    assert!(rt; found.as_slice() == [number(12285), number(7)].as_slice());
-    Ok(())
-}
-
-/// A chunk of these coordinates.
-fn chunk_of(alloc: Global, numbers: [u32; 4]) -> Result<Vec<Extension>, AllocError>
-    ensures { IfOk result (λ v. vec_len v ≡ 4) }
+fn periodic<F, EF>(alloc: Global, text: &str) -> Result<String, Fail>
+where
+    F: PrimeField64 + TwoAdicField,
+    EF: ExtensionField<F> + Debug,
 {
-    let [first, second, third, fourth] = numbers;
-    let mut chunk = Vec::new(alloc);
-    chunk.push(number(first))?;
-    chunk.push(number(second))?;
-    chunk.push(number(third))?;
-    chunk.push(number(fourth))?;
-    Ok(chunk)
+    let (numbers, rest) = apart(text)?;
+    let [log_size, point] = numbers_in::<2>(numbers)?;
+    let mut columns = Vec::new(alloc);
+    for column in rest.split(" | ") {
+        columns.push(elements_in::<F>(alloc, column)?)?;
+    }
+    let point = above::<F, EF>(point);
+    let found = periodic_values::<F, EF>(alloc, log_size as usize, &columns, point)?;
+    Ok(format!(in alloc; "{found:?}")?)
 }
 
-/// The value at 3 that is recomposed from so many chunks on the parts of the coset with shift 11 of `2^log_size` points; none where
-/// it has fewer parts.
-fn recomposed(
+/// The value at 3 that is recomposed from chunks on the parts of the coset with shift 11; none where it has fewer parts.
+fn recomposed_at<F, EF, C>(
     alloc: Global,
     log_size: usize,
     log_chunks: usize,
-    chunks: &[Vec<Extension>],
-) -> Result<Option<Extension>, AllocError>
-    requires number { length chunks.now ≡ 2 ^ log_chunks }
-    requires dimensions { All (λ chunk. vec_len chunk ≡ 4) chunks.now }
+    chunks: &[Vec<EF>],
+) -> Result<Option<EF>, AllocError>
+where
+    F: PrimeField64 + TwoAdicField,
+    EF: ExtensionField<F>,
+    C: FieldChallenger<F> + CanObserve<ClearCommitment<F>> + ExtensionChallenger<F, EF> + Clone,
 {
-    let Some(domain) = coset(11, log_size) else {
+    let Some(domain) = coset::<F>(element(11), log_size) else {
         return Ok(None);
     };
-    if domain.log_size < log_chunks {
+    if log_chunks > 12 || log_chunks > domain.log_size {
         return Ok(None);
     }
-    let value = recomposed_on_parts::<Base, Extension, Sha256Challenger<Base>>(
-        alloc,
-        &domain,
-        log_chunks,
-        chunks,
-        number(3),
-    )?;
+    let dimension = EF::DIMENSION;
+    let fits = chunks.len() == power_of_two(log_chunks)
+        && chunks.iter().all(|chunk| chunk.len() == dimension);
+    if !fits {
+        return Ok(None);
+    }
+    let point = above::<F, EF>(3);
+    let value = recomposed_on_parts::<F, EF, C>(alloc, &domain, log_chunks, chunks, point)?;
     Ok(Some(value))
 }
 
-// On the cosets of size 2 with shifts 11 and 3980.
-#[test]
-fn recompositions(rt: HostRuntime) -> Result<(), Fail> {
-    let alloc = rt.alloc();
-    for (first, second, quotient) in [(121, 12168, 9), (7684, 7684, 7684)] {
-        let chunks = [
-            chunk_of(alloc, [first, 0, 0, 0])?,
-            chunk_of(alloc, [second, 0, 0, 0])?,
-        ];
-        let found = recomposed(alloc, 2, 1, &chunks)?;
-        assert!(rt; found == Some(number(quotient)), "{first} and {second}");
+fn recomposed<F, EF, C>(alloc: Global, text: &str) -> Result<String, Fail>
+where
+    F: PrimeField64 + TwoAdicField,
+    EF: ExtensionField<F> + Debug,
+    C: FieldChallenger<F> + CanObserve<ClearCommitment<F>> + ExtensionChallenger<F, EF> + Clone,
+{
+    let (numbers, rest) = apart(text)?;
+    let [log_size, log_chunks] = numbers_in::<2>(numbers)?;
+    let mut chunks = Vec::new(alloc);
+    for chunk in rest.split(", ") {
+        let mut values = Vec::new(alloc);
+        for number in list_in(alloc, chunk)? {
+            values.push(above::<F, EF>(number))?;
+        }
+        chunks.push(values)?;
     }
+    let found = recomposed_at::<F, EF, C>(alloc, log_size as usize, log_chunks as usize, &chunks)?;
+    Ok(format!(in alloc; "{found:?}")?)
+}
+
+#[test]
+fn circle_shapes(rt: HostRuntime) -> Result<(), Fail> {
+    let shape = CircleShape { size: 8 };
+    assert_eq!(rt; shape.size(), 8);
+    assert_eq!(rt; shape.transition_degree_multiple(), 1);
     Ok(())
 }
 
-// The chunks of the counter's proof with masks of ones: the masks cancel.
 #[test]
-fn a_masked_recomposition(rt: HostRuntime) -> Result<(), Fail> {
-    let alloc = rt.alloc();
-    let chunks = [
-        chunk_of(alloc, [9603, 9340, 9340, 9340])?,
-        chunk_of(alloc, [6903, 5345, 5345, 5345])?,
-        chunk_of(alloc, [2720, 2941, 2941, 2941])?,
-        chunk_of(alloc, [2254, 3770, 3770, 3770])?,
-    ];
-    let found = recomposed(alloc, 3, 2, &chunks)?;
-    assert!(rt; found == Some(number(39)));
+fn a_domain_that_is_there(rt: HostRuntime) -> Result<(), Fail> {
+    let domain: Coset<S12289> = Coset::subgroup(1);
+    let other = domain.create_disjoint_domain(3);
+    assert_eq!(rt; (other.shift.value(), other.log_size), (11, 2));
     Ok(())
 }

@@ -3,14 +3,15 @@
 //! since JSON can't spell all of them.
 use crate::calls::ClearConfig;
 use crate::declaring_air::DeclaringAir;
-use crate::elements::{Base, Extension};
-use crate::proving::MaskedConfig;
+use crate::proofs::value_of;
+use crate::proving::{MaskedConfig, masked};
+use crate::rows::apart;
 use p3_uni_stark::{
     PcsProof, PreprocessedOpenedValues, PreprocessedVerifierKey, Proof, verify_with_preprocessed,
 };
 use serde_json::Value;
-use stark_bench::{ClearCommitment, ScriptChallenger};
-use stark_clear::{ClearPcs, MaskedClearPcs};
+use stark_bench::ClearCommitment;
+use stark_clear::ClearPcs;
 use stark_parts::{Com, PcsError, StarkConfig, StarkGenericConfig, Val};
 use stark_support::{
     CanObserve, ExtensionChallenger, ExtensionField, FieldChallenger, GrindingChallenger,
@@ -110,11 +111,8 @@ where
     Ok(format!(in alloc; "{answer:?}")?)
 }
 
-fn answered_in_clear<F, EF, C>(
-    alloc: Global,
-    config: &ClearConfig<F, EF, C>,
-    value: &Value,
-) -> Result<String, Fail>
+/// What the verifier answers of an input: the challenger | the scheme | the input. No mask is read by it.
+pub fn answer<F, EF, C>(alloc: Global, challenger: C, row: &str) -> Result<String, Fail>
 where
     F: TwoAdicField + PrimeField64 + JsonCodec,
     EF: ExtensionField<F> + JsonCodec,
@@ -124,56 +122,15 @@ where
         + GrindingChallenger<Witness = F>
         + Clone,
 {
-    answered::<ClearConfig<F, EF, C>>(alloc, config, value)
-}
-
-fn answered_with_masks<F, EF, C>(
-    alloc: Global,
-    config: &MaskedConfig<F, EF, C>,
-    value: &Value,
-) -> Result<String, Fail>
-where
-    F: TwoAdicField + PrimeField64 + JsonCodec,
-    EF: ExtensionField<F> + JsonCodec,
-    C: FieldChallenger<F>
-        + CanObserve<ClearCommitment<F>>
-        + ExtensionChallenger<F, EF>
-        + GrindingChallenger<Witness = F>
-        + Clone,
-{
-    answered::<MaskedConfig<F, EF, C>>(alloc, config, value)
-}
-
-fn value_of(alloc: Global, text: &str) -> Result<Value, Fail> {
-    Ok(Value::from_str(alloc, text).ok().ok_or("no JSON")?)
-}
-
-/// The challenger that hands out an input's numbers.
-fn challenger_of(alloc: Global, value: &Value) -> Result<Option<ScriptChallenger<Base>>, Fail> {
-    let numbers = list_at::<Base>(alloc, value, "challenger")?;
-    if numbers.is_empty() {
-        return Ok(None);
+    let (_challenger, row) = apart(row)?;
+    let (scheme, text) = apart(row)?;
+    let value = value_of(alloc, text)?;
+    let bits = number_at(&value, "work").ok_or("no bits of work")?;
+    if scheme == "masked" {
+        let config = masked::<F, EF, C>(alloc, challenger, "1")?;
+        let config = config.with_ood_proof_of_work_bits(bits);
+        return answered::<MaskedConfig<F, EF, C>>(alloc, &config, &value);
     }
-    Ok(Some(ScriptChallenger::new(numbers)))
-}
-
-/// What the verifier with the scheme in the clear answers of an input.
-pub fn clear_answer(alloc: Global, text: &str) -> Result<String, Fail> {
-    let value = value_of(alloc, text)?;
-    let challenger = challenger_of(alloc, &value)?.ok_or("no numbers")?;
-    let bits = number_at(&value, "work").ok_or("no bits of work")?;
     let config = StarkConfig::new(ClearPcs::new(), challenger).with_ood_proof_of_work_bits(bits);
-    answered_in_clear::<Base, Extension, ScriptChallenger<Base>>(alloc, &config, &value)
-}
-
-/// What the verifier with the masked scheme answers. No mask is read by it.
-pub fn masked_answer(alloc: Global, text: &str) -> Result<String, Fail> {
-    let value = value_of(alloc, text)?;
-    let challenger = challenger_of(alloc, &value)?.ok_or("no numbers")?;
-    let bits = number_at(&value, "work").ok_or("no bits of work")?;
-    let mut masks = Vec::new(alloc);
-    masks.push(Base::new(1))?;
-    let scheme = MaskedClearPcs::new(masks);
-    let config = StarkConfig::new(scheme, challenger).with_ood_proof_of_work_bits(bits);
-    answered_with_masks::<Base, Extension, ScriptChallenger<Base>>(alloc, &config, &value)
+    answered::<ClearConfig<F, EF, C>>(alloc, &config, &value)
 }

@@ -6,6 +6,8 @@
 #[cfg(test)]
 mod airs;
 #[cfg(test)]
+mod answers;
+#[cfg(test)]
 mod calls;
 #[cfg(test)]
 mod constraints;
@@ -41,7 +43,7 @@ mod sized_airs;
 #[cfg(test)]
 mod sizing;
 #[cfg(test)]
-mod stopped;
+mod tests;
 #[cfg(test)]
 mod trees;
 #[cfg(test)]

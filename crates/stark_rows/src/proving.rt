@@ -4,6 +4,7 @@ ghost use Rattle.std.specs.Prelude.{◌≡◌, ◌+◌, ◌*◌, ◌^◌, ◌≤
 ghost use Rattle.stark_support.specs.Scheme.{zk_bits};
 ghost use Rattle.stark_protocol.specs.Preprocessing.{HasHeight};
 
+use crate::elements::elements_in;
 use p3_uni_stark::{
     PcsProof, PreprocessedProverData, PreprocessedVerifierKey, Proof, VerifiedProof,
     prove_and_verify, setup_preprocessed, verify,
@@ -22,6 +23,7 @@ use stark_support::{
 };
 use std::alloc::{AllocError, Global};
 use std::fmt::Debug;
+use std::test::Fail;
 
 /// Whether a trace of `2^log_height` rows and these public values are of an AIR's widths and counts, and the configuration has
 /// room for such a trace.
@@ -141,6 +143,23 @@ where
 
 /// The configuration with the masked scheme.
 pub type MaskedConfig<F, EF, C> = StarkConfig<MaskedClearPcs<F>, EF, C>;
+
+/// The configuration with these masks.
+pub fn masked<F, EF, C>(
+    alloc: Global,
+    challenger: C,
+    masks: &str,
+) -> Result<MaskedConfig<F, EF, C>, Fail>
+where
+    F: PrimeField64 + TwoAdicField,
+    C: Drop,
+{
+    let masks = elements_in::<F>(alloc, masks)?;
+    if masks.is_empty() {
+        return Err(Fail::new("no masks"));
+    }
+    Ok(StarkConfig::new(MaskedClearPcs::new(masks), challenger))
+}
 
 /// The proof of a text; none where it is no proof.
 fn proof_in<K: NeverNull + Drop, EF: JsonCodec + Drop, P: JsonCodec + Drop, F: JsonCodec + Drop>(

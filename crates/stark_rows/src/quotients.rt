@@ -1,22 +1,33 @@
-//! Quotient values on the coset beside a trace's rows, a group of points at a time. One table of rows serves every field.
+//! Quotient values on the coset beside a trace's rows, a group of points at a time.
 ghost use Rattle.std.specs.Prelude.{IfSome};
 ghost use Rattle.stark_quotient.specs.PointwiseQuotient.{HasShape};
 
-use crate::calls::{ClearConfig, RowField};
-use crate::elements::Base;
+use crate::calls::ClearConfig;
+use crate::elements::{above, elements_in};
+use crate::rows::{apart, numbers_in};
 use p3_uni_stark::quotient_values;
 use stark_air::{Air, AirLayout, BaseAir};
-use stark_bench::{ClearCommitment, F12289, P12289, Sha256Challenger};
+use stark_bench::ClearCommitment;
 use stark_clear::{Asked, ClearPcs, CounterAir, SmallAir};
 use stark_parts::{StarkConfig, StarkGenericConfig, Val};
 use stark_protocol::natural_domain;
 use stark_support::{
-    CanObserve, DomainShape, ExtensionChallenger, ExtensionField, Field, FieldChallenger,
-    PackedExtensionField, PackedField, PolynomialSpace, PrimeField64, RowMajorMatrix, TwoAdicField,
-    UnivariateStarkPcs,
+    CanObserve, DomainShape, ExtensionChallenger, Field, FieldChallenger, PackedExtensionField,
+    PackedField, PolynomialSpace, PrimeField64, RowMajorMatrix, TwoAdicField, UnivariateStarkPcs,
 };
 use std::alloc::{AllocError, Global};
+use std::fmt::Debug;
 use std::test::Fail;
+
+// The AIR | the logarithm of the height | the column on the coset | the public values: the values with alpha 4. The counter's trace
+// 5, 6 is the line (11 - X) / 2; its quotient is -1 everywhere, and so is that of the trace 5 of height one. Over one row the mixed
+// AIR's folded sum, 16 * (5 - 1) + 4 * (5 - 2) + (5 - 3), is 78, and the vanishing value at 11 is 10.
+pub const ROWS: &str = r#"
+counter | 1 | 0 11 | 5 => Some([Ext4 { c0: 12288, c1: 0, c2: 0, c3: 0 }, Ext4 { c0: 12288, c1: 0, c2: 0, c3: 0 }])
+counter | 1 | 0 4160 11 8140 | 5 => Some([Ext4 { c0: 12288, c1: 0, c2: 0, c3: 0 }, Ext4 { c0: 12288, c1: 0, c2: 0, c3: 0 }, Ext4 { c0: 12288, c1: 0, c2: 0, c3: 0 }, Ext4 { c0: 12288, c1: 0, c2: 0, c3: 0 }])
+counter | 0 | 5 | 5 => Some([Ext4 { c0: 12288, c1: 0, c2: 0, c3: 0 }])
+mixed | 0 | 5 | empty => Some([Ext4 { c0: 9839, c1: 0, c2: 0, c3: 0 }])
+"#;
 
 /// A matrix of one column, for an AIR that has one, where there are so many rows.
 fn only_column<F: Field, A: BaseAir<F>>(
@@ -78,106 +89,52 @@ where
     Ok(Some(values))
 }
 
-fn values_above<F, EF, C, A>(
-    alloc: Global,
-    config: &ClearConfig<F, EF, C>,
-    air: &A,
-    log_height: usize,
-    column: Vec<F>,
-    publics: &[F],
-    alpha: EF,
-) -> Result<Option<Vec<EF>>, AllocError>
+fn values_text<SC, A>(alloc: Global, config: &SC, air: &A, text: &str) -> Result<String, Fail>
+where
+    SC: StarkGenericConfig,
+    SC::Challenge: PackedExtensionField<Val<SC>> + Debug,
+    Val<SC>: PackedField,
+    A: Air<Val<SC>>,
+{
+    let (log_height, rest) = apart(text)?;
+    let (column, publics) = apart(rest)?;
+    let [log_height] = numbers_in::<1>(log_height)?;
+    let column = elements_in::<Val<SC>>(alloc, column)?;
+    let publics = elements_in::<Val<SC>>(alloc, publics)?;
+    let alpha = above::<Val<SC>, SC::Challenge>(4);
+    let found = values_beside::<SC, A>(
+        alloc,
+        config,
+        air,
+        log_height as usize,
+        column,
+        &publics,
+        alpha,
+    )?;
+    Ok(format!(in alloc; "{found:?}")?)
+}
+
+fn values_by_name<SC>(alloc: Global, config: &SC, text: &str) -> Result<String, Fail>
+where
+    SC: StarkGenericConfig,
+    SC::Challenge: PackedExtensionField<Val<SC>> + Debug,
+    Val<SC>: PackedField,
+{
+    let (name, rest) = apart(text)?;
+    match name {
+        "counter" => values_text(alloc, config, &CounterAir, rest),
+        "mixed" => values_text(alloc, config, &SmallAir::new(Asked::Mixed), rest),
+        _ => Err(Fail::new("no such AIR")),
+    }
+}
+
+/// The answer to a row of this table.
+pub fn answer<F, EF, C>(alloc: Global, challenger: C, row: &str) -> Result<String, Fail>
 where
     F: TwoAdicField + PrimeField64 + PackedField,
-    EF: PackedExtensionField<F>,
+    EF: PackedExtensionField<F> + Debug,
     C: FieldChallenger<F> + CanObserve<ClearCommitment<F>> + ExtensionChallenger<F, EF> + Clone,
-    A: Air<F>,
 {
-    values_beside::<ClearConfig<F, EF, C>, A>(
-        alloc, config, air, log_height, column, publics, alpha,
-    )
-}
-
-/// A number, as an element of the field.
-fn element<F: PrimeField64>(number: u16) -> F {
-    let [high, low] = number.to_be_bytes();
-    F::from_u8(high) * (F::from_u8(16) * F::from_u8(16)) + F::from_u8(low)
-}
-
-/// Numbers, as elements of the field.
-fn elements<F: PrimeField64>(alloc: Global, numbers: &[u16]) -> Result<Vec<F>, AllocError> {
-    let mut list = Vec::new(alloc);
-    for number in numbers {
-        list.push(element(*number))?;
-    }
-    Ok(list)
-}
-
-/// Whether the values with alpha 4 are this base number everywhere.
-fn are_everywhere<F, C, A>(
-    alloc: Global,
-    config: &ClearConfig<F, F::Above, C>,
-    air: &A,
-    log_height: usize,
-    column: &[u16],
-    publics: &[u16],
-    expected: u16,
-) -> Result<bool, AllocError>
-where
-    F: RowField + PackedField,
-    F::Above: PackedExtensionField<F>,
-    C: FieldChallenger<F>
-        + CanObserve<ClearCommitment<F>>
-        + ExtensionChallenger<F, F::Above>
-        + Clone,
-    A: Air<F>,
-{
-    let alpha = F::Above::from_base(element(4));
-    let publics = elements::<F>(alloc, publics)?;
-    let list = elements::<F>(alloc, column)?;
-    let expected = F::Above::from_base(element(expected));
-    let values = values_above::<F, F::Above, C, A>(
-        alloc, config, air, log_height, list, &publics, alpha,
-    )?;
-    Ok(match values {
-        Some(values) => values.len() == column.len() && values.iter().all(|x| *x == expected),
-        None => false,
-    })
-}
-
-/// The rows, in one field. The counter's trace 5, 6 is the line (11 - X) / 2; its quotient is -1 everywhere, and so is that of
-/// the trace 5 of height one. Over one row the last AIR's folded sum, 16 * (5 - 1) + 4 * (5 - 2) + (5 - 3), is 78, and the
-/// vanishing value at 11 is 10.
-fn rows_hold<F, C>(alloc: Global, config: &ClearConfig<F, F::Above, C>) -> Result<bool, AllocError>
-where
-    F: RowField + PackedField,
-    F::Above: PackedExtensionField<F>,
-    C: FieldChallenger<F>
-        + CanObserve<ClearCommitment<F>>
-        + ExtensionChallenger<F, F::Above>
-        + Clone,
-{
-    for (log_height, column) in [
-        (1, [0, 11].as_slice()),
-        (1, [0, 4160, 11, 8140].as_slice()),
-        (0, [5].as_slice()),
-    ] {
-        if !are_everywhere(alloc, config, &CounterAir, log_height, column, &[5], 12288)? {
-            return Ok(false);
-        }
-    }
-    let mixed = SmallAir::new(Asked::Mixed);
-    are_everywhere(alloc, config, &mixed, 0, &[5], &[], 9839)
-}
-
-#[test]
-fn quotients_of_worked_rows(rt: HostRuntime) -> Result<(), Fail> {
-    let alloc = rt.alloc();
-    let small = StarkConfig::new(ClearPcs::new(), Sha256Challenger::<Base>::new());
-    assert!(rt; rows_hold(alloc, &small)?);
-    let packed = StarkConfig::new(ClearPcs::new(), Sha256Challenger::<P12289>::new());
-    assert!(rt; rows_hold(alloc, &packed)?);
-    let fast = StarkConfig::new(ClearPcs::new(), Sha256Challenger::<F12289>::new());
-    assert!(rt; rows_hold(alloc, &fast)?);
-    Ok(())
+    let config = StarkConfig::new(ClearPcs::new(), challenger);
+    values_by_name::<ClearConfig<F, EF, C>>(alloc, &config, row)
 }

@@ -1,4 +1,5 @@
-//! Worked rows as text: a row a line, what is given before ` => ` and the answer behind it.
+//! Worked rows as text: a row a line, what is given before ` => ` and the answer behind it. Lines that begin with `#` say what
+//! the rows behind them are.
 use std::alloc::Global;
 use std::process::Abort;
 use std::test::Fail;
@@ -7,14 +8,55 @@ use std::test::Fail;
 pub fn all_rows(
     rt: &impl Abort,
     alloc: Global,
+    subject: &str,
     rows: &str,
-    answer: fn(Global, &str) -> Result<String, Fail>,
+    answer: fn(Global, &str, &str) -> Result<String, Fail>,
 ) -> Result<(), Fail>
     requires { IsAlwaysCallable answer }
 {
     for row in rows.lines() {
-        let (input, expected) = row.split_once(" => ").ok_or("a row without an answer")?;
-        assert_eq!(rt; answer(alloc, input)?.as_str(), expected, "{input}");
+        if !row.is_empty() && !row.starts_with('#') {
+            let (input, expected) = row.split_once(" => ").ok_or("a row without an answer")?;
+            let found = answer(alloc, subject, input)?;
+            assert_eq!(rt; found.as_str(), expected, "{subject}: {input}");
+        }
+    }
+    Ok(())
+}
+
+/// Asserts that each row behind a front that all have is answered over all three fields alike, as the row says: `accepted` stands for
+/// a proof that the verifier accepts.
+pub fn agreeing_rows(
+    rt: &impl Abort,
+    alloc: Global,
+    front: &str,
+    rows: &str,
+    one: fn(Global, &str, &str) -> Result<String, Fail>,
+    four: fn(Global, &str, &str) -> Result<String, Fail>,
+    eight: fn(Global, &str, &str) -> Result<String, Fail>,
+) -> Result<(), Fail>
+    requires one { IsAlwaysCallable one }
+    requires four { IsAlwaysCallable four }
+    requires eight { IsAlwaysCallable eight }
+{
+    for row in rows.lines() {
+        if !row.is_empty() && !row.starts_with('#') {
+            let (given, expected) = row.split_once(" => ").ok_or("a row without an answer")?;
+            let input = format!(in alloc; "{front}{given}")?;
+            let found = one(alloc, "provers", &input)?;
+            let others = [
+                four(alloc, "provers", &input)?,
+                eight(alloc, "provers", &input)?,
+            ];
+            for other in &others {
+                assert_eq!(rt; other.as_str(), found.as_str(), "{input}");
+            }
+            if expected == "accepted" {
+                assert!(rt; found.ends_with(" Ok(())"), "{input}: {found}");
+            } else {
+                assert_eq!(rt; found.as_str(), expected, "{input}");
+            }
+        }
     }
     Ok(())
 }

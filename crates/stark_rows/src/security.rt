@@ -2,82 +2,125 @@
 ghost use Rattle.std.specs.Prelude.{◌≡◌, ◌≤◌, unwrap_or};
 ghost use Rattle.stark_security.specs.Openings.{random_columns};
 
-use crate::calls::{RowField, folded, recomposed_of_one};
-use crate::elements::{Base, Extension, number};
+use crate::airs::small_air;
+use crate::calls::{folded, recomposed_of_one};
+use crate::elements::{above, element};
 use crate::kinds::Kind;
-use crate::rows::{all_rows, apart, numbers_in, option_in};
+use crate::rows::{apart, numbers_in, option_in};
 use crate::sized_airs::SizedAir;
+use crate::sizing::kind_in;
 use p3_uni_stark::{OpeningShape, StarkSecurityParams, num_batched_openings, ood_error_bound};
 use stark_air::{Air, AirLayout};
-use stark_bench::{Coset, Ext4, Sha256Challenger};
-use stark_clear::{Asked, CounterAir, CubicAir, FibonacciAir, PairAir, PreprocessedAir, SmallAir};
+use stark_bench::{ClearCommitment, Coset, Ext4};
+use stark_clear::{CounterAir, CubicAir, FibonacciAir, PairAir, PreprocessedAir, SmallAir};
 use stark_support::{
-    FriRegime, GrindingSites, LagrangeSelectors, PolynomialSpace, QuarticBase, TwoAdicField,
+    CanObserve, ExtensionChallenger, ExtensionField, Field, FieldChallenger, FriRegime,
+    GrindingSites, LagrangeSelectors, PolynomialSpace, PrimeField64, QuarticBase, TwoAdicField,
 };
 use std::alloc::{AllocError, Global};
 use std::test::Fail;
 
-type Challenger = Sha256Challenger<Base>;
+// A table's name | what is given.
+pub const ROWS: &str = r#"
+# The AIR | the height's logarithm and is_zk: the bounds of bad alphas and of bad zetas; none where they are too great.
+bound | counter | 1 0 => Some((1, 3))
+bound | nothing | 1 0 => Some((0, 3))
+bound | counter | 63 0 => Some((1, 18446744073709551615))
+bound | cubic | 63 0 => None
+bound | cubic | 3 0 => Some((0, 23))
+bound | cubic | 4 1 => Some((0, 79))
+bound | fibonacci | 3 0 => Some((4, 15))
+bound | fibonacci | 4 1 => Some((4, 47))
+bound | pair | 1 0 => Some((3, 3))
+bound | preprocessed | 2 0 => Some((0, 7))
 
-type Bound = Option<(usize, usize)>;
+# The kind of an AIR | the author's bound on its degree | the same. The transition selector times two columns of degree 3 has degree
+# 7; a hint raises the number of chunks alone.
+bound of a kind | stepped square | none | 0 0 => Some((0, 1))
+bound of a kind | stepped square | none | 2 0 => Some((0, 7))
+bound of a kind | column | 3 | 2 0 => Some((0, 11))
+bound of a kind | column | 18446744073709551615 | 0 0 => None
+
+# The author's bound on the degree | whether a next row is read, whether the scheme hides, the bits of work before the batch.
+# Answered are the batched functions, the constraints and their degree, the chunks, the greatest number of points, the work.
+parameters | none | 1 0 0 => 20 3 1 1 2 GrindingSites { lookup_challenge: 0, out_of_domain: 0, batch_combination: 0 }
+parameters | none | 0 0 0 => 12 3 1 1 2 GrindingSites { lookup_challenge: 0, out_of_domain: 0, batch_combination: 0 }
+parameters | none | 1 1 0 => 28 3 1 2 2 GrindingSites { lookup_challenge: 0, out_of_domain: 0, batch_combination: 0 }
+parameters | 1 | 1 1 16 => 28 3 1 2 2 GrindingSites { lookup_challenge: 0, out_of_domain: 0, batch_combination: 16 }
+parameters | 3 | 1 1 16 => 52 3 1 8 2 GrindingSites { lookup_challenge: 0, out_of_domain: 0, batch_combination: 16 }
+parameters | 5 | 1 1 16 => 84 3 1 16 2 GrindingSites { lookup_challenge: 0, out_of_domain: 0, batch_combination: 16 }
+"#;
+
+// The numbers below this one at which the equation of the counter's false trace 5, 7 holds.
+pub const BAD_ZETAS: &str = "bad zetas | 12289 => [3, 12288]";
+
+/// The answer to a row of these tables.
+pub fn answer<F, EF, C>(alloc: Global, row: &str) -> Result<String, Fail>
+where
+    F: PrimeField64 + TwoAdicField + QuarticBase,
+    EF: ExtensionField<F>,
+    C: FieldChallenger<F> + CanObserve<ClearCommitment<F>> + ExtensionChallenger<F, EF> + Clone,
+{
+    let (table, text) = apart(row)?;
+    match table {
+        "bound" => bound_by_name::<F, EF>(alloc, text),
+        "bound of a kind" => bound_of_kind::<F, EF>(alloc, text),
+        "parameters" => parameters::<F>(alloc, text),
+        "bad zetas" => bad_zetas::<F, EF, C>(alloc, text),
+        _ => Err(Fail::new("no such table")),
+    }
+}
 
 /// The bounds at a height; none where they are too great, or the height is.
-fn bound<F: RowField, A: Air<F>>(
+fn bound<F: Field, EF: ExtensionField<F>, A: Air<F>>(
     alloc: Global,
     air: &A,
     degree_bits: usize,
     is_zk: usize,
-) -> Result<Bound, AllocError> {
+) -> Result<Option<(usize, usize)>, AllocError> {
     if is_zk > 1 || is_zk > degree_bits || degree_bits > 63 {
         return Ok(None);
     }
     let layout = AirLayout::from_air::<F, A>(air);
-    ood_error_bound::<F, F::Above, A>(alloc, air, layout, degree_bits, is_zk)
+    ood_error_bound::<F, EF, A>(alloc, air, layout, degree_bits, is_zk)
 }
 
-fn bounds<F: RowField>(alloc: Global) -> Result<[Bound; 10], AllocError> {
-    Ok([
-        bound::<F, CounterAir>(alloc, &CounterAir, 1, 0)?,
-        bound::<F, SmallAir>(alloc, &SmallAir::new(Asked::Nothing), 1, 0)?,
-        bound::<F, CounterAir>(alloc, &CounterAir, 63, 0)?,
-        bound::<F, CubicAir>(alloc, &CubicAir, 63, 0)?,
-        bound::<F, CubicAir>(alloc, &CubicAir, 3, 0)?,
-        bound::<F, CubicAir>(alloc, &CubicAir, 4, 1)?,
-        bound::<F, FibonacciAir>(alloc, &FibonacciAir, 3, 0)?,
-        bound::<F, FibonacciAir>(alloc, &FibonacciAir, 4, 1)?,
-        bound::<F, PairAir>(alloc, &PairAir, 1, 0)?,
-        bound::<F, PreprocessedAir>(alloc, &PreprocessedAir, 2, 0)?,
-    ])
-}
-
-fn bound_of_kind<F: RowField>(
+fn bound_text<F: Field, EF: ExtensionField<F>, A: Air<F>>(
     alloc: Global,
-    kind: Kind,
-    hint: Option<usize>,
-    degree_bits: usize,
-) -> Result<Bound, AllocError> {
-    bound::<F, SizedAir>(alloc, &SizedAir { kind, hint }, degree_bits, 0)
+    air: &A,
+    text: &str,
+) -> Result<String, Fail> {
+    let [degree_bits, is_zk] = numbers_in::<2>(text)?;
+    let found = bound::<F, EF, A>(alloc, air, degree_bits as usize, is_zk as usize)?;
+    Ok(format!(in alloc; "{found:?}")?)
 }
 
-// The transition selector times two columns of degree 3 has degree 7; a hint raises the number of chunks alone.
-fn bounds_of_kinds<F: RowField>(alloc: Global) -> Result<[Bound; 4], AllocError> {
-    Ok([
-        bound_of_kind::<F>(alloc, Kind::SteppedSquare, None, 0)?,
-        bound_of_kind::<F>(alloc, Kind::SteppedSquare, None, 2)?,
-        bound_of_kind::<F>(alloc, Kind::Column, Some(3), 2)?,
-        bound_of_kind::<F>(alloc, Kind::Column, Some(usize::MAX), 0)?,
-    ])
+fn bound_by_name<F: PrimeField64, EF: ExtensionField<F>>(
+    alloc: Global,
+    text: &str,
+) -> Result<String, Fail> {
+    let (name, numbers) = apart(text)?;
+    match name {
+        "counter" => bound_text::<F, EF, CounterAir>(alloc, &CounterAir, numbers),
+        "cubic" => bound_text::<F, EF, CubicAir>(alloc, &CubicAir, numbers),
+        "fibonacci" => bound_text::<F, EF, FibonacciAir>(alloc, &FibonacciAir, numbers),
+        "pair" => bound_text::<F, EF, PairAir>(alloc, &PairAir, numbers),
+        "preprocessed" => bound_text::<F, EF, PreprocessedAir>(alloc, &PreprocessedAir, numbers),
+        _ => bound_text::<F, EF, SmallAir>(alloc, &small_air(name), numbers),
+    }
 }
 
-#[test]
-fn bounds_of_bad_draws(rt: HostRuntime) -> Result<(), Fail> {
-    let alloc = rt.alloc();
-    let found = (bounds::<Base>(alloc)?, bounds_of_kinds::<Base>(alloc)?);
-    assert_eq!(rt;
-        format!(in alloc; "{found:?}")?.as_str(),
-        "([Some((1, 3)), Some((0, 3)), Some((1, 18446744073709551615)), None, Some((0, 23)), Some((0, 79)), Some((4, 15)), Some((4, 47)), Some((3, 3)), Some((0, 7))], [Some((0, 1)), Some((0, 7)), Some((0, 11)), None])"
-    );
-    Ok(())
+fn bound_of_kind<F: Field, EF: ExtensionField<F>>(
+    alloc: Global,
+    text: &str,
+) -> Result<String, Fail> {
+    let (kind, rest) = apart(text)?;
+    let (hint, numbers) = apart(rest)?;
+    let air = SizedAir {
+        kind: kind_in(kind),
+        hint: option_in(hint)?,
+    };
+    bound_text::<F, EF, SizedAir>(alloc, &air, numbers)
 }
 
 #[test]
@@ -181,7 +224,7 @@ fn params<F: QuarticBase + TwoAdicField>(
     Ok(Some(params))
 }
 
-fn params_answer(alloc: Global, text: &str) -> Result<String, Fail> {
+fn parameters<F: QuarticBase + TwoAdicField>(alloc: Global, text: &str) -> Result<String, Fail> {
     let (hint, numbers) = apart(text)?;
     let hint = option_in(hint)?;
     let [reads_next, hides, batch_combination] = numbers_in::<3>(numbers)?;
@@ -190,33 +233,16 @@ fn params_answer(alloc: Global, text: &str) -> Result<String, Fail> {
     }
     let openings = opening_shape(hides == 1);
     let work = batch_combination as usize;
-    match params::<Base>(alloc, reads_next == 1, hint, openings, work)? {
-        Some(found) => Ok(format!(in alloc;
-            "{} {} {} {} {} {:?}",
-            found.num_batched_functions,
-            found.num_constraints,
-            found.air_max_constraint_degree,
-            found.num_quotient_chunks,
-            found.max_combo,
-            found.grinding
-        )?),
-        None => Err(Fail::new("no domain")),
-    }
-}
-
-// The author's bound on the degree | whether a next row is read, whether the scheme hides, the bits of work before the batch.
-// Answered are the batched functions, the constraints and their degree, the chunks, the greatest number of points, the work.
-const PARAMETERS: &str = "\
-none | 1 0 0 => 20 3 1 1 2 GrindingSites { lookup_challenge: 0, out_of_domain: 0, batch_combination: 0 }
-none | 0 0 0 => 12 3 1 1 2 GrindingSites { lookup_challenge: 0, out_of_domain: 0, batch_combination: 0 }
-none | 1 1 0 => 28 3 1 2 2 GrindingSites { lookup_challenge: 0, out_of_domain: 0, batch_combination: 0 }
-1 | 1 1 16 => 28 3 1 2 2 GrindingSites { lookup_challenge: 0, out_of_domain: 0, batch_combination: 16 }
-3 | 1 1 16 => 52 3 1 8 2 GrindingSites { lookup_challenge: 0, out_of_domain: 0, batch_combination: 16 }
-5 | 1 1 16 => 84 3 1 16 2 GrindingSites { lookup_challenge: 0, out_of_domain: 0, batch_combination: 16 }";
-
-#[test]
-fn parameters_of_an_air(rt: HostRuntime) -> Result<(), Fail> {
-    all_rows(&rt, rt.alloc(), PARAMETERS, params_answer)
+    let found = params::<F>(alloc, reads_next == 1, hint, openings, work)?.ok_or("no domain")?;
+    Ok(format!(in alloc;
+        "{} {} {} {} {} {:?}",
+        found.num_batched_functions,
+        found.num_constraints,
+        found.air_max_constraint_degree,
+        found.num_quotient_chunks,
+        found.max_combo,
+        found.grinding
+    )?)
 }
 
 #[test]
@@ -229,49 +255,72 @@ fn parameters_in_their_fields(rt: HostRuntime) -> Result<(), Fail> {
     Ok(())
 }
 
-// The equation of the counter's false trace 5, 7 at zeta, with the selectors as sums: the first is 1 + zeta, the last
-// h + h^2 * zeta, the transition's zeta - 1/h, for h = -1; the column is 6 - X.
-fn is_balanced(zeta: Extension, quotient: Extension) -> Result<bool, AllocError> {
-    let (one, six) = (number(1), number(6));
-    let sum: Extension = folded::<Base, Challenger, CounterAir>(
+/// Whether the equation of the counter's false trace 5, 7 holds at zeta, with the selectors as sums: the first is 1 + zeta, the last
+/// h + h^2 * zeta, the transition's zeta - 1/h, for h = -1; the column is 6 - X.
+fn is_balanced<F, EF, C>(alloc: Global, zeta: EF, quotient: EF) -> Result<bool, Fail>
+where
+    F: PrimeField64 + TwoAdicField,
+    EF: ExtensionField<F>,
+    C: FieldChallenger<F> + CanObserve<ClearCommitment<F>> + ExtensionChallenger<F, EF> + Clone,
+{
+    let (one, six) = (above::<F, EF>(1), above::<F, EF>(6));
+    let mut rows = Vec::new(alloc);
+    rows.push(six - zeta)?;
+    rows.push(six + zeta)?;
+    let mut publics = Vec::new(alloc);
+    publics.push(element::<F>(5))?;
+    let (local, next, none) = (&rows[..1], &rows[1..2], &rows[..0]);
+    if local.len() != 1 || next.len() != 1 || publics.len() != 1 {
+        return Err(Fail::new("other rows"));
+    }
+    let selectors = LagrangeSelectors {
+        is_first_row: one + zeta,
+        is_last_row: zeta - one,
+        is_transition: zeta + one,
+        inv_vanishing: EF::ZERO,
+    };
+    let sum = folded::<F, EF, C, CounterAir>(
         &CounterAir,
-        &[six - zeta],
-        &[six + zeta],
-        &[],
-        &[],
-        &[Base::new(5)],
-        LagrangeSelectors {
-            is_first_row: one + zeta,
-            is_last_row: zeta - one,
-            is_transition: zeta + one,
-            inv_vanishing: number(0),
-        },
-        number(4),
+        local,
+        next,
+        none,
+        none,
+        &publics,
+        selectors,
+        above::<F, EF>(4),
     )?;
     Ok(sum == (zeta * zeta - one) * quotient)
 }
 
-#[test]
-fn bad_zetas_of_a_false_trace(rt: HostRuntime) -> Result<(), Fail> {
-    let alloc = rt.alloc();
-    let rows: Coset<Base> = Coset::subgroup(1);
-    let domain = rows.create_disjoint_domain(2);
+/// The domain of two points beside the subgroup of two points.
+fn beside_two_points<F: TwoAdicField>() -> Option<Coset<F>> {
+    if F::TWO_ADICITY < 1 {
+        return None;
+    }
+    let rows: Coset<F> = Coset::subgroup(1);
+    rows.try_create_disjoint_domain(2)
+}
+
+fn bad_zetas<F, EF, C>(alloc: Global, text: &str) -> Result<String, Fail>
+where
+    F: PrimeField64 + TwoAdicField,
+    EF: ExtensionField<F>,
+    C: FieldChallenger<F> + CanObserve<ClearCommitment<F>> + ExtensionChallenger<F, EF> + Clone,
+{
+    let [numbers] = numbers_in::<1>(text)?;
+    let domain = beside_two_points::<F>().ok_or("no domain")?;
     let mut found = Vec::new(alloc);
-    for n in 0..12289u32 {
-        let zeta = number(n);
-        let Some(quotient) = recomposed_of_one::<Base, Challenger>(
+    for n in 0..numbers {
+        let zeta = above::<F, EF>(n);
+        let quotient = recomposed_of_one::<F, EF, C>(
             alloc,
             domain,
-            number(6143),
+            above::<F, EF>(6143),
             zeta,
-        )?
-        else {
-            return Err(Fail::new("not of degree four"));
-        };
-        if is_balanced(zeta, quotient)? {
+        )?.ok_or("not of degree four")?;
+        if is_balanced::<F, EF, C>(alloc, zeta, quotient)? {
             found.push(n)?;
         }
     }
-    assert_eq!(rt; found.as_slice(), [3, 12288].as_slice());
-    Ok(())
+    Ok(format!(in alloc; "{found:?}")?)
 }

@@ -1,28 +1,81 @@
 //! How many chunks quotients have, and which powers fold the constraints at which places.
 ghost use Rattle.std.specs.Prelude.{◌≤◌};
 
-use crate::calls::RowField;
-use crate::elements::{Base, number};
+use crate::elements::above;
 use crate::kinds::Kind;
-use crate::rows::{all_rows, apart, numbers_in, option_in};
+use crate::rows::{apart, numbers_in, option_in};
 use crate::sized_airs::SizedAir;
 use stark_air::{
-    Air, AirBuilder, AirLayout, BaseEntry, ConstraintLayout, ExtensionBuilder, SymbolicAirBuilder,
-    SymbolicExpression, SymbolicNode, SymbolicVariable, get_all_symbolic_constraints,
-    get_constraint_layout, get_max_constraint_degree_extension, get_symbolic_constraints,
+    AirBuilder, AirLayout, BaseEntry, ExtensionBuilder, SymbolicAirBuilder, SymbolicExpression,
+    SymbolicNode, SymbolicVariable, get_all_symbolic_constraints, get_constraint_layout,
+    get_max_constraint_degree_extension, get_symbolic_constraints,
 };
-use stark_bench::{CircleShape, Coset, Ext4};
+use stark_bench::{CircleShape, Coset};
 use stark_clear::{Asked, SmallAir};
 use stark_parts::{
     get_log_num_quotient_chunks, get_log_num_quotient_chunks_for_domain,
     get_log_quotient_degree_extension,
 };
-use stark_support::{Algebra, DomainShape, Field, PrimeField64};
+use stark_support::{Algebra, DomainShape, ExtensionField, Field, PrimeField64, TwoAdicField};
 use std::alloc::{AllocError, Global};
+use std::fmt::Debug;
 use std::test::Fail;
 
+// A table's name | what is given.
+pub const ROWS: &str = r#"
+# What is asked | the author's bound on the degree | is_zk and the trace's length, which decides nothing. Answered are the main
+# and the preprocessed columns, the greatest degree without a bound, and the logarithms of the numbers of chunks: over the
+# field, its extension, a two-adic domain and a circle. A cube has one chunk too few in one part: degree 3 - 1 is 2, and under
+# zero knowledge 3. The transition selector counts nothing on a two-adic domain, and one on a circle. Whatever its constraints
+# read, a degree of one needs one chunk; so does no constraint. The sum with `is_zk` stays at the greatest number.
+sizes | cube | none | 0 0 => [4, 0] (3, 1, 1) 1 1
+sizes | cube | none | 1 8 => [4, 0] (3, 2, 2) 2 2
+sizes | cube | 1 | 0 4096 => [4, 0] (3, 1, 1) 1 1
+sizes | cube | 1 | 1 8 => [4, 0] (3, 2, 2) 2 2
+sizes | cube | 9 | 0 0 => [4, 0] (3, 3, 3) 3 3
+sizes | cube | 9 | 0 8 => [4, 0] (3, 3, 3) 3 3
+sizes | cube | 9 | 0 4096 => [4, 0] (3, 3, 3) 3 3
+sizes | cube | 9 | 1 8 => [4, 0] (3, 4, 4) 4 4
+sizes | stepped square | none | 0 8 => [4, 0] (2, 0, 0) 0 1
+sizes | nothing | none | 0 8 => [4, 0] (0, 0, 0) 0 0
+sizes | columns | none | 0 8 => [4, 0] (1, 0, 0) 0 0
+sizes | column | none | 0 8 => [4, 0] (1, 0, 0) 0 0
+sizes | column | 0 | 0 8 => [4, 0] (1, 0, 0) 0 0
+sizes | column | 3 | 0 8 => [4, 0] (1, 1, 1) 1 1
+sizes | column | 18446744073709551615 | 0 8 => [4, 0] (1, 64, 64) 64 64
+sizes | column | 18446744073709551615 | 1 8 => [4, 0] (1, 64, 64) 64 64
+
+# Of three constraints the second is over the extension: their places, their number and degree, and the powers. With alpha 4 the
+# base ones get 4^2 and 4^0, the other 4^1.
+places | 4 => ConstraintLayout { base_indices: [0, 2], ext_indices: [1] } 3 1 ([[16, 1], [0, 0], [0, 0], [0, 0]], [Ext4 { c0: 4, c1: 0, c2: 0, c3: 0 }])
+
+# Sums of constants are computed while the trees are built: what is taken away from the column, the degree, and whether memory was
+# refused, of the constraints over the field, those over the extension, and the former again.
+constants | all => ([(Some(1), 1, false), (Some(3), 1, false)], [(Some(2), 1, false)], [(Some(1), 1, false), (Some(3), 1, false)])
+
+# An expression that was refused memory says so, is asserted by neither of two calls, and nothing is kept of it: how many constraints
+# are kept then, and after another one.
+refused | all => ([true, true, true], 0, 1)
+"#;
+
+/// The answer to a row of these tables.
+pub fn answer<F, EF>(alloc: Global, row: &str) -> Result<String, Fail>
+where
+    F: PrimeField64 + TwoAdicField + Debug,
+    EF: ExtensionField<F> + Debug,
+{
+    let (table, text) = apart(row)?;
+    match table {
+        "sizes" => sizes_text::<F, EF>(alloc, text),
+        "places" => places::<F, EF>(alloc, text),
+        "constants" => Ok(constants_of::<F, EF>(alloc)?),
+        "refused" => refused::<F>(alloc),
+        _ => Err(Fail::new("no such table")),
+    }
+}
+
 /// The greatest degree, and the logarithm of the number of chunks, of an AIR over a field and over its extension.
-fn sizes<F: RowField>(
+fn sizes<F: Field, EF: ExtensionField<F>>(
     alloc: Global,
     air: &SizedAir,
     is_zk: usize,
@@ -31,11 +84,11 @@ fn sizes<F: RowField>(
     requires { is_zk ≤ 1 }
 {
     let layout = AirLayout::from_air::<F, SizedAir>(air);
-    let degree = get_max_constraint_degree_extension::<F, F::Above, SizedAir>(
+    let degree = get_max_constraint_degree_extension::<F, EF, SizedAir>(
         alloc, air, layout, trace_len,
     )?;
     let base = get_log_num_quotient_chunks::<F, SizedAir>(alloc, air, layout, trace_len, is_zk)?;
-    let above = get_log_quotient_degree_extension::<F, F::Above, SizedAir>(
+    let above = get_log_quotient_degree_extension::<F, EF, SizedAir>(
         alloc, air, layout, trace_len, is_zk,
     )?;
     Ok((degree, base, above))
@@ -54,7 +107,8 @@ fn log_chunks_on<F: Field, D: DomainShape>(
     get_log_num_quotient_chunks_for_domain::<F, SizedAir, D>(alloc, air, layout, domain, is_zk)
 }
 
-fn kind_in(text: &str) -> Kind {
+/// What an AIR asks of its columns, by its name.
+pub fn kind_in(text: &str) -> Kind {
     if text == "column" {
         return Kind::Column;
     }
@@ -70,30 +124,28 @@ fn kind_in(text: &str) -> Kind {
     Kind::Nothing
 }
 
-// What is asked | the author's bound on the degree | is_zk and the trace's length, which decides nothing. Answered are the main
-// and the preprocessed columns, the greatest degree without a bound, and the logarithms of the numbers of chunks: over the
-// field, its extension, a two-adic domain and a circle. A cube has one chunk too few in one part: degree 3 - 1 is 2, and under
-// zero knowledge 3. The transition selector counts nothing on a two-adic domain, and one on a circle. Whatever its constraints
-// read, a degree of one needs one chunk; so does no constraint. The sum with `is_zk` stays at the greatest number.
-const SIZES: &str = "\
-cube | none | 0 0 => [4, 0] (3, 1, 1) 1 1
-cube | none | 1 8 => [4, 0] (3, 2, 2) 2 2
-cube | 1 | 0 4096 => [4, 0] (3, 1, 1) 1 1
-cube | 1 | 1 8 => [4, 0] (3, 2, 2) 2 2
-cube | 9 | 0 0 => [4, 0] (3, 3, 3) 3 3
-cube | 9 | 0 8 => [4, 0] (3, 3, 3) 3 3
-cube | 9 | 0 4096 => [4, 0] (3, 3, 3) 3 3
-cube | 9 | 1 8 => [4, 0] (3, 4, 4) 4 4
-stepped square | none | 0 8 => [4, 0] (2, 0, 0) 0 1
-nothing | none | 0 8 => [4, 0] (0, 0, 0) 0 0
-columns | none | 0 8 => [4, 0] (1, 0, 0) 0 0
-column | none | 0 8 => [4, 0] (1, 0, 0) 0 0
-column | 0 | 0 8 => [4, 0] (1, 0, 0) 0 0
-column | 3 | 0 8 => [4, 0] (1, 1, 1) 1 1
-column | 18446744073709551615 | 0 8 => [4, 0] (1, 64, 64) 64 64
-column | 18446744073709551615 | 1 8 => [4, 0] (1, 64, 64) 64 64";
+/// The logarithms of the numbers of chunks over a two-adic domain and over a circle; none where there is no such domain.
+fn log_chunks<F: TwoAdicField>(
+    alloc: Global,
+    air: &SizedAir,
+    is_zk: usize,
+) -> Result<Option<(usize, usize)>, AllocError>
+    requires { is_zk ≤ 1 }
+{
+    if F::TWO_ADICITY < 3 {
+        return Ok(None);
+    }
+    let coset: Coset<F> = Coset::subgroup(3);
+    let on_coset = log_chunks_on::<F, Coset<F>>(alloc, air, &coset, is_zk)?;
+    let circle = CircleShape { size: 8 };
+    let on_circle = log_chunks_on::<F, CircleShape>(alloc, air, &circle, is_zk)?;
+    Ok(Some((on_coset, on_circle)))
+}
 
-fn sizes_answer(alloc: Global, text: &str) -> Result<String, Fail> {
+fn sizes_text<F: TwoAdicField, EF: ExtensionField<F>>(
+    alloc: Global,
+    text: &str,
+) -> Result<String, Fail> {
     let (kind, rest) = apart(text)?;
     let (hint, numbers) = apart(rest)?;
     let [is_zk, trace_len] = numbers_in::<2>(numbers)?;
@@ -102,54 +154,25 @@ fn sizes_answer(alloc: Global, text: &str) -> Result<String, Fail> {
         kind: kind_in(kind),
         hint: option_in(hint)?,
     };
-    let layout = AirLayout::from_air::<Base, SizedAir>(&air);
+    let layout = AirLayout::from_air::<F, SizedAir>(&air);
     let columns = [layout.main_width, layout.preprocessed_width];
-    let sizes = sizes::<Base>(alloc, &air, is_zk, trace_len as usize)?;
-    let coset: Coset<Base> = Coset::subgroup(3);
-    let on_coset = log_chunks_on::<Base, Coset<Base>>(alloc, &air, &coset, is_zk)?;
-    let circle = CircleShape { size: 8 };
-    let on_circle = log_chunks_on::<Base, CircleShape>(alloc, &air, &circle, is_zk)?;
+    let sizes = sizes::<F, EF>(alloc, &air, is_zk, trace_len as usize)?;
+    let (on_coset, on_circle) = log_chunks::<F>(alloc, &air, is_zk)?.ok_or("no domain")?;
     Ok(format!(in alloc; "{columns:?} {sizes:?} {on_coset} {on_circle}")?)
 }
 
-#[test]
-fn sizes_of_quotients(rt: HostRuntime) -> Result<(), Fail> {
-    all_rows(&rt, rt.alloc(), SIZES, sizes_answer)
-}
-
-/// The coordinates of the powers at the base constraints, and the powers at the others.
-type Powers<F, EF> = (Vec<Vec<F>>, Vec<EF>);
-
-/// The constraints' places, and what folds them.
-fn places_of<F: RowField, A: Air<F>>(
+fn places<F: PrimeField64 + Debug, EF: ExtensionField<F> + Debug>(
     alloc: Global,
-    air: &A,
-    alpha: F::Above,
-) -> Result<(ConstraintLayout, Powers<F, F::Above>), AllocError> {
-    let layout = AirLayout::from_air::<F, A>(air);
-    let places = get_constraint_layout::<F, F::Above, A>(alloc, air, layout)?;
-    let powers = places.decompose_alpha::<F, F::Above>(alloc, alpha)?;
-    Ok((places, powers))
-}
-
-fn degree_of<F: RowField, A: Air<F>>(alloc: Global, air: &A) -> Result<usize, AllocError> {
-    let layout = AirLayout::from_air::<F, A>(air);
-    get_max_constraint_degree_extension::<F, F::Above, A>(alloc, air, layout, 8)
-}
-
-// Of three constraints the second is over the extension. With alpha 4 the base ones get 4^2 and 4^0, the other 4^1.
-#[test]
-fn places_and_powers(rt: HostRuntime) -> Result<(), Fail> {
-    let alloc = rt.alloc();
+    text: &str,
+) -> Result<String, Fail> {
+    let [alpha] = numbers_in::<1>(text)?;
     let air = SmallAir::new(Asked::Mixed);
-    let degree = degree_of::<Base, SmallAir>(alloc, &air)?;
-    let (places, powers) = places_of::<Base, SmallAir>(alloc, &air, number(4))?;
+    let layout = AirLayout::from_air::<F, SmallAir>(&air);
+    let degree = get_max_constraint_degree_extension::<F, EF, SmallAir>(alloc, &air, layout, 8)?;
+    let places = get_constraint_layout::<F, EF, SmallAir>(alloc, &air, layout)?;
+    let powers = places.decompose_alpha::<F, EF>(alloc, above::<F, EF>(alpha))?;
     let total = places.total_constraints();
-    assert_eq!(rt;
-        format!(in alloc; "{places:?} {total} {degree} {powers:?}")?.as_str(),
-        "ConstraintLayout { base_indices: [0, 2], ext_indices: [1] } 3 1 ([[16, 1], [0, 0], [0, 0], [0, 0]], [Ext4 { c0: 4, c1: 0, c2: 0, c3: 0 }])"
-    );
-    Ok(())
+    Ok(format!(in alloc; "{places:?} {total} {degree} {powers:?}")?)
 }
 
 /// The constant that is taken away from column 0, the degree, and whether memory was refused.
@@ -175,10 +198,12 @@ fn all_taken_away<F: PrimeField64>(
     Ok(constants)
 }
 
-fn constants_of<F: RowField>(alloc: Global) -> Result<String, AllocError> {
+fn constants_of<F: PrimeField64, EF: ExtensionField<F>>(
+    alloc: Global,
+) -> Result<String, AllocError> {
     let air = SmallAir::new(Asked::Mixed);
     let layout = AirLayout::from_air::<F, SmallAir>(&air);
-    let (base, above) = get_all_symbolic_constraints::<F, F::Above, SmallAir>(alloc, &air, layout)?;
+    let (base, above) = get_all_symbolic_constraints::<F, EF, SmallAir>(alloc, &air, layout)?;
     let again = get_symbolic_constraints::<F, SmallAir>(alloc, &air, layout)?;
     let all = (
         all_taken_away(alloc, &base)?,
@@ -188,19 +213,9 @@ fn constants_of<F: RowField>(alloc: Global) -> Result<String, AllocError> {
     format!(in alloc; "{all:?}")
 }
 
-// Sums of constants are computed while the trees are built.
-#[test]
-fn folded_constants(rt: HostRuntime) -> Result<(), Fail> {
-    assert_eq!(rt;
-        constants_of::<Base>(rt.alloc())?.as_str(),
-        "([(Some(1), 1, false), (Some(3), 1, false)], [(Some(2), 1, false)], [(Some(1), 1, false), (Some(3), 1, false)])"
-    );
-    Ok(())
-}
-
 /// Whether an expression that was refused memory says so, and is refused by both calls that assert; and how many constraints
 /// are kept then, and after another one.
-fn refusals<F: RowField>(alloc: Global) -> Result<([bool; 3], usize, usize), AllocError> {
+fn refusals<F: PrimeField64>(alloc: Global) -> Result<([bool; 3], usize, usize), AllocError> {
     let layout = AirLayout::from_air::<F, SmallAir>(&SmallAir::new(Asked::Mixed));
     let mut builder: SymbolicAirBuilder<F> = SymbolicAirBuilder::new(alloc, layout)?;
     let x = SymbolicExpression::from(SymbolicVariable::new(alloc, BaseEntry::Public, 0));
@@ -219,9 +234,7 @@ fn refusals<F: RowField>(alloc: Global) -> Result<([bool; 3], usize, usize), All
     Ok((refused, kept, builder.constraints.len()))
 }
 
-// An expression that was refused memory is asserted by no call, and nothing is kept of it.
-#[test]
-fn refused_expressions(rt: HostRuntime) -> Result<(), Fail> {
-    assert_eq!(rt; refusals::<Base>(rt.alloc())?, ([true, true, true], 0, 1));
-    Ok(())
+fn refused<F: PrimeField64>(alloc: Global) -> Result<String, Fail> {
+    let found = refusals::<F>(alloc)?;
+    Ok(format!(in alloc; "{found:?}")?)
 }

@@ -21,3 +21,7 @@ module _ {F : Type 0} {E : Type 0} (operations : Operations F E) (stands : E →
   one_more_term xs rest cs later x k sum next is_xs is_cs so_far step vs each =
       subst (λ t. stands (linear_combination operations zero vs t) next) (sym is_cs)
       (with_term rest later x k sum next so_far step vs (subst (EachStands stands vs) is_xs each))
+
+pub each_itself : {E : Type 0} (stands : E → E → Type 0) → ((x : E) → stands x x) → (xs : List E) → EachStands stands xs xs
+each_itself stands itself [] = tt
+each_itself stands itself (x ∷ xs) = (itself x, each_itself stands itself xs)

@@ -1,8 +1,9 @@
 //! Fields, and the algebras over them, with their laws.
-ghost use Rattle.std.specs.Prelude.{◌≡◌, ◌≢◌, ◌<◌, ◌≤◌, ℕ, true, Bool, List, map, Option, Some, None, length};
+ghost use Rattle.std.specs.Prelude.{◌≡◌, ◌≢◌, ◌<◌, ◌≤◌, ℕ, true, Bool, List, map, Option, Some, None, length, slice_index_or};
 ghost use Rattle.std.specs.List.{slice_get};
 ghost use Rattle.stark_support.specs.Ring.{RingOps, FieldLaws, IsQuarticConstant, difference};
 ghost use Rattle.stark_support.specs.Operations.{Operations, ring_operations};
+ghost use Rattle.stark_support.specs.Combination.{linear_combination};
 ghost use Rattle.stark_support.specs.Embedding.{IsEmbedding};
 ghost use Rattle.stark_support.specs.Extension.{IsBasis, basis_sum};
 ghost use Rattle.stark_support.specs.TwoAdic.{TwoAdicLaws};
@@ -131,6 +132,11 @@ pub trait PackedField: Field {
     /// Whether it pays to work on two packed values at a time.
     const BENEFITS_FROM_LOCKSTEP_EVALUATION: bool;
 
+    /// The sum of packed values, each times its coefficient.
+    fn packed_sum(values: &[Self::Packing], coefficients: &[Self]) -> Self::Packing
+        requires { length values.now ≡ length coefficients.now }
+        ensures { result ≡ linear_combination Self.Packing.operations Self.ZERO values.now coefficients.now };
+
     /// The lanes of packed values are added and multiplied as this field's elements.
     ghost packed_ring: { Self.Packing.lane_ring ≡ Self.ring };
 }
@@ -240,6 +246,16 @@ pub trait PackedExtensionField<F: PackedField>: ExtensionField<F> {
     /// Packed elements of the base field, each embedded.
     fn from_packed_base(x: F::Packing) -> Self::ExtensionPacking
         ensures { Self.ExtensionPacking.lanes result ≡ map Self.embed (F.Packing.lanes x) };
+
+    /// An element of the basis times packed elements of the base field, and the rest.
+    fn plus_packed_coordinate(
+        rest: Self::ExtensionPacking,
+        index: usize,
+        coordinate: F::Packing,
+    ) -> Self::ExtensionPacking
+        requires { index < Self.DIMENSION }
+        ensures { (element : Self) → slice_get Self.basis index ≡ Some element → (i : ℕ) → i < Self.ExtensionPacking.WIDTH → slice_index_or (Self.ExtensionPacking.lanes result) i Self.ring.zero
+            ≡ Self.ring.add (Self.ring.mul element (slice_index_or (map Self.embed (F.Packing.lanes coordinate)) i Self.ring.zero)) (slice_index_or (Self.ExtensionPacking.lanes rest) i Self.ring.zero) };
 
     /// Packed elements of the base field that are turned into packed elements of this one are each embedded.
     ghost from_packed_is: { (x : F.Packing) (y : Self.ExtensionPacking) → ⟦<Self::ExtensionPacking as From<F::Packing>>⟧.from_gives x y → Self.ExtensionPacking.lanes y ≡ map Self.embed (F.Packing.lanes x) };

@@ -46,7 +46,7 @@ pub use polynomial::{
     all_roots_are_few, interpolation_is_unique, polynomial_value, polynomial_value_in,
     roots_are_few, vanishing_divides,
 };
-pub use powers::{batched_linear_combination, power_of, squared_times};
+pub use powers::{batched_linear_combination, packed_linear_combination, power_of, squared_times};
 pub use scheme::{DomainVal, Pcs, SchemeFault, UnivariateStarkPcs};
 pub use security::{FriRegime, GrindingSites};
 pub use util::{checked_log_size_sum, checked_pow2, log2_ceil_usize, log2_strict_usize};

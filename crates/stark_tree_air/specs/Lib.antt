@@ -1,6 +1,7 @@
 pub mod Traces
 pub mod Nodes
 pub mod Needed
+pub mod Windows
 pub mod Faults
 pub mod FaultFacts
 pub mod Writing

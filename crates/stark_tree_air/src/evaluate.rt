@@ -2,14 +2,22 @@
 ghost use Rattle.std.specs.Prelude.{◌≡◌, ◌<◌, Bool, List, [], ◌∷◌, map, length, IfOk, OnErr, ⊤};
 ghost use Rattle.stark_air.specs.Emission.{Asserted};
 ghost use Rattle.stark_air.specs.Tree.{Tree, constant};
-ghost use Rattle.stark_air.specs.Value.{Environment, Shows, value};
+ghost use Rattle.stark_air.specs.Value.{Environment, value};
 ghost use Rattle.stark_tree_air.specs.Needed.{ConstraintsMarked, Marked, NodesMarked, OperandsMarked, constraint_place};
+ghost use Rattle.stark_tree_air.specs.Windows.{ReadAreThere, WindowsShow};
 ghost use Rattle.stark_tree_air.specs.Nodes.{Stand, NodeFits, NodesFit, ConstraintFits, ConstraintsFit, node_tree, nodes_trees, tree_at, marked_tree};
 
 use crate::node::{TreeConstraint, TreeNode};
 use stark_air::{AirBuilder, ExtensionBuilder, WindowAccess, periodic_value, public_value};
 use stark_support::{Algebra, Element};
 use std::alloc::{AllocError, Global};
+
+/// A builder's windows of rows, where they were asked for.
+#[derive(Drop)]
+struct Windows<M, P> {
+    main: Option<M>,
+    preprocessed: Option<P>,
+}
 
 /// A copy of the value of an earlier node.
 #[tactic(auto, using(crate::proofs::Steps::operand_stands))]
@@ -35,23 +43,38 @@ fn node_value<AB: AirBuilder>(
     node: TreeNode,
     constants: &[AB::F],
     values: &[AB::Expr],
-    main: &AB::MainWindow,
-    preprocessed: &AB::PreprocessedWindow,
+    windows: &Windows<AB::MainWindow, AB::PreprocessedWindow>,
     builder: &AB,
 ) -> AB::Expr
     requires fits { NodeFits (AB.layout builder.now) (length constants.now) (length values.now) node }
-    requires current { Shows ⟦<AB::Expr as From<AB::Var>>⟧.from_gives AB.Expr.stands (AB.environment builder.now).main_current (AB.layout builder.now).main (AB.MainWindow.current_at main.now) }
-    requires next { Shows ⟦<AB::Expr as From<AB::Var>>⟧.from_gives AB.Expr.stands (AB.environment builder.now).main_next (AB.layout builder.now).main_next (AB.MainWindow.next_at main.now) }
-    requires preprocessed_current { Shows ⟦<AB::Expr as From<AB::Var>>⟧.from_gives AB.Expr.stands (AB.environment builder.now).preprocessed_current (AB.layout builder.now).preprocessed (AB.PreprocessedWindow.current_at preprocessed.now) }
-    requires preprocessed_next { Shows ⟦<AB::Expr as From<AB::Var>>⟧.from_gives AB.Expr.stands (AB.environment builder.now).preprocessed_next (AB.layout builder.now).preprocessed_next (AB.PreprocessedWindow.next_at preprocessed.now) }
+    requires shown { WindowsShow ⟦<AB::Expr as From<AB::Var>>⟧.from_gives AB.Expr.stands (AB.environment builder.now) (AB.layout builder.now) AB.MainWindow.current_at AB.MainWindow.next_at AB.PreprocessedWindow.current_at AB.PreprocessedWindow.next_at windows.now.main windows.now.preprocessed }
+    requires asked { ReadAreThere node windows.now.main windows.now.preprocessed }
     ensures { (ms : List Bool) (ts : List (Tree AB.F)) → Stand AB.Expr.stands AB.Expr.operations (AB.environment builder.now) ms ts values.now → OperandsMarked ms node → AB.Expr.stands (value AB.Expr.operations (AB.environment builder.now) (node_tree constants.now ts node)) result }
 {
     match node {
         TreeNode::Constant(index) => constant_value(constants, index),
-        TreeNode::MainCurrent(column) => main.current(column).unwrap().into(),
-        TreeNode::MainNext(column) => main.next(column).unwrap().into(),
-        TreeNode::PreprocessedCurrent(column) => preprocessed.current(column).unwrap().into(),
-        TreeNode::PreprocessedNext(column) => preprocessed.next(column).unwrap().into(),
+        TreeNode::MainCurrent(column) => windows
+            .main
+            .as_ref()
+            .unwrap()
+            .current(column)
+            .unwrap()
+            .into(),
+        TreeNode::MainNext(column) => windows.main.as_ref().unwrap().next(column).unwrap().into(),
+        TreeNode::PreprocessedCurrent(column) => windows
+            .preprocessed
+            .as_ref()
+            .unwrap()
+            .current(column)
+            .unwrap()
+            .into(),
+        TreeNode::PreprocessedNext(column) => windows
+            .preprocessed
+            .as_ref()
+            .unwrap()
+            .next(column)
+            .unwrap()
+            .into(),
         TreeNode::PublicValue(index) => public_value(builder, index),
         TreeNode::PeriodicValue(column) => periodic_value(builder, column),
         TreeNode::FirstRow => builder.is_first_row(),
@@ -64,7 +87,32 @@ fn node_value<AB: AirBuilder>(
     }
 }
 
-/// The values of the nodes, in their order. In place of a node that isn't needed stands a selector, which takes no memory.
+/// The windows with those that the node reads, which are asked for where they aren't there.
+fn with_read<AB: AirBuilder>(
+    node: TreeNode,
+    windows: Windows<AB::MainWindow, AB::PreprocessedWindow>,
+    builder: &AB,
+) -> Result<Windows<AB::MainWindow, AB::PreprocessedWindow>, AllocError>
+    requires shown { WindowsShow ⟦<AB::Expr as From<AB::Var>>⟧.from_gives AB.Expr.stands (AB.environment builder.now) (AB.layout builder.now) AB.MainWindow.current_at AB.MainWindow.next_at AB.PreprocessedWindow.current_at AB.PreprocessedWindow.next_at windows.main windows.preprocessed }
+    ensures shown { IfOk result (λ all. WindowsShow ⟦<AB::Expr as From<AB::Var>>⟧.from_gives AB.Expr.stands (AB.environment builder.now) (AB.layout builder.now) AB.MainWindow.current_at AB.MainWindow.next_at AB.PreprocessedWindow.current_at AB.PreprocessedWindow.next_at all.main all.preprocessed) }
+    ensures asked { IfOk result (λ all. ReadAreThere node all.main all.preprocessed) }
+{
+    match (node, &windows.main, &windows.preprocessed) {
+        (TreeNode::MainCurrent(_) | TreeNode::MainNext(_), None, _) => Ok(Windows {
+            main: Some(builder.main()?),
+            ..windows
+        }),
+        (TreeNode::PreprocessedCurrent(_) | TreeNode::PreprocessedNext(_), _, None) => Ok(
+            Windows {
+                preprocessed: Some(builder.preprocessed()?),
+                ..windows
+            },
+        ),
+        _ => Ok(windows),
+    }
+}
+
+/// The values of the nodes, in their order. A window is asked for where the first needed node reads it. In place of a node that isn't needed stands a selector, which takes no memory.
 pub(crate) fn node_values<AB: AirBuilder>(
     alloc: Global,
     constants: &[AB::F],
@@ -77,12 +125,15 @@ pub(crate) fn node_values<AB: AirBuilder>(
     requires as_many { length needed.now ≡ length nodes.now }
     ensures { IfOk result (λ values. Stand AB.Expr.stands AB.Expr.operations (AB.environment builder.now) needed.now (nodes_trees constants.now nodes.now) values.items) }
 {
-    let main = builder.main()?;
-    let preprocessed = builder.preprocessed()?;
+    let mut windows = Windows {
+        main: None,
+        preprocessed: None,
+    };
     let mut values = Vec::new(alloc);
     for (place, node) in nodes.iter().enumerate() {
         if needed[place] {
-            let value = node_value(*node, constants, &values, &main, &preprocessed, builder);
+            windows = with_read::<AB>(*node, windows, builder)?;
+            let value = node_value(*node, constants, &values, &windows, builder);
             values.push(value)?;
         } else {
             values.push(builder.is_first_row())?;

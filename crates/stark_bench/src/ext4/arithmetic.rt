@@ -13,7 +13,7 @@ use crate::ext4::Ext4;
 use crate::residue::Residue;
 use stark_support::{
     Algebra, Element, ExtensionField, Field, PackedField, PackedValue, PairedValue, QuarticBase,
-    TwoAdicField,
+    TwoAdicField, packed_linear_combination,
 };
 use std::ops::{Add, Mul, Neg, Sub};
 
@@ -242,6 +242,13 @@ impl<Kind> PackedField for Ext4<Residue<Kind>> {
     ghost BENEFITS_FROM_LOCKSTEP_EVALUATION = { false };
 
     const BENEFITS_FROM_LOCKSTEP_EVALUATION: bool = false;
+
+    fn packed_sum(
+        values: &[Ext4<Residue<Kind>>],
+        coefficients: &[Ext4<Residue<Kind>>],
+    ) -> Ext4<Residue<Kind>> {
+        packed_linear_combination(values, coefficients)
+    }
 
     ghost packed_ring = { refl };
 }

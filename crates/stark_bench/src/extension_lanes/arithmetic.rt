@@ -1,12 +1,13 @@
 //! The extension's operations on four elements at once: each works lane by lane.
-ghost use Rattle.std.specs.Prelude.{[], ◌≡◌, ◌∷◌, refl};
+ghost use Rattle.std.specs.Prelude.{[], ◌≡◌, ◌∷◌, ◌<◌, ℕ, Some, refl};
+ghost use Rattle.std.specs.List.{slice_get};
 ghost use Rattle.std.proofs.Common.{lit<};
 ghost use Rattle.stark_support.specs.Ring.{difference};
 ghost use Rattle.stark_support.specs.Operations.{ring_operations, exact_binary, exact_unary};
 ghost use Rattle.stark_bench.specs.Residues.{residue, residue_ring};
-ghost use Rattle.stark_bench.specs.Ext4Field.{ext4_ring};
-ghost use Rattle.stark_bench.specs.ResidueLanes.{in_each_lane};
-ghost use Rattle.stark_bench.specs.Ext4Lanes.{element_in_each_lane, elements_of, embedded_lanes, extension_lanes_ring, extension_is_lane_by_lane};
+ghost use Rattle.stark_bench.specs.Ext4Field.{basis_of, embedded, ext4_ring};
+ghost use Rattle.stark_bench.specs.ResidueLanes.{in_each_lane, lane};
+ghost use Rattle.stark_bench.specs.Ext4Lanes.{element, element_in_each_lane, elements_of, embedded_lanes, extension_lanes_ring, extension_is_lane_by_lane};
 
 use crate::ext4::Ext4;
 use crate::extension_lanes::ExtensionLanes;
@@ -23,6 +24,32 @@ fn fourth_power<Kind>() -> Lanes<Kind>
 }
 
 impl<Kind> ExtensionLanes<Kind> {
+    /// The elements with residues added to the coordinate of this index.
+    pub(crate) fn plus_coordinate(self, index: usize, residues: Lanes<Kind>) -> ExtensionLanes<Kind>
+        requires { index < 4 }
+        ensures { (element_of_basis : Ext4 (Residue Kind)) → slice_get (basis_of residue_ring) index ≡ Some element_of_basis → (i : ℕ) → i < 4 → element result i
+            ≡ (ext4_ring residue_ring (residue 11)).add ((ext4_ring residue_ring (residue 11)).mul element_of_basis (embedded residue_ring (lane residues i))) (element self i) }
+    {
+        match index {
+            0 => ExtensionLanes {
+                c0: residues + self.c0,
+                ..self
+            },
+            1 => ExtensionLanes {
+                c1: residues + self.c1,
+                ..self
+            },
+            2 => ExtensionLanes {
+                c2: residues + self.c2,
+                ..self
+            },
+            _ => ExtensionLanes {
+                c3: residues + self.c3,
+                ..self
+            },
+        }
+    }
+
     /// The four elements, the first in the first lane.
     fn of_four(
         first: Ext4<Residue<Kind>>,

@@ -1,15 +1,17 @@
 //! The operations on four residues at once: each works lane by lane.
-ghost use Rattle.std.specs.Prelude.{[], ◌≡◌, ◌∷◌, ◌<◌, ◌≤◌, ◌+◌, ℕ, length, refl, slice_index};
+ghost use Rattle.std.specs.Prelude.{[], ◌≡◌, ◌∷◌, ◌<◌, ◌≤◌, ◌+◌, ℕ, Some, length, option_map, refl, slice_index};
+ghost use Rattle.std.specs.List.{slice_get};
 ghost use Rattle.std.specs.Simd.Lanes.{zip2};
 ghost use Rattle.std.proofs.Common.{lit<};
+ghost use Rattle.stark_support.specs.Combination.{linear_combination};
 ghost use Rattle.stark_support.specs.Ring.{difference};
 ghost use Rattle.stark_support.specs.Operations.{ring_operations, exact_binary, exact_unary};
-ghost use Rattle.stark_bench.specs.Residues.{residue_ring};
+ghost use Rattle.stark_bench.specs.Residues.{residue, residue_ring};
 ghost use Rattle.stark_bench.specs.ResidueLanes.{lanes_of, in_each_lane, lanes_ring, is_lane_by_lane, number_sums, number_products, number_complements, number_remainders};
 
 use crate::lanes::Lanes;
 use crate::residue::Residue;
-use stark_support::{Algebra, PackedValue, PairedValue};
+use stark_support::{Algebra, Field, PackedValue, PairedValue};
 use std::marker::PhantomData;
 use std::ops::{Add, Mul, Neg, Sub};
 use std::simd::prelude::*;
@@ -21,11 +23,19 @@ fn sums<Kind>(x: Lanes<Kind>, y: Lanes<Kind>) -> u32x4
     x.numbers.strict_add(y.numbers)
 }
 
+/// The numbers. That they have no more than 14 bits shows in the code, so that a compiler may multiply them as halves of lanes, which is
+/// faster.
+fn short_numbers<Kind>(x: Lanes<Kind>) -> u32x4
+    ensures { result ≡ x.numbers }
+{
+    x.numbers & u32x4::splat(16383)
+}
+
 /// The products of the numbers, lane by lane.
 fn products<Kind>(x: Lanes<Kind>, y: Lanes<Kind>) -> u32x4
     ensures { result ≡ number_products x y }
 {
-    x.numbers.strict_mul(y.numbers)
+    short_numbers(x).strict_mul(short_numbers(y))
 }
 
 /// 12289 less each number, so 12289 where that is zero.
@@ -52,7 +62,7 @@ fn reduced_once<Kind>(numbers: u32x4) -> Lanes<Kind>
 /// a fraction.
 fn nearly_reduced(numbers: u32x4) -> u32x4
     requires four { length numbers ≡ 4 }
-    requires below { (lane : ℕ) → slice_index numbers lane ≤ 603979776 }
+    requires below { (lane : ℕ) → slice_index numbers lane ≤ 754987008 }
     ensures four { length result ≡ 4 }
     ensures below { (lane : ℕ) → slice_index result lane < 24578 }
     ensures same { number_remainders result ≡ number_remainders numbers }
@@ -61,13 +71,34 @@ fn nearly_reduced(numbers: u32x4) -> u32x4
     numbers - (scaled >> u32x4::splat(16)) * u32x4::splat(12289)
 }
 
-/// Each number modulo 12289, in its lane; the numbers are at most four times the greatest product of two residues.
+/// Each number modulo 12289, in its lane; the numbers are at most five times the greatest product of two residues, and a residue.
 fn reduced<Kind>(numbers: u32x4) -> Lanes<Kind>
     requires four { length numbers ≡ 4 }
-    requires below { (lane : ℕ) → slice_index numbers lane ≤ 603979776 }
+    requires below { (lane : ℕ) → slice_index numbers lane ≤ 754987008 }
     ensures { result.numbers ≡ number_remainders numbers }
 {
     reduced_once(nearly_reduced(numbers))
+}
+
+/// As `nearly_reduced` does, with factors below 2^15, which are multiplied as halves of lanes: `2^28 / 12289` is 21843 and a fraction.
+fn nearly_reduced_product(numbers: u32x4) -> u32x4
+    requires four { length numbers ≡ 4 }
+    requires below { (lane : ℕ) → slice_index numbers lane ≤ 150994944 }
+    ensures four { length result ≡ 4 }
+    ensures below { (lane : ℕ) → slice_index result lane < 24578 }
+    ensures same { number_remainders result ≡ number_remainders numbers }
+{
+    let scaled = (numbers >> u32x4::splat(13)) * u32x4::splat(21843);
+    numbers - (scaled >> u32x4::splat(15)) * u32x4::splat(12289)
+}
+
+/// Each number modulo 12289, in its lane; the numbers are at most the greatest product of two residues.
+fn reduced_product<Kind>(numbers: u32x4) -> Lanes<Kind>
+    requires four { length numbers ≡ 4 }
+    requires below { (lane : ℕ) → slice_index numbers lane ≤ 150994944 }
+    ensures { result.numbers ≡ number_remainders numbers }
+{
+    reduced_once(nearly_reduced_product(numbers))
 }
 
 /// Two factors in each lane.
@@ -110,6 +141,79 @@ pub(crate) fn four_products<Kind>(
     ensures middle_first { result ≡ lanes_ring.add (lanes_ring.add (lanes_ring.mul first.0 first.1) (lanes_ring.add (lanes_ring.mul second.0 second.1) (lanes_ring.mul third.0 third.1))) (lanes_ring.mul fourth.0 fourth.1) }
 {
     reduced(sums_of_products(first, second).strict_add(sums_of_products(third, fourth)))
+}
+
+/// The products of the numbers, added to other numbers, lane by lane.
+fn plus_products<Kind>(first: Factors<Kind>, rest: u32x4) -> u32x4
+    requires { (lane : ℕ) → slice_index rest lane ≤ 603992064 }
+    ensures { result ≡ zip2 (λ a b. a + b) (number_products first.0 first.1) rest }
+{
+    products(first.0, first.1).strict_add(rest)
+}
+
+/// A product and the rest, added, lane by lane; reduced once.
+fn one_term_more<Kind>(first: Factors<Kind>, rest: Lanes<Kind>) -> Lanes<Kind>
+    ensures { result ≡ lanes_ring.add (lanes_ring.mul first.0 first.1) rest }
+{
+    reduced(plus_products(first, rest.numbers))
+}
+
+/// Five products and the rest, added, lane by lane; reduced once.
+fn five_terms_more<Kind>(
+    first: Factors<Kind>,
+    second: Factors<Kind>,
+    third: Factors<Kind>,
+    fourth: Factors<Kind>,
+    fifth: Factors<Kind>,
+    rest: Lanes<Kind>,
+) -> Lanes<Kind>
+    ensures { result ≡ lanes_ring.add (lanes_ring.mul first.0 first.1) (lanes_ring.add (lanes_ring.mul second.0 second.1) (lanes_ring.add (lanes_ring.mul third.0 third.1)
+        (lanes_ring.add (lanes_ring.mul fourth.0 fourth.1) (lanes_ring.add (lanes_ring.mul fifth.0 fifth.1) rest)))) }
+{
+    let last = plus_products(fifth, rest.numbers);
+    let last_two = plus_products(fourth, last);
+    let last_three = plus_products(third, last_two);
+    let last_four = plus_products(second, last_three);
+    reduced(plus_products(first, last_four))
+}
+
+/// A value and its weight, in each lane.
+fn factors_at<Kind>(
+    values: &[Lanes<Kind>],
+    weights: &[Residue<Kind>],
+    place: usize,
+) -> Factors<Kind>
+    requires value { place < length values.now }
+    requires weight { place < length weights.now }
+    ensures value { slice_get values.now place ≡ Some result.0 }
+    ensures weight { option_map in_each_lane (slice_get weights.now place) ≡ Some result.1 }
+{
+    (values[place], Lanes::from(weights[place]))
+}
+
+/// The sum of the values, each times its weight; each five products are reduced once.
+pub(crate) fn weighted_sum<Kind>(values: &[Lanes<Kind>], weights: &[Residue<Kind>]) -> Lanes<Kind>
+    requires { length values.now ≡ length weights.now }
+    ensures { result ≡ linear_combination (ring_operations lanes_ring in_each_lane) (residue 0) values.now weights.now }
+{
+    let mut sum = Lanes::from(Residue::ZERO);
+    let mut index = values.len();
+    while index >= 5 {
+        index -= 5;
+        sum = five_terms_more(
+            factors_at(values, weights, index),
+            factors_at(values, weights, index + 1),
+            factors_at(values, weights, index + 2),
+            factors_at(values, weights, index + 3),
+            factors_at(values, weights, index + 4),
+            sum,
+        );
+    }
+    while index > 0 {
+        index -= 1;
+        sum = one_term_more(factors_at(values, weights, index), sum);
+    }
+    sum
 }
 
 impl<Kind> Lanes<Kind> {
@@ -171,9 +275,9 @@ impl<Kind> Mul for Lanes<Kind> {
 
     ghost mul_gives = { λ x y r. r ≡ lanes_ring.mul x y };
 
-    #[tactic(auto, using(crate::proofs::LaneFacts::products_four, crate::proofs::LaneFacts::products_below))]
+    #[tactic(auto, using(crate::proofs::LaneFacts::products_four, crate::proofs::LaneFacts::products_at_most))]
     fn mul(self, other: Lanes<Kind>) -> Lanes<Kind> {
-        reduced(products(self, other))
+        reduced_product(products(self, other))
     }
 }
 

@@ -1,6 +1,11 @@
+use Rattle.std.proofs.Common.{arith}
+use Rattle.std.proofs.lemmas.Grind.{common_steps}
 use Rattle.p3_uni_stark.proofs.HonestVerdict.{honest_is_accepted, memory_alone}
 use Rattle.p3_uni_stark.proofs.completeness.prove_and_verify.Goals as goal
 
 pub returns-clause-complete : goal.returns-clause-complete
 returns-clause-complete g c = λ height rows least whole honest.
     memory_alone _ c.verify_with_preprocessed-verdict.ensures.exact (honest_is_accepted (c.in_ok-proof.ensures.honest height rows least whole _) honest)
+
+pub returns-in_err-proof : goal.returns-in_err-proof
+returns-in_err-proof c = grind (arith, common_steps)

@@ -1,4 +1,4 @@
-use Rattle.std.proofs.Common.{◌∙◌, sym, inr}
+use Rattle.std.proofs.Common.{◌∙◌, sym, inr, rules}
 use Rattle.stark_support.specs.SubgroupFacts.{vanishing_of_subgroup}
 use Rattle.p3_uni_stark.proofs.EquationSteps.{widths_fault, constraints_hold, constraints_fail, differ_if_untrue}
 use Rattle.p3_uni_stark.proofs.constraints.verify_constraints.Goals as goal
@@ -29,3 +29,6 @@ returns-else-eq-clause-fault g c =
     selectors.ensures.first_row selectors.ensures.last_row selectors.ensures.transition c.in_ok-folded.ensures.folded
     (c.vanishing_poly_at_point.ensures ∙ vanishing_of_subgroup field.field_laws g.met.SC.Challenge.ExtensionField.embeds _ _ _ g.met.SC.Pcs.Domain.Val.TwoAdicField.two_adic _ domain.shift c.args.zeta c.requires.subgroup)
     (field.mul_is _ _ _ c.mul.ensures) c.if-got_local-got_next.false (differ_if_untrue g.SC.Challenge.PartialEq.eq c.in_ok-folded.folded c.mul.result c.eq.result (g.met.SC.Challenge.Eq.laws.refl c.in_ok-folded.folded) c.eq.ensures c.if-eq.false))
+
+pub returns-in_err-folded : goal.returns-in_err-folded
+returns-in_err-folded g c = search rules

@@ -1,4 +1,4 @@
-use Rattle.std.proofs.Common.{◌∙◌, refl, sym}
+use Rattle.std.proofs.Common.{◌∙◌, refl, sym, rules}
 use Rattle.p3_uni_stark.proofs.Carried.{carried}
 use Rattle.p3_uni_stark.proofs.Verdicts.{openings_refused, point_refused, replay_refused}
 use Rattle.p3_uni_stark.proofs.verifier.run.play.Goals as goal
@@ -14,3 +14,6 @@ pub returns-in_err-delegate_openings-clause-fault : goal.returns-in_err-delegate
 returns-in_err-delegate_openings-clause-fault g c =
     carried _ _ _ c.from_residual-in_err-delegate_openings.ensures
     (openings_refused (sym c.replay_proof.ensures.answer ∙ c.in_ok-alpha.was) c.in_ok-periodic_values.ensures.outside c.in_ok-periodic_values.ensures.fitting c.replay_proof.ensures.state c.in_err-delegate_openings.ensures.verdict.fault)
+
+pub returns : goal.returns
+returns c = search rules

@@ -2,7 +2,7 @@ use Rattle.stark_bench.proofs.LaneFacts.{rests_four, rests_below, rests_same}
 use Rattle.stark_bench.proofs.lanes.arithmetic.nearly_reduced.Goals as goal
 
 pub returns-clause-four : goal.returns-clause-four
-returns-clause-four c = rests_four c.args.numbers c.requires.four
+returns-clause-four c = rests_four 43687 16 c.args.numbers c.requires.four
 
 pub returns-clause-below : goal.returns-clause-below
 returns-clause-below c = rests_below c.args.numbers c.requires.four c.requires.below

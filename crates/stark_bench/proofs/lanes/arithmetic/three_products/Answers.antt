@@ -15,7 +15,7 @@ reduced-requires-clause-four g c =
 
 pub reduced-requires-clause-below : goal.reduced-requires-clause-below
 reduced-requires-clause-below g c =
-    subst (AtMost 603979776) (sym (added_same c.sums_of_products.ensures c.products.ensures))
+    subst (AtMost 754987008) (sym (added_same c.sums_of_products.ensures c.products.ensures))
     (three_below c.args.first.0 c.args.first.1 c.args.second.0 c.args.second.1 c.args.third.0 c.args.third.1)
 
 pub returns-clause-first_two : goal.returns-clause-first_two

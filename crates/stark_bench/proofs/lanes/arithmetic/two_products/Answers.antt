@@ -4,7 +4,7 @@ use Rattle.stark_bench.proofs.LaneFacts.{AtMost, two_below, products_stand, sums
 use Rattle.stark_bench.proofs.lanes.arithmetic.two_products.Goals as goal
 
 pub reduced-requires-clause-below : goal.reduced-requires-clause-below
-reduced-requires-clause-below g c = subst (AtMost 603979776) (sym c.sums_of_products.ensures) (two_below c.args.first.0 c.args.first.1 c.args.second.0 c.args.second.1)
+reduced-requires-clause-below g c = subst (AtMost 754987008) (sym c.sums_of_products.ensures) (two_below c.args.first.0 c.args.first.1 c.args.second.0 c.args.second.1)
 
 pub returns : goal.returns
 returns g c =

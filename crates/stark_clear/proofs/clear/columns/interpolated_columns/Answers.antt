@@ -1,4 +1,4 @@
-use Rattle.std.proofs.Common.{arith, ◌∙◌, ◌∷◌, [], ap, map}
+use Rattle.std.proofs.Common.{arith, ◌∙◌, ◌∷◌, [], ap, map, rules}
 use Rattle.std.specs.List.{slice_get}
 use Rattle.std.proofs.lemmas.List.{map-append}
 use Rattle.std.proofs.lemmas.Nat.{pow_pos}
@@ -24,3 +24,9 @@ loop-column-preserved g c =
     (λ r below. ap (λ t. slice_get t r) c.deref.ensures.value ∙ c.in_ok-picked.ensures.picked r (omega (arith, c.size.ensures, below)))
     c.in_ok-p.ensures c.in_ok-filled_up.ensures.number c.in_ok-filled_up.ensures.values
     (ap (map column_list) c.in_ok-push.ensures.items ∙ map-append column_list c.loop-column.columns.items (c.in_ok-filled_up.field-0 ∷ []))
+
+pub returns : goal.returns
+returns g c = search rules
+
+pub returns-in_err-p : goal.returns-in_err-p
+returns-in_err-p g c = search rules

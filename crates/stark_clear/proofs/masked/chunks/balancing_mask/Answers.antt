@@ -1,3 +1,4 @@
+use Rattle.std.proofs.lemmas.Grind.{common_steps}
 use Rattle.std.proofs.Common.{◌≡◌, ◌∙◌, [], ap, arith, get_or, length}
 use Rattle.std.proofs.lemmas.List.{length-map}
 use Rattle.stark_clear.specs.Columns.{column_list, columns_list}
@@ -29,3 +30,6 @@ loop-masks-preserved g c =
       one_more_off g.F.Field.ring columns_list c.args.chosen.now c.args.column c.args.size c.loop-masks.masks-index c.masks-item.result c.loop-masks.mask.items c.take_off.new.from.items c.deref.result.now _
           (omega (arith, c.loop-masks-test.true)) c.masks-item.is read c.take_off.ensures c.loop-masks.invariant.1,
     )
+
+pub returns : goal.returns
+returns g c = grind (arith, common_steps)

@@ -1,4 +1,4 @@
-use Rattle.std.proofs.Common.{◌+◌, ◌<◌, arith, length}
+use Rattle.std.proofs.Common.{◌+◌, ◌<◌, arith, length, rules}
 use Rattle.std.proofs.lemmas.Nat.{mod_below}
 use Rattle.stark_clear.proofs.MaskSteps.{next_number_place, one_more_number}
 use Rattle.stark_clear.proofs.masked.list.next_list.Goals as goal
@@ -14,3 +14,6 @@ loop-number-preserved g c =
           c.loop-number.invariant.1 c.in_ok-push.ensures.items c.loop-number.invariant.0,
       next_number_place (length masks) first c.loop-number.place count c.loop-number.invariant.1,
     )
+
+pub returns : goal.returns
+returns c = search rules

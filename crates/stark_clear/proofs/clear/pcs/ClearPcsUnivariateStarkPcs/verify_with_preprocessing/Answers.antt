@@ -16,3 +16,6 @@ returns-clause-refused g c =
     let goes : StopsAt c.args.self.now.stops_at Verify → ⊥ = search rules in
     at_fault g.EF.Field.ring g.EF.ExtensionField.embed c.args.self.now.stops_at _ c.in-Err.error goes
     (subst (λ t. ClaimsFault g.EF.Field.ring g.EF.ExtensionField.embed (map (claim_view (λ d. record { shift = d.shift; log_size = d.log_size })) t) c.in-Err.error) c.deref.ensures.value c.in-Err.ensures.refused)
+
+pub returns-in_err-pass : goal.returns-in_err-pass
+returns-in_err-pass c = search rules

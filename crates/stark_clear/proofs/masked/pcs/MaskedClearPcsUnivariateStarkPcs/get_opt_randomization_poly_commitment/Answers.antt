@@ -1,4 +1,4 @@
-use Rattle.std.proofs.Common.{◌≡◌, ◌∙◌, ap, sym, subst, length}
+use Rattle.std.proofs.Common.{◌≡◌, ◌∙◌, ap, sym, subst, length, rules}
 use Rattle.std.specs.List.{AllByRecursion}
 use Rattle.stark_clear.specs.Columns.{columns_list}
 use Rattle.stark_clear.proofs.MaskSteps.{lists_full, lists_length}
@@ -18,3 +18,6 @@ returns-clause-stands g c = (
   ),
   ap length c.in_ok-columns.ensures.lists ∙ lists_length g.F.Field.ring _ _ _ c.size.result ∙ c.DIMENSION.ensures,
 )
+
+pub returns-in_err-pass : goal.returns-in_err-pass
+returns-in_err-pass c = search rules

@@ -1,3 +1,1 @@
-pub mod TakenValues
-pub mod SoundAcceptance
 pub mod Completeness

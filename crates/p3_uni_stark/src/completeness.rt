@@ -11,7 +11,6 @@ ghost use Rattle.stark_protocol.specs.declared.preprocessed.PreprocessedVerifier
 ghost use Rattle.stark_prover.specs.CommittedColumns.{IsPreprocessedCommitment};
 ghost use Rattle.p3_uni_stark.specs.Completeness.{IsHonest};
 
-use crate::verifier::{StarkVerdict, verify_with_preprocessed};
 use stark_air::Air;
 use stark_parts::{
     Com, PcsError, PcsProverError, ProvingError, StarkGenericConfig, Val, VerificationError,
@@ -24,6 +23,7 @@ use stark_prover::{StarkProving, prove_with_preprocessed};
 use stark_support::{
     GrindingChallenger, PackedExtensionField, PackedField, Pcs, RowMajorMatrix, UnivariateStarkPcs,
 };
+use stark_verifier::{StarkVerdict, verify_with_preprocessed};
 use std::alloc::Global;
 
 /// Which proofs are honest: with a configuration, an AIR, public values, what a prover holds of the preprocessed columns and a

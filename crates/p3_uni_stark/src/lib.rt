@@ -2,11 +2,8 @@
 #![tactic(auto)]
 
 mod completeness;
-mod constraints;
-mod verifier;
 
 pub use completeness::{StarkCompleteness, VerifiedProof, prove_and_verify};
-pub use constraints::verify_constraints;
 pub use stark_air::{
     AirLayout, BaseEntry, ConstraintLayout, SubAirBuilder, SubSliced, SymbolicAirBuilder,
     SymbolicExpression, SymbolicVariable, get_all_symbolic_constraints, get_constraint_layout,
@@ -34,4 +31,6 @@ pub use stark_security::{
     OpeningShape, StarkSecurityParams, num_batched_openings, ood_error_bound,
 };
 pub use stark_support::{GrindingSites, PeriodicColumnShapeError};
-pub use verifier::{StarkVerdict, validate_degree_bits, verify, verify_with_preprocessed};
+pub use stark_verifier::{
+    StarkVerdict, validate_degree_bits, verify, verify_constraints, verify_with_preprocessed,
+};

@@ -46,11 +46,13 @@ refused PublicValuesLengthMismatch
 refused TraceNextMismatch
 refused UnexpectedTraceNext
 refused OpenedValuesDimensionMismatch
+refused NonCanonicalAlphaPowWitness
 refused NonCanonicalOodPowWitness
 refused PeriodicColumn
 refused InvalidOpeningArgument
 refused OodEvaluationMismatch
 refused RandomizationError
 refused OodPointInDomain
+refused InvalidAlphaPowWitness
 refused InvalidOodPowWitness
 ";

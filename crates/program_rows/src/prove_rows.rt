@@ -19,6 +19,16 @@ prove periodic then verify periodic | <trace of periodic> | <script> => "sha256"
 prove preprocessed then verify preprocessed | <trace of preprocessed> | <script> => "sha256","ood_bits":3 | accepted
 prove pair then verify pair | <trace of pair> | <script> => "sha256","ood_bits":3 | accepted
 
+# Work before alpha: its witness stands in the proof where some is asked for, and not else. Both works have their own bits.
+prove counter | <trace of counter with work> | <worked proof of counter>
+prove counter | <trace of counter> | <script> => <script>,"alpha_bits":0 | <proof of counter>
+prove counter | <trace of counter> | <script> => <script>,"alpha_bits":null | <proof of counter>
+prove counter then verify counter | <trace of counter with work> | accepted
+prove counter then verify counter | <trace of counter> | <script> => <script>,"alpha_bits":1,"ood_bits":13 | accepted
+prove counter then verify counter | <trace of counter> | <script> => "sha256","alpha_bits":3,"ood_bits":2 | accepted
+prove fibonacci then verify fibonacci | <trace of fibonacci> | <script> => "sha256","alpha_bits":3 | accepted
+prove preprocessed then verify preprocessed | <trace of preprocessed> | <script> => "sha256","alpha_bits":3 | accepted
+
 # A trace that breaks the AIR is proved all the same, and so is one for which zeta is drawn in the domain; the proofs are refused.
 prove counter then verify counter | <trace of counter> | [[5],[6]] => [[5],[7]] | <script> => "sha256" | refused OodEvaluationMismatch
 prove fibonacci then verify fibonacci | <trace of fibonacci> | [3,5]] => [3,4]] | <script> => "sha256" | refused OodEvaluationMismatch
@@ -28,6 +38,7 @@ prove counter then verify counter | <trace of counter> | [4,0,0,0,3, => [4,0,0,0
 # No proof: a periodic column that doesn't fit, no witness of so many bits, no group for the quotient.
 prove periodic | <trace of periodic> | [[0],[1]] => [[0]] | refused PeriodicColumn
 prove counter | <trace of counter> | <script> => <script>,"ood_bits":14 | refused GrindExhausted
+prove counter | <trace of counter> | <script> => <script>,"alpha_bits":14,"ood_bits":1 | refused GrindExhausted
 prove cubic | <trace of cubic> | [[0],[0],[0],[0]] => [[0]\(4095 ,[0])] | refused QuotientDomainTooLarge
 prove cubic | <trace of cubic> | [[0],[0],[0],[0]] => [[0]\(8191 ,[0])] | bad input
 
@@ -48,4 +59,5 @@ prove counter | <trace of counter> | "publics":[5] => "publics":[5,5] | bad inpu
 prove counter | <trace of counter> | <script> => [] | bad input
 prove counter | <trace of counter> | <script> => "sha" | bad input
 prove counter | <trace of counter> | <script> => "sha256","ood_bits":1.5 | bad input
+prove counter | <trace of counter> | <script> => "sha256","alpha_bits":1.5 | bad input
 "#;

@@ -21,7 +21,7 @@ fn check_rows(rt: HostRuntime) -> Result<(), Fail> {
 
 #[test]
 fn verify_rows(rt: HostRuntime) -> Result<(), Fail> {
-    all_rows(&rt, rt.alloc(), PROGRAM, VERIFY, 36)
+    all_rows(&rt, rt.alloc(), PROGRAM, VERIFY, 46)
 }
 
 #[test]
@@ -31,7 +31,7 @@ fn hostile_rows(rt: HostRuntime) -> Result<(), Fail> {
 
 #[test]
 fn prove_rows(rt: HostRuntime) -> Result<(), Fail> {
-    all_rows(&rt, rt.alloc(), PROGRAM, PROVE, 34)
+    all_rows(&rt, rt.alloc(), PROGRAM, PROVE, 44)
 }
 
 #[test]

@@ -26,6 +26,7 @@ pub(crate) const TEXTS: &str = r#"
 <trace of periodic> = {"trace":[[0],[1]],"publics":[],"challenger":<script>}
 <trace of preprocessed> = {"trace":[[1],[2],[3],[4]],"publics":[],"challenger":<script>}
 <trace of pair> = {"trace":[[5,5],[6,6]],"publics":[5],"challenger":<script>}
+<trace of counter with work> = {"trace":[[5],[6]],"publics":[5],"challenger":<script>,"alpha_bits":3}
 
 # Their proofs by that alpha and zeta. The counter's is that of the trace 5, 6; the others were made by a plain prover outside this repository.
 <proof of counter> = {"commitments":{"quotient_chunks":[[[12288,0],[0,0],[0,0],[0,0]]],"random":null,"trace":[[[6150,6144]]]},"degree_bits":1,"ood_pow_witness":0,"opened_values":{"preprocessed_local":null,"preprocessed_next":null,"quotient_chunks":[[[12288,0,0,0],[0,0,0,0],[0,0,0,0],[0,0,0,0]]],"random":null,"trace_local":[[4,0,0,0]],"trace_next":[[7,0,0,0]]},"opening_proof":null}
@@ -34,6 +35,8 @@ pub(crate) const TEXTS: &str = r#"
 <proof of periodic> = {"commitments":{"quotient_chunks":[[[0,0],[0,0],[0,0],[0,0]]],"random":null,"trace":[[[6145,6144]]]},"degree_bits":1,"ood_pow_witness":0,"opened_values":{"preprocessed_local":null,"preprocessed_next":null,"quotient_chunks":[[[0,0,0,0],[0,0,0,0],[0,0,0,0],[0,0,0,0]]],"random":null,"trace_local":[[12288,0,0,0]],"trace_next":null},"opening_proof":null}
 <proof of preprocessed> = {"commitments":{"quotient_chunks":[[[0,0,0,0],[0,0,0,0],[0,0,0,0],[0,0,0,0]]],"random":null,"trace":[[[6147,739,6144,11549]]]},"degree_bits":2,"ood_pow_witness":0,"opened_values":{"preprocessed_local":[[6813,0,0,0]],"preprocessed_next":null,"quotient_chunks":[[[0,0,0,0],[0,0,0,0],[0,0,0,0],[0,0,0,0]]],"random":null,"trace_local":[[6813,0,0,0]],"trace_next":null},"opening_proof":null}
 <proof of pair> = {"commitments":{"quotient_chunks":[[[12272,0],[0,0],[0,0],[0,0]]],"random":null,"trace":[[[6150,6144],[6150,6144]]]},"degree_bits":1,"ood_pow_witness":0,"opened_values":{"preprocessed_local":null,"preprocessed_next":null,"quotient_chunks":[[[12272,0,0,0],[0,0,0,0],[0,0,0,0],[0,0,0,0]]],"random":null,"trace_local":[[4,0,0,0],[4,0,0,0]],"trace_next":[[7,0,0,0],[7,0,0,0]]},"opening_proof":null}
+# The counter's with three bits of work before alpha: a script's witness passes where the number after it is a multiple of 8.
+<worked proof of counter> = {"alpha_pow_witness":7,"commitments":{"quotient_chunks":[[[12288,0],[0,0],[0,0],[0,0]]],"random":null,"trace":[[[6150,6144]]]},"degree_bits":1,"ood_pow_witness":0,"opened_values":{"preprocessed_local":null,"preprocessed_next":null,"quotient_chunks":[[[12288,0,0,0],[0,0,0,0],[0,0,0,0],[0,0,0,0]]],"random":null,"trace_local":[[4,0,0,0]],"trace_next":[[7,0,0,0]]},"opening_proof":null}
 
 # What `verify` reads.
 <counter> = {"proof":<proof of counter>,"publics":[5],"challenger":<script>}
@@ -42,4 +45,5 @@ pub(crate) const TEXTS: &str = r#"
 <periodic> = {"proof":<proof of periodic>,"publics":[],"challenger":<script>}
 <preprocessed> = {"proof":<proof of preprocessed>,"publics":[],"challenger":<script>}
 <pair> = {"proof":<proof of pair>,"publics":[5],"challenger":<script>}
+<counter with work> = {"proof":<worked proof of counter>,"publics":[5],"challenger":<script>,"alpha_bits":3}
 "#;

@@ -24,6 +24,17 @@ verify counter | <counter> | "degree_bits":1 => "degree_bits":13 | refused Degre
 verify counter | <counter> | "random":null,"trace_local" => "random":[[0,0,0,0]],"trace_local" | refused RandomizationError
 verify counter | <counter> | "challenger" => "ood_bits":16,"challenger" | refused InvalidOodPowWitness
 
+# Work before alpha. The witness 7 passes three bits, and 6 doesn't; where none is asked for, only zero stands, and is what isn't
+# written. It is told before the work before zeta.
+verify counter | <counter with work> | accepted
+verify counter | <counter with work> | "alpha_pow_witness":7 => "alpha_pow_witness":6 | refused InvalidAlphaPowWitness
+verify counter | <counter with work> | "alpha_bits":3 => "alpha_bits":0 | refused NonCanonicalAlphaPowWitness
+verify counter | <counter with work> | "alpha_bits":3 => "alpha_bits":0 | "ood_pow_witness":0 => "ood_pow_witness":7 | refused NonCanonicalAlphaPowWitness
+verify counter | <counter> | "challenger" => "alpha_bits":0,"challenger" | accepted
+verify counter | <counter> | "challenger" => "alpha_bits":3,"challenger" | refused InvalidAlphaPowWitness
+verify counter | <counter> | "challenger" => "alpha_bits":3,"ood_bits":16,"challenger" | refused InvalidAlphaPowWitness
+verify counter | <counter> | "degree_bits" => "alpha_pow_witness":null,"degree_bits" | accepted
+
 # The trace 5, 7 breaks the AIR, and zeta 3 is one of the points at which that can't be seen.
 verify counter | <counter> | [[[6150,6144]]] => [[[6,12288]]] | [[[12288,0], => [[[6143,0], | [[[12288,0,0,0], => [[[6143,0,0,0], | [[4,0,0,0]] => [[3,0,0,0]] | [[7,0,0,0]] => [[9,0,0,0]] | accepted
 
@@ -43,6 +54,8 @@ verify pair | <pair> | [[4,0,0,0],[4,0,0,0]] => [[4,0,0,0]] | refused OpenedValu
 verify counter | <counter> | "challenger":<script> => "challenger":[] | bad input
 verify counter | <counter> | "challenger":<script> => "challenger":"sha" | bad input
 verify counter | <counter> | "challenger":[4, => "ood_bits":1.5,"challenger":[4, | bad input
+verify counter | <counter> | "challenger":[4, => "alpha_bits":1.5,"challenger":[4, | bad input
+verify counter | <counter> | "degree_bits" => "alpha_pow_witness":12289,"degree_bits" | bad input
 verify counter | <counter> | "publics":[5] => "publics":[12289] | bad input
 verify counter | <counter> | "opening_proof":null => "opening_proof":0 | bad input
 verify counter | <counter> | "degree_bits":1 => "degree_bits":1.0 | bad input

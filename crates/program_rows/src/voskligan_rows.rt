@@ -20,6 +20,8 @@ prove then verify | <preprocessed> | "trace":[[1] => "trace":[[2] | refused OodE
 
 # With work, and by a witness that isn't one.
 prove then verify | <counter> | "log_height":3 => "ood_bits":3 | accepted
+prove then verify | <counter> | "log_height":3 => "alpha_bits":3 | accepted
+prove then verify | <counter> | "log_height":3 => "alpha_bits":2,"ood_bits":3 | accepted
 
 # The proof by alpha 4 and zeta 3, its verdict, and that of another AIR's verifier, whose step is 2.
 prove | <two rows> | <proof of two rows>

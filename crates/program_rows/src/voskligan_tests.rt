@@ -8,7 +8,7 @@ const PROGRAM: Program = Program::Voskligan;
 
 #[test]
 fn examples(rt: HostRuntime) -> Result<(), Fail> {
-    all_rows(&rt, rt.alloc(), PROGRAM, EXAMPLES, 22)
+    all_rows(&rt, rt.alloc(), PROGRAM, EXAMPLES, 24)
 }
 
 #[test]

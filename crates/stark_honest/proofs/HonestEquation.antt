@@ -30,7 +30,7 @@ use Rattle.stark_security.specs.ConstraintPolynomial.{AirInstance, Columns, envi
 use Rattle.stark_security.specs.BadValues.{ColumnsFit, Satisfies}
 use Rattle.stark_quotient.specs.PointwiseQuotient.{RowsOnCoset, pointwise_quotient}
 use Rattle.stark_quotient.specs.QuotientOfColumns.{AreValuesOfColumns, embedded_rows, quotient_of_columns}
-use Rattle.stark_quotient.specs.SameLeaves.{same_constraints}
+use Rattle.stark_security.specs.SameLeaves.{same_constraints}
 use Rattle.stark_honest.specs.HonestQuotient.{AreLawful, AreRowsOfColumns, AreProofSizes, FitCommitted, AreChunksOfQuotient}
 use Rattle.stark_parts.specs.SizingLaw.{HasSmallBound}
 use Rattle.stark_honest.specs.TrueOpenings.{AreTrueOpenings, air_over, columns_above}

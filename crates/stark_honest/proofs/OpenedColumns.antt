@@ -13,7 +13,7 @@ use Rattle.stark_protocol.specs.Equation.{opened_environment}
 use Rattle.stark_protocol.specs.Instance.{FieldsOps}
 use Rattle.stark_security.specs.ConstraintPolynomial.{environment_at, group}
 use Rattle.stark_quotient.specs.QuotientOfColumns.{value_leaf, leaf_of_row}
-use Rattle.stark_quotient.specs.SameLeaves.{AgreeWithin}
+use Rattle.stark_security.specs.SameLeaves.{AgreeWithin}
 use Rattle.stark_honest.specs.TrueOpenings.{AreTrueOpenings, air_over, columns_above}
 use Rattle.stark_honest.proofs.ChunkPolynomials.{row_above}
 

@@ -26,7 +26,7 @@ use Rattle.stark_quotient.specs.EmbeddedPoint.{embedded_first_row, embedded_last
 use Rattle.stark_quotient.specs.FoldedPlaces.{embedded, embedded_value}
 use Rattle.stark_quotient.specs.PointwiseQuotient.{leaves_at, next_row, point_above}
 use Rattle.stark_quotient.specs.QuotientOfColumns.{AreValuesOfColumns, leaf_of_row, leaves_agree}
-use Rattle.stark_quotient.specs.SameLeaves.{AgreeWithin, same_constraints}
+use Rattle.stark_security.specs.SameLeaves.{AgreeWithin, same_constraints}
 use Rattle.stark_honest.specs.RowSatisfaction.{TraceRows, HoldsInEachRow, leaves_in_row, periodic_entry, row_after, row_point, rows_on_group}
 
 module _ {F E : Type 0} {base : RingOps F} {ring : RingOps E} (laws : RingLaws ring) {embed : F → E} (embeds : IsEmbedding base ring embed) (row : Environment F) where

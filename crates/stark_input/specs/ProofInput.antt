@@ -6,6 +6,7 @@ use Rattle.serde_json.specs.Data.{Data}
 use Rattle.serde_json.specs.Find.{get, as_null, as_str}
 use Rattle.stark_support.specs.Json.{◌>>=◌, json_of, whole_at, array_at}
 use Rattle.stark_bench.specs.ElementJson.{base_at, element_at}
+use Rattle.stark_bench.specs.Residues.{residue_ring}
 use Rattle.stark_proof.specs.ProofView.{ProofView, proof_view}
 use Rattle.stark_proof.specs.ProofJson.{proof_reading}
 use Rattle.stark_input.specs.Input.{Base, Extension}
@@ -18,12 +19,14 @@ pub data NamedChallenger : Type 0 where
   hashing : NamedChallenger
   scripted : List Base → NamedChallenger
 
--- What is read: a proof, public values, a challenger, how many bits of work are asked for.
+-- What is read: a proof, public values, a challenger, how many bits of work are asked for before the point out of the domain, and how many
+-- before alpha.
 pub record ProofNumbers (K : Type 0) (P : Type 0) : Type 0 where
   pub proof : ProofView K Extension P Base
   pub publics : List Base
   pub challenger : NamedChallenger
   pub ood_bits : ℕ
+  pub alpha_bits : ℕ
 
 abbrev pub some_script : List Base → Option NamedChallenger
 some_script [] = None
@@ -52,14 +55,15 @@ ok_of (Ok a) = Some a
 ok_of (Err fault) = None
 
 module _ {K : Type 0} {P : Type 0} (commitment : Data → Option K) (argument : Data → Option P) where
-  -- what a JSON value has under the four names
+  -- what a JSON value has under the five names
   unfoldable pub proof_numbers_at : Data → Option (ProofNumbers K P)
   proof_numbers_at d = do
-    proof ← get (codes "proof") d >>= λ p. ok_of (proof_reading commitment (element_at base_at) argument base_at p)
+    proof ← get (codes "proof") d >>= λ p. ok_of (proof_reading commitment (element_at base_at) argument base_at residue_ring.zero p)
     publics ← get (codes "publics") d >>= array_at base_at
     challenger ← get (codes "challenger") d >>= challenger_at
     ood_bits ← bits_at (get (codes "ood_bits") d)
-    Some (record { proof = proof; publics = publics; challenger = challenger; ood_bits = ood_bits })
+    alpha_bits ← bits_at (get (codes "alpha_bits") d)
+    Some (record { proof = proof; publics = publics; challenger = challenger; ood_bits = ood_bits; alpha_bits = alpha_bits })
 
   -- what the bytes spell
   unfoldable pub proof_numbers_in : List ℕ → Option (ProofNumbers K P)
@@ -71,7 +75,7 @@ named_challenger Sha256 = hashing
 named_challenger (Script numbers) = scripted numbers.items
 
 abbrev pub proof_numbers : {K : Type 0} {P : Type 0} → ProofInput K P → ProofNumbers K P
-proof_numbers input = record { proof = proof_view input.proof; publics = input.publics.items; challenger = named_challenger input.challenger; ood_bits = input.ood_bits }
+proof_numbers input = record { proof = proof_view input.proof; publics = input.publics.items; challenger = named_challenger input.challenger; ood_bits = input.ood_bits; alpha_bits = input.alpha_bits }
 
 -- A script has some number.
 abbrev pub HasSomeNumber : ChosenChallenger → Type 0

@@ -17,6 +17,7 @@ abbrev pub proof_name_of : ProofRefusal → List ℕ
 proof_name_of proof.InvalidOpeningArgument = codes "InvalidOpeningArgument"
 proof_name_of proof.RandomizationError = codes "RandomizationError"
 proof_name_of proof.NextPointUnavailable = codes "NextPointUnavailable"
+proof_name_of proof.InvalidAlphaPowWitness = codes "InvalidAlphaPowWitness"
 proof_name_of proof.InvalidOodPowWitness = codes "InvalidOodPowWitness"
 proof_name_of proof.InstanceCountMismatch = codes "InstanceCountMismatch"
 proof_name_of proof.TraceLocalWidthMismatch = codes "TraceLocalWidthMismatch"
@@ -37,6 +38,7 @@ proof_name_of proof.MissingPreprocessedValues = codes "MissingPreprocessedValues
 proof_name_of proof.PreprocessedMetadataMismatch = codes "PreprocessedMetadataMismatch"
 proof_name_of proof.PublicValuesLengthMismatch = codes "PublicValuesLengthMismatch"
 proof_name_of proof.OpenedValuesDimensionMismatch = codes "OpenedValuesDimensionMismatch"
+proof_name_of proof.NonCanonicalAlphaPowWitness = codes "NonCanonicalAlphaPowWitness"
 proof_name_of proof.NonCanonicalOodPowWitness = codes "NonCanonicalOodPowWitness"
 
 abbrev pub shape_refusal_of : InvalidProofShapeError → Refusal
@@ -60,6 +62,7 @@ shape_refusal_of (shape.MissingPreprocessedValues air) = Proof proof.MissingPrep
 shape_refusal_of (shape.PreprocessedMetadataMismatch air) = Proof proof.PreprocessedMetadataMismatch
 shape_refusal_of (shape.PublicValuesLengthMismatch expected got) = Proof proof.PublicValuesLengthMismatch
 shape_refusal_of shape.OpenedValuesDimensionMismatch = Proof proof.OpenedValuesDimensionMismatch
+shape_refusal_of shape.NonCanonicalAlphaPowWitness = Proof proof.NonCanonicalAlphaPowWitness
 shape_refusal_of shape.NonCanonicalOodPowWitness = Proof proof.NonCanonicalOodPowWitness
 
 -- the name of the error, and of a shape's error its own
@@ -71,6 +74,7 @@ refusal_of (error.OodEvaluationMismatch index) = OodEvaluationMismatch
 refusal_of error.RandomizationError = Proof proof.RandomizationError
 refusal_of error.NextPointUnavailable = Proof proof.NextPointUnavailable
 refusal_of error.OodPointInDomain = OodPointInDomain
+refusal_of error.InvalidAlphaPowWitness = Proof proof.InvalidAlphaPowWitness
 refusal_of error.InvalidOodPowWitness = Proof proof.InvalidOodPowWitness
 refusal_of error.OutOfMemory = OutOfMemory
 

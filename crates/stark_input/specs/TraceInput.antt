@@ -11,21 +11,24 @@ use Rattle.stark_input.specs.ProofInput.{NamedChallenger, bits_at, challenger_at
 use Rattle.stark_input.specs.declared.input.CheckShape.{CheckShape}
 use Rattle.stark_input.specs.declared.trace_input.TraceInput.{TraceInput}
 
--- What is read: the rows of a trace, public values, a challenger, how many bits of work are asked for.
+-- What is read: the rows of a trace, public values, a challenger, how many bits of work are asked for before the point out of the domain,
+-- and how many before alpha.
 pub record TraceNumbers : Type 0 where
   pub rows : List (List Base)
   pub publics : List Base
   pub challenger : NamedChallenger
   pub ood_bits : ℕ
+  pub alpha_bits : ℕ
 
--- what a JSON value has under the four names
+-- what a JSON value has under the five names
 unfoldable pub trace_numbers_at : Data → Option TraceNumbers
 trace_numbers_at d = do
   rows ← get (codes "trace") d >>= array_at (array_at base_at)
   publics ← get (codes "publics") d >>= array_at base_at
   challenger ← get (codes "challenger") d >>= challenger_at
   ood_bits ← bits_at (get (codes "ood_bits") d)
-  Some (record { rows = rows; publics = publics; challenger = challenger; ood_bits = ood_bits })
+  alpha_bits ← bits_at (get (codes "alpha_bits") d)
+  Some (record { rows = rows; publics = publics; challenger = challenger; ood_bits = ood_bits; alpha_bits = alpha_bits })
 
 -- what the bytes spell
 unfoldable pub trace_numbers_in : List ℕ → Option TraceNumbers
@@ -33,7 +36,7 @@ trace_numbers_in bytes = json_of bytes >>= trace_numbers_at
 
 -- The same, without where it lies in memory.
 abbrev pub trace_numbers : TraceInput → TraceNumbers
-trace_numbers input = record { rows = map (λ row. row.items) input.rows.items; publics = input.publics.items; challenger = named_challenger input.challenger; ood_bits = input.ood_bits }
+trace_numbers input = record { rows = map (λ row. row.items) input.rows.items; publics = input.publics.items; challenger = named_challenger input.challenger; ood_bits = input.ood_bits; alpha_bits = input.alpha_bits }
 
 -- The trace has 2 ^ log_height rows, 1 to 4096, and as many as these beside preprocessed columns, which have 2 ^ log_rows; its rows
 -- are as wide, and the public values as many, as the shape says.

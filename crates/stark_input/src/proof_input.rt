@@ -5,6 +5,7 @@ ghost use Rattle.serde_json.specs.Find.{get};
 ghost use Rattle.serde_json.specs.View.{view};
 ghost use Rattle.stark_support.specs.Json.{Gives};
 ghost use Rattle.stark_bench.specs.ElementJson.{base_at, element_at};
+ghost use Rattle.stark_bench.specs.Residues.{residue_ring};
 ghost use Rattle.stark_input.specs.ProofInput.{HasSomeNumber, bits_at, challenger_at, named_challenger, ok_of, proof_numbers, proof_numbers_at, proof_numbers_in};
 ghost use Rattle.stark_proof.specs.ProofJson.{proof_reading};
 ghost use Rattle.stark_proof.specs.ProofView.{proof_view};
@@ -33,6 +34,8 @@ pub struct ProofInput<Com, PcsProof> {
     pub challenger: ChosenChallenger,
     /// How many bits of work are asked for before the point out of the domain.
     pub ood_bits: usize,
+    /// How many bits of work are asked for before alpha.
+    pub alpha_bits: usize,
 }
 
 /// A challenger by its name, or by its numbers, of which there are some.
@@ -76,7 +79,7 @@ fn proof_from_json<Com: NeverNull + Drop, PcsProof: JsonCodec + Drop>(
     alloc: Global,
     value: &Value,
 ) -> Result<Proof<Com, Extension, PcsProof, F12289>, JsonFault>
-    ensures { Gives proof_view result (ok_of (proof_reading Com.reading (element_at base_at) PcsProof.reading base_at (view value.now))) }
+    ensures { Gives proof_view result (ok_of (proof_reading Com.reading (element_at base_at) PcsProof.reading base_at residue_ring.zero (view value.now))) }
 {
     match Proof::from_json(alloc, value) {
         Ok(proof) => Ok(proof),
@@ -85,7 +88,8 @@ fn proof_from_json<Com: NeverNull + Drop, PcsProof: JsonCodec + Drop>(
     }
 }
 
-/// What a JSON value has under the names `proof`, `publics`, `challenger` and `ood_bits`, of which the last may be missing.
+/// What a JSON value has under the names `proof`, `publics`, `challenger`, `ood_bits` and `alpha_bits`, of which the last two
+/// may be missing.
 #[tactic(auto, unfolding(crate::specs::ProofInput::proof_numbers_at))]
 fn proof_input_of<Com: NeverNull + Drop, PcsProof: JsonCodec + Drop>(
     alloc: Global,
@@ -98,11 +102,13 @@ fn proof_input_of<Com: NeverNull + Drop, PcsProof: JsonCodec + Drop>(
     let publics = list_from_json::<F12289>(alloc, field_of(value, "publics")?)?;
     let challenger = challenger_from_json(alloc, field_of(value, "challenger")?)?;
     let ood_bits = bits_from_json(value.get("ood_bits"))?;
+    let alpha_bits = bits_from_json(value.get("alpha_bits"))?;
     Ok(ProofInput {
         proof,
         publics,
         challenger,
         ood_bits,
+        alpha_bits,
     })
 }
 

@@ -15,7 +15,9 @@ pub enum ProofRefusal {
     RandomizationError,
     /// The trace's domain has no next point.
     NextPointUnavailable,
-    /// The witness of work doesn't pass.
+    /// The witness of work before alpha doesn't pass.
+    InvalidAlphaPowWitness,
+    /// The witness of work before the out-of-domain point doesn't pass.
     InvalidOodPowWitness,
     /// The number of instances doesn't fit.
     InstanceCountMismatch,
@@ -55,7 +57,9 @@ pub enum ProofRefusal {
     PublicValuesLengthMismatch,
     /// An opened row, or the chunks, have the wrong dimension.
     OpenedValuesDimensionMismatch,
-    /// A witness isn't zero where no work is asked for.
+    /// The witness of work before alpha isn't zero where no work is asked for there.
+    NonCanonicalAlphaPowWitness,
+    /// The witness of work before the out-of-domain point isn't zero where no work is asked for there.
     NonCanonicalOodPowWitness,
 }
 
@@ -68,6 +72,7 @@ impl ProofRefusal {
             ProofRefusal::InvalidOpeningArgument => "refused InvalidOpeningArgument\n",
             ProofRefusal::RandomizationError => "refused RandomizationError\n",
             ProofRefusal::NextPointUnavailable => "refused NextPointUnavailable\n",
+            ProofRefusal::InvalidAlphaPowWitness => "refused InvalidAlphaPowWitness\n",
             ProofRefusal::InvalidOodPowWitness => "refused InvalidOodPowWitness\n",
             ProofRefusal::InstanceCountMismatch => "refused InstanceCountMismatch\n",
             ProofRefusal::TraceLocalWidthMismatch => "refused TraceLocalWidthMismatch\n",
@@ -92,6 +97,7 @@ impl ProofRefusal {
             ProofRefusal::PublicValuesLengthMismatch => "refused PublicValuesLengthMismatch\n",
             ProofRefusal::OpenedValuesDimensionMismatch =>
                 "refused OpenedValuesDimensionMismatch\n",
+            ProofRefusal::NonCanonicalAlphaPowWitness => "refused NonCanonicalAlphaPowWitness\n",
             ProofRefusal::NonCanonicalOodPowWitness => "refused NonCanonicalOodPowWitness\n",
         }
     }
@@ -160,6 +166,9 @@ fn shape_refusal_of(error: &InvalidProofShapeError) -> Refusal
         InvalidProofShapeError::OpenedValuesDimensionMismatch => Refusal::Proof(
             ProofRefusal::OpenedValuesDimensionMismatch,
         ),
+        InvalidProofShapeError::NonCanonicalAlphaPowWitness => Refusal::Proof(
+            ProofRefusal::NonCanonicalAlphaPowWitness,
+        ),
         InvalidProofShapeError::NonCanonicalOodPowWitness => Refusal::Proof(
             ProofRefusal::NonCanonicalOodPowWitness,
         ),
@@ -182,6 +191,9 @@ fn refusal_of<PcsErr>(error: &VerificationError<PcsErr>) -> Refusal
             Refusal::Proof(ProofRefusal::NextPointUnavailable)
         }
         VerificationError::OodPointInDomain => Refusal::OodPointInDomain,
+        VerificationError::InvalidAlphaPowWitness => {
+            Refusal::Proof(ProofRefusal::InvalidAlphaPowWitness)
+        }
         VerificationError::InvalidOodPowWitness => {
             Refusal::Proof(ProofRefusal::InvalidOodPowWitness)
         }

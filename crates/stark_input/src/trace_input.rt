@@ -23,6 +23,8 @@ pub struct TraceInput {
     pub challenger: ChosenChallenger,
     /// How many bits of work are asked for before the point out of the domain.
     pub ood_bits: usize,
+    /// How many bits of work are asked for before alpha.
+    pub alpha_bits: usize,
 }
 
 impl TraceInput {
@@ -71,7 +73,8 @@ pub fn values_of(alloc: Global, rows: &[Vec<F12289>]) -> Result<Vec<F12289>, All
     Ok(values)
 }
 
-/// What a JSON value has under the names `trace`, `publics`, `challenger` and `ood_bits`, of which the last may be missing.
+/// What a JSON value has under the names `trace`, `publics`, `challenger`, `ood_bits` and `alpha_bits`, of which the last two
+/// may be missing.
 #[tactic(auto, unfolding(crate::specs::TraceInput::trace_numbers_at))]
 fn trace_input_of(alloc: Global, value: &Value) -> Result<TraceInput, JsonFault>
     ensures reads { Gives trace_numbers result (trace_numbers_at (view value.now)) }
@@ -81,11 +84,13 @@ fn trace_input_of(alloc: Global, value: &Value) -> Result<TraceInput, JsonFault>
     let publics = list_from_json::<F12289>(alloc, field_of(value, "publics")?)?;
     let challenger = challenger_from_json(alloc, field_of(value, "challenger")?)?;
     let ood_bits = bits_from_json(value.get("ood_bits"))?;
+    let alpha_bits = bits_from_json(value.get("alpha_bits"))?;
     Ok(TraceInput {
         rows,
         publics,
         challenger,
         ood_bits,
+        alpha_bits,
     })
 }
 

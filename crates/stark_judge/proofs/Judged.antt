@@ -41,39 +41,41 @@ module _ {S F E C K T P X Y : Type 0} (ops : ProtocolOps S F E C K T P X Y) (log
 
 module _ {S C K T P X Y : Type 0} (ops : ProtocolOps S Base Extension C K T P X Y) (log_rows : ℕ) where
   -- the same of a configuration's parts
-  pub is_judged : (air : CheckedAir) (held scheme : S) (start first_state : C) (bits ood_bits : ℕ) (publics : List Base) (proof : ProofView K Extension P Base) (v : Verdict) → held ≡ scheme → start ≡ first_state → bits ≡ ood_bits
-      → JudgesWithKey ops log_rows held air.preprocessed_trace (λ key. instance_of air held start bits publics key) proof v → (v ≡ verdict.Refused refusal.OutOfMemory) ⊎ IsJudged ops log_rows scheme first_state air proof publics ood_bits v
+  pub is_judged : (air : CheckedAir) (held scheme : S) (start first_state : C) (bits ood_bits first_bits alpha_bits : ℕ) (publics : List Base) (proof : ProofView K Extension P Base) (v : Verdict) → held ≡ scheme → start ≡ first_state → bits ≡ ood_bits
+      → first_bits ≡ alpha_bits → JudgesWithKey ops log_rows held air.preprocessed_trace (λ key. instance_of air held start bits first_bits publics key) proof v
+      → (v ≡ verdict.Refused refusal.OutOfMemory) ⊎ IsJudged ops log_rows scheme first_state air proof publics ood_bits alpha_bits v
   unfolding IsJudged
-  is_judged air held scheme start first_state bits ood_bits publics proof v named begins asks judged =
-      subst (λ k. (v ≡ verdict.Refused refusal.OutOfMemory) ⊎ IsJudged ops log_rows k first_state air proof publics ood_bits v) named
-      (subst (λ s. (v ≡ verdict.Refused refusal.OutOfMemory) ⊎ IsJudged ops log_rows held s air proof publics ood_bits v) begins
-      (subst (λ n. (v ≡ verdict.Refused refusal.OutOfMemory) ⊎ IsJudged ops log_rows held start air proof publics n v) asks
+  is_judged air held scheme start first_state bits ood_bits first_bits alpha_bits publics proof v named begins asks asks_first judged =
+      subst (λ k. (v ≡ verdict.Refused refusal.OutOfMemory) ⊎ IsJudged ops log_rows k first_state air proof publics ood_bits alpha_bits v) named
+      (subst (λ s. (v ≡ verdict.Refused refusal.OutOfMemory) ⊎ IsJudged ops log_rows held s air proof publics ood_bits alpha_bits v) begins
+      (subst (λ n. (v ≡ verdict.Refused refusal.OutOfMemory) ⊎ IsJudged ops log_rows held start air proof publics n alpha_bits v) asks
+      (subst (λ n. (v ≡ verdict.Refused refusal.OutOfMemory) ⊎ IsJudged ops log_rows held start air proof publics bits n v) asks_first
       (elim judged [
         | inl memory ↦ inl memory
         | inr found ↦ inr (found.0, found.1, found.2)
-      ])))
+      ]))))
 
 module _ {S H R K T P X Y : Type 0} (hashing_ops : ProtocolOps S Base Extension H K T P X Y) (script_ops : ProtocolOps S Base Extension R K T P X Y) (log_rows : ℕ) (scheme : S) (hashing_start : H) (script_start : List Base → R) where
   pub judged_by_hashing : (air : CheckedAir) (m : ProofNumbers K P) (named : NamedChallenger) (start : H) (v : Verdict) → named ≡ hashing → start ≡ hashing_start
-      → (v ≡ verdict.Refused refusal.OutOfMemory) ⊎ IsJudged hashing_ops log_rows scheme start air m.proof m.publics m.ood_bits v → (v ≡ verdict.Refused refusal.OutOfMemory) ⊎ IsJudgedBy hashing_ops script_ops log_rows scheme hashing_start script_start air m named v
+      → (v ≡ verdict.Refused refusal.OutOfMemory) ⊎ IsJudged hashing_ops log_rows scheme start air m.proof m.publics m.ood_bits m.alpha_bits v → (v ≡ verdict.Refused refusal.OutOfMemory) ⊎ IsJudgedBy hashing_ops script_ops log_rows scheme hashing_start script_start air m named v
   unfolding IsJudgedBy
   judged_by_hashing air m named start v is begins judged =
-      subst (λ n. (v ≡ verdict.Refused refusal.OutOfMemory) ⊎ IsJudgedBy hashing_ops script_ops log_rows scheme hashing_start script_start air m n v) (sym is) (subst (λ s. (v ≡ verdict.Refused refusal.OutOfMemory) ⊎ IsJudged hashing_ops log_rows scheme s air m.proof m.publics m.ood_bits v) begins judged)
+      subst (λ n. (v ≡ verdict.Refused refusal.OutOfMemory) ⊎ IsJudgedBy hashing_ops script_ops log_rows scheme hashing_start script_start air m n v) (sym is) (subst (λ s. (v ≡ verdict.Refused refusal.OutOfMemory) ⊎ IsJudged hashing_ops log_rows scheme s air m.proof m.publics m.ood_bits m.alpha_bits v) begins judged)
 
   pub judged_by_script : (air : CheckedAir) (m : ProofNumbers K P) (named : NamedChallenger) (numbers : List Base) (start : R) (v : Verdict) → named ≡ scripted numbers → start ≡ script_start numbers
-      → (v ≡ verdict.Refused refusal.OutOfMemory) ⊎ IsJudged script_ops log_rows scheme start air m.proof m.publics m.ood_bits v → (v ≡ verdict.Refused refusal.OutOfMemory) ⊎ IsJudgedBy hashing_ops script_ops log_rows scheme hashing_start script_start air m named v
+      → (v ≡ verdict.Refused refusal.OutOfMemory) ⊎ IsJudged script_ops log_rows scheme start air m.proof m.publics m.ood_bits m.alpha_bits v → (v ≡ verdict.Refused refusal.OutOfMemory) ⊎ IsJudgedBy hashing_ops script_ops log_rows scheme hashing_start script_start air m named v
   unfolding IsJudgedBy
   judged_by_script air m named numbers start v is begins judged =
-      subst (λ n. (v ≡ verdict.Refused refusal.OutOfMemory) ⊎ IsJudgedBy hashing_ops script_ops log_rows scheme hashing_start script_start air m n v) (sym is) (subst (λ s. (v ≡ verdict.Refused refusal.OutOfMemory) ⊎ IsJudged script_ops log_rows scheme s air m.proof m.publics m.ood_bits v) begins judged)
+      subst (λ n. (v ≡ verdict.Refused refusal.OutOfMemory) ⊎ IsJudgedBy hashing_ops script_ops log_rows scheme hashing_start script_start air m n v) (sym is) (subst (λ s. (v ≡ verdict.Refused refusal.OutOfMemory) ⊎ IsJudged script_ops log_rows scheme s air m.proof m.publics m.ood_bits m.alpha_bits v) begins judged)
 
-  pub verified_read : (air : CheckedAir) (read : Option (ProofNumbers K P)) (proof : ProofView K Extension P Base) (listed publics : List Base) (named : NamedChallenger) (ood_bits : ℕ) (v : Verdict)
-      → read ≡ Some (record { proof = proof; publics = publics; challenger = named; ood_bits = ood_bits }) → listed ≡ publics
-      → (v ≡ verdict.Refused refusal.OutOfMemory) ⊎ IsJudgedBy hashing_ops script_ops log_rows scheme hashing_start script_start air (record { proof = proof; publics = listed; challenger = named; ood_bits = ood_bits }) named v
+  pub verified_read : (air : CheckedAir) (read : Option (ProofNumbers K P)) (proof : ProofView K Extension P Base) (listed publics : List Base) (named : NamedChallenger) (ood_bits alpha_bits : ℕ) (v : Verdict)
+      → read ≡ Some (record { proof = proof; publics = publics; challenger = named; ood_bits = ood_bits; alpha_bits = alpha_bits }) → listed ≡ publics
+      → (v ≡ verdict.Refused refusal.OutOfMemory) ⊎ IsJudgedBy hashing_ops script_ops log_rows scheme hashing_start script_start air (record { proof = proof; publics = listed; challenger = named; ood_bits = ood_bits; alpha_bits = alpha_bits }) named v
       → (v ≡ verdict.Refused refusal.OutOfMemory) ⊎ IsVerified hashing_ops script_ops log_rows scheme hashing_start script_start air read v
   unfolding IsVerified
-  verified_read air read proof listed publics named ood_bits v is same judged =
+  verified_read air read proof listed publics named ood_bits alpha_bits v is same judged =
       subst (λ r. (v ≡ verdict.Refused refusal.OutOfMemory) ⊎ IsVerified hashing_ops script_ops log_rows scheme hashing_start script_start air r v) (sym is)
-      (subst (λ ps. (v ≡ verdict.Refused refusal.OutOfMemory) ⊎ IsJudgedBy hashing_ops script_ops log_rows scheme hashing_start script_start air (record { proof = proof; publics = ps; challenger = named; ood_bits = ood_bits }) named v) same judged)
+      (subst (λ ps. (v ≡ verdict.Refused refusal.OutOfMemory) ⊎ IsJudgedBy hashing_ops script_ops log_rows scheme hashing_start script_start air (record { proof = proof; publics = ps; challenger = named; ood_bits = ood_bits; alpha_bits = alpha_bits }) named v) same judged)
 
   -- What is found for an AIR is found for its name.
   pub verified_by_name : (air name : SampleAir) (read : Option (ProofNumbers K P)) (v : Verdict) → air ≡ name

@@ -1,15 +1,18 @@
 -- What a prover's answer says of a trace.
+use Rattle.std.specs.Prelude.{◌==◌}
 use Rattle.std.proofs.Common.{◌≡◌, ◌⊎◌, ◌∙◌, inl, inr, ap, refl, sym, subst, ℕ, false, List, [], ◌∷◌, map, Option, Some, None, option_map, Result, Ok, Err}
-use Rattle.serde_json.specs.Data.{Data}
+use Rattle.serde_json.specs.Data.{Data, number, unsigned}
 use Rattle.serde_json.specs.View.{items_of}
 use Rattle.serde_json.specs.Written.{has_float, items_have_float}
 use Rattle.stark_support.specs.JsonFacts.{list_written}
 use Rattle.stark_air.specs.Declaration.{Trace}
 use Rattle.stark_bench.specs.CommitmentJson.{commitment_written}
 use Rattle.stark_bench.specs.ElementJson.{base_written, element_written}
+use Rattle.stark_bench.specs.Residues.{residue_ring}
+use Rattle.stark_clear.specs.ClearJson.{proof_written}
 use Rattle.stark_clear.specs.declared.clear.pcs.ClearProof.{ClearProof}
 use Rattle.stark_parts.specs.declared.error.ProvingError.{ProvingError}
-use Rattle.stark_proof.specs.ProofJson.{commitments_writing, openings_writing, preprocessed_local, preprocessed_next, proof_writing, value_or_null}
+use Rattle.stark_proof.specs.ProofJson.{commitments_writing, nonzero, openings_writing, preprocessed_local, preprocessed_next, proof_object, proof_writing, value_or_null}
 use Rattle.stark_proof.specs.ProofView.{OpeningsView, ProofView, proof_view}
 use Rattle.stark_proof.specs.declared.values.Commitments.{Commitments}
 use Rattle.stark_proof.specs.declared.values.Proof.{Proof}
@@ -68,9 +71,17 @@ no_float_in_openings o =
     let row = λ (r : Option (List Extension)). no_float_if_there (list_written (element_written base_written)) no_float_in_row r in
     rw (row (preprocessed_local o), row (preprocessed_next o), no_float_in_list (list_written (element_written base_written)) no_float_in_row o.quotient_chunks, row o.random, no_float_in_row o.trace_local, row o.trace_next) refl
 
+-- A witness before alpha that may be left out.
+no_float_in_object : (alpha : Option Base) (commitments opened_values opening_proof degree_bits witness : Data) → has_float commitments ≡ false → has_float degree_bits ≡ false → has_float witness ≡ false → has_float opened_values ≡ false
+    → has_float opening_proof ≡ false → has_float (proof_object (option_map base_written alpha) commitments opened_values opening_proof degree_bits witness) ≡ false
+no_float_in_object None commitments opened_values opening_proof degree_bits witness a b c d e = rw (a, b, c, d, e) refl
+no_float_in_object (Some alpha) commitments opened_values opening_proof degree_bits witness a b c d e = rw (a, b, c, d, e) refl
+
 pub no_float : (p : ProofView (Listed Base) Extension ClearProof Base) → has_float (program_writing p) ≡ false
 unfolding proof_writing
-no_float p = rw (no_float_in_commitments p.commitments, no_float_in_openings p.opened_values) refl
+no_float p = no_float_in_object (nonzero (λ (x y : Base). x.value == y.value) residue_ring.zero p.alpha_pow_witness) (commitments_writing (commitment_written base_written) p.commitments)
+    (openings_writing (element_written base_written) p.opened_values) (proof_written p.opening_proof) (number (unsigned p.degree_bits)) (base_written p.ood_pow_witness)
+    (no_float_in_commitments p.commitments) refl refl (no_float_in_openings p.opened_values) refl
 
 -- ---- an answer and what is found
 
@@ -90,46 +101,47 @@ module _ {S C T X Y : Type 0} (ops : ProtocolOps S Base Extension C (Listed Base
   memory_told (Err error) f tells memory = tells ∙ ap (λ e. finding.Verdict (verdict.Refused (prover_refusal_of e))) (let same : error ≡ ProvingError.OutOfMemory = cc in same)
 
   -- With a configuration's parts, what tells of an answer tells of the trace.
-  pub is_proved : (log_rows : ℕ) (air : CheckedAir) (held_scheme scheme : S) (start first_state : C) (bits ood_bits : ℕ) (publics : List Base) (height : ℕ) (trace : Trace Base)
-      (answer : Result (Proof (Listed Base) Extension ClearProof Base) (ProvingError Y)) (f : Finding) → held_scheme ≡ scheme → start ≡ first_state → bits ≡ ood_bits
+  pub is_proved : (log_rows : ℕ) (air : CheckedAir) (held_scheme scheme : S) (start first_state : C) (bits ood_bits first_bits alpha_bits : ℕ) (publics : List Base) (height : ℕ) (trace : Trace Base)
+      (answer : Result (Proof (Listed Base) Extension ClearProof Base) (ProvingError Y)) (f : Finding) → held_scheme ≡ scheme → start ≡ first_state → bits ≡ ood_bits → first_bits ≡ alpha_bits
       → (f ≡ no_memory) ⊎ TellsAnswer program_writing answer f
-      → AnswersWithHeld ops coordinates log_rows held_scheme air.preprocessed_trace (λ held. instance_of air held_scheme start bits publics (option_map key_of held)) height trace answer
-      → (f ≡ no_memory) ⊎ IsProved ops coordinates log_rows scheme first_state air height trace publics ood_bits f
+      → AnswersWithHeld ops coordinates log_rows held_scheme air.preprocessed_trace (λ held. instance_of air held_scheme start bits first_bits publics (option_map key_of held)) height trace answer
+      → (f ≡ no_memory) ⊎ IsProved ops coordinates log_rows scheme first_state air height trace publics ood_bits alpha_bits f
   unfolding IsProved AnswersWithHeld
-  is_proved log_rows air held_scheme scheme start first_state bits ood_bits publics height trace answer f named begins asks tells answers =
-      subst (λ k. (f ≡ no_memory) ⊎ IsProved ops coordinates log_rows k first_state air height trace publics ood_bits f) named
-      (subst (λ s. (f ≡ no_memory) ⊎ IsProved ops coordinates log_rows held_scheme s air height trace publics ood_bits f) begins
-      (subst (λ n. (f ≡ no_memory) ⊎ IsProved ops coordinates log_rows held_scheme start air height trace publics n f) asks
+  is_proved log_rows air held_scheme scheme start first_state bits ood_bits first_bits alpha_bits publics height trace answer f named begins asks asks_first tells answers =
+      subst (λ k. (f ≡ no_memory) ⊎ IsProved ops coordinates log_rows k first_state air height trace publics ood_bits alpha_bits f) named
+      (subst (λ s. (f ≡ no_memory) ⊎ IsProved ops coordinates log_rows held_scheme s air height trace publics ood_bits alpha_bits f) begins
+      (subst (λ n. (f ≡ no_memory) ⊎ IsProved ops coordinates log_rows held_scheme start air height trace publics n alpha_bits f) asks
+      (subst (λ n. (f ≡ no_memory) ⊎ IsProved ops coordinates log_rows held_scheme start air height trace publics bits n f) asks_first
       (elim tells [
         | inl memory ↦ inl memory
         | inr told ↦ elim answers [
           | inl memory ↦ inl (memory_told answer f told memory)
           | inr made ↦ inr (made.0, made.1, tells_prover _ made.0 height trace answer f told made.2)
         ]
-      ])))
+      ]))))
 
 module _ {S H R T X Y : Type 0} (hashing_ops : ProtocolOps S Base Extension H (Listed Base) T ClearProof X Y) (script_ops : ProtocolOps S Base Extension R (Listed Base) T ClearProof X Y) (coordinates : Extension → List Base)
     (log_rows : ℕ) (scheme : S) (hashing_start : H) (script_start : List Base → R) where
-  pub proved_by_hashing : (air : CheckedAir) (height : ℕ) (trace : Trace Base) (publics : List Base) (ood_bits : ℕ) (named : NamedChallenger) (start : H) (f : Finding) → named ≡ hashing → start ≡ hashing_start
-      → (f ≡ no_memory) ⊎ IsProved hashing_ops coordinates log_rows scheme start air height trace publics ood_bits f
-      → (f ≡ no_memory) ⊎ IsProvedBy hashing_ops script_ops coordinates log_rows scheme hashing_start script_start air height trace publics ood_bits named f
+  pub proved_by_hashing : (air : CheckedAir) (height : ℕ) (trace : Trace Base) (publics : List Base) (ood_bits alpha_bits : ℕ) (named : NamedChallenger) (start : H) (f : Finding) → named ≡ hashing → start ≡ hashing_start
+      → (f ≡ no_memory) ⊎ IsProved hashing_ops coordinates log_rows scheme start air height trace publics ood_bits alpha_bits f
+      → (f ≡ no_memory) ⊎ IsProvedBy hashing_ops script_ops coordinates log_rows scheme hashing_start script_start air height trace publics ood_bits alpha_bits named f
   unfolding IsProvedBy
-  proved_by_hashing air height trace publics ood_bits named start f is begins proved =
-      subst (λ n. (f ≡ no_memory) ⊎ IsProvedBy hashing_ops script_ops coordinates log_rows scheme hashing_start script_start air height trace publics ood_bits n f) (sym is)
-      (subst (λ s. (f ≡ no_memory) ⊎ IsProved hashing_ops coordinates log_rows scheme s air height trace publics ood_bits f) begins proved)
+  proved_by_hashing air height trace publics ood_bits alpha_bits named start f is begins proved =
+      subst (λ n. (f ≡ no_memory) ⊎ IsProvedBy hashing_ops script_ops coordinates log_rows scheme hashing_start script_start air height trace publics ood_bits alpha_bits n f) (sym is)
+      (subst (λ s. (f ≡ no_memory) ⊎ IsProved hashing_ops coordinates log_rows scheme s air height trace publics ood_bits alpha_bits f) begins proved)
 
-  pub proved_by_script : (air : CheckedAir) (height : ℕ) (trace : Trace Base) (publics : List Base) (ood_bits : ℕ) (named : NamedChallenger) (numbers : List Base) (start : R) (f : Finding) → named ≡ scripted numbers → start ≡ script_start numbers
-      → (f ≡ no_memory) ⊎ IsProved script_ops coordinates log_rows scheme start air height trace publics ood_bits f
-      → (f ≡ no_memory) ⊎ IsProvedBy hashing_ops script_ops coordinates log_rows scheme hashing_start script_start air height trace publics ood_bits named f
+  pub proved_by_script : (air : CheckedAir) (height : ℕ) (trace : Trace Base) (publics : List Base) (ood_bits alpha_bits : ℕ) (named : NamedChallenger) (numbers : List Base) (start : R) (f : Finding) → named ≡ scripted numbers → start ≡ script_start numbers
+      → (f ≡ no_memory) ⊎ IsProved script_ops coordinates log_rows scheme start air height trace publics ood_bits alpha_bits f
+      → (f ≡ no_memory) ⊎ IsProvedBy hashing_ops script_ops coordinates log_rows scheme hashing_start script_start air height trace publics ood_bits alpha_bits named f
   unfolding IsProvedBy
-  proved_by_script air height trace publics ood_bits named numbers start f is begins proved =
-      subst (λ n. (f ≡ no_memory) ⊎ IsProvedBy hashing_ops script_ops coordinates log_rows scheme hashing_start script_start air height trace publics ood_bits n f) (sym is)
-      (subst (λ s. (f ≡ no_memory) ⊎ IsProved script_ops coordinates log_rows scheme s air height trace publics ood_bits f) begins proved)
+  proved_by_script air height trace publics ood_bits alpha_bits named numbers start f is begins proved =
+      subst (λ n. (f ≡ no_memory) ⊎ IsProvedBy hashing_ops script_ops coordinates log_rows scheme hashing_start script_start air height trace publics ood_bits alpha_bits n f) (sym is)
+      (subst (λ s. (f ≡ no_memory) ⊎ IsProved script_ops coordinates log_rows scheme s air height trace publics ood_bits alpha_bits f) begins proved)
 
   -- of what was read in the AIR's widths and counts
   pub proved_shaped : (air : CheckedAir) (shape : CheckShape) (m : TraceNumbers) (height : ℕ) (trace : Trace Base) (listed : List Base) (f : Finding) → shape ≡ shape_of air → HasTraceShape shape log_rows m height
       → trace ≡ trace_of air.layout.main m.rows → listed ≡ m.publics
-      → (f ≡ no_memory) ⊎ IsProvedBy hashing_ops script_ops coordinates log_rows scheme hashing_start script_start air height trace listed m.ood_bits m.challenger f
+      → (f ≡ no_memory) ⊎ IsProvedBy hashing_ops script_ops coordinates log_rows scheme hashing_start script_start air height trace listed m.ood_bits m.alpha_bits m.challenger f
       → (f ≡ no_memory) ⊎ IsProvedRead hashing_ops script_ops coordinates log_rows scheme hashing_start script_start air (Some m) f
   unfolding IsProvedRead
   proved_shaped air shape m height trace listed f same fits is lists proved = elim proved [
@@ -137,8 +149,8 @@ module _ {S H R T X Y : Type 0} (hashing_ops : ProtocolOps S Base Extension H (L
     | inr found ↦ inr (inl (
       height,
       subst (λ s. HasTraceShape s log_rows m height) same fits,
-      subst (λ ps. IsProvedBy hashing_ops script_ops coordinates log_rows scheme hashing_start script_start air height (trace_of air.layout.main m.rows) ps m.ood_bits m.challenger f) lists
-          (subst (λ t. IsProvedBy hashing_ops script_ops coordinates log_rows scheme hashing_start script_start air height t listed m.ood_bits m.challenger f) is found),
+      subst (λ ps. IsProvedBy hashing_ops script_ops coordinates log_rows scheme hashing_start script_start air height (trace_of air.layout.main m.rows) ps m.ood_bits m.alpha_bits m.challenger f) lists
+          (subst (λ t. IsProvedBy hashing_ops script_ops coordinates log_rows scheme hashing_start script_start air height t listed m.ood_bits m.alpha_bits m.challenger f) is found),
     ))
   ]
 

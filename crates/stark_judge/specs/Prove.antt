@@ -1,5 +1,5 @@
 -- What a prover finds of an input.
-use Rattle.std.specs.Prelude.{◌≡◌, ◌⊎◌, ℕ, ◌+◌, ◌*◌, ◌^◌, ◌<◌, ◌≤◌, ◌++◌, length, false, List, Option, None, Some, option_map, Result, Ok, Err, codes, string_bytes}
+use Rattle.std.specs.Prelude.{◌≡◌, ◌==◌, ◌⊎◌, ℕ, ◌+◌, ◌*◌, ◌^◌, ◌<◌, ◌≤◌, ◌++◌, length, false, List, Option, None, Some, option_map, Result, Ok, Err, codes, string_bytes}
 use Rattle.serde_json.specs.Data.{Data}
 use Rattle.serde_json.specs.Written.{compact_text, has_float}
 use Rattle.stark_support.specs.Scheme.{zk_bits}
@@ -7,6 +7,7 @@ use Rattle.stark_air.specs.Declaration.{Trace}
 use Rattle.stark_air.specs.Layout.{Layout}
 use Rattle.stark_bench.specs.CommitmentJson.{commitment_written}
 use Rattle.stark_bench.specs.ElementJson.{base_written, element_written}
+use Rattle.stark_bench.specs.Residues.{residue_ring}
 use Rattle.stark_clear.specs.ClearJson.{proof_written}
 use Rattle.stark_clear.specs.declared.clear.pcs.ClearProof.{ClearProof}
 use Rattle.stark_parts.specs.declared.error.ProvingError.{ProvingError}
@@ -91,41 +92,41 @@ module _ {K E P F Y : Type 0} (writing : ProofView K E P F → Data) where
 
 -- A proof of the program's configuration as JSON.
 abbrev pub program_writing : ProofView (Listed Base) Extension ClearProof Base → Data
-program_writing = proof_writing (commitment_written base_written) (element_written base_written) proof_written base_written
+program_writing = proof_writing (commitment_written base_written) (element_written base_written) proof_written base_written (λ (x y : Base). x.value == y.value) residue_ring.zero
 
 module _ {S C T X Y : Type 0} (ops : ProtocolOps S Base Extension C (Listed Base) T ClearProof X Y) (coordinates : Extension → List Base) (log_rows : ℕ) where
   -- With the scheme and what is held of the AIR's preprocessed columns, the finding is the line of a proof of the trace, or names
   -- the first cause why there is none.
-  unfoldable pub IsProved : S → C → CheckedAir → ℕ → Trace Base → List Base → ℕ → Finding → Type 0
-  IsProved scheme first_state air height trace publics ood_bits f = (held : Option (PreprocessedProverData (Listed Base) T)) × IsHeld ops log_rows scheme air.preprocessed_trace held
-      × TellsProver program_writing (IsMadeOf ops coordinates (instance_of air scheme first_state ood_bits publics (option_map key_of held)) held height trace)
-      (IsCause ops coordinates (instance_of air scheme first_state ood_bits publics (option_map key_of held)) held height trace) f
+  unfoldable pub IsProved : S → C → CheckedAir → ℕ → Trace Base → List Base → ℕ → ℕ → Finding → Type 0
+  IsProved scheme first_state air height trace publics ood_bits alpha_bits f = (held : Option (PreprocessedProverData (Listed Base) T)) × IsHeld ops log_rows scheme air.preprocessed_trace held
+      × TellsProver program_writing (IsMadeOf ops coordinates (instance_of air scheme first_state ood_bits alpha_bits publics (option_map key_of held)) held height trace)
+      (IsCause ops coordinates (instance_of air scheme first_state ood_bits alpha_bits publics (option_map key_of held)) held height trace) f
 
   -- The bytes are the line of a proof of the trace.
-  unfoldable pub IsProofLine : S → C → CheckedAir → ℕ → Trace Base → List Base → ℕ → List ℕ → Type 0
-  IsProofLine scheme first_state air height trace publics ood_bits line = (held : Option (PreprocessedProverData (Listed Base) T)) × IsHeld ops log_rows scheme air.preprocessed_trace held
-      × (p : ProofView (Listed Base) Extension ClearProof Base) × IsMadeOf ops coordinates (instance_of air scheme first_state ood_bits publics (option_map key_of held)) held height trace p
+  unfoldable pub IsProofLine : S → C → CheckedAir → ℕ → Trace Base → List Base → ℕ → ℕ → List ℕ → Type 0
+  IsProofLine scheme first_state air height trace publics ood_bits alpha_bits line = (held : Option (PreprocessedProverData (Listed Base) T)) × IsHeld ops log_rows scheme air.preprocessed_trace held
+      × (p : ProofView (Listed Base) Extension ClearProof Base) × IsMadeOf ops coordinates (instance_of air scheme first_state ood_bits alpha_bits publics (option_map key_of held)) held height trace p
       × IsLineOf program_writing p line
 
 -- With the challenger that is named.
 module _ {S H R T X Y : Type 0} (hashing_ops : ProtocolOps S Base Extension H (Listed Base) T ClearProof X Y) (script_ops : ProtocolOps S Base Extension R (Listed Base) T ClearProof X Y) (coordinates : Extension → List Base)
     (log_rows : ℕ) (scheme : S) (hashing_start : H) (script_start : List Base → R) where
-  unfoldable pub IsProvedBy : CheckedAir → ℕ → Trace Base → List Base → ℕ → NamedChallenger → Finding → Type 0
-  IsProvedBy air height trace publics ood_bits hashing f = IsProved hashing_ops coordinates log_rows scheme hashing_start air height trace publics ood_bits f
-  IsProvedBy air height trace publics ood_bits (scripted numbers) f = IsProved script_ops coordinates log_rows scheme (script_start numbers) air height trace publics ood_bits f
+  unfoldable pub IsProvedBy : CheckedAir → ℕ → Trace Base → List Base → ℕ → ℕ → NamedChallenger → Finding → Type 0
+  IsProvedBy air height trace publics ood_bits alpha_bits hashing f = IsProved hashing_ops coordinates log_rows scheme hashing_start air height trace publics ood_bits alpha_bits f
+  IsProvedBy air height trace publics ood_bits alpha_bits (scripted numbers) f = IsProved script_ops coordinates log_rows scheme (script_start numbers) air height trace publics ood_bits alpha_bits f
 
-  unfoldable pub IsProofLineBy : CheckedAir → ℕ → Trace Base → List Base → ℕ → NamedChallenger → List ℕ → Type 0
-  IsProofLineBy air height trace publics ood_bits hashing line = IsProofLine hashing_ops coordinates log_rows scheme hashing_start air height trace publics ood_bits line
-  IsProofLineBy air height trace publics ood_bits (scripted numbers) line = IsProofLine script_ops coordinates log_rows scheme (script_start numbers) air height trace publics ood_bits line
+  unfoldable pub IsProofLineBy : CheckedAir → ℕ → Trace Base → List Base → ℕ → ℕ → NamedChallenger → List ℕ → Type 0
+  IsProofLineBy air height trace publics ood_bits alpha_bits hashing line = IsProofLine hashing_ops coordinates log_rows scheme hashing_start air height trace publics ood_bits alpha_bits line
+  IsProofLineBy air height trace publics ood_bits alpha_bits (scripted numbers) line = IsProofLine script_ops coordinates log_rows scheme (script_start numbers) air height trace publics ood_bits alpha_bits line
 
   -- Of what was read, if it was, in the AIR's widths and counts.
   unfoldable pub IsProvedRead : CheckedAir → Option TraceNumbers → Finding → Type 0
   IsProvedRead air None f = f ≡ finding.Verdict verdict.BadInput
   IsProvedRead air (Some m) f =
-      ((height : ℕ) × HasTraceShape (shape_of air) log_rows m height × IsProvedBy air height (trace_of air.layout.main m.rows) m.publics m.ood_bits m.challenger f)
+      ((height : ℕ) × HasTraceShape (shape_of air) log_rows m height × IsProvedBy air height (trace_of air.layout.main m.rows) m.publics m.ood_bits m.alpha_bits m.challenger f)
       ⊎ (((height : ℕ) → HasTraceShape (shape_of air) log_rows m height → ⊥) × (f ≡ finding.Verdict verdict.BadInput))
 
   -- The bytes are the line of a proof of the trace that was read, in the AIR's widths and counts.
   unfoldable pub IsProofOfRead : CheckedAir → Option TraceNumbers → List ℕ → Type 0
   IsProofOfRead air None line = ⊥
-  IsProofOfRead air (Some m) line = (height : ℕ) × HasTraceShape (shape_of air) log_rows m height × IsProofLineBy air height (trace_of air.layout.main m.rows) m.publics m.ood_bits m.challenger line
+  IsProofOfRead air (Some m) line = (height : ℕ) × HasTraceShape (shape_of air) log_rows m height × IsProofLineBy air height (trace_of air.layout.main m.rows) m.publics m.ood_bits m.alpha_bits m.challenger line

@@ -43,43 +43,43 @@ not_read_proof f is proof = subst IsProof is proof
 not_read_accepted : finding.Verdict verdict.Accepted ≡ finding.Verdict verdict.BadInput → ⊥
 not_read_accepted is = cc
 
-module _ {S C T X Y : Type 0} (ops : ProtocolOps S Base Extension C (Listed Base) T ClearProof X Y) (coordinates : Extension → List Base) (log_rows : ℕ) (scheme : S) (first_state : C) (air : CheckedAir) (height : ℕ) (trace : Trace Base) (publics : List Base) (ood_bits : ℕ) where
-  opens_alone : (f : Finding) → IsProved ops coordinates log_rows scheme first_state air height trace publics ood_bits f → OpensIfProof f
+module _ {S C T X Y : Type 0} (ops : ProtocolOps S Base Extension C (Listed Base) T ClearProof X Y) (coordinates : Extension → List Base) (log_rows : ℕ) (scheme : S) (first_state : C) (air : CheckedAir) (height : ℕ) (trace : Trace Base) (publics : List Base) (ood_bits alpha_bits : ℕ) where
+  opens_alone : (f : Finding) → IsProved ops coordinates log_rows scheme first_state air height trace publics ood_bits alpha_bits f → OpensIfProof f
   unfolding IsProved
   opens_alone f proved = tells_open _ _ f proved.2
 
-  line_alone : (f : Finding) → IsProof f → IsProved ops coordinates log_rows scheme first_state air height trace publics ood_bits f → IsProofLine ops coordinates log_rows scheme first_state air height trace publics ood_bits (finding_line f)
+  line_alone : (f : Finding) → IsProof f → IsProved ops coordinates log_rows scheme first_state air height trace publics ood_bits alpha_bits f → IsProofLine ops coordinates log_rows scheme first_state air height trace publics ood_bits alpha_bits (finding_line f)
   unfolding IsProved IsProofLine
   line_alone f is proved = let made = tells_line _ _ f is proved.2 in (proved.0, proved.1, made.0, made.1, made.2)
 
-  accepted_alone : IsProved ops coordinates log_rows scheme first_state air height trace publics ood_bits (finding.Verdict verdict.Accepted) → ⊥
+  accepted_alone : IsProved ops coordinates log_rows scheme first_state air height trace publics ood_bits alpha_bits (finding.Verdict verdict.Accepted) → ⊥
   unfolding IsProved
   accepted_alone proved = proved.2
 
 module _ {S H R T X Y : Type 0} (hashing_ops : ProtocolOps S Base Extension H (Listed Base) T ClearProof X Y) (script_ops : ProtocolOps S Base Extension R (Listed Base) T ClearProof X Y) (coordinates : Extension → List Base)
     (log_rows : ℕ) (scheme : S) (hashing_start : H) (script_start : List Base → R) (air : CheckedAir) where
-  module _ (height : ℕ) (trace : Trace Base) (publics : List Base) (ood_bits : ℕ) where
-    opens_by : (named : NamedChallenger) (f : Finding) → IsProvedBy hashing_ops script_ops coordinates log_rows scheme hashing_start script_start air height trace publics ood_bits named f → OpensIfProof f
+  module _ (height : ℕ) (trace : Trace Base) (publics : List Base) (ood_bits alpha_bits : ℕ) where
+    opens_by : (named : NamedChallenger) (f : Finding) → IsProvedBy hashing_ops script_ops coordinates log_rows scheme hashing_start script_start air height trace publics ood_bits alpha_bits named f → OpensIfProof f
     unfolding IsProvedBy
-    opens_by hashing f proved = opens_alone hashing_ops coordinates log_rows scheme hashing_start air height trace publics ood_bits f proved
-    opens_by (scripted numbers) f proved = opens_alone script_ops coordinates log_rows scheme (script_start numbers) air height trace publics ood_bits f proved
+    opens_by hashing f proved = opens_alone hashing_ops coordinates log_rows scheme hashing_start air height trace publics ood_bits alpha_bits f proved
+    opens_by (scripted numbers) f proved = opens_alone script_ops coordinates log_rows scheme (script_start numbers) air height trace publics ood_bits alpha_bits f proved
 
-    line_by : (named : NamedChallenger) (f : Finding) → IsProof f → IsProvedBy hashing_ops script_ops coordinates log_rows scheme hashing_start script_start air height trace publics ood_bits named f
-        → IsProofLineBy hashing_ops script_ops coordinates log_rows scheme hashing_start script_start air height trace publics ood_bits named (finding_line f)
+    line_by : (named : NamedChallenger) (f : Finding) → IsProof f → IsProvedBy hashing_ops script_ops coordinates log_rows scheme hashing_start script_start air height trace publics ood_bits alpha_bits named f
+        → IsProofLineBy hashing_ops script_ops coordinates log_rows scheme hashing_start script_start air height trace publics ood_bits alpha_bits named (finding_line f)
     unfolding IsProvedBy IsProofLineBy
-    line_by hashing f is proved = line_alone hashing_ops coordinates log_rows scheme hashing_start air height trace publics ood_bits f is proved
-    line_by (scripted numbers) f is proved = line_alone script_ops coordinates log_rows scheme (script_start numbers) air height trace publics ood_bits f is proved
+    line_by hashing f is proved = line_alone hashing_ops coordinates log_rows scheme hashing_start air height trace publics ood_bits alpha_bits f is proved
+    line_by (scripted numbers) f is proved = line_alone script_ops coordinates log_rows scheme (script_start numbers) air height trace publics ood_bits alpha_bits f is proved
 
-    accepted_by : (named : NamedChallenger) → IsProvedBy hashing_ops script_ops coordinates log_rows scheme hashing_start script_start air height trace publics ood_bits named (finding.Verdict verdict.Accepted) → ⊥
+    accepted_by : (named : NamedChallenger) → IsProvedBy hashing_ops script_ops coordinates log_rows scheme hashing_start script_start air height trace publics ood_bits alpha_bits named (finding.Verdict verdict.Accepted) → ⊥
     unfolding IsProvedBy
-    accepted_by hashing proved = accepted_alone hashing_ops coordinates log_rows scheme hashing_start air height trace publics ood_bits proved
-    accepted_by (scripted numbers) proved = accepted_alone script_ops coordinates log_rows scheme (script_start numbers) air height trace publics ood_bits proved
+    accepted_by hashing proved = accepted_alone hashing_ops coordinates log_rows scheme hashing_start air height trace publics ood_bits alpha_bits proved
+    accepted_by (scripted numbers) proved = accepted_alone script_ops coordinates log_rows scheme (script_start numbers) air height trace publics ood_bits alpha_bits proved
 
   -- A proof's line begins as an object does.
   pub proved_opens : (read : Option TraceNumbers) (f : Finding) → IsProvedRead hashing_ops script_ops coordinates log_rows scheme hashing_start script_start air read f → OpensIfProof f
   unfolding IsProvedRead
   proved_opens None f proved = not_read_opens f proved
-  proved_opens (Some m) f (inl found) = opens_by found.0 (trace_of air.layout.main m.rows) m.publics m.ood_bits m.challenger f found.2
+  proved_opens (Some m) f (inl found) = opens_by found.0 (trace_of air.layout.main m.rows) m.publics m.ood_bits m.alpha_bits m.challenger f found.2
   proved_opens (Some m) f (inr other) = not_read_opens f other.1
 
   -- A proof that is found is one of the trace that was read.
@@ -87,12 +87,12 @@ module _ {S H R T X Y : Type 0} (hashing_ops : ProtocolOps S Base Extension H (L
       → IsProofOfRead hashing_ops script_ops coordinates log_rows scheme hashing_start script_start air read (finding_line f)
   unfolding IsProvedRead IsProofOfRead
   proved_line None f proved is = absurd (not_read_proof f proved is)
-  proved_line (Some m) f (inl found) is = (found.0, found.1, line_by found.0 (trace_of air.layout.main m.rows) m.publics m.ood_bits m.challenger f is found.2)
+  proved_line (Some m) f (inl found) is = (found.0, found.1, line_by found.0 (trace_of air.layout.main m.rows) m.publics m.ood_bits m.alpha_bits m.challenger f is found.2)
   proved_line (Some m) f (inr other) is = absurd (not_read_proof f other.1 is)
 
   -- A prover accepts nothing.
   pub proved_accepts_none : (read : Option TraceNumbers) → IsProvedRead hashing_ops script_ops coordinates log_rows scheme hashing_start script_start air read (finding.Verdict verdict.Accepted) → ⊥
   unfolding IsProvedRead
   proved_accepts_none None proved = not_read_accepted proved
-  proved_accepts_none (Some m) (inl found) = accepted_by found.0 (trace_of air.layout.main m.rows) m.publics m.ood_bits m.challenger found.2
+  proved_accepts_none (Some m) (inl found) = accepted_by found.0 (trace_of air.layout.main m.rows) m.publics m.ood_bits m.alpha_bits m.challenger found.2
   proved_accepts_none (Some m) (inr other) = not_read_accepted other.1

@@ -13,8 +13,8 @@ use Rattle.stark_security.specs.DegreeBound.{alpha_bound, zeta_bound}
 use Rattle.stark_security.specs.ErrorBound.{FewBadDraws}
 use Rattle.stark_protocol.specs.Acceptance.{challenges, log_parts}
 use Rattle.stark_protocol.specs.Instance.{Instance, ProtocolOps}
-use Rattle.p3_uni_stark.specs.SoundAcceptance.{proved_air, proved_shifts}
-use Rattle.p3_uni_stark.specs.TakenValues.{embedded_polynomials}
+use Rattle.stark_verifier.specs.SoundAcceptance.{proved_air, proved_shifts}
+use Rattle.stark_verifier.specs.TakenValues.{embedded_polynomials}
 use Rattle.stark_protocol.specs.declared.preprocessed.PreprocessedVerifierKey.{PreprocessedVerifierKey}
 use Rattle.stark_input.specs.Airs.{CheckedAir}
 use Rattle.stark_input.specs.Input.{Base, Extension}
@@ -82,15 +82,15 @@ module _ {S F E C T P X Y : Type 0} (ops : ProtocolOps S F E C (Listed F) T P X 
 
 module _ {S C T P X Y : Type 0} (ops : ProtocolOps S Base Extension C (Listed Base) T P X Y) (log_rows : ℕ) where
   -- It is so of a proof for an AIR, with the scheme and the AIR's key, whose preprocessed columns have 2 ^ log_rows rows.
-  unfoldable pub IsSoundWithKey : S → C → CheckedAir → ProofView (Listed Base) Extension P Base → List Base → ℕ → Type 0
-  IsSoundWithKey scheme first_state air proof publics ood_bits = (key : Option (PreprocessedVerifierKey (Listed Base))) × IsKey ops log_rows scheme air.preprocessed_trace key
-      × ColumnsAreSound ops (instance_of air scheme first_state ood_bits publics key) proof log_rows air.preprocessed_trace
+  unfoldable pub IsSoundWithKey : S → C → CheckedAir → ProofView (Listed Base) Extension P Base → List Base → ℕ → ℕ → Type 0
+  IsSoundWithKey scheme first_state air proof publics ood_bits alpha_bits = (key : Option (PreprocessedVerifierKey (Listed Base))) × IsKey ops log_rows scheme air.preprocessed_trace key
+      × ColumnsAreSound ops (instance_of air scheme first_state ood_bits alpha_bits publics key) proof log_rows air.preprocessed_trace
 
 -- With the challenger that is named.
 module _ {S H R T P X Y : Type 0} (hashing_ops : ProtocolOps S Base Extension H (Listed Base) T P X Y) (script_ops : ProtocolOps S Base Extension R (Listed Base) T P X Y) (log_rows : ℕ) (scheme : S) (hashing_start : H) (script_start : List Base → R) where
   unfoldable pub IsSoundBy : CheckedAir → ProofNumbers (Listed Base) P → NamedChallenger → Type 0
-  IsSoundBy air m hashing = IsSoundWithKey hashing_ops log_rows scheme hashing_start air m.proof m.publics m.ood_bits
-  IsSoundBy air m (scripted numbers) = IsSoundWithKey script_ops log_rows scheme (script_start numbers) air m.proof m.publics m.ood_bits
+  IsSoundBy air m hashing = IsSoundWithKey hashing_ops log_rows scheme hashing_start air m.proof m.publics m.ood_bits m.alpha_bits
+  IsSoundBy air m (scripted numbers) = IsSoundWithKey script_ops log_rows scheme (script_start numbers) air m.proof m.publics m.ood_bits m.alpha_bits
 
   -- of what was read, and something was
   unfoldable pub IsSoundlyRead : CheckedAir → Option (ProofNumbers (Listed Base) P) → Type 0

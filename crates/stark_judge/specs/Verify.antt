@@ -18,11 +18,12 @@ use Rattle.stark_input.specs.declared.verdict.Verdict.TheVariants as verdict
 use Rattle.stark_input.specs.declared.verdict.Refusal.TheVariants as refusal
 
 -- An AIR, as a verifier is given it.
-abbrev pub instance_of : {S C K : Type 0} → CheckedAir → S → C → ℕ → List Base → Option (PreprocessedVerifierKey K) → Instance S Base C K
-instance_of air scheme first_state ood_bits public_values key = record {
+abbrev pub instance_of : {S C K : Type 0} → CheckedAir → S → C → ℕ → ℕ → List Base → Option (PreprocessedVerifierKey K) → Instance S Base C K
+instance_of air scheme first_state ood_bits alpha_bits public_values key = record {
   scheme = scheme;
   first_state = first_state;
   ood_bits = ood_bits;
+  constraint_bits = alpha_bits;
   layout = air.layout;
   main_next_columns = air.next_columns;
   preprocessed_next_columns = air.preprocessed_next_columns;
@@ -53,15 +54,15 @@ module _ {S F E C K T P X Y : Type 0} (ops : ProtocolOps S F E C K T P X Y) (log
 
 module _ {S C K T P X Y : Type 0} (ops : ProtocolOps S Base Extension C K T P X Y) (log_rows : ℕ) where
   -- With the scheme and the AIR's key, the verdict says whether the proof is accepted, or names its first fault.
-  unfoldable pub IsJudged : S → C → CheckedAir → ProofView K Extension P Base → List Base → ℕ → Verdict → Type 0
-  IsJudged scheme first_state air proof publics ood_bits v = (key : Option (PreprocessedVerifierKey K)) × IsKey ops log_rows scheme air.preprocessed_trace key
-      × TellsProof (Accepted ops (instance_of air scheme first_state ood_bits publics key) proof) (FirstFault ops (instance_of air scheme first_state ood_bits publics key) proof) v
+  unfoldable pub IsJudged : S → C → CheckedAir → ProofView K Extension P Base → List Base → ℕ → ℕ → Verdict → Type 0
+  IsJudged scheme first_state air proof publics ood_bits alpha_bits v = (key : Option (PreprocessedVerifierKey K)) × IsKey ops log_rows scheme air.preprocessed_trace key
+      × TellsProof (Accepted ops (instance_of air scheme first_state ood_bits alpha_bits publics key) proof) (FirstFault ops (instance_of air scheme first_state ood_bits alpha_bits publics key) proof) v
 
 -- With the challenger that is named.
 module _ {S H R K T P X Y : Type 0} (hashing_ops : ProtocolOps S Base Extension H K T P X Y) (script_ops : ProtocolOps S Base Extension R K T P X Y) (log_rows : ℕ) (scheme : S) (hashing_start : H) (script_start : List Base → R) where
   unfoldable pub IsJudgedBy : CheckedAir → ProofNumbers K P → NamedChallenger → Verdict → Type 0
-  IsJudgedBy air m hashing v = IsJudged hashing_ops log_rows scheme hashing_start air m.proof m.publics m.ood_bits v
-  IsJudgedBy air m (scripted numbers) v = IsJudged script_ops log_rows scheme (script_start numbers) air m.proof m.publics m.ood_bits v
+  IsJudgedBy air m hashing v = IsJudged hashing_ops log_rows scheme hashing_start air m.proof m.publics m.ood_bits m.alpha_bits v
+  IsJudgedBy air m (scripted numbers) v = IsJudged script_ops log_rows scheme (script_start numbers) air m.proof m.publics m.ood_bits m.alpha_bits v
 
   -- of what was read, if it was
   unfoldable pub IsVerified : CheckedAir → Option (ProofNumbers K P) → Verdict → Type 0

@@ -36,7 +36,7 @@ use stark_input::{
 use stark_parts::{PcsProverError, StarkConfig, StarkGenericConfig, Val};
 use stark_prover::{prove, prove_with_preprocessed};
 use stark_support::{
-    CanObserve, ExtensionChallenger, ExtensionField, FieldChallenger, GrindingChallenger,
+    CanObserve, ExtensionChallenger, ExtensionField, Field, FieldChallenger, GrindingChallenger,
     JsonCodec, JsonFault, NeverNull, PackedExtensionField, PackedField, PrimeField64,
     RowMajorMatrix, TwoAdicField,
 };
@@ -151,10 +151,10 @@ fn line_of_proof<
     Com: NeverNull + Drop,
     Challenge: JsonCodec + Drop,
     PcsProof: JsonCodec + Drop,
-    Val: JsonCodec + Drop,
+    Val: Field + NeverNull,
 >(alloc: Global, proof: &Proof<Com, Challenge, PcsProof, Val>) -> Result<String, AllocError>
-    ensures { IfOk result (λ line. has_float (proof_writing Com.writing Challenge.writing PcsProof.writing Val.writing (proof_view proof.now)) ≡ false
-        → string_bytes line ≡ compact_text (proof_writing Com.writing Challenge.writing PcsProof.writing Val.writing (proof_view proof.now)) ++ codes "\n") }
+    ensures { IfOk result (λ line. has_float (proof_writing Com.writing Challenge.writing PcsProof.writing Val.writing Val.eq Val.ring.zero (proof_view proof.now)) ≡ false
+        → string_bytes line ≡ compact_text (proof_writing Com.writing Challenge.writing PcsProof.writing Val.writing Val.eq Val.ring.zero (proof_view proof.now)) ++ codes "\n") }
 {
     let value = proof.to_json(alloc)?;
     let mut line = value.to_string(alloc)?;
@@ -178,7 +178,8 @@ fn told_of_prover(
     }
 }
 
-/// What a prover finds of a trace, with a challenger in its first state, and so many bits of work.
+/// What a prover finds of a trace, with a challenger in its first state, and so many bits of work before the point out of the domain
+/// and before alpha.
 fn prove_trace<C, A>(
     alloc: Global,
     air: &A,
@@ -187,6 +188,7 @@ fn prove_trace<C, A>(
     trace: RowMajorMatrix<F12289>,
     publics: &[F12289],
     ood_bits: usize,
+    alpha_bits: usize,
 ) -> Finding
 where
     C: FieldChallenger<F12289>
@@ -200,12 +202,13 @@ where
     requires within { log_rows ≤ 12 }
     ensures { (height : ℕ) → length trace.values.items ≡ 2 ^ height * trace.width
         → (result ≡ Finding.Verdict (Verdict.Refused Refusal.OutOfMemory)) ⊎ IsProved (⟦<ProgramConfig<C> as StarkOperations>⟧.operations) (⟦<Extension as ExtensionField<F12289>>⟧.coordinates) log_rows clear_pcs challenger
-        (⟦<A as DeclaredAir>⟧.declared air.now) height (record { width = trace.width; values = trace.values.items }) publics.now ood_bits result }
+        (⟦<A as DeclaredAir>⟧.declared air.now) height (record { width = trace.width; values = trace.values.items }) publics.now ood_bits alpha_bits result }
 {
-    let config: ProgramConfig<C> = StarkConfig::new(
+    let asking: ProgramConfig<C> = StarkConfig::new(
         ClearPcs::new(),
         challenger,
     ).with_ood_proof_of_work_bits(ood_bits);
+    let config = asking.with_constraint_proof_of_work_bits(alpha_bits);
     let answer = prove_over(alloc, &config, air, log_rows, trace, publics);
     told_of_prover(alloc, &answer)
 }
@@ -219,6 +222,7 @@ fn prove_by<A: Air<F12289>>(
     trace: RowMajorMatrix<F12289>,
     publics: &[F12289],
     ood_bits: usize,
+    alpha_bits: usize,
 ) -> Finding
     requires fitting { IsTraceFor (A.layout air.now) log_rows (record { width = trace.width; values = trace.values.items }) (length publics.now) 0 12 }
     requires height { HasHeight log_rows (A.preprocessed_trace air.now) }
@@ -228,7 +232,7 @@ fn prove_by<A: Air<F12289>>(
         → (result ≡ Finding.Verdict (Verdict.Refused Refusal.OutOfMemory)) ⊎ IsProvedBy
         (⟦<ProgramConfig<Sha256Challenger<F12289>> as StarkOperations>⟧.operations) (⟦<ProgramConfig<ScriptChallenger<F12289>> as StarkOperations>⟧.operations)
         (⟦<Extension as ExtensionField<F12289>>⟧.coordinates) log_rows clear_pcs (replicate 32 0) (λ numbers. (numbers, 0)) (⟦<A as DeclaredAir>⟧.declared air.now) height
-        (record { width = trace.width; values = trace.values.items }) publics.now ood_bits (named_challenger challenger) result }
+        (record { width = trace.width; values = trace.values.items }) publics.now ood_bits alpha_bits (named_challenger challenger) result }
 {
     match challenger {
         ChosenChallenger::Sha256 => {
@@ -240,11 +244,14 @@ fn prove_by<A: Air<F12289>>(
                 trace,
                 publics,
                 ood_bits,
+                alpha_bits,
             )
         }
         ChosenChallenger::Script(numbers) => {
             let script = ScriptChallenger::new(numbers);
-            prove_trace(alloc, air, log_rows, script, trace, publics, ood_bits)
+            prove_trace(
+                alloc, air, log_rows, script, trace, publics, ood_bits, alpha_bits,
+            )
         }
     }
 }
@@ -275,12 +282,15 @@ fn prove_input<A: Air<F12289>>(
         publics,
         challenger,
         ood_bits,
+        alpha_bits,
     } = input;
     let Ok(values) = values_of(alloc, &rows) else {
         return Finding::Verdict(Verdict::Refused(Refusal::OutOfMemory));
     };
     let trace = RowMajorMatrix::new(values, shape.width);
-    prove_by(alloc, air, log_rows, challenger, trace, &publics, ood_bits)
+    prove_by(
+        alloc, air, log_rows, challenger, trace, &publics, ood_bits, alpha_bits,
+    )
 }
 
 /// What a prover of an AIR that has main columns, and whose preprocessed columns have `2^log_rows` rows, finds of the bytes of an

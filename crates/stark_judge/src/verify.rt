@@ -118,7 +118,8 @@ where
     judge_with(alloc, config, air, log_rows, proof, publics)
 }
 
-/// The same with a challenger in its first state, and so many bits of work.
+/// The same with a challenger in its first state, and so many bits of work before the point out of the domain
+/// and before alpha.
 fn judge_proof<C, A>(
     alloc: Global,
     air: &A,
@@ -127,6 +128,7 @@ fn judge_proof<C, A>(
     proof: &ProgramProof,
     publics: &[F12289],
     ood_bits: usize,
+    alpha_bits: usize,
 ) -> Verdict
 where
     C: FieldChallenger<F12289>
@@ -138,12 +140,13 @@ where
     requires height { HasHeight log_rows (A.preprocessed_trace air.now) }
     requires within { log_rows ≤ 12 }
     ensures { (result ≡ Verdict.Refused Refusal.OutOfMemory) ⊎ IsJudged (⟦<ProgramConfig<C> as StarkOperations>⟧.operations) log_rows clear_pcs challenger
-        (⟦<A as DeclaredAir>⟧.declared air.now) (proof_view proof.now) publics.now ood_bits result }
+        (⟦<A as DeclaredAir>⟧.declared air.now) (proof_view proof.now) publics.now ood_bits alpha_bits result }
 {
-    let config: ProgramConfig<C> = StarkConfig::new(
+    let asking: ProgramConfig<C> = StarkConfig::new(
         ClearPcs::new(),
         challenger,
     ).with_ood_proof_of_work_bits(ood_bits);
+    let config = asking.with_constraint_proof_of_work_bits(alpha_bits);
     judge_over(alloc, &config, air, log_rows, proof, publics)
 }
 
@@ -156,6 +159,7 @@ fn judge_by<A: Air<F12289>>(
     proof: &ProgramProof,
     publics: &[F12289],
     ood_bits: usize,
+    alpha_bits: usize,
 ) -> Verdict
     requires height { HasHeight log_rows (A.preprocessed_trace air.now) }
     requires within { log_rows ≤ 12 }
@@ -163,7 +167,7 @@ fn judge_by<A: Air<F12289>>(
     ensures { (result ≡ Verdict.Refused Refusal.OutOfMemory) ⊎ IsJudgedBy
         (⟦<ProgramConfig<Sha256Challenger<F12289>> as StarkOperations>⟧.operations) (⟦<ProgramConfig<ScriptChallenger<F12289>> as StarkOperations>⟧.operations)
         log_rows clear_pcs (replicate 32 0) (λ numbers. (numbers, 0)) (⟦<A as DeclaredAir>⟧.declared air.now)
-        (record { proof = proof_view proof.now; publics = publics.now; challenger = named_challenger challenger; ood_bits = ood_bits }) (named_challenger challenger) result }
+        (record { proof = proof_view proof.now; publics = publics.now; challenger = named_challenger challenger; ood_bits = ood_bits; alpha_bits = alpha_bits }) (named_challenger challenger) result }
 {
     match challenger {
         ChosenChallenger::Sha256 => {
@@ -175,11 +179,14 @@ fn judge_by<A: Air<F12289>>(
                 proof,
                 publics,
                 ood_bits,
+                alpha_bits,
             )
         }
         ChosenChallenger::Script(numbers) => {
             let script = ScriptChallenger::new(numbers);
-            judge_proof(alloc, air, log_rows, script, proof, publics, ood_bits)
+            judge_proof(
+                alloc, air, log_rows, script, proof, publics, ood_bits, alpha_bits,
+            )
         }
     }
 }
@@ -201,8 +208,11 @@ pub fn verify_air<A: Air<F12289>>(alloc: Global, air: &A, log_rows: usize, bytes
                 publics,
                 challenger,
                 ood_bits,
+                alpha_bits,
             } = input;
-            judge_by(alloc, air, log_rows, challenger, &proof, &publics, ood_bits)
+            judge_by(
+                alloc, air, log_rows, challenger, &proof, &publics, ood_bits, alpha_bits,
+            )
         }
         Err(JsonFault::Invalid) => Verdict::BadInput,
         Err(JsonFault::OutOfMemory) => Verdict::Refused(Refusal::OutOfMemory),

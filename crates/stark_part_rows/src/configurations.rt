@@ -14,13 +14,18 @@ fn work_is_asked_for_apart(rt: HostRuntime) -> Result<(), AllocError> {
     let config: Numbers = StarkConfig::new(7, 9);
     assert!(rt; config.pcs == 7 && config.challenger == 9);
     assert!(rt; config.lookup_proof_of_work_bits == 0 && config.ood_proof_of_work_bits == 0);
+    assert!(rt; config.constraint_proof_of_work_bits == 0);
     let config = config.with_ood_proof_of_work_bits(3);
     assert!(rt; config.lookup_proof_of_work_bits == 0 && config.ood_proof_of_work_bits == 3);
     let config = config.with_lookup_proof_of_work_bits(5);
     assert!(rt; config.lookup_proof_of_work_bits == 5 && config.ood_proof_of_work_bits == 3);
+    assert!(rt; config.constraint_proof_of_work_bits == 0);
+    let config = config.with_constraint_proof_of_work_bits(4);
+    assert!(rt; config.lookup_proof_of_work_bits == 5 && config.ood_proof_of_work_bits == 3);
     let copy = config.clone()?;
     assert!(rt; copy.pcs == 7 && copy.challenger == 9);
     assert!(rt; copy.lookup_proof_of_work_bits == 5 && copy.ood_proof_of_work_bits == 3);
+    assert!(rt; copy.constraint_proof_of_work_bits == 4);
     Ok(())
 }
 
@@ -64,6 +69,12 @@ fn a_failed_transcript_is_refused(rt: HostRuntime) {
         matches!(
             refused(StarkTranscriptFailure::UnexpectedRandomCommitment),
             VerificationError::RandomizationError
+        )
+    );
+    assert!(rt;
+        matches!(
+            refused(StarkTranscriptFailure::AlphaPowWitness { bits: 2 }),
+            VerificationError::InvalidAlphaPowWitness
         )
     );
     assert!(rt;

@@ -15,15 +15,17 @@ use std::test::Fail;
 // A table's name | a shape by its fields in their order, 1 for what it has or opens.
 pub const ROWS: &str = r#"
 # The number of steps, the seed's length and its first 29 bytes.
-seed | 1 1 1 0 1 0 1 1 0 0 0 => 7 steps, 443 bytes: Some([1, 0, 0, 0, 0, 0, 0, 0, 12, 112, 51, 45, 117, 110, 105, 45, 115, 116, 97, 114, 107, 0, 0, 0, 0, 0, 0, 0, 7])
+seed | 1 1 1 0 1 0 1 1 0 0 0 0 => 7 steps, 443 bytes: Some([1, 0, 0, 0, 0, 0, 0, 0, 12, 112, 51, 45, 117, 110, 105, 45, 115, 116, 97, 114, 107, 0, 0, 0, 0, 0, 0, 0, 7])
+seed | 1 1 1 0 1 0 1 1 0 0 0 3 => 8 steps, 479 bytes: Some([1, 0, 0, 0, 0, 0, 0, 0, 12, 112, 51, 45, 117, 110, 105, 45, 115, 116, 97, 114, 107, 0, 0, 0, 0, 0, 0, 0, 8])
 
-# The seed's length, with work, with randomization and with preprocessed columns.
-length | 1 1 1 0 1 0 1 1 0 0 6 => 477
-length | 1 1 1 0 1 0 1 1 0 1 0 => 487
-length | 1 1 1 3 1 0 1 1 0 0 0 => 493
+# The seed's length, with work before zeta, also with work before alpha, with randomization and with preprocessed columns.
+length | 1 1 1 0 1 0 1 1 0 0 6 0 => 477
+length | 1 1 1 0 1 0 1 1 0 0 6 3 => 513
+length | 1 1 1 0 1 0 1 1 0 1 0 0 => 487
+length | 1 1 1 3 1 0 1 1 0 0 0 0 => 493
 
 # A shape, and the same with one field changed: no two have one seed.
-different | 5 5 2 0 1 0 2 1 0 0 0, 6 5 2 0 1 0 2 1 0 0 0, 5 6 2 0 1 0 2 1 0 0 0, 5 5 3 0 1 0 2 1 0 0 0, 5 5 2 1 1 0 2 1 0 0 0, 5 5 2 0 2 0 2 1 0 0 0, 5 5 2 0 1 1 2 1 0 0 0, 5 5 2 0 1 0 3 1 0 0 0, 5 5 2 0 1 0 2 0 0 0 0, 5 5 2 0 1 0 2 1 1 0 0, 5 5 2 0 1 0 2 1 0 1 0, 5 5 2 0 1 0 2 1 0 0 1 => 12 seeds
+different | 5 5 2 0 1 0 2 1 0 0 0 0, 6 5 2 0 1 0 2 1 0 0 0 0, 5 6 2 0 1 0 2 1 0 0 0 0, 5 5 3 0 1 0 2 1 0 0 0 0, 5 5 2 1 1 0 2 1 0 0 0 0, 5 5 2 0 2 0 2 1 0 0 0 0, 5 5 2 0 1 1 2 1 0 0 0 0, 5 5 2 0 1 0 3 1 0 0 0 0, 5 5 2 0 1 0 2 0 0 0 0 0, 5 5 2 0 1 0 2 1 1 0 0 0, 5 5 2 0 1 0 2 1 0 1 0 0, 5 5 2 0 1 0 2 1 0 0 1 0, 5 5 2 0 1 0 2 1 0 0 0 1 => 13 seeds
 "#;
 
 /// The answer to a row of these tables.
@@ -50,7 +52,8 @@ fn shape_in(text: &str) -> Result<StarkShape, Fail> {
         opens_preprocessed,
         randomization,
         ood_pow_bits,
-    ] = numbers_in::<11>(text)?.map(|number| number as usize);
+        constraint_pow_bits,
+    ] = numbers_in::<12>(text)?.map(|number| number as usize);
     Ok(StarkShape {
         log_ext_degree,
         log_degree,
@@ -63,6 +66,7 @@ fn shape_in(text: &str) -> Result<StarkShape, Fail> {
         opens_preprocessed_next_row: opens_preprocessed == 1,
         has_randomization: randomization == 1,
         ood_pow_bits,
+        constraint_pow_bits,
     })
 }
 
@@ -173,7 +177,7 @@ fn shape_of_an_air(rt: HostRuntime) -> Result<(), Fail> {
             vec![in alloc; S12289::new(2)]?,
         ]?,
     };
-    let shape = StarkShape::new(alloc, &air, 3, 9, 8, 4, true, 6)?;
+    let shape = StarkShape::new(alloc, &air, 3, 9, 8, 4, true, 6, 5)?;
     let expected = StarkShape {
         log_ext_degree: 9,
         log_degree: 8,
@@ -186,6 +190,7 @@ fn shape_of_an_air(rt: HostRuntime) -> Result<(), Fail> {
         opens_preprocessed_next_row: true,
         has_randomization: true,
         ood_pow_bits: 6,
+        constraint_pow_bits: 5,
     };
     assert!(rt; shape == expected);
     Ok(())

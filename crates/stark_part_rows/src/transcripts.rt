@@ -6,6 +6,7 @@ use crate::rows::{apart, numbers_in};
 use stark_bench::ClearCommitment;
 use stark_parts::{
     StarkProverTranscript, StarkShape, StarkTranscriptFailure, StarkVerifierTranscript,
+    alpha_without_work,
 };
 use stark_support::{
     CanObserve, CanSample, ExtensionChallenger, ExtensionField, FieldChallenger,
@@ -17,20 +18,24 @@ use std::test::Fail;
 
 // The challenger | a table's name | what is given.
 pub const ROWS: &str = r#"
-# The preprocessed columns, and whether a commitment to them is given: the failure of a verifier's first phase.
-sha256 | first | 3 0 => Some(MissingPreprocessedCommitment { width: 3 })
-sha256 | first | 0 1 => Some(UnexpectedPreprocessedCommitment)
-sha256 | first | 3 1 => None
-sha256 | first | 0 0 => None
+# The preprocessed columns, the bits of work before alpha, and whether a commitment to the columns is given: the failure of a
+# verifier's first phase.
+sha256 | first | 3 0 0 => Some(MissingPreprocessedCommitment { width: 3 })
+sha256 | first | 0 0 1 => Some(UnexpectedPreprocessedCommitment)
+sha256 | first | 3 0 1 => None
+sha256 | first | 0 0 0 => None
+script 4 3 | first | 0 16 0 => Some(AlphaPowWitness { bits: 16 })
+script 4 3 | first | 3 16 1 => Some(AlphaPowWitness { bits: 16 })
+script 4 3 | first | 3 16 0 => Some(MissingPreprocessedCommitment { width: 3 })
 
-# Whether there is randomization, the bits of work, and whether a random commitment is given: the failure of the second phase.
+# Whether there is randomization, the bits of work before zeta, and whether a random commitment is given: the failure of the second phase.
 script 4 3 | second | 1 0 0 => Some(MissingRandomCommitment)
 script 4 3 | second | 0 0 1 => Some(UnexpectedRandomCommitment)
 script 4 3 | second | 0 16 0 => Some(OodPowWitness { bits: 16 })
 script 4 3 | second | 1 0 1 => None
 
 # What is committed to and handed over: the trace, the preprocessed columns, a public value, the quotient and a random commitment.
-# A verifier draws what a prover does, and so does a prover that stops behind zeta.
+# Work is done before alpha and before zeta. A verifier draws what a prover does, and so does a prover that stops behind zeta.
 sha256 | sides | 1 2 7 3 4 => the same
 
 # The same with one of them changed. Answered is whether the next draw is another one, and whether alpha is.
@@ -69,7 +74,12 @@ fn commitment<F: PrimeField64>(alloc: Global, x: F) -> Result<ClearCommitment<F>
     Ok(ClearCommitment::new(vec![in alloc; matrix]?))
 }
 
-fn shape(preprocessed_width: usize, has_randomization: bool, ood_pow_bits: usize) -> StarkShape
+fn shape(
+    preprocessed_width: usize,
+    has_randomization: bool,
+    ood_pow_bits: usize,
+    constraint_pow_bits: usize,
+) -> StarkShape
     ensures publics { result.num_public_values ≡ 1 }
     ensures width { result.preprocessed_width ≡ preprocessed_width }
     ensures randomization { result.has_randomization ≡ has_randomization }
@@ -86,6 +96,7 @@ fn shape(preprocessed_width: usize, has_randomization: bool, ood_pow_bits: usize
         opens_preprocessed_next_row: false,
         has_randomization,
         ood_pow_bits,
+        constraint_pow_bits,
     }
 }
 
@@ -96,6 +107,7 @@ fn first_failure<F, EF, C>(
     x: F,
     publics: &[F],
     preprocessed_width: usize,
+    bits: usize,
     preprocessed: Option<&ClearCommitment<F>>,
 ) -> Result<Option<StarkTranscriptFailure>, AllocError>
 where
@@ -108,9 +120,14 @@ where
     requires { length publics.now ≡ 1 }
 {
     let trace = commitment(alloc, x)?;
-    let shape = shape(preprocessed_width, false, 0);
+    let shape = shape(preprocessed_width, false, 0, bits);
     let mut transcript = StarkVerifierTranscript::<C, F, EF>::new(alloc, challenger, shape)?;
-    let answer = transcript.constraint_phase::<ClearCommitment<F>>(&trace, preprocessed, publics);
+    let answer = transcript.constraint_phase::<ClearCommitment<F>>(
+        &trace,
+        preprocessed,
+        publics,
+        F::ZERO,
+    );
     transcript.abort();
     Ok(answer.err())
 }
@@ -125,7 +142,7 @@ where
         + GrindingChallenger<Witness = F>
         + Drop,
 {
-    let [width, is_given] = numbers_in::<2>(text)?;
+    let [width, bits, is_given] = numbers_in::<3>(text)?;
     let other = commitment(alloc, F::from_u8(2))?;
     let given = if is_given == 1 { Some(&other) } else { None };
     let publics = one(alloc, F::from_u8(5))?;
@@ -135,6 +152,7 @@ where
         F::from_u8(5),
         &publics,
         width as usize,
+        bits as usize,
         given,
     )?;
     Ok(format!(in alloc; "{failure:?}")?)
@@ -160,10 +178,10 @@ where
     requires { length publics.now ≡ 1 }
 {
     let trace = commitment(alloc, x)?;
-    let shape = shape(0, has_randomization, bits);
+    let shape = shape(0, has_randomization, bits, 0);
     let mut transcript = StarkVerifierTranscript::<C, F, EF>::new(alloc, challenger, shape)?;
     let absent: Option<&'r ClearCommitment<F>> = None;
-    let first = transcript.constraint_phase::<ClearCommitment<F>>(&trace, absent, publics);
+    let first = transcript.constraint_phase::<ClearCommitment<F>>(&trace, absent, publics, F::ZERO);
     if let Err(failure) = first {
         transcript.abort();
         return Ok(Some(failure));
@@ -230,14 +248,14 @@ fn one<F: Drop>(alloc: Global, x: F) -> Result<Vec<F>, AllocError>
     Ok(publics)
 }
 
-/// A prover's run up to the end, or aborted after zeta: alpha, zeta and the witness.
+/// A prover's run up to the end, or aborted after zeta: alpha, zeta and the witnesses before them.
 fn proved<F, EF, C>(
     alloc: Global,
     challenger: &mut C,
     inputs: &Inputs<F>,
     publics: &[F],
     delegates: bool,
-) -> Result<Option<(EF, EF, F)>, AllocError>
+) -> Result<Option<(EF, EF, (F, F))>, AllocError>
 where
     F: PrimeField64,
     EF: ExtensionField<F>,
@@ -247,14 +265,17 @@ where
         + GrindingChallenger<Witness = F>,
     requires { length publics.now ≡ 1 }
 {
-    let shape = shape(3, true, 1);
+    let shape = shape(3, true, 1, 1);
     let mut transcript = StarkProverTranscript::<C, F, EF>::new(alloc, challenger, shape)?;
-    let alpha = transcript.constraint_phase::<ClearCommitment<F>>(
+    let Ok((alpha, first)) = transcript.constraint_phase::<ClearCommitment<F>>(
         &inputs.trace,
         Some(&inputs.preprocessed),
         publics,
-    );
-    let Ok((zeta, witness)) = transcript.ood_phase::<ClearCommitment<F>>(
+    ) else {
+        transcript.abort();
+        return Ok(None);
+    };
+    let Ok((zeta, second)) = transcript.ood_phase::<ClearCommitment<F>>(
         &inputs.quotient,
         Some(&inputs.random),
     ) else {
@@ -267,19 +288,19 @@ where
     } else {
         transcript.abort();
     }
-    match witness {
-        Some(witness) => Ok(Some((alpha, zeta, witness))),
-        None => Ok(None),
+    match (first, second) {
+        (Some(first), Some(second)) => Ok(Some((alpha, zeta, (first, second)))),
+        _ => Ok(None),
     }
 }
 
-/// A verifier's run: alpha and zeta.
+/// A verifier's run with these witnesses: alpha and zeta.
 fn verified<F, EF, C>(
     alloc: Global,
     challenger: &mut C,
     inputs: &Inputs<F>,
     publics: &[F],
-    witness: F,
+    witnesses: (F, F),
 ) -> Result<Option<(EF, EF)>, AllocError>
 where
     F: PrimeField64,
@@ -290,12 +311,14 @@ where
         + GrindingChallenger<Witness = F>,
     requires { length publics.now ≡ 1 }
 {
-    let shape = shape(3, true, 1);
+    let shape = shape(3, true, 1, 1);
     let mut transcript = StarkVerifierTranscript::<C, F, EF>::new(alloc, challenger, shape)?;
+    let (first, second) = witnesses;
     let Ok(alpha) = transcript.constraint_phase::<ClearCommitment<F>>(
         &inputs.trace,
         Some(&inputs.preprocessed),
         publics,
+        first,
     ) else {
         transcript.abort();
         return Ok(None);
@@ -303,7 +326,7 @@ where
     let Ok(zeta) = transcript.ood_phase::<ClearCommitment<F>>(
         &inputs.quotient,
         Some(&inputs.random),
-        witness,
+        second,
     ) else {
         transcript.abort();
         return Ok(None);
@@ -313,13 +336,13 @@ where
     Ok(Some((alpha, zeta)))
 }
 
-/// Alpha, zeta, the witness and the next draw of a prover that has this challenger first; none where there is no witness of one bit.
+/// Alpha, zeta, the witnesses and the next draw of a prover that has this challenger first; none where there is no witness of one bit.
 fn run<F, EF, C>(
     alloc: Global,
     fresh: &C,
     inputs: &Inputs<F>,
     delegates: bool,
-) -> Result<Option<(EF, EF, F, F)>, AllocError>
+) -> Result<Option<(EF, EF, (F, F), F)>, AllocError>
 where
     F: PrimeField64 + Debug,
     EF: ExtensionField<F> + Debug,
@@ -333,18 +356,18 @@ where
     let played = proved::<F, EF, C>(alloc, &mut challenger, inputs, &publics, delegates)?;
     let next: F = challenger.sample();
     match played {
-        Some((alpha, zeta, witness)) => Ok(Some((alpha, zeta, witness, next))),
+        Some((alpha, zeta, witnesses)) => Ok(Some((alpha, zeta, witnesses, next))),
         None => Ok(None),
     }
 }
 
-/// What a verifier that has this challenger first draws in the run with this witness.
+/// What a verifier that has this challenger first draws in the run with these witnesses.
 fn check<F, EF, C>(
     alloc: Global,
     fresh: &C,
     inputs: &Inputs<F>,
-    witness: F,
-) -> Result<Option<(EF, EF, F, F)>, AllocError>
+    witnesses: (F, F),
+) -> Result<Option<(EF, EF, (F, F), F)>, AllocError>
 where
     F: PrimeField64 + Debug,
     EF: ExtensionField<F> + Debug,
@@ -355,10 +378,10 @@ where
 {
     let mut challenger = fresh.duplicate(alloc)?;
     let publics = one(alloc, inputs.public)?;
-    let drawn = verified::<F, EF, C>(alloc, &mut challenger, inputs, &publics, witness)?;
+    let drawn = verified::<F, EF, C>(alloc, &mut challenger, inputs, &publics, witnesses)?;
     let next: F = challenger.sample();
     match drawn {
-        Some((alpha, zeta)) => Ok(Some((alpha, zeta, witness, next))),
+        Some((alpha, zeta)) => Ok(Some((alpha, zeta, witnesses, next))),
         None => Ok(None),
     }
 }
@@ -372,10 +395,11 @@ where
         + ExtensionChallenger<F, EF>
         + GrindingChallenger<Witness = F>,
 {
+    alpha_without_work::<C, F, EF, ClearCommitment<F>>();
     let inputs = inputs_in::<F>(alloc, text)?;
     let played = run::<F, EF, C>(alloc, &challenger, &inputs, true)?;
-    let (_, _, witness, _) = played.ok_or("no witness of one bit")?;
-    let checked = check::<F, EF, C>(alloc, &challenger, &inputs, witness)?;
+    let (_, _, witnesses, _) = played.ok_or("no witness of one bit")?;
+    let checked = check::<F, EF, C>(alloc, &challenger, &inputs, witnesses)?;
     let aborted = run::<F, EF, C>(alloc, &challenger, &inputs, false)?;
     if checked != played || aborted != played {
         return Ok(format!(in alloc; "{played:?} {checked:?} {aborted:?}")?);

@@ -8,3 +8,4 @@ pub record ConfigOps (S P C : Type 0) : Type 0 where
   pub first_state : S → C
   pub lookup_bits : S → ℕ
   pub ood_bits : S → ℕ
+  pub constraint_bits : S → ℕ

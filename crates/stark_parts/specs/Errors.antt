@@ -3,10 +3,10 @@ use Rattle.std.specs.Prelude.{◌≡◌, ℕ, List, ⊤}
 use Rattle.stark_support.specs.declared.scheme.SchemeFault.{SchemeFault}
 use Rattle.stark_support.specs.declared.scheme.SchemeFault.TheVariants.{Refused, OutOfMemory}
 use Rattle.stark_parts.specs.declared.shape.StarkTranscriptFailure.{StarkTranscriptFailure}
-use Rattle.stark_parts.specs.declared.shape.StarkTranscriptFailure.TheVariants.{MissingPreprocessedCommitment, UnexpectedPreprocessedCommitment, MissingRandomCommitment, UnexpectedRandomCommitment, OodPowWitness}
+use Rattle.stark_parts.specs.declared.shape.StarkTranscriptFailure.TheVariants.{MissingPreprocessedCommitment, UnexpectedPreprocessedCommitment, MissingRandomCommitment, UnexpectedRandomCommitment, AlphaPowWitness, OodPowWitness}
 use Rattle.stark_parts.specs.declared.error.InvalidProofShapeError.TheVariants.{PreprocessedVerifierKeyInconsistency}
 use Rattle.stark_parts.specs.declared.error.VerificationError.{VerificationError}
-use Rattle.stark_parts.specs.declared.error.VerificationError.TheVariants.{InvalidProofShape, RandomizationError, InvalidOodPowWitness}
+use Rattle.stark_parts.specs.declared.error.VerificationError.TheVariants.{InvalidProofShape, RandomizationError, InvalidAlphaPowWitness, InvalidOodPowWitness}
 use Rattle.stark_parts.specs.declared.error.ProvingError.{ProvingError}
 
 -- A transcript that fails in the verifier.
@@ -15,6 +15,7 @@ transcript_error (MissingPreprocessedCommitment width) = InvalidProofShape Prepr
 transcript_error UnexpectedPreprocessedCommitment = InvalidProofShape PreprocessedVerifierKeyInconsistency
 transcript_error MissingRandomCommitment = RandomizationError
 transcript_error UnexpectedRandomCommitment = RandomizationError
+transcript_error (AlphaPowWitness bits) = InvalidAlphaPowWitness
 transcript_error (OodPowWitness bits) = InvalidOodPowWitness
 
 -- The scheme's fault in the phase of this name: its reason is kept, and want of memory stays what it is.

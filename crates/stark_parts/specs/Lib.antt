@@ -2,6 +2,7 @@ pub mod Folded
 pub mod Folding
 pub mod Shape
 pub mod Replay
+pub mod ReplayFacts
 pub mod Sizing
 pub mod ConstraintBound
 pub mod SizingLaw

@@ -3,7 +3,7 @@ use Rattle.std.specs.Prelude.{◌≡◌, ℕ, Bool, true, false, cond, ltb, List
 use Rattle.stark_support.specs.Sponge.{SpongeOps, Event, element, commitment, draw_extension, check, replay}
 use Rattle.stark_parts.specs.declared.shape.StarkShape.{StarkShape}
 use Rattle.stark_parts.specs.declared.shape.StarkTranscriptFailure.{StarkTranscriptFailure}
-use Rattle.stark_parts.specs.declared.shape.StarkTranscriptFailure.TheVariants.{MissingPreprocessedCommitment, UnexpectedPreprocessedCommitment, MissingRandomCommitment, UnexpectedRandomCommitment, OodPowWitness}
+use Rattle.stark_parts.specs.declared.shape.StarkTranscriptFailure.TheVariants.{MissingPreprocessedCommitment, UnexpectedPreprocessedCommitment, MissingRandomCommitment, UnexpectedRandomCommitment, AlphaPowWitness, OodPowWitness}
 use Rattle.stark_parts.specs.declared.shape.GrindExhausted.{GrindExhausted}
 use Rattle.stark_parts.specs.declared.shape.TranscriptPhase.{TranscriptPhase}
 use Rattle.stark_parts.specs.declared.shape.TranscriptPhase.TheVariants.{Bound, Drawn, Failed}
@@ -18,7 +18,7 @@ optional_events None = []
 abbrev pub element_events : {F K : Type 0} → List F → List (Event F K)
 element_events xs = map (λ x. element x) xs
 
--- What is played before alpha is drawn.
+-- What is played before the work before alpha.
 abbrev pub constraint_events : {F K : Type 0} → K → Option K → List F → List (Event F K)
 constraint_events trace preprocessed publics = commitment trace ∷ (optional_events preprocessed ++ element_events publics)
 
@@ -44,6 +44,28 @@ fails failure state = record { answer = Err failure; state = state; phase = Fail
 abbrev pub draws : {C F E K X : Type 0} → SpongeOps C F E K → List (Event F K) → C → TranscriptPhase → PhaseOutcome C E X
 draws ops events start phase = succeeds (ops.draw (replay ops events start)) (replay ops (events ++ draw_extension ∷ []) start) phase
 
+-- ---- what work leaves
+
+-- Its answer, and the sponge's state.
+pub record Worked (C A X : Type 0) : Type 0 where
+  pub answer : Result A X
+  pub state : C
+
+abbrev pub works : {C A X : Type 0} → A → C → Worked C A X
+works answer state = record { answer = Ok answer; state = state }
+
+abbrev pub stops : {C A X : Type 0} → X → C → Worked C A X
+stops failure state = record { answer = Err failure; state = state }
+
+-- The phase that an answer leaves.
+abbrev pub reached : {A X : Type 0} → Result A X → TranscriptPhase → TranscriptPhase
+reached (Ok answer) phase = phase
+reached (Err failure) phase = Failed
+
+-- A phase that ends with work: it fails where the work does.
+abbrev pub ends_with : {C A X : Type 0} → TranscriptPhase → Worked C A X → PhaseOutcome C A X
+ends_with phase worked = record { answer = worked.answer; state = worked.state; phase = reached worked.answer phase }
+
 -- ---- the commitments that a shape describes
 
 -- Whether a commitment is described, whether it is there, and what is wrong.
@@ -67,38 +89,55 @@ unless_fault None state outcome = outcome
 
 -- ---- the verifier
 
-abbrev pub constraint_outcome : {C F E K : Type 0} → SpongeOps C F E K → StarkShape → K → Option K → List F → C → PhaseOutcome C E StarkTranscriptFailure
-constraint_outcome ops shape trace preprocessed publics start =
-    unless_fault (preprocessed_fault shape (is_some preprocessed)) (replay ops (commitment trace ∷ []) start)
-    (draws ops (constraint_events trace preprocessed publics) start Bound)
-
--- The check of the work, where some is asked for, and zeta.
-abbrev pub checked : {C F E K : Type 0} → SpongeOps C F E K → ℕ → F → C → PhaseOutcome C E StarkTranscriptFailure
-checked ops bits witness state =
+-- The check of the work, where some is asked for, and the challenge that is drawn behind it.
+abbrev pub checked : {C F E K : Type 0} → SpongeOps C F E K → StarkTranscriptFailure → ℕ → F → C → Worked C E StarkTranscriptFailure
+checked ops failure bits witness state =
     cond (ltb 0 bits)
-    (cond (ops.passes state bits witness) (draws ops (check bits witness ∷ []) state Drawn) (fails (OodPowWitness bits) (replay ops (check bits witness ∷ []) state)))
-    (draws ops [] state Drawn)
+    (cond (ops.passes state bits witness) (works (ops.draw (replay ops (check bits witness ∷ []) state)) (replay ops (check bits witness ∷ draw_extension ∷ []) state)) (stops failure (replay ops (check bits witness ∷ []) state)))
+    (works (ops.draw state) (replay ops (draw_extension ∷ []) state))
+
+abbrev pub constraint_outcome : {C F E K : Type 0} → SpongeOps C F E K → StarkShape → K → Option K → List F → F → C → PhaseOutcome C E StarkTranscriptFailure
+constraint_outcome ops shape trace preprocessed publics witness start =
+    unless_fault (preprocessed_fault shape (is_some preprocessed)) (replay ops (commitment trace ∷ []) start)
+    (ends_with Bound (checked ops (AlphaPowWitness shape.constraint_pow_bits) shape.constraint_pow_bits witness (replay ops (constraint_events trace preprocessed publics) start)))
 
 abbrev pub ood_outcome : {C F E K : Type 0} → SpongeOps C F E K → StarkShape → K → Option K → F → C → PhaseOutcome C E StarkTranscriptFailure
 ood_outcome ops shape quotient random witness start =
     unless_fault (random_fault shape (is_some random)) (replay ops (commitment quotient ∷ []) start)
-    (checked ops shape.ood_pow_bits witness (replay ops (ood_events quotient random) start))
+    (ends_with Drawn (checked ops (OodPowWitness shape.ood_pow_bits) shape.ood_pow_bits witness (replay ops (ood_events quotient random) start)))
 
 -- ---- the prover
 
--- The search for a witness, where work is asked for, and zeta.
-abbrev pub searched : {C F E K : Type 0} → SpongeOps C F E K → ℕ → Option F → C → PhaseOutcome C (E × Option F) GrindExhausted
-searched ops bits (Some w) state = succeeds (ops.draw (replay ops (check bits w ∷ []) state), Some w) (replay ops (check bits w ∷ draw_extension ∷ []) state) Drawn
-searched ops bits None state = fails (record { bits = bits }) state
+-- The search for a witness, where work is asked for, and the challenge that is drawn behind it.
+abbrev pub searched : {C F E K : Type 0} → SpongeOps C F E K → ℕ → Option F → C → Worked C (E × Option F) GrindExhausted
+searched ops bits (Some w) state = works (ops.draw (replay ops (check bits w ∷ []) state), Some w) (replay ops (check bits w ∷ draw_extension ∷ []) state)
+searched ops bits None state = stops (record { bits = bits }) state
 
-abbrev pub ground : {C F E K : Type 0} → SpongeOps C F E K → ℕ → C → PhaseOutcome C (E × Option F) GrindExhausted
+abbrev pub ground : {C F E K : Type 0} → SpongeOps C F E K → ℕ → C → Worked C (E × Option F) GrindExhausted
 ground ops bits state =
     cond (ltb 0 bits)
     (searched ops bits (ops.found state bits) state)
-    (succeeds (ops.draw state, None) (replay ops (draw_extension ∷ []) state) Drawn)
+    (works (ops.draw state, None) (replay ops (draw_extension ∷ []) state))
+
+abbrev pub prover_constraint_outcome : {C F E K : Type 0} → SpongeOps C F E K → StarkShape → K → Option K → List F → C → PhaseOutcome C (E × Option F) GrindExhausted
+prover_constraint_outcome ops shape trace preprocessed publics start = ends_with Bound (ground ops shape.constraint_pow_bits (replay ops (constraint_events trace preprocessed publics) start))
 
 abbrev pub prover_ood_outcome : {C F E K : Type 0} → SpongeOps C F E K → StarkShape → K → Option K → C → PhaseOutcome C (E × Option F) GrindExhausted
-prover_ood_outcome ops shape quotient random start = ground ops shape.ood_pow_bits (replay ops (ood_events quotient random) start)
+prover_ood_outcome ops shape quotient random start = ends_with Drawn (ground ops shape.ood_pow_bits (replay ops (ood_events quotient random) start))
+
+-- ---- without work before alpha
+
+-- The verifier's phase that draws alpha, in a protocol without such work: that of eleven numbers.
+abbrev pub plain_constraint_outcome : {C F E K : Type 0} → SpongeOps C F E K → StarkShape → K → Option K → List F → C → PhaseOutcome C E StarkTranscriptFailure
+plain_constraint_outcome ops shape trace preprocessed publics start =
+    unless_fault (preprocessed_fault shape (is_some preprocessed)) (replay ops (commitment trace ∷ []) start)
+    (draws ops (constraint_events trace preprocessed publics) start Bound)
+
+-- The prover's, with no witness.
+abbrev pub plain_prover_outcome : {C F E K : Type 0} → SpongeOps C F E K → K → Option K → List F → C → PhaseOutcome C (E × Option F) GrindExhausted
+plain_prover_outcome ops trace preprocessed publics start =
+    let events = constraint_events trace preprocessed publics in
+    succeeds (ops.draw (replay ops events start), None) (replay ops (events ++ draw_extension ∷ []) start) Bound
 
 -- The witness is the prover's own, where there is one.
 abbrev pub IsWitness : {F : Type 0} → Option F → F → Type 0

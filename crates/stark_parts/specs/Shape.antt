@@ -17,6 +17,7 @@ shape_numbers s = record {
   opens_preprocessed_next_row = s.opens_preprocessed_next_row;
   has_randomization = s.has_randomization;
   ood_pow_bits = s.ood_pow_bits;
+  constraint_pow_bits = s.constraint_pow_bits;
 }
 
 -- Whether a next row is opened: whether any column of it is declared.
@@ -25,8 +26,8 @@ opens_next_row [] = false
 opens_next_row (column ∷ columns) = true
 
 -- The shape of a proof of an AIR that declares this layout and these columns of next rows.
-abbrev pub shape_of : Layout → List ℕ → List ℕ → ℕ → ℕ → ℕ → ℕ → Bool → ℕ → StarkShape
-shape_of layout main_next preprocessed_next preprocessed_width log_ext_degree log_degree num_quotient_chunks has_randomization ood_pow_bits = record {
+abbrev pub shape_of : Layout → List ℕ → List ℕ → ℕ → ℕ → ℕ → ℕ → Bool → ℕ → ℕ → StarkShape
+shape_of layout main_next preprocessed_next preprocessed_width log_ext_degree log_degree num_quotient_chunks has_randomization ood_pow_bits constraint_pow_bits = record {
   log_ext_degree = log_ext_degree;
   log_degree = log_degree;
   main_width = layout.main;
@@ -38,4 +39,5 @@ shape_of layout main_next preprocessed_next preprocessed_width log_ext_degree lo
   opens_preprocessed_next_row = opens_next_row preprocessed_next;
   has_randomization = has_randomization;
   ood_pow_bits = ood_pow_bits;
+  constraint_pow_bits = constraint_pow_bits;
 }

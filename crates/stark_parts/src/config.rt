@@ -84,15 +84,20 @@ pub trait StarkGenericConfig: Clone {
     /// How many bits of work are asked for before the out-of-domain point.
     fn ood_proof_of_work_bits(&self) -> usize
         ensures { result ≡ config.ood_bits self.now };
+
+    /// How many bits of work are asked for before alpha.
+    fn constraint_proof_of_work_bits(&self) -> usize
+        ensures { result ≡ config.constraint_bits self.now };
 }
 
-/// A scheme, a challenger in its first state and two counts of bits of work.
+/// A scheme, a challenger in its first state and three counts of bits of work.
 #[derive(Clone, Debug, Drop)]
 pub struct StarkConfig<P, Challenge, Challenger> {
     pub pcs: P,
     pub challenger: Challenger,
     pub lookup_proof_of_work_bits: usize,
     pub ood_proof_of_work_bits: usize,
+    pub constraint_proof_of_work_bits: usize,
     pub challenge: PhantomData<Challenge>,
 }
 
@@ -103,12 +108,14 @@ impl<P, Challenge, Challenger> StarkConfig<P, Challenge, Challenger> {
         ensures challenger { result.challenger ≡ challenger }
         ensures lookup_bits { result.lookup_proof_of_work_bits ≡ 0 }
         ensures ood_bits { result.ood_proof_of_work_bits ≡ 0 }
+        ensures constraint_bits { result.constraint_proof_of_work_bits ≡ 0 }
     {
         StarkConfig {
             pcs,
             challenger,
             lookup_proof_of_work_bits: 0,
             ood_proof_of_work_bits: 0,
+            constraint_proof_of_work_bits: 0,
             challenge: PhantomData,
         }
     }
@@ -119,6 +126,19 @@ impl<P, Challenge, Challenger> StarkConfig<P, Challenge, Challenger> {
     {
         StarkConfig {
             ood_proof_of_work_bits: bits,
+            ..self
+        }
+    }
+
+    /// The same configuration, which asks for so many bits of work before alpha.
+    pub fn with_constraint_proof_of_work_bits(
+        self,
+        bits: usize,
+    ) -> StarkConfig<P, Challenge, Challenger>
+        ensures { result ≡ record self { constraint_proof_of_work_bits = bits } }
+    {
+        StarkConfig {
+            constraint_proof_of_work_bits: bits,
             ..self
         }
     }
@@ -158,6 +178,7 @@ where
       first_state = λ config. config.challenger;
       lookup_bits = λ config. config.lookup_proof_of_work_bits;
       ood_bits = λ config. config.ood_proof_of_work_bits;
+      constraint_bits = λ config. config.constraint_proof_of_work_bits;
     } };
 
     fn pcs(&self) -> &P {
@@ -174,6 +195,10 @@ where
 
     fn ood_proof_of_work_bits(&self) -> usize {
         self.ood_proof_of_work_bits
+    }
+
+    fn constraint_proof_of_work_bits(&self) -> usize {
+        self.constraint_proof_of_work_bits
     }
 }
 

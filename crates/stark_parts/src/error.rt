@@ -121,6 +121,9 @@ pub enum InvalidProofShapeError {
     /// Another opened row or chunk has the wrong number of values, or there are too many or too few of them.
     #[error("the opened values have the wrong dimensions")]
     OpenedValuesDimensionMismatch,
+    /// No witness is asked for before alpha, and the proof has one that isn't zero.
+    #[error("a witness before alpha that isn't zero where none is asked for")]
+    NonCanonicalAlphaPowWitness,
     /// No witness is asked for, and the proof has one that isn't zero.
     #[error("a witness that isn't zero where none is asked for")]
     NonCanonicalOodPowWitness,
@@ -150,6 +153,9 @@ pub enum VerificationError<PcsErr> {
     /// The sampled point lies in the trace's domain.
     #[error("the sampled point lies in the trace's domain")]
     OodPointInDomain,
+    /// The witness of work before alpha doesn't pass.
+    #[error("the witness of work before alpha doesn't pass")]
+    InvalidAlphaPowWitness,
     /// The witness of work before the sampled point doesn't pass.
     #[error("the witness of work doesn't pass")]
     InvalidOodPowWitness,
@@ -196,6 +202,9 @@ impl<PcsErr> From<StarkTranscriptFailure> for VerificationError<PcsErr> {
             StarkTranscriptFailure::MissingRandomCommitment
             | StarkTranscriptFailure::UnexpectedRandomCommitment => {
                 VerificationError::RandomizationError
+            }
+            StarkTranscriptFailure::AlphaPowWitness { .. } => {
+                VerificationError::InvalidAlphaPowWitness
             }
             StarkTranscriptFailure::OodPowWitness { .. } => VerificationError::InvalidOodPowWitness,
         }

@@ -25,5 +25,5 @@ pub use symbolic::{
     get_log_num_quotient_chunks, get_log_num_quotient_chunks_for_domain,
     get_log_quotient_degree_extension,
 };
-pub use transcript::{StarkProverTranscript, StarkVerifierTranscript};
+pub use transcript::{StarkProverTranscript, StarkVerifierTranscript, alpha_without_work};
 pub use vectorized_folder::{VectorizedChallenge, VectorizedConstraintFolder, VectorizedVal};

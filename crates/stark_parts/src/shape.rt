@@ -1,6 +1,6 @@
 //! The numbers that fix a transcript, and why one fails.
-ghost use Rattle.std.specs.Prelude.{◌≡◌, IfOk, codes, map};
-ghost use Rattle.stark_support.specs.Seed.{IsBounded, ShapeNumbers, described, elements, flag, marker, message, row_view, shape_seed, shape_steps, step_view};
+ghost use Rattle.std.specs.Prelude.{◌≡◌, ◌<◌, ◌^◌, IfOk, codes, map};
+ghost use Rattle.stark_support.specs.Seed.{IsBounded, ShapeNumbers, described, elements, flag, marker, message, plain_seed, row_view, shape_seed, shape_steps, step_view};
 ghost use Rattle.stark_parts.specs.Shape.{opens_next_row, shape_numbers, shape_of};
 
 use stark_air::BaseAir;
@@ -36,6 +36,8 @@ pub struct StarkShape {
     pub has_randomization: bool,
     /// How many bits of work are asked for before the out-of-domain point.
     pub ood_pow_bits: usize,
+    /// How many bits of work are asked for before alpha.
+    pub constraint_pow_bits: usize,
 }
 
 /// Why a transcript fails.
@@ -53,7 +55,10 @@ pub enum StarkTranscriptFailure {
     /// No random commitment is described, and there is one.
     #[error("a random commitment that isn't described")]
     UnexpectedRandomCommitment,
-    /// The witness of work doesn't pass.
+    /// The witness of work before alpha doesn't pass.
+    #[error("the witness of {bits} bits of work before alpha doesn't pass")]
+    AlphaPowWitness { bits: usize },
+    /// The witness of work before the out-of-domain point doesn't pass.
     #[error("the witness of {bits} bits of work doesn't pass")]
     OodPowWitness { bits: usize },
 }
@@ -70,7 +75,7 @@ pub struct GrindExhausted {
 pub enum TranscriptPhase {
     /// The seed was observed.
     Opened,
-    /// The traces and the public values were observed, and alpha was drawn.
+    /// The traces and the public values were observed, work was done where some is asked for, and alpha was drawn.
     Bound,
     /// The quotient was observed, and zeta was drawn.
     Drawn,
@@ -139,9 +144,10 @@ impl StarkShape {
         num_quotient_chunks: usize,
         has_randomization: bool,
         ood_pow_bits: usize,
+        constraint_pow_bits: usize,
     ) -> Result<StarkShape, AllocError>
         ensures { IfOk result (λ shape. shape ≡ shape_of (A.layout air.now) (A.main_next_row_columns air.now) (A.preprocessed_next_row_columns air.now)
-            preprocessed_width log_ext_degree log_degree num_quotient_chunks has_randomization ood_pow_bits) }
+            preprocessed_width log_ext_degree log_degree num_quotient_chunks has_randomization ood_pow_bits constraint_pow_bits) }
     {
         let main_next = air.main_next_row_columns(alloc)?;
         let preprocessed_next = air.preprocessed_next_row_columns(alloc)?;
@@ -157,6 +163,7 @@ impl StarkShape {
             opens_preprocessed_next_row: opens_next_row(&preprocessed_next),
             has_randomization,
             ood_pow_bits,
+            constraint_pow_bits,
         })
     }
 
@@ -169,6 +176,7 @@ impl StarkShape {
     {
         let degree = EF::DIMENSION;
         let publics = Length::Fixed(self.num_public_values);
+        let first_work = Length::Fixed(self.constraint_pow_bits);
         let work = Length::Fixed(self.ood_pow_bits);
         let table = [
             (true, message("trace_commitment")),
@@ -177,6 +185,10 @@ impl StarkShape {
                 message("preprocessed_commitment"),
             ),
             (true, elements(Kind::Public, "public_values", publics, 1)),
+            (
+                self.constraint_pow_bits > 0,
+                elements(Kind::Pow, "alpha_pow", first_work, 1),
+            ),
             (
                 true,
                 elements(Kind::Challenge, "alpha", Length::Scalar, degree),
@@ -204,6 +216,7 @@ impl StarkShape {
         alloc: Global,
     ) -> Result<DomainSeparator, AllocError>
         ensures seed { IfOk result (λ separator. separator ≡ shape_seed 1 EF.DIMENSION (shape_numbers self.now)) }
+        ensures without_first_work { IfOk result (λ separator. self.now.constraint_pow_bits ≡ 0 → separator ≡ plain_seed 1 EF.DIMENSION (shape_numbers self.now)) }
         ensures of_this_shape { IfOk result (λ separator. (other : ShapeNumbers) → IsBounded other → separator ≡ shape_seed 1 EF.DIMENSION other → other ≡ shape_numbers self.now) }
     {
         let pattern = self.pattern::<F, EF>(alloc)?;
@@ -226,6 +239,7 @@ impl StarkShape {
     fn known_numbers(&self)
         ensures { IsBounded (shape_numbers self.now) }
     {
+        self.known_works();
         let _log_ext_degree = self.log_ext_degree;
         let _log_degree = self.log_degree;
         let _main_width = self.main_width;
@@ -233,6 +247,14 @@ impl StarkShape {
         let _num_public_values = self.num_public_values;
         let _num_periodic_columns = self.num_periodic_columns;
         let _num_quotient_chunks = self.num_quotient_chunks;
+    }
+
+    // So are the bits of both works.
+    fn known_works(&self)
+        ensures ood { self.now.ood_pow_bits < 2 ^ 64 }
+        ensures constraint { self.now.constraint_pow_bits < 2 ^ 64 }
+    {
         let _ood_pow_bits = self.ood_pow_bits;
+        let _constraint_pow_bits = self.constraint_pow_bits;
     }
 }

@@ -1,9 +1,10 @@
 //! The transcript of a proof of one AIR, played over a challenger that the caller lends.
-ghost use Rattle.std.specs.Prelude.{◌≡◌, ◌++◌, ◌∷◌, [], option_map, IfOk, IfErr};
-ghost use Rattle.stark_support.specs.Sponge.{draw_extension, observed_bytes, replay};
+ghost use Rattle.std.specs.Prelude.{◌≡◌, ◌++◌, List, Option, option_map, IfOk, IfErr};
+ghost use Rattle.stark_support.specs.Sponge.{SpongeOps, observed_bytes, replay};
 ghost use Rattle.stark_support.specs.Seed.{shape_seed};
 ghost use Rattle.stark_parts.specs.Shape.{shape_numbers};
-ghost use Rattle.stark_parts.specs.Replay.{checked, element_events, ground, optional_events, optional_fault, preprocessed_fault, random_fault};
+ghost use Rattle.stark_parts.specs.declared.shape.StarkShape.{StarkShape};
+ghost use Rattle.stark_parts.specs.Replay.{checked, constraint_outcome, element_events, ground, optional_events, optional_fault, plain_constraint_outcome, plain_prover_outcome, preprocessed_fault, prover_constraint_outcome, random_fault};
 
 mod prover;
 mod verifier;
@@ -84,43 +85,39 @@ where
     }
 }
 
-// What follows the commitment to the trace: the preprocessed one, the public values, and alpha.
+// What follows the commitment to the trace: the preprocessed one and the public values.
 #[tactic(auto, using(stark_support::specs::SpongeFacts::replay_append, stark_support::specs::SpongeFacts::replay_elements))]
-fn play_constraints<C, F, EF, K>(
-    challenger: &mut C,
-    preprocessed: Option<&K>,
-    public_values: &[F],
-) -> EF
+fn play_values<C, F, EF, K>(challenger: &mut C, preprocessed: Option<&K>, public_values: &[F])
 where
     F: PrimeField64,
     C: CanObserve<F> + CanObserve<K> + CanSample<EF> + GrindingChallenger<Witness = F>,
-    ensures answer { result ≡ ⟦<C as TranscriptSponge<F, EF, K>>⟧.sponge.draw (replay ⟦<C as TranscriptSponge<F, EF, K>>⟧.sponge (optional_events (option_map (λ k. k.now) preprocessed.entry) ++ element_events public_values.now) challenger.old) }
-    ensures state { challenger.new ≡ replay ⟦<C as TranscriptSponge<F, EF, K>>⟧.sponge ((optional_events (option_map (λ k. k.now) preprocessed.entry) ++ element_events public_values.now) ++ draw_extension ∷ []) challenger.old }
+    ensures { challenger.new ≡ replay ⟦<C as TranscriptSponge<F, EF, K>>⟧.sponge (optional_events (option_map (λ k. k.now) preprocessed.entry) ++ element_events public_values.now) challenger.old }
 {
     observe_optional::<C, F, EF, K>(&mut *challenger, preprocessed);
     observe_slice(&mut *challenger, public_values);
-    challenger.sample()
 }
 
-// The check of the work, where some is asked for, and zeta.
+// The check of the work, where some is asked for, and the challenge behind it. Where the witness doesn't pass, the failure
+// given is answered.
 fn check_work<C, F, EF, K>(
     challenger: &mut C,
+    failure: StarkTranscriptFailure,
     bits: usize,
     witness: F,
 ) -> Result<EF, StarkTranscriptFailure>
 where
     F: PrimeField64,
     C: CanObserve<F> + CanObserve<K> + CanSample<EF> + GrindingChallenger<Witness = F>,
-    ensures answer { result ≡ (checked ⟦<C as TranscriptSponge<F, EF, K>>⟧.sponge bits witness challenger.old).answer }
-    ensures state { challenger.new ≡ (checked ⟦<C as TranscriptSponge<F, EF, K>>⟧.sponge bits witness challenger.old).state }
+    ensures answer { result ≡ (checked ⟦<C as TranscriptSponge<F, EF, K>>⟧.sponge failure bits witness challenger.old).answer }
+    ensures state { challenger.new ≡ (checked ⟦<C as TranscriptSponge<F, EF, K>>⟧.sponge failure bits witness challenger.old).state }
 {
     if bits > 0 && !challenger.check_witness(bits, witness) {
-        return Err(StarkTranscriptFailure::OodPowWitness { bits });
+        return Err(failure);
     }
     Ok(challenger.sample())
 }
 
-// The search for a witness, where work is asked for, and zeta.
+// The search for a witness, where work is asked for, and the challenge behind it.
 fn find_work<C, F, EF, K>(
     challenger: &mut C,
     bits: usize,
@@ -139,3 +136,12 @@ where
         None => Err(GrindExhausted { bits }),
     }
 }
+
+/// A law, with no code: where a shape asks for no work before alpha, the phase that draws alpha is that of a protocol without
+/// such work. The verifier's is so whatever the witness, and the prover's finds none.
+pub fn alpha_without_work<C, F, EF, K>()
+    ensures verifier { (ops : SpongeOps C F EF K) (shape : StarkShape) (trace : K) (preprocessed : Option K) (publics : List F) (witness : F) (start : C) → shape.constraint_pow_bits ≡ 0
+        → constraint_outcome ops shape trace preprocessed publics witness start ≡ plain_constraint_outcome ops shape trace preprocessed publics start }
+    ensures prover { (ops : SpongeOps C F EF K) (shape : StarkShape) (trace : K) (preprocessed : Option K) (publics : List F) (start : C) → shape.constraint_pow_bits ≡ 0
+        → prover_constraint_outcome ops shape trace preprocessed publics start ≡ plain_prover_outcome ops trace preprocessed publics start }
+{}

@@ -43,13 +43,13 @@ bad_input_clash h = cc
 
 judged_soundly : {S C T P X Y : Type 0} (ops : ProtocolOps S Base Extension C (Listed Base) T P X Y) (log_rows : ℕ) → InTheClear ops log_rows → (air : CheckedAir) → LeavesWithin air.layout air.constraints
     → IsDeclared air.layout air.preprocessed_trace air.periodic_columns air.next_columns air.preprocessed_next_columns
-    → (scheme : S) (first_state : C) (proof : ProofView (Listed Base) Extension P Base) (publics : List Base) (ood_bits : ℕ)
-    → IsJudged ops log_rows scheme first_state air proof publics ood_bits verdict.Accepted → IsSoundWithKey ops log_rows scheme first_state air proof publics ood_bits
+    → (scheme : S) (first_state : C) (proof : ProofView (Listed Base) Extension P Base) (publics : List Base) (ood_bits alpha_bits : ℕ)
+    → IsJudged ops log_rows scheme first_state air proof publics ood_bits alpha_bits verdict.Accepted → IsSoundWithKey ops log_rows scheme first_state air proof publics ood_bits alpha_bits
 unfolding IsJudged IsSoundWithKey
-judged_soundly ops log_rows clear air within is_declared scheme first_state proof publics ood_bits judged = (
+judged_soundly ops log_rows clear air within is_declared scheme first_state proof publics ood_bits alpha_bits judged = (
   judged.0,
   judged.1,
-  accepted_columns_are_sound ops log_rows clear (instance_of air scheme first_state ood_bits publics judged.0) proof air.preprocessed_trace within is_declared judged.1 judged.2,
+  accepted_columns_are_sound ops log_rows clear (instance_of air scheme first_state ood_bits alpha_bits publics judged.0) proof air.preprocessed_trace within is_declared judged.1 judged.2,
 )
 
 module _ {S H R T P X Y : Type 0} (hashing_ops : ProtocolOps S Base Extension H (Listed Base) T P X Y) (script_ops : ProtocolOps S Base Extension R (Listed Base) T P X Y) (log_rows : ℕ) (scheme : S) (hashing_start : H) (script_start : List Base → R)
@@ -58,8 +58,8 @@ module _ {S H R T P X Y : Type 0} (hashing_ops : ProtocolOps S Base Extension H 
   judged_soundly_by : (m : ProofNumbers (Listed Base) P) (named : NamedChallenger) → IsJudgedBy hashing_ops script_ops log_rows scheme hashing_start script_start air m named verdict.Accepted
       → IsSoundBy hashing_ops script_ops log_rows scheme hashing_start script_start air m named
   unfolding IsJudgedBy IsSoundBy
-  judged_soundly_by m hashing judged = judged_soundly hashing_ops log_rows hashing_clear air within is_declared scheme hashing_start m.proof m.publics m.ood_bits judged
-  judged_soundly_by m (scripted numbers) judged = judged_soundly script_ops log_rows script_clear air within is_declared scheme (script_start numbers) m.proof m.publics m.ood_bits judged
+  judged_soundly_by m hashing judged = judged_soundly hashing_ops log_rows hashing_clear air within is_declared scheme hashing_start m.proof m.publics m.ood_bits m.alpha_bits judged
+  judged_soundly_by m (scripted numbers) judged = judged_soundly script_ops log_rows script_clear air within is_declared scheme (script_start numbers) m.proof m.publics m.ood_bits m.alpha_bits judged
 
   -- What the verifier of an AIR accepts, whose constraints read within what it declares, is sound.
   pub verified_soundly : (read : Option (ProofNumbers (Listed Base) P)) → IsVerified hashing_ops script_ops log_rows scheme hashing_start script_start air read verdict.Accepted

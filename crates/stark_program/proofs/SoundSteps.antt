@@ -25,12 +25,12 @@ use Rattle.stark_protocol.specs.Instance.{Instance, ProtocolOps, log_height}
 use Rattle.stark_protocol.specs.OpenedClaims.{claims_of}
 use Rattle.stark_protocol.specs.Preprocessing.{has_columns}
 use Rattle.stark_protocol.specs.ShapeFaults.{fault_if, key_degree_fault, key_width_fault, preprocessed_fault, preprocessed_rows_fault, quotient_fault, randomization_fault, width_in_force}
-use Rattle.p3_uni_stark.specs.SoundAcceptance.{proved_air}
-use Rattle.p3_uni_stark.specs.TakenValues.{embedded_polynomials}
+use Rattle.stark_verifier.specs.SoundAcceptance.{proved_air}
+use Rattle.stark_verifier.specs.TakenValues.{embedded_polynomials}
 use Rattle.stark_protocol.specs.declared.preprocessed.PreprocessedVerifierKey.{PreprocessedVerifierKey}
-use Rattle.p3_uni_stark.proofs.ShapeSteps.{met, not_found}
-use Rattle.p3_uni_stark.proofs.SoundAcceptanceSteps.{accepted_is_sound, shape_clear}
-use Rattle.p3_uni_stark.proofs.TakenValueSteps.{embedded_fit}
+use Rattle.stark_verifier.proofs.ShapeSteps.{met, not_found}
+use Rattle.stark_verifier.proofs.SoundAcceptanceSteps.{accepted_is_sound, shape_clear}
+use Rattle.stark_verifier.proofs.TakenValueSteps.{embedded_fit}
 use Rattle.stark_security.proofs.BadValueSteps.{first_broken}
 use Rattle.stark_security.proofs.ErrorBoundSteps.{few_bad_draws}
 use Rattle.stark_judge.specs.SoundRun.{ColumnsAreSound, InterpolateDeclared, Listed, chunk_count, committed_chunks, committed_columns, key_columns, only_matrix}

@@ -9,9 +9,9 @@ use Rattle.stark_support.specs.RecompositionPolynomial.{ChunksFit}
 use Rattle.stark_clear.specs.ClearClaims.{PlaceByPlace, HasValue, HasValues, MatrixHasShape, MatrixIsTrue, RoundHasShape, RoundIsTrue}
 use Rattle.stark_security.specs.ConstraintPolynomial.{AirInstance, next_point}
 use Rattle.stark_protocol.specs.OpenedClaims.{chunk_claim, claims_of, preprocessed_rounds, row_points}
-use Rattle.p3_uni_stark.specs.TakenValues.{TakeOpenedValues, embedded_polynomials, values_at}
+use Rattle.stark_verifier.specs.TakenValues.{TakeOpenedValues, embedded_polynomials, values_at}
 use Rattle.stark_protocol.specs.declared.preprocessed.PreprocessedVerifierKey.{PreprocessedVerifierKey}
-use Rattle.p3_uni_stark.proofs.TakenValueSteps.{chunk_values_of_embedded, embedded_fit, values_of_embedded}
+use Rattle.stark_verifier.proofs.TakenValueSteps.{chunk_values_of_embedded, embedded_fit, values_of_embedded}
 use Rattle.stark_proof.specs.ProofView.{OpeningsView, PreprocessedView}
 use Rattle.stark_judge.specs.SoundRun.{Listed, key_columns, only_matrix}
 

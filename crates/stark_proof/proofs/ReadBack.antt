@@ -1,14 +1,14 @@
 -- What is written of a proof and its parts is read back.
-use Rattle.std.proofs.Common.{◌≡◌, ◌≢◌, ◌∙◌, ap, refl, ℕ, ◌<◌, ◌^◌, List, [], ◌∷◌, map, false, is_some, Option, Some, None, option_map, option_and_then, Ok, codes}
+use Rattle.std.proofs.Common.{◌≡◌, ◌≢◌, ◌∙◌, ap, refl, sym, ℕ, ◌<◌, ◌^◌, List, [], ◌∷◌, map, Bool, true, false, if◌then◌else◌, is_some, Option, Some, None, option_map, option_and_then, unwrap_or, Ok, codes}
 use Rattle.std.proofs.lemmas.Bool.{lt-ltb}
-use Rattle.serde_json.specs.Data.{Data, null, boolean, number, string, array, object}
+use Rattle.serde_json.specs.Data.{Data, null, boolean, number, unsigned, string, array, object}
 use Rattle.serde_json.specs.Find.{as_null}
 use Rattle.serde_json.specs.View.{items_of}
 use Rattle.stark_support.specs.Json.{array_at}
 use Rattle.stark_support.specs.JsonFacts.{list_written, each_back}
 use Rattle.stark_proof.specs.declared.values.Commitments.{Commitments}
 use Rattle.stark_proof.specs.ProofView.{PreprocessedView, OpeningsView, ProofView}
-use Rattle.stark_proof.specs.ProofJson.{◌>>=◌, row_at, each_of, unless_null, value_or_null, preprocessed_of, preprocessed_local, preprocessed_next, unless_fault, openings_reading, openings_writing, openings_read_back, openings_rule_fault, OpeningsFault, other, value_at, within_openings, commitments_reading, commitments_writing, proof_reading, proof_writing, proof_read_back}
+use Rattle.stark_proof.specs.ProofJson.{◌>>=◌, row_at, each_of, unless_null, value_or_null, preprocessed_of, preprocessed_local, preprocessed_next, unless_fault, openings_reading, openings_writing, openings_read_back, openings_rule_fault, OpeningsFault, other, value_at, within_openings, commitments_reading, commitments_writing, nonzero, proof_object, proof_reading, proof_writing, proof_read_back}
 
 -- a step after the rule's test
 after_the_rule : {A B Fault : Type 0} (fault : Option Fault) (a : A) (after : A → B) → (unless_fault fault a >>= λ x. Ok (after x)) ≡ unless_fault fault (after a)
@@ -73,14 +73,22 @@ after_openings : {A B : Type 0} (fault : Option OpeningsFault) (a : A) (after : 
 after_openings None a after = refl
 after_openings (Some fault) a after = refl
 
+-- an element that is left out where it is zero
+unwritten : {F : Type 0} (is_zero : Bool) (zero element : F) → (is_zero ≡ true → element ≡ zero) → unwrap_or (if is_zero then None else Some element) zero ≡ element
+unwritten true zero element tells = sym (tells refl)
+unwritten false zero element tells = refl
+
 module _ {K E P F : Type 0} (commitment_at : Data → Option K) (commitment : K → Data) (commitment_back : (x : K) → commitment_at (commitment x) ≡ Some x) (never_null : (x : K) → commitment x ≢ null)
     (element_at : Data → Option E) (element : E → Data) (element_back : (x : E) → element_at (element x) ≡ Some x)
     (argument_at : Data → Option P) (argument : P → Data) (argument_back : (x : P) → argument_at (argument x) ≡ Some x)
-    (witness_at : Data → Option F) (witness : F → Data) (witness_back : (x : F) → witness_at (witness x) ≡ Some x) where
-  pub proof_back : (p : ProofView K E P F) → p.degree_bits < 2 ^ 64 →
-      proof_reading commitment_at element_at argument_at witness_at (proof_writing commitment element argument witness p) ≡ proof_read_back p
-  unfolding proof_reading proof_writing
-  proof_back p fits =
+    (witness_at : Data → Option F) (witness : F → Data) (witness_back : (x : F) → witness_at (witness x) ≡ Some x) (witness_never_null : (x : F) → witness x ≢ null) where
+  -- with the witness before alpha that is written, if one is
+  object_back : (p : ProofView K E P F) (zero : F) (alpha : Option F) → p.degree_bits < 2 ^ 64 →
+      proof_reading commitment_at element_at argument_at witness_at zero
+      (proof_object (option_map witness alpha) (commitments_writing commitment p.commitments) (openings_writing element p.opened_values) (argument p.opening_proof) (number (unsigned p.degree_bits)) (witness p.ood_pow_witness))
+      ≡ proof_read_back (record p { alpha_pow_witness = unwrap_or alpha zero })
+  unfolding proof_reading
+  object_back p zero None fits =
       rw (
         commitments_back commitment_at commitment commitment_back never_null p.commitments,
         openings_back element_at element element_back p.opened_values,
@@ -89,4 +97,23 @@ module _ {K E P F : Type 0} (commitment_at : Data → Option K) (commitment : K 
         witness_back p.ood_pow_witness,
       )
       (after_openings (openings_rule_fault p.opened_values) p.opened_values
-      (λ opened. record { commitments = p.commitments; opened_values = opened; opening_proof = p.opening_proof; degree_bits = p.degree_bits; ood_pow_witness = p.ood_pow_witness }))
+      (λ opened. record { commitments = p.commitments; opened_values = opened; opening_proof = p.opening_proof; degree_bits = p.degree_bits; ood_pow_witness = p.ood_pow_witness; alpha_pow_witness = zero }))
+  object_back p zero (Some x) fits =
+      rw (
+        commitments_back commitment_at commitment commitment_back never_null p.commitments,
+        openings_back element_at element element_back p.opened_values,
+        argument_back p.opening_proof,
+        lt-ltb p.degree_bits (2 ^ 64) fits,
+        witness_back p.ood_pow_witness,
+        not_null (witness x) (witness_never_null x),
+        witness_back x,
+      )
+      (after_openings (openings_rule_fault p.opened_values) p.opened_values
+      (λ opened. record { commitments = p.commitments; opened_values = opened; opening_proof = p.opening_proof; degree_bits = p.degree_bits; ood_pow_witness = p.ood_pow_witness; alpha_pow_witness = x }))
+
+  pub proof_back : (same : F → F → Bool) (zero : F) → ((x y : F) → same x y ≡ true → x ≡ y) → (p : ProofView K E P F) → p.degree_bits < 2 ^ 64 →
+      proof_reading commitment_at element_at argument_at witness_at zero (proof_writing commitment element argument witness same zero p) ≡ proof_read_back p
+  unfolding proof_writing
+  proof_back same zero tells p fits =
+      object_back p zero (nonzero same zero p.alpha_pow_witness) fits ∙
+      ap (λ x. proof_read_back (record p { alpha_pow_witness = x })) (unwritten (same p.alpha_pow_witness zero) zero p.alpha_pow_witness (tells p.alpha_pow_witness zero))

@@ -1,6 +1,6 @@
 -- The JSON of a proof and its parts: what a JSON value is read as, or its first fault, and what is written.
-use Rattle.std.specs.Prelude.{◌≡◌, ◌==◌, ◌^◌, ℕ, List, [], ◌∷◌, length, if◌then◌else◌, nat_lt, Option, None, Some, IfSome, is_some, ok_or, option_map, option_and_then, Result, Ok, Err, codes}
-use Rattle.serde_json.specs.Data.{Data, null, number, object, unsigned, Items, no_items, item, member, no_members}
+use Rattle.std.specs.Prelude.{◌≡◌, ◌==◌, ◌^◌, ℕ, List, [], ◌∷◌, length, Bool, if◌then◌else◌, nat_lt, Option, None, Some, IfSome, is_some, ok_or, option_map, option_and_then, unwrap_or, Result, Ok, Err, codes}
+use Rattle.serde_json.specs.Data.{Data, null, number, object, unsigned, Items, no_items, item, Members, member, no_members, put as with_member}
 use Rattle.serde_json.specs.Find.{get, as_null, as_array, as_object}
 use Rattle.stark_support.specs.Json.{array_at, whole_at}
 use Rattle.stark_proof.specs.declared.values.Commitments.{Commitments}
@@ -76,6 +76,10 @@ optional_at reading (Some d) = unless_null reading d
 abbrev pub optional : {A : Type 0} {X : Type 0} → List ℕ → (Data → Result A (DecodeFault X)) → Data → Result (Option A) (DecodeFault X)
 optional field reading d = optional_at reading (get field d)
 
+-- a field in whose place a value stands where it is missing or null
+abbrev pub optional_or : {A : Type 0} {X : Type 0} → A → List ℕ → (Data → Result A (DecodeFault X)) → Data → Result A (DecodeFault X)
+optional_or value field reading d = optional field reading d >>= λ found. Ok (unwrap_or found value)
+
 -- what a codec reads
 abbrev pub value_at : {A : Type 0} {X : Type 0} → (Data → Option A) → List ℕ → Data → Result A (DecodeFault X)
 value_at reading field d = ok_or (reading d) (element_refused field)
@@ -83,6 +87,11 @@ value_at reading field d = ok_or (reading d) (element_refused field)
 abbrev pub value_or_null : {A : Type 0} → (A → Data) → Option A → Data
 value_or_null writing None = null
 value_or_null writing (Some a) = writing a
+
+-- a value under a name, where there is one, beside other members
+abbrev pub with_value : List ℕ → Option Data → Members → Members
+with_value name None ms = ms
+with_value name (Some d) ms = with_member name d ms
 
 -- ---- opened values, over elements
 
@@ -197,30 +206,41 @@ abbrev pub within_openings : {A : Type 0} → Result A OpeningsFault → Result 
 within_openings (Ok a) = Ok a
 within_openings (Err fault) = Err (other (Some fault))
 
-abbrev pub proof_object : Data → Data → Data → Data → Data → Data
-proof_object commitments opened_values opening_proof degree_bits ood_pow_witness =
-    object (member (codes "commitments") commitments
+-- five members, which stand in ascending order
+abbrev pub proof_members : Data → Data → Data → Data → Data → Members
+proof_members commitments opened_values opening_proof degree_bits ood_pow_witness =
+    member (codes "commitments") commitments
     (member (codes "degree_bits") degree_bits
     (member (codes "ood_pow_witness") ood_pow_witness
     (member (codes "opened_values") opened_values
-    (member (codes "opening_proof") opening_proof no_members)))))
+    (member (codes "opening_proof") opening_proof no_members))))
+
+-- an object of these, and of the witness before alpha where there is one
+abbrev pub proof_object : Option Data → Data → Data → Data → Data → Data → Data
+proof_object alpha_pow_witness commitments opened_values opening_proof degree_bits ood_pow_witness =
+    object (with_value (codes "alpha_pow_witness") alpha_pow_witness (proof_members commitments opened_values opening_proof degree_bits ood_pow_witness))
+
+-- an element that isn't zero, by this equality
+abbrev pub nonzero : {F : Type 0} → (F → F → Bool) → F → F → Option F
+nonzero same zero element = if same element zero then None else Some element
 
 module _ {K : Type 0} {E : Type 0} {P : Type 0} {F : Type 0} where
-  -- the proof that a JSON value spells, or its first fault
-  unfoldable pub proof_reading : (Data → Option K) → (Data → Option E) → (Data → Option P) → (Data → Option F) → Data → Result (ProofView K E P F) ProofFault
-  proof_reading commitment element argument witness d = do
+  -- The proof that a JSON value spells, or its first fault. The last field is read after the other five.
+  unfoldable pub proof_reading : (Data → Option K) → (Data → Option E) → (Data → Option P) → (Data → Option F) → F → Data → Result (ProofView K E P F) ProofFault
+  proof_reading commitment element argument witness zero d = do
     o ← object_at (codes "") d
     commitments ← required (codes "commitments") (commitments_reading commitment) o
     opened_values ← required (codes "opened_values") (λ d. within_openings (openings_reading element d)) o
     opening_proof ← required (codes "opening_proof") (value_at argument (codes "opening_proof")) o
     degree_bits ← required (codes "degree_bits") degree_bits_at o
     ood_pow_witness ← required (codes "ood_pow_witness") (value_at witness (codes "ood_pow_witness")) o
-    Ok (record { commitments = commitments; opened_values = opened_values; opening_proof = opening_proof; degree_bits = degree_bits; ood_pow_witness = ood_pow_witness })
+    alpha_pow_witness ← optional_or zero (codes "alpha_pow_witness") (value_at witness (codes "alpha_pow_witness")) o
+    Ok (record { commitments = commitments; opened_values = opened_values; opening_proof = opening_proof; degree_bits = degree_bits; ood_pow_witness = ood_pow_witness; alpha_pow_witness = alpha_pow_witness })
 
-  -- an object of all five keys, which stand in ascending order
-  unfoldable pub proof_writing : (K → Data) → (E → Data) → (P → Data) → (F → Data) → ProofView K E P F → Data
-  proof_writing commitment element argument witness p =
-      proof_object (commitments_writing commitment p.commitments) (openings_writing element p.opened_values) (argument p.opening_proof)
+  -- an object of the five keys, and of `alpha_pow_witness` where it isn't zero
+  unfoldable pub proof_writing : (K → Data) → (E → Data) → (P → Data) → (F → Data) → (F → F → Bool) → F → ProofView K E P F → Data
+  proof_writing commitment element argument witness same zero p =
+      proof_object (option_map witness (nonzero same zero p.alpha_pow_witness)) (commitments_writing commitment p.commitments) (openings_writing element p.opened_values) (argument p.opening_proof)
       (number (unsigned p.degree_bits)) (witness p.ood_pow_witness)
 
   -- what was written of a proof is read back where its opened values keep their rule, and of any other their fault is found

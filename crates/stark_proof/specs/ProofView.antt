@@ -25,6 +25,7 @@ pub record ProofView (K : Type 0) (E : Type 0) (P : Type 0) (F : Type 0) : Type 
   pub opening_proof : P
   pub degree_bits : ℕ
   pub ood_pow_witness : F
+  pub alpha_pow_witness : F
 
 abbrev pub preprocessed_view : {E : Type 0} → PreprocessedOpenedValues E → PreprocessedView E
 preprocessed_view rows = record { local = rows.local.items; next = option_map (λ row. row.items) rows.next }
@@ -45,4 +46,5 @@ proof_view p = record {
   opening_proof = p.opening_proof;
   degree_bits = p.degree_bits;
   ood_pow_witness = p.ood_pow_witness;
+  alpha_pow_witness = p.alpha_pow_witness;
 }

@@ -38,7 +38,7 @@ pub enum ProofDecodeError {
     /// name is empty.
     #[error("the field {field} is of the wrong kind")]
     WrongKind { field: &'static str },
-    /// A commitment, the opening proof or the witness is refused.
+    /// A commitment, the opening proof or a witness is refused.
     #[error("the field {field} is refused")]
     Element { field: &'static str },
     /// The opened values are not read.

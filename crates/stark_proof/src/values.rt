@@ -74,4 +74,6 @@ pub struct Proof<Com, Challenge, PcsProof, Val> {
     pub degree_bits: usize,
     /// The witness of the work before the point out of the domain is drawn; zero where no work is asked for.
     pub ood_pow_witness: Val,
+    /// The witness of the work before alpha is drawn; zero where no work is asked for.
+    pub alpha_pow_witness: Val,
 }

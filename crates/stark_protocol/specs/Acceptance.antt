@@ -85,7 +85,7 @@ module _ {S F E C K T P X Y : Type 0} (ops : ProtocolOps S F E C K T P X Y) (i :
 
   abbrev pub values_fault : Option InvalidProofShapeError
   values_fault = opened_fault i.layout.publics (length i.public_values) (opens_next_row i.main_next_columns) i.layout.main (2 ^ (log_parts + zk_bits ops.opening.is_zk)) ops.opening.fields.dimension p.opened_values
-      i.ood_bits (ops.opening.fields.same p.ood_pow_witness ops.opening.fields.base.zero)
+      i.constraint_bits (ops.opening.fields.same p.alpha_pow_witness ops.opening.fields.base.zero) i.ood_bits (ops.opening.fields.same p.ood_pow_witness ops.opening.fields.base.zero)
 
   abbrev pub shape_fault : Option (VerificationError X)
   shape_fault =
@@ -99,7 +99,7 @@ module _ {S F E C K T P X Y : Type 0} (ops : ProtocolOps S F E C K T P X Y) (i :
 
   abbrev pub described : StarkShape
   described = shape_of i.layout i.main_next_columns i.preprocessed_next_columns (width_in_force i.key i.layout.preprocessed) p.degree_bits (log_height ops.opening.is_zk p.degree_bits)
-      (2 ^ (log_parts + zk_bits ops.opening.is_zk)) ops.opening.is_zk i.ood_bits
+      (2 ^ (log_parts + zk_bits ops.opening.is_zk)) ops.opening.is_zk i.ood_bits i.constraint_bits
 
   -- the state after the seed
   abbrev pub seeded : C
@@ -107,7 +107,7 @@ module _ {S F E C K T P X Y : Type 0} (ops : ProtocolOps S F E C K T P X Y) (i :
 
   -- Alpha and zeta, and the state at the opening argument's beginning.
   abbrev pub challenges : PhaseOutcome C (E × E) StarkTranscriptFailure
-  challenges = challenges_outcome ops.sponge described p.commitments.trace (option_map (λ key. key.commitment) i.key) i.public_values
+  challenges = challenges_outcome ops.sponge described p.commitments.trace (option_map (λ key. key.commitment) i.key) i.public_values p.alpha_pow_witness
       p.commitments.quotient_chunks p.commitments.random p.ood_pow_witness seeded
 
   -- ---- the equation
@@ -125,8 +125,8 @@ module _ {S F E C K T P X Y : Type 0} (ops : ProtocolOps S F E C K T P X Y) (i :
   abbrev pub columns_fault : Option PeriodicColumnShapeError
   columns_fault = first_fault (2 ^ log_height ops.opening.is_zk p.degree_bits) 0 (map (λ column. length column) i.periodic_columns)
 
-  -- The replay draws both challenges, and the work passes; zeta is no point of H, each periodic column's length is a power
-  -- of two from 1 to the number of rows, and the scheme accepts the claims.
+  -- The replay draws both challenges, and the work before each passes; zeta is no point of H, each periodic column's length
+  -- is a power of two from 1 to the number of rows, and the scheme accepts the claims.
   pub record RunHolds (alpha zeta : E) : Type 0 where
     pub drawn : challenges.answer ≡ Ok (alpha, zeta)
     pub outside : IsPointOfH ops.opening.fields (log_height ops.opening.is_zk p.degree_bits) zeta → ⊥

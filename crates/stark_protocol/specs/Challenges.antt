@@ -16,10 +16,10 @@ abbrev pub paired : {C A B X : Type 0} → A → Result B X → C → PhaseOutco
 paired first (Ok second) state = succeeds (first, second) state Drawn
 paired first (Err failure) state = fails failure state
 
--- Alpha and zeta, in the replay of commitments, public values and witness.
-abbrev pub challenges_outcome : {C F E K : Type 0} → SpongeOps C F E K → StarkShape → K → Option K → List F → K → Option K → F → C → PhaseOutcome C (E × E) StarkTranscriptFailure
-challenges_outcome ops shape trace preprocessed publics quotient random witness start =
-    let first = constraint_outcome ops shape trace preprocessed publics start in
+-- Alpha and zeta, in the replay of commitments, public values and both witnesses, alpha's right behind the public values.
+abbrev pub challenges_outcome : {C F E K : Type 0} → SpongeOps C F E K → StarkShape → K → Option K → List F → F → K → Option K → F → C → PhaseOutcome C (E × E) StarkTranscriptFailure
+challenges_outcome ops shape trace preprocessed publics alpha_witness quotient random witness start =
+    let first = constraint_outcome ops shape trace preprocessed publics alpha_witness start in
     continued first.answer first.state (λ alpha.
     let second = ood_outcome ops shape quotient random witness first.state in
     paired alpha second.answer second.state)

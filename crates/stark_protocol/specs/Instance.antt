@@ -40,6 +40,7 @@ pub record Instance (S F C K : Type 0) : Type 0 where
   pub scheme : S
   pub first_state : C
   pub ood_bits : ℕ
+  pub constraint_bits : ℕ
   pub layout : Layout
   pub main_next_columns : List ℕ
   pub preprocessed_next_columns : List ℕ

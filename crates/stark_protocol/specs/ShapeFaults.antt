@@ -3,7 +3,7 @@ use Rattle.std.specs.Prelude.{ℕ, ◌+◌, Bool, true, false, not, ◌&&◌, �
 use Rattle.std.specs.List.{list_all}
 use Rattle.std.specs.Option.{option_or}
 use Rattle.stark_parts.specs.declared.error.InvalidProofShapeError.{InvalidProofShapeError}
-use Rattle.stark_parts.specs.declared.error.InvalidProofShapeError.TheVariants.{DegreeBitsTooSmall, DegreeBitsTooLarge, UnexpectedPreprocessedValues, PreprocessedTraceWidthMismatch, UnexpectedPreprocessedNext, PreprocessedVerifierKeyInconsistency, PreprocessedDegreeMismatch, QuotientDomainTooLarge, PublicValuesLengthMismatch, TraceNextMismatch, UnexpectedTraceNext, OpenedValuesDimensionMismatch, NonCanonicalOodPowWitness}
+use Rattle.stark_parts.specs.declared.error.InvalidProofShapeError.TheVariants.{DegreeBitsTooSmall, DegreeBitsTooLarge, UnexpectedPreprocessedValues, PreprocessedTraceWidthMismatch, UnexpectedPreprocessedNext, PreprocessedVerifierKeyInconsistency, PreprocessedDegreeMismatch, QuotientDomainTooLarge, PublicValuesLengthMismatch, TraceNextMismatch, UnexpectedTraceNext, OpenedValuesDimensionMismatch, NonCanonicalAlphaPowWitness, NonCanonicalOodPowWitness}
 use Rattle.stark_parts.specs.declared.error.VerificationError.{VerificationError}
 use Rattle.stark_parts.specs.declared.error.VerificationError.TheVariants.{RandomizationError}
 use Rattle.stark_protocol.specs.declared.preprocessed.PreprocessedVerifierKey.{PreprocessedVerifierKey}
@@ -110,13 +110,15 @@ abbrev pub dimensions_fault : {E : Type 0} → ℕ → ℕ → ℕ → List E �
 dimensions_fault width chunks dimension local quotient_chunks random =
     fault_if (not (length local == width && (length quotient_chunks == chunks && (list_all (λ chunk. length chunk == dimension) quotient_chunks && random_fits dimension random)))) OpenedValuesDimensionMismatch
 
--- No witness but zero stands where no work is asked for; `is_zero` says whether it is zero.
-abbrev pub witness_fault : ℕ → Bool → Option InvalidProofShapeError
-witness_fault bits is_zero = fault_if (bits == 0 && not is_zero) NonCanonicalOodPowWitness
+-- No witness but zero stands where no work is asked for; `is_zero` says whether it is zero, and the error is given.
+abbrev pub witness_fault : InvalidProofShapeError → ℕ → Bool → Option InvalidProofShapeError
+witness_fault error bits is_zero = fault_if (bits == 0 && not is_zero) error
 
-abbrev pub opened_fault : {E : Type 0} → ℕ → ℕ → Bool → ℕ → ℕ → ℕ → OpeningsView E → ℕ → Bool → Option InvalidProofShapeError
-opened_fault expected_publics publics reads_next width chunks dimension opened bits is_zero =
+-- The witness before alpha is tested before that before zeta.
+abbrev pub opened_fault : {E : Type 0} → ℕ → ℕ → Bool → ℕ → ℕ → ℕ → OpeningsView E → ℕ → Bool → ℕ → Bool → Option InvalidProofShapeError
+opened_fault expected_publics publics reads_next width chunks dimension opened alpha_bits alpha_is_zero bits is_zero =
     option_or (publics_fault expected_publics publics)
     (option_or (trace_next_fault reads_next width opened.trace_next)
     (option_or (dimensions_fault width chunks dimension opened.trace_local opened.quotient_chunks opened.random)
-    (witness_fault bits is_zero)))
+    (option_or (witness_fault NonCanonicalAlphaPowWitness alpha_bits alpha_is_zero)
+    (witness_fault NonCanonicalOodPowWitness bits is_zero))))

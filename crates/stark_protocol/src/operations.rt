@@ -62,6 +62,7 @@ where
       scheme = SC.config.scheme config;
       first_state = SC.config.first_state config;
       ood_bits = SC.config.ood_bits config;
+      constraint_bits = SC.config.constraint_bits config;
       layout = A.layout air;
       main_next_columns = A.main_next_row_columns air;
       preprocessed_next_columns = A.preprocessed_next_row_columns air;

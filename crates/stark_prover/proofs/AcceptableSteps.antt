@@ -11,7 +11,7 @@ use Rattle.stark_support.specs.Scheme.{QuotientChunk, SchemeLaws, committed_chun
 use Rattle.stark_air.specs.Declaration.{Trace}
 use Rattle.stark_parts.specs.Shape.{opens_next_row}
 use Rattle.stark_parts.specs.declared.error.InvalidProofShapeError.{InvalidProofShapeError}
-use Rattle.stark_parts.specs.declared.error.InvalidProofShapeError.TheVariants.{DegreeBitsTooLarge, DegreeBitsTooSmall, NonCanonicalOodPowWitness, OpenedValuesDimensionMismatch, PreprocessedVerifierKeyInconsistency, PreprocessedDegreeMismatch, PreprocessedTraceWidthMismatch, PublicValuesLengthMismatch, TraceNextMismatch, UnexpectedPreprocessedValues}
+use Rattle.stark_parts.specs.declared.error.InvalidProofShapeError.TheVariants.{DegreeBitsTooLarge, DegreeBitsTooSmall, NonCanonicalAlphaPowWitness, NonCanonicalOodPowWitness, OpenedValuesDimensionMismatch, PreprocessedVerifierKeyInconsistency, PreprocessedDegreeMismatch, PreprocessedTraceWidthMismatch, PublicValuesLengthMismatch, TraceNextMismatch, UnexpectedPreprocessedValues}
 use Rattle.stark_parts.specs.declared.error.ProvingError.{ProvingError}
 use Rattle.stark_proof.specs.ProofView.{OpeningsView, ProofView}
 use Rattle.stark_protocol.specs.Acceptance.{log_parts, of_shape, shape_fault}
@@ -68,8 +68,8 @@ no_random_clear : (K R X : Type 0) (is_zk : Bool) → is_zk ≡ false → random
 no_random_clear K R X is_zk plain = ap (λ b. randomization_fault {K = K} {R = R} {X = X} b None None) plain
 
 -- A witness is zero where no work is asked for.
-witness_clear : (bits : ℕ) (is_zero : Bool) → (bits ≡ 0 → is_zero ≡ true) → witness_fault bits is_zero ≡ None
-witness_clear bits is_zero no_work = no_fault (bits == 0 && not is_zero) NonCanonicalOodPowWitness (elim (eqb_tells bits 0) [
+witness_clear : (error : InvalidProofShapeError) (bits : ℕ) (is_zero : Bool) → (bits ≡ 0 → is_zero ≡ true) → witness_fault error bits is_zero ≡ None
+witness_clear error bits is_zero no_work = no_fault (bits == 0 && not is_zero) error (elim (eqb_tells bits 0) [
   | inl none ↦ ap (λ b. b && not is_zero) none.0 ∙ ap not (no_work none.1)
   | inr some ↦ ap (λ b. b && not is_zero) some.0
 ])
@@ -135,7 +135,7 @@ module _ {S F E C K T P X Y : Type 0} {ops : ProtocolOps S F E C K T P X Y} {i :
       (reflexive : (x : F) → ops.opening.fields.same x x ≡ true) where
     abbrev fault_of : OpeningsView E → Option InvalidProofShapeError
     fault_of opened = opened_fault i.layout.publics (length i.public_values) (opens_next_row i.main_next_columns) i.layout.main (2 ^ (log_parts ops i p + zk_bits ops.opening.is_zk)) ops.opening.fields.dimension opened
-        i.ood_bits (ops.opening.fields.same p.ood_pow_witness ops.opening.fields.base.zero)
+        i.constraint_bits (ops.opening.fields.same p.alpha_pow_witness ops.opening.fields.base.zero) i.ood_bits (ops.opening.fields.same p.ood_pow_witness ops.opening.fields.base.zero)
 
     values_clear : fault_of truly ≡ None
     values_clear =
@@ -145,8 +145,10 @@ module _ {S F E C K T P X Y : Type 0} {ops : ProtocolOps S F E C K T P X Y} {i :
         (none_of _ _ (next_clear (opens_next_row i.main_next_columns) (values_at ops i made.columns (next_point ops.opening p.degree_bits made.zeta)) i.layout.main (row (next_point ops.opening p.degree_bits made.zeta)))
         (none_of _ _ (no_denial _ OpenedValuesDimensionMismatch (both _ _ (eq-eqb (length truly.trace_local) i.layout.main (row made.zeta))
         (both _ _ (eq-eqb (length truly.quotient_chunks) _ count) (both _ _ chunks_wide (random_shape made.random made.randomization).1))))
-        (witness_clear i.ood_bits (ops.opening.fields.same p.ood_pow_witness ops.opening.fields.base.zero)
-        (λ none. ap (λ w. ops.opening.fields.same w ops.opening.fields.base.zero) (made.no_work none) ∙ reflexive ops.opening.fields.base.zero))))
+        (none_of _ _ (witness_clear NonCanonicalAlphaPowWitness i.constraint_bits (ops.opening.fields.same p.alpha_pow_witness ops.opening.fields.base.zero)
+        (λ none. ap (λ w. ops.opening.fields.same w ops.opening.fields.base.zero) (made.no_alpha_work none) ∙ reflexive ops.opening.fields.base.zero))
+        (witness_clear NonCanonicalOodPowWitness i.ood_bits (ops.opening.fields.same p.ood_pow_witness ops.opening.fields.base.zero)
+        (λ none. ap (λ w. ops.opening.fields.same w ops.opening.fields.base.zero) (made.no_work none) ∙ reflexive ops.opening.fields.base.zero)))))
 
     module _ (laws : SchemeLaws ops.opening.scheme) (least : ops.opening.scheme.log_min_trace_height i.scheme ≤ height) (greatest : p.degree_bits ≤ ops.opening.scheme.log_max_trace_height i.scheme) where
       heights_clear : degree_fault None p.degree_bits (zk_bits ops.opening.is_zk) (ops.opening.scheme.log_min_trace_height i.scheme) (ops.opening.scheme.log_max_trace_height i.scheme) ≡ None

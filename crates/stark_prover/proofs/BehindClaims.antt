@@ -18,8 +18,8 @@ use Rattle.stark_prover.proofs.BehindSteps.{behind_rounds}
 use Rattle.stark_prover.proofs.OpeningClaims.{HaveHeight, chunks_height, openings_are, place_is, proof_rounds, rounds_claims, rounds_openings}
 
 module _ {S F E C K T P X Y : Type 0} {ops : ProtocolOps S F E C K T P X Y} {i : Instance S F C K} {coordinates : E → List F} {held : Option (PreprocessedProverData K T)} {height degree_bits : ℕ} {trace : Trace F}
-    {columns fixed : List (List F)} {commitment : K} {prover_data : T} {alpha : E} {state : C} {chunks : List (QuotientChunk F)} {quotient : K} {quotient_data : T}
-    (made : HasQuotient ops i coordinates held height degree_bits trace columns fixed commitment prover_data alpha state chunks quotient quotient_data) (key_is : i.key ≡ option_map key_of held) (zeta next_zeta : E)
+    {columns fixed : List (List F)} {commitment : K} {prover_data : T} {alpha : E} {alpha_witness : F} {state : C} {chunks : List (QuotientChunk F)} {quotient : K} {quotient_data : T}
+    (made : HasQuotient ops i coordinates held height degree_bits trace columns fixed commitment prover_data alpha alpha_witness state chunks quotient quotient_data) (key_is : i.key ≡ option_map key_of held) (zeta next_zeta : E)
     (extended : zk_bits ops.opening.is_zk ≤ degree_bits) (same : IfSome held (λ h. h.degree_bits ≡ degree_bits)) where
   -- the committed chunks have the trace's height
   heights : HaveHeight ops.opening.is_zk degree_bits chunks

@@ -17,8 +17,8 @@ by_key None rows = refl
 by_key (Some of_held) rows = refl
 
 module _ {S F E C K T P X Y : Type 0} {ops : ProtocolOps S F E C K T P X Y} {i : Instance S F C K} {coordinates : E → List F} {held : Option (PreprocessedProverData K T)} {height degree_bits : ℕ} {trace : Trace F}
-    {columns fixed : List (List F)} {commitment : K} {prover_data : T} {alpha : E} {state : C} {chunks : List (QuotientChunk F)} {quotient : K} {quotient_data : T}
-    (made : HasQuotient ops i coordinates held height degree_bits trace columns fixed commitment prover_data alpha state chunks quotient quotient_data) (key_is : i.key ≡ option_map key_of held) (zeta next_zeta : E) where
+    {columns fixed : List (List F)} {commitment : K} {prover_data : T} {alpha : E} {alpha_witness : F} {state : C} {chunks : List (QuotientChunk F)} {quotient : K} {quotient_data : T}
+    (made : HasQuotient ops i coordinates held height degree_bits trace columns fixed commitment prover_data alpha alpha_witness state chunks quotient quotient_data) (key_is : i.key ≡ option_map key_of held) (zeta next_zeta : E) where
   -- the openings, by what is held in place of the key
   pub by_held : (random : Option (List (List F))) → true_openings_of ops.opening.scheme i.scheme ops.opening.fields.base ops.opening.fields.ring ops.opening.fields.embed zeta next_zeta degree_bits columns fixed chunks ops.opening.is_zk commitment quotient prover_data quotient_data
       (opens_next_row i.main_next_columns) (opens_next_row i.preprocessed_next_columns) random held ≡ true_openings ops i columns fixed chunks random zeta next_zeta

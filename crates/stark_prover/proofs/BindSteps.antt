@@ -1,5 +1,5 @@
 -- What stands before the point of a proof is drawn.
-use Rattle.std.proofs.Common.{◌≡◌, ◌⊎◌, inl, inr, sym, subst, ℕ, ◌^◌, Bool, List, length, map, All, Option, None, option_map}
+use Rattle.std.proofs.Common.{◌≡◌, ◌∙◌, ◌⊎◌, ap, inl, inr, sym, subst, ℕ, ◌^◌, Bool, List, length, map, All, Option, None, Ok, option_map}
 use Rattle.std.specs.Prelude.{codes}
 use Rattle.stark_support.specs.Ring.{RingOps}
 use Rattle.stark_support.specs.Coset.{TwoAdicCoset, coset_size}
@@ -7,16 +7,18 @@ use Rattle.stark_support.specs.Periodic.{ColumnFits, first_fault}
 use Rattle.stark_support.specs.PeriodicFacts.{all_fit}
 use Rattle.stark_support.specs.Scheme.{QuotientChunk, natural_coset}
 use Rattle.stark_air.specs.Declaration.{Trace}
-use Rattle.stark_parts.specs.Replay.{constraint_outcome, succeeds}
+use Rattle.stark_parts.specs.Replay.{constraint_events, constraint_outcome, prover_constraint_outcome, succeeds}
 use Rattle.stark_parts.specs.declared.error.ProvingError.{ProvingError}
+use Rattle.stark_parts.specs.declared.shape.GrindExhausted.{GrindExhausted}
 use Rattle.stark_parts.specs.declared.shape.StarkShape.{StarkShape}
 use Rattle.stark_parts.specs.declared.shape.TranscriptPhase.TheVariants.{Bound}
 use Rattle.stark_protocol.specs.Instance.{Instance, ProtocolOps, log_height, trace_coset}
 use Rattle.stark_protocol.specs.declared.preprocessed.PreprocessedProverData.{PreprocessedProverData}
 use Rattle.stark_prover.specs.CommittedColumns.{IsQuotientCommitment, IsQuotientRefusal, rows_of_columns}
 use Rattle.stark_prover.specs.ProofOfTrace.{air_of, quotient_domain}
-use Rattle.stark_prover.specs.ProverFault.{HasQuotient, IsBound, IsReady, ProverFault, described, in_quotient, in_randomization, log_chunks_of, seeded}
+use Rattle.stark_prover.specs.ProverFault.{HasQuotient, IsBound, IsReady, ProverFault, alpha_outcome, described, in_alpha_work, in_quotient, in_randomization, log_chunks_of, seeded}
 use Rattle.stark_prover.specs.SchemeFaults.{IsSchemeFault}
+use Rattle.stark_prover.specs.Work.{IsExhausted}
 
 -- Periodic columns without a fault fit the trace's domain.
 pub periodic_fit : {F : Type 0} (base : RingOps F) (is_zk : Bool) (degree_bits : ℕ) (columns : List (List F)) (domain : TwoAdicCoset F) → domain ≡ trace_coset base is_zk degree_bits
@@ -26,21 +28,45 @@ periodic_fit base is_zk degree_bits columns domain natural fitting =
 
 module _ {S F E C K T P X Y : Type 0} {ops : ProtocolOps S F E C K T P X Y} {i : Instance S F C K} {coordinates : E → List F} {held : Option (PreprocessedProverData K T)} {height degree_bits : ℕ} {trace : Trace F}
     {columns fixed : List (List F)} {commitment : K} {prover_data : T} where
-  pub bound_of : IsReady ops i coordinates held height degree_bits trace columns fixed commitment prover_data → (shape : StarkShape) (start state : C) (key : Option K) (alpha : E)
-      → shape ≡ described ops i degree_bits → start ≡ seeded ops i degree_bits → key ≡ option_map (λ k. k.commitment) i.key
-      → constraint_outcome ops.sponge shape commitment key i.public_values start ≡ succeeds alpha state Bound → IsBound ops i coordinates held height degree_bits trace columns fixed commitment prover_data alpha state
-  bound_of ready shape start state key alpha is_shape is_start is_key drawn = record {
-    ready = ready;
-    drawn = subst (λ k. constraint_outcome ops.sponge (described ops i degree_bits) commitment k i.public_values (seeded ops i degree_bits) ≡ succeeds alpha state Bound) is_key
-        (subst (λ st. constraint_outcome ops.sponge (described ops i degree_bits) commitment key i.public_values st ≡ succeeds alpha state Bound) is_start
-        (subst (λ sh. constraint_outcome ops.sponge sh commitment key i.public_values start ≡ succeeds alpha state Bound) is_shape drawn));
-  }
+  module _ (ready : IsReady ops i coordinates held height degree_bits trace columns fixed commitment prover_data) (shape : StarkShape) (start : C) (key : Option K) (is_shape : shape ≡ described ops i degree_bits)
+      (is_start : start ≡ seeded ops i degree_bits) (is_key : key ≡ option_map (λ k. k.commitment) i.key) where
+    alpha_outcomes : prover_constraint_outcome ops.sponge shape commitment key i.public_values start ≡ alpha_outcome ops i degree_bits commitment
+    alpha_outcomes =
+        ap (λ sh. prover_constraint_outcome ops.sponge sh commitment key i.public_values start) is_shape ∙
+        ap (λ st. prover_constraint_outcome ops.sponge (described ops i degree_bits) commitment key i.public_values st) is_start ∙
+        ap (λ k. prover_constraint_outcome ops.sponge (described ops i degree_bits) commitment k i.public_values (seeded ops i degree_bits)) is_key
 
-  module _ {alpha : E} {state : C} (bound : IsBound ops i coordinates held height degree_bits trace columns fixed commitment prover_data alpha state) where
+    -- No witness of the work before alpha is found.
+    pub alpha_work_refused : (error : GrindExhausted) → IsExhausted ops.sponge shape.constraint_pow_bits (constraint_events commitment key i.public_values) start error
+        → ProverFault ops i coordinates held height degree_bits trace (ProvingError.GrindExhausted error.bits)
+    alpha_work_refused error exhausted =
+        let bits_are : shape.constraint_pow_bits ≡ i.constraint_bits = ap (λ s. s.constraint_pow_bits) is_shape in
+        let right : IsExhausted ops.sponge i.constraint_bits (constraint_events commitment (option_map (λ k. k.commitment) i.key) i.public_values) (seeded ops i degree_bits) error =
+        subst (λ k. IsExhausted ops.sponge i.constraint_bits (constraint_events commitment k i.public_values) (seeded ops i degree_bits) error) is_key
+        (subst (λ st. IsExhausted ops.sponge i.constraint_bits (constraint_events commitment key i.public_values) st error) is_start
+        (subst (λ bits. IsExhausted ops.sponge bits (constraint_events commitment key i.public_values) start error) bits_are exhausted)) in
+        subst (λ bits. ProverFault ops i coordinates held height degree_bits trace (ProvingError.GrindExhausted bits)) (sym right.bits_are) (in_alpha_work ready right.none_passes)
+
+    pub bound_of : (state : C) (alpha : E) (alpha_witness : F) → constraint_outcome ops.sponge shape commitment key i.public_values alpha_witness start ≡ succeeds alpha state Bound
+        → ((found : Option F) × ((prover_constraint_outcome ops.sponge shape commitment key i.public_values start).answer ≡ Ok (alpha, found)))
+        → state ≡ (prover_constraint_outcome ops.sponge shape commitment key i.public_values start).state → (shape.constraint_pow_bits ≡ 0 → alpha_witness ≡ ops.opening.fields.base.zero)
+        → IsBound ops i coordinates held height degree_bits trace columns fixed commitment prover_data alpha alpha_witness state
+    bound_of state alpha alpha_witness drawn answer left no_work = record {
+      ready = ready;
+      found = answer.0;
+      answered = sym (ap (λ o. o.answer) alpha_outcomes) ∙ answer.1;
+      left = left ∙ ap (λ o. o.state) alpha_outcomes;
+      drawn = subst (λ k. constraint_outcome ops.sponge (described ops i degree_bits) commitment k i.public_values alpha_witness (seeded ops i degree_bits) ≡ succeeds alpha state Bound) is_key
+          (subst (λ st. constraint_outcome ops.sponge (described ops i degree_bits) commitment key i.public_values alpha_witness st ≡ succeeds alpha state Bound) is_start
+          (subst (λ sh. constraint_outcome ops.sponge sh commitment key i.public_values alpha_witness start ≡ succeeds alpha state Bound) is_shape drawn));
+      no_work = λ none. no_work (ap (λ s. s.constraint_pow_bits) is_shape ∙ none);
+    }
+
+  module _ {alpha : E} {alpha_witness : F} {state : C} (bound : IsBound ops i coordinates held height degree_bits trace columns fixed commitment prover_data alpha alpha_witness state) where
     pub quotient_made : (n l : ℕ) (coset : TwoAdicCoset F) (quotient : K) (quotient_data : T) → n ≡ height → coset ≡ quotient_domain ops i degree_bits → l ≡ log_chunks_of ops i degree_bits
         → ((chunks : List (QuotientChunk F)) × IsQuotientCommitment ops.opening.scheme i.scheme (air_of ops i n) ops.opening.fields.root coordinates ops.opening.fields.dimension ops.opening.is_zk coset l
         (rows_of_columns ops.opening.fields.base ops.opening.fields.root coset columns fixed i.public_values) alpha chunks quotient quotient_data)
-        → (chunks : List (QuotientChunk F)) × HasQuotient ops i coordinates held height degree_bits trace columns fixed commitment prover_data alpha state chunks quotient quotient_data
+        → (chunks : List (QuotientChunk F)) × HasQuotient ops i coordinates held height degree_bits trace columns fixed commitment prover_data alpha alpha_witness state chunks quotient quotient_data
     quotient_made n l coset quotient quotient_data is_height is_coset is_count made =
         let holds = λ (m : ℕ) (c : TwoAdicCoset F) (k : ℕ). IsQuotientCommitment ops.opening.scheme i.scheme (air_of ops i m) ops.opening.fields.root coordinates ops.opening.fields.dimension ops.opening.is_zk c k
         (rows_of_columns ops.opening.fields.base ops.opening.fields.root c columns fixed i.public_values) alpha made.0 quotient quotient_data in (
@@ -59,7 +85,7 @@ module _ {S F E C K T P X Y : Type 0} {ops : ProtocolOps S F E C K T P X Y} {i :
         let holds = λ (m : ℕ) (c : TwoAdicCoset F) (k : ℕ). IsQuotientRefusal ops.opening.scheme i.scheme (air_of ops i m) coordinates ops.opening.fields.dimension c k (rows_of_columns ops.opening.fields.base ops.opening.fields.root c columns fixed i.public_values) alpha error in
         inr (in_quotient bound (subst (λ m. holds m (quotient_domain ops i degree_bits) (log_chunks_of ops i degree_bits)) is_height (subst (λ c. holds n c (log_chunks_of ops i degree_bits)) is_coset (subst (λ k. holds n coset k) is_count refusal))))
 
-  pub refused_randomization : {alpha : E} {state : C} {chunks : List (QuotientChunk F)} {quotient : K} {quotient_data : T} → HasQuotient ops i coordinates held height degree_bits trace columns fixed commitment prover_data alpha state chunks quotient quotient_data
+  pub refused_randomization : {alpha : E} {alpha_witness : F} {state : C} {chunks : List (QuotientChunk F)} {quotient : K} {quotient_data : T} → HasQuotient ops i coordinates held height degree_bits trace columns fixed commitment prover_data alpha alpha_witness state chunks quotient quotient_data
       → (error : ProvingError Y) → (error ≡ ProvingError.OutOfMemory) ⊎ IsSchemeFault (codes "randomization commitment") (ops.opening.scheme.RefusesRandomization i.scheme (natural_coset ops.opening.fields.base degree_bits)) error
       → (error ≡ ProvingError.OutOfMemory) ⊎ ProverFault ops i coordinates held height degree_bits trace error
   refused_randomization made error (inl memory) = inl memory

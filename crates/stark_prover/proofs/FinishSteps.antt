@@ -5,7 +5,7 @@ use Rattle.stark_support.specs.Claims.{RoundPoints}
 use Rattle.stark_support.specs.Periodic.{first_fault}
 use Rattle.stark_support.specs.Scheme.{OpenedRound, natural_coset, true_claim, zk_bits}
 use Rattle.stark_air.specs.Declaration.{Trace}
-use Rattle.stark_parts.specs.Replay.{ood_outcome, prover_ood_outcome, succeeds}
+use Rattle.stark_parts.specs.Replay.{ood_events, ood_outcome, prover_ood_outcome, succeeds}
 use Rattle.stark_parts.specs.Shape.{opens_next_row}
 use Rattle.stark_parts.specs.declared.error.ProvingError.{ProvingError}
 use Rattle.stark_parts.specs.declared.shape.GrindExhausted.{GrindExhausted}
@@ -36,14 +36,14 @@ place_again is_zk None = refl
 place_again is_zk (Some of_held) = refl
 
 module _ {S F E C K T P X Y : Type 0} {ops : ProtocolOps S F E C K T P X Y} {i : Instance S F C K} {coordinates : E → List F} {held : Option (PreprocessedProverData K T)} {height degree_bits : ℕ} {trace : Trace F} {fixed : List (List F)}
-    {commitment : K} {prover_data : T} {alpha : E} {state : C} {quotient : K} {quotient_data : T} {random : Option K} {random_data : Option T}
-    (bound : IsBoundProof ops i coordinates held height degree_bits trace fixed commitment prover_data alpha state quotient quotient_data random random_data)
+    {commitment : K} {prover_data : T} {alpha : E} {alpha_witness : F} {state : C} {quotient : K} {quotient_data : T} {random : Option K} {random_data : Option T}
+    (bound : IsBoundProof ops i coordinates held height degree_bits trace fixed commitment prover_data alpha alpha_witness state quotient quotient_data random random_data)
     {shape : StarkShape} (is_shape : shape ≡ described ops i degree_bits) {given : Option K} (is_given : given ≡ random) where
   -- No witness is found.
-  pub work_refused : (error : GrindExhausted) → IsExhausted ops.sponge shape.ood_pow_bits quotient given state error → ProverFault ops i coordinates held height degree_bits trace (ProvingError.GrindExhausted error.bits)
+  pub work_refused : (error : GrindExhausted) → IsExhausted ops.sponge shape.ood_pow_bits (ood_events quotient given) state error → ProverFault ops i coordinates held height degree_bits trace (ProvingError.GrindExhausted error.bits)
   work_refused error exhausted =
       let bits_are : shape.ood_pow_bits ≡ i.ood_bits = ap (λ s. s.ood_pow_bits) is_shape in
-      let at_bits = subst (λ bits. IsExhausted ops.sponge bits quotient random state error) bits_are (subst (λ r. IsExhausted ops.sponge shape.ood_pow_bits quotient r state error) is_given exhausted) in
+      let at_bits = subst (λ bits. IsExhausted ops.sponge bits (ood_events quotient random) state error) bits_are (subst (λ r. IsExhausted ops.sponge shape.ood_pow_bits (ood_events quotient r) state error) is_given exhausted) in
       subst (λ bits. ProverFault ops i coordinates held height degree_bits trace (ProvingError.GrindExhausted bits)) (sym at_bits.bits_are) (in_work bound.made bound.randomization at_bits.none_passes)
 
   module _ {zeta z nz : E} {reads fixed_reads : Bool} {count : ℕ} {random_kept fixed_kept : Option T} (is_zeta : z ≡ zeta) (is_next : nz ≡ next_point ops.opening degree_bits zeta) (is_reads : reads ≡ opens_next_row i.main_next_columns)
@@ -111,6 +111,7 @@ module _ {S F E C K T P X Y : Type 0} {ops : ProtocolOps S F E C K T P X Y} {i :
           opening_proof = proof;
           degree_bits = degree_bits;
           ood_pow_witness = witness;
+          alpha_pow_witness = alpha_witness;
         }
 
         both : ood_outcome ops.sponge (described ops i degree_bits) quotient random witness state ≡ succeeds zeta drawn_state Drawn
@@ -121,7 +122,7 @@ module _ {S F E C K T P X Y : Type 0} {ops : ProtocolOps S F E C K T P X Y} {i :
         pub proof_made : (opened : OpeningsView E) (proof : P) → AreValues opened → IsAccepted proof → IsProofOfTrace ops i coordinates held height trace fixed (proof_with opened proof)
         proof_made opened proof values whole =
             let are = values behind_list (true_openings ops i bound.columns fixed bound.chunks bound.random_columns zeta next_zeta) stand_behind in
-            let phases = both_phases ops.sponge (described ops i degree_bits) commitment (option_map (λ key. key.commitment) i.key) i.public_values quotient random witness (seeded ops i degree_bits) state drawn_state alpha zeta bound.made.bound.drawn both in
+            let phases = both_phases ops.sponge (described ops i degree_bits) commitment (option_map (λ key. key.commitment) i.key) i.public_values alpha_witness quotient random witness (seeded ops i degree_bits) state drawn_state alpha zeta bound.made.bound.drawn both in
             record {
               columns = bound.columns;
               chunks = bound.chunks;
@@ -141,6 +142,7 @@ module _ {S F E C K T P X Y : Type 0} {ops : ProtocolOps S F E C K T P X Y} {i :
               randomization = bound.randomization;
               drawn = ap (λ outcome. outcome.answer) phases;
               opened = are;
+              no_alpha_work = bound.made.bound.no_work;
               no_work = λ none. no_work (ap (λ s. s.ood_pow_bits) is_shape ∙ none);
               whole = λ is_whole.
                   subst (λ st. ops.opening.scheme.Accepts i.scheme (claims_of (natural_coset ops.opening.fields.base degree_bits) zeta next_zeta i.key commitment quotient random opened) proof st (preprocessed_place ops.opening.is_zk i.key)) (sym (ap (λ outcome. outcome.state) phases))

@@ -37,7 +37,7 @@ module _ {S F E C K T P X Y : Type 0} {ops : ProtocolOps S F E C K T P X Y} {i :
   randomization_of None there made = (None, without_masks (sym there))
   randomization_of (Some random) there made = (Some made.0, with_masks (sym there) made.1)
 
-  pub bound_made : {degree_bits : ℕ} {coordinates : E → List F} {held : Option (PreprocessedProverData K T)} {height : ℕ} {trace : Trace F} {columns fixed : List (List F)} {commitment : K} {prover_data : T} {alpha : E} {state : C} {quotient : K} {quotient_data : T} {random : Option K} {random_data : Option T}
-      → ((chunks : List (QuotientChunk F)) × HasQuotient ops i coordinates held height degree_bits trace columns fixed commitment prover_data alpha state chunks quotient quotient_data)
-      → ((random_columns : Option (List (List F))) × IsRandomization ops i degree_bits random random_data random_columns) → IsBoundProof ops i coordinates held height degree_bits trace fixed commitment prover_data alpha state quotient quotient_data random random_data
+  pub bound_made : {degree_bits : ℕ} {coordinates : E → List F} {held : Option (PreprocessedProverData K T)} {height : ℕ} {trace : Trace F} {columns fixed : List (List F)} {commitment : K} {prover_data : T} {alpha : E} {alpha_witness : F} {state : C} {quotient : K} {quotient_data : T} {random : Option K} {random_data : Option T}
+      → ((chunks : List (QuotientChunk F)) × HasQuotient ops i coordinates held height degree_bits trace columns fixed commitment prover_data alpha alpha_witness state chunks quotient quotient_data)
+      → ((random_columns : Option (List (List F))) × IsRandomization ops i degree_bits random random_data random_columns) → IsBoundProof ops i coordinates held height degree_bits trace fixed commitment prover_data alpha alpha_witness state quotient quotient_data random random_data
   bound_made {columns = columns} made randomized = record { columns = columns; chunks = made.0; random_columns = randomized.0; made = made.1; randomization = randomized.1 }

@@ -83,5 +83,6 @@ module _ {S F E C K T P X Y : Type 0} (ops : ProtocolOps S F E C K T P X Y) (i :
     pub randomization : IsRandomization p.degree_bits p.commitments.random random_data random
     pub drawn : (challenges ops i p).answer ≡ Ok (alpha, zeta)
     pub opened : p.opened_values ≡ true_openings columns fixed chunks random zeta (next_point ops.opening p.degree_bits zeta)
+    pub no_alpha_work : i.constraint_bits ≡ 0 → p.alpha_pow_witness ≡ ops.opening.fields.base.zero
     pub no_work : i.ood_bits ≡ 0 → p.ood_pow_witness ≡ ops.opening.fields.base.zero
     pub whole : ops.opening.scheme.Whole i.scheme → ops.opening.scheme.Accepts i.scheme (claims ops.opening i.key p zeta) p.opening_proof (challenges ops i p).state (preprocessed_place ops.opening.is_zk i.key)

@@ -1,4 +1,5 @@
-//! What is bound before the point out of the domain is drawn: alpha, the quotient and the randomization.
+//! What is bound before the point out of the domain is drawn: alpha, with the witness of the work before it, the quotient and the
+//! randomization.
 ghost use Rattle.std.specs.Prelude.{◌≡◌, ◌⊎◌, ◌≤◌, List, IfErr, IfOk, IfSome, None, is_some, length, option_map};
 ghost use Rattle.stark_support.specs.Scheme.{QuotientChunk, zk_bits};
 ghost use Rattle.stark_air.specs.Declaration.{Trace};
@@ -13,7 +14,7 @@ use crate::commit::{Committed, commit_random};
 use crate::operations::StarkProving;
 use crate::quotient::commit_quotient;
 use crate::sizes::ProverDomains;
-use crate::transcript::commitment_of;
+use crate::transcript::{commitment_of, draw_alpha};
 use stark_air::Air;
 use stark_parts::{
     Com, Domain, PcsProverError, ProvingError, StarkGenericConfig, StarkProverTranscript, Val,
@@ -27,8 +28,9 @@ use std::alloc::Global;
 
 /// What a proof has before its point is drawn.
 #[derive(Drop)]
-pub(crate) struct BoundProof<K, T, EF> {
+pub(crate) struct BoundProof<K, T, EF, F> {
     pub alpha: EF,
+    pub witness: F,
     pub quotient: Committed<K, T>,
     pub random: Option<Committed<K, T>>,
 }
@@ -43,7 +45,10 @@ pub(crate) fn bind<SC, A>(
     held: Option<&PreprocessedProverData<Com<SC>, PcsProverData<SC>>>,
     public_values: &[Val<SC>],
     transcript: &mut StarkProverTranscript<'_, SC::Challenger, Val<SC>, SC::Challenge>,
-) -> Result<BoundProof<Com<SC>, PcsProverData<SC>, SC::Challenge>, ProvingError<PcsProverError<SC>>>
+) -> Result<
+    BoundProof<Com<SC>, PcsProverData<SC>, SC::Challenge, Val<SC>>,
+    ProvingError<PcsProverError<SC>>,
+>
 where
     SC: StarkGenericConfig,
     Val<SC>: PackedField,
@@ -68,7 +73,7 @@ where
         → ⟦<SC as StarkProving<A>>⟧.is_ready config.now air.now public_values.now (option_map (λ h. h.now) held.entry) (log_height SC.Pcs.ZK domains.degree_bits) domains.degree_bits trace columns fixed committed.now.commitment committed.now.prover_data
         → (chunks : List (QuotientChunk SC.Pcs.Domain.Val))
         × ⟦<SC as StarkProving<A>>⟧.has_quotient config.now air.now public_values.now (option_map (λ h. h.now) held.entry) (log_height SC.Pcs.ZK domains.degree_bits) domains.degree_bits trace columns fixed committed.now.commitment committed.now.prover_data
-        bound.alpha transcript.new.challenger.now chunks bound.quotient.commitment bound.quotient.prover_data) }
+        bound.alpha bound.witness transcript.new.challenger.now chunks bound.quotient.commitment bound.quotient.prover_data) }
     ensures random_there { IfOk result (λ bound. is_some bound.random ≡ SC.Pcs.ZK) }
     ensures random { IfOk result (λ bound. IfSome bound.random (λ made. (columns : List (List SC.Pcs.Domain.Val)) × IsRandomCommitment SC.Pcs.scheme (SC.config.scheme config.now) SC.Pcs.Domain.Val.ring domains.degree_bits SC.Challenge.DIMENSION columns made.commitment made.prover_data)) }
     ensures fault { IfErr result (λ error. (trace : Trace SC.Pcs.Domain.Val) (columns fixed : List (List SC.Pcs.Domain.Val))
@@ -77,7 +82,7 @@ where
 {
     let commitment = &committed.commitment;
     let fixed = commitment_of(held);
-    let alpha = transcript.constraint_phase::<Com<SC>>(commitment, fixed, public_values);
+    let (alpha, witness) = draw_alpha(transcript, commitment, fixed, public_values)?;
     let data = &committed.prover_data;
     let quotient = commit_quotient(
         alloc,
@@ -92,6 +97,7 @@ where
     let random = commit_random(alloc, config, domains.committed, domains.degree_bits)?;
     Ok(BoundProof {
         alpha,
+        witness,
         quotient,
         random,
     })

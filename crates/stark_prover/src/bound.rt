@@ -14,7 +14,7 @@ use stark_support::GrindingChallenger;
 /// What a proof has before its point is drawn, and the proof by what it carries.
 pub trait StarkBinding<A>: StarkGenericConfig {
     ghost is_bound: { Self → A → List Self.Pcs.Domain.Val → Option (PreprocessedProverData Self.Pcs.Commitment Self.Pcs.ProverData) → ℕ → ℕ → Trace Self.Pcs.Domain.Val → List (List Self.Pcs.Domain.Val)
-        → Self.Pcs.Commitment → Self.Pcs.ProverData → Self.Challenge → Self.Challenger → Self.Pcs.Commitment → Self.Pcs.ProverData → Option Self.Pcs.Commitment → Option Self.Pcs.ProverData → Type 0 };
+        → Self.Pcs.Commitment → Self.Pcs.ProverData → Self.Challenge → Self.Pcs.Domain.Val → Self.Challenger → Self.Pcs.Commitment → Self.Pcs.ProverData → Option Self.Pcs.Commitment → Option Self.Pcs.ProverData → Type 0 };
 
     ghost is_proof_with: { Self → A → List Self.Pcs.Domain.Val → Option (PreprocessedProverData Self.Pcs.Commitment Self.Pcs.ProverData) → ℕ → Trace Self.Pcs.Domain.Val → List (List Self.Pcs.Domain.Val) → ProofView Self.Pcs.Commitment Self.Challenge Self.Pcs.Proof Self.Pcs.Domain.Val → Type 0 };
 }

@@ -44,7 +44,7 @@ fn commitment_in<K: Drop, T: Drop>(random: Option<Committed<K, T>>) -> Option<K>
 /// The proof, of its parts.
 fn proof_of<K: Drop, T: Drop, EF: Drop, F: Drop, P: Drop>(
     committed: Committed<K, T>,
-    bound: BoundProof<K, T, EF>,
+    bound: BoundProof<K, T, EF, F>,
     opened: OpenedProof<EF, F, P>,
     degree_bits: usize,
 ) -> Proof<K, EF, P, F>
@@ -54,6 +54,7 @@ fn proof_of<K: Drop, T: Drop, EF: Drop, F: Drop, P: Drop>(
       opening_proof = opened.argument;
       degree_bits = degree_bits;
       ood_pow_witness = opened.witness;
+      alpha_pow_witness = bound.witness;
     } }
 {
     let Committed {
@@ -62,6 +63,7 @@ fn proof_of<K: Drop, T: Drop, EF: Drop, F: Drop, P: Drop>(
     } = committed;
     let BoundProof {
         alpha: _,
+        witness: alpha_witness,
         quotient,
         random,
     } = bound;
@@ -85,6 +87,7 @@ fn proof_of<K: Drop, T: Drop, EF: Drop, F: Drop, P: Drop>(
         opening_proof: argument,
         degree_bits,
         ood_pow_witness: witness,
+        alpha_pow_witness: alpha_witness,
     }
 }
 

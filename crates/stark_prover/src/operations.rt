@@ -27,7 +27,7 @@ pub trait StarkProving<A>: StarkGenericConfig {
     ghost is_ready: { Self → A → List Self.Pcs.Domain.Val → Option (PreprocessedProverData Self.Pcs.Commitment Self.Pcs.ProverData) → ℕ → ℕ → Trace Self.Pcs.Domain.Val → List (List Self.Pcs.Domain.Val) → List (List Self.Pcs.Domain.Val) → Self.Pcs.Commitment → Self.Pcs.ProverData → Type 0 };
 
     ghost has_quotient: { Self → A → List Self.Pcs.Domain.Val → Option (PreprocessedProverData Self.Pcs.Commitment Self.Pcs.ProverData) → ℕ → ℕ → Trace Self.Pcs.Domain.Val → List (List Self.Pcs.Domain.Val) → List (List Self.Pcs.Domain.Val)
-        → Self.Pcs.Commitment → Self.Pcs.ProverData → Self.Challenge → Self.Challenger → List (QuotientChunk Self.Pcs.Domain.Val) → Self.Pcs.Commitment → Self.Pcs.ProverData → Type 0 };
+        → Self.Pcs.Commitment → Self.Pcs.ProverData → Self.Challenge → Self.Pcs.Domain.Val → Self.Challenger → List (QuotientChunk Self.Pcs.Domain.Val) → Self.Pcs.Commitment → Self.Pcs.ProverData → Type 0 };
 
     ghost fault: { Self → A → List Self.Pcs.Domain.Val → Option (PreprocessedProverData Self.Pcs.Commitment Self.Pcs.ProverData) → ℕ → ℕ → Trace Self.Pcs.Domain.Val → ProvingError Self.Pcs.ProverError → Type 0 };
 

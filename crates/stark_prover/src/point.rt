@@ -35,7 +35,7 @@ pub(crate) struct OpenedProof<EF, F, P> {
 }
 
 /// The random commitment, where there is one.
-fn random_commitment<K, T, EF>(bound: &BoundProof<K, T, EF>) -> Option<&K>
+fn random_commitment<K, T, EF, F>(bound: &BoundProof<K, T, EF, F>) -> Option<&K>
     ensures { option_map (λ k. k.now) result ≡ option_map (λ made. made.commitment) bound.now.random }
 {
     match &bound.random {
@@ -45,7 +45,7 @@ fn random_commitment<K, T, EF>(bound: &BoundProof<K, T, EF>) -> Option<&K>
 }
 
 /// What the scheme keeps of the random commitment, where there is one.
-fn random_data<K, T, EF>(bound: &BoundProof<K, T, EF>) -> Option<&T>
+fn random_data<K, T, EF, F>(bound: &BoundProof<K, T, EF, F>) -> Option<&T>
     ensures { option_map (λ t. t.now) result ≡ option_map (λ made. made.prover_data) bound.now.random }
 {
     match &bound.random {
@@ -62,7 +62,7 @@ pub(crate) fn open_bound<SC, A>(
     domains: ProverDomains<Domain<SC>>,
     committed: &Committed<Com<SC>, PcsProverData<SC>>,
     held: Option<&PreprocessedProverData<Com<SC>, PcsProverData<SC>>>,
-    bound: &BoundProof<Com<SC>, PcsProverData<SC>, SC::Challenge>,
+    bound: &BoundProof<Com<SC>, PcsProverData<SC>, SC::Challenge, Val<SC>>,
     transcript: &mut StarkProverTranscript<'_, SC::Challenger, Val<SC>, SC::Challenge>,
 ) -> Result<OpenedProof<SC::Challenge, Val<SC>, PcsProof<SC>>, ProvingError<PcsProverError<SC>>>
 where
@@ -75,7 +75,7 @@ where
     requires ready { (public_values : List SC.Pcs.Domain.Val) × (trace : Trace SC.Pcs.Domain.Val) × (fixed : List (List SC.Pcs.Domain.Val))
         × (transcript.old.shape ≡ ⟦<SC as StarkProving<A>>⟧.described config.now air.now public_values (option_map (λ h. h.now) held) domains.degree_bits)
         × ⟦<SC as StarkBinding<A>>⟧.is_bound config.now air.now public_values (option_map (λ h. h.now) held) (log_height SC.Pcs.ZK domains.degree_bits) domains.degree_bits trace fixed committed.now.commitment committed.now.prover_data
-        bound.now.alpha transcript.old.challenger.now bound.now.quotient.commitment bound.now.quotient.prover_data (option_map (λ made. made.commitment) bound.now.random) (option_map (λ made. made.prover_data) bound.now.random) }
+        bound.now.alpha bound.now.witness transcript.old.challenger.now bound.now.quotient.commitment bound.now.quotient.prover_data (option_map (λ made. made.commitment) bound.now.random) (option_map (λ made. made.prover_data) bound.now.random) }
     requires phase { transcript.old.phase ≡ Bound }
     requires there { random_fault transcript.old.shape (is_some bound.now.random) ≡ None }
     ensures same_reference { transcript.new.challenger.ghost_name ≡ transcript.old.challenger.ghost_name }
@@ -83,18 +83,19 @@ where
     ensures made { IfOk result (λ opened. (public_values : List SC.Pcs.Domain.Val) (trace : Trace SC.Pcs.Domain.Val) (fixed : List (List SC.Pcs.Domain.Val))
         → transcript.old.shape ≡ ⟦<SC as StarkProving<A>>⟧.described config.now air.now public_values (option_map (λ h. h.now) held.entry) domains.degree_bits
         → ⟦<SC as StarkBinding<A>>⟧.is_bound config.now air.now public_values (option_map (λ h. h.now) held.entry) (log_height SC.Pcs.ZK domains.degree_bits) domains.degree_bits trace fixed committed.now.commitment committed.now.prover_data
-        bound.now.alpha transcript.old.challenger.now bound.now.quotient.commitment bound.now.quotient.prover_data (option_map (λ made. made.commitment) bound.now.random) (option_map (λ made. made.prover_data) bound.now.random)
+        bound.now.alpha bound.now.witness transcript.old.challenger.now bound.now.quotient.commitment bound.now.quotient.prover_data (option_map (λ made. made.commitment) bound.now.random) (option_map (λ made. made.prover_data) bound.now.random)
         → ⟦<SC as StarkBinding<A>>⟧.is_proof_with config.now air.now public_values (option_map (λ h. h.now) held.entry) (log_height SC.Pcs.ZK domains.degree_bits) trace fixed (record {
           commitments = record { trace = committed.now.commitment; quotient_chunks = bound.now.quotient.commitment; random = option_map (λ made. made.commitment) bound.now.random };
           opened_values = openings_view opened.values;
           opening_proof = opened.argument;
           degree_bits = domains.degree_bits;
           ood_pow_witness = opened.witness;
+          alpha_pow_witness = bound.now.witness;
         })) }
     ensures fault { IfErr result (λ error. (public_values : List SC.Pcs.Domain.Val) (trace : Trace SC.Pcs.Domain.Val) (fixed : List (List SC.Pcs.Domain.Val))
         → transcript.old.shape ≡ ⟦<SC as StarkProving<A>>⟧.described config.now air.now public_values (option_map (λ h. h.now) held.entry) domains.degree_bits
         → ⟦<SC as StarkBinding<A>>⟧.is_bound config.now air.now public_values (option_map (λ h. h.now) held.entry) (log_height SC.Pcs.ZK domains.degree_bits) domains.degree_bits trace fixed committed.now.commitment committed.now.prover_data
-        bound.now.alpha transcript.old.challenger.now bound.now.quotient.commitment bound.now.quotient.prover_data (option_map (λ made. made.commitment) bound.now.random) (option_map (λ made. made.prover_data) bound.now.random)
+        bound.now.alpha bound.now.witness transcript.old.challenger.now bound.now.quotient.commitment bound.now.quotient.prover_data (option_map (λ made. made.commitment) bound.now.random) (option_map (λ made. made.prover_data) bound.now.random)
         → (error ≡ ProvingError.OutOfMemory) ⊎ ⟦<SC as StarkProving<A>>⟧.fault config.now air.now public_values (option_map (λ h. h.now) held.entry) (log_height SC.Pcs.ZK domains.degree_bits) domains.degree_bits trace error) }
 {
     let random = random_commitment(bound);

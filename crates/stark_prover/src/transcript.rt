@@ -1,9 +1,9 @@
 //! The transcript of a proof, from its seed to the point out of the domain.
-ghost use Rattle.std.specs.Prelude.{◌≡◌, ◌+◌, ◌^◌, ◌<◌, ◌≤◌, IfErr, IfOk, None, Ok, Option, is_some, option_map};
+ghost use Rattle.std.specs.Prelude.{◌≡◌, ◌+◌, ◌^◌, ◌<◌, ◌≤◌, IfErr, IfOk, None, Ok, Option, is_some, length, option_map};
 ghost use Rattle.stark_support.specs.Scheme.{zk_bits};
-ghost use Rattle.stark_parts.specs.Replay.{ood_outcome, prover_ood_outcome, random_fault, succeeds};
+ghost use Rattle.stark_parts.specs.Replay.{constraint_events, constraint_outcome, ood_events, ood_outcome, preprocessed_fault, prover_constraint_outcome, prover_ood_outcome, random_fault, succeeds};
 ghost use Rattle.stark_parts.specs.Shape.{shape_of};
-ghost use Rattle.stark_parts.specs.declared.shape.TranscriptPhase.TheVariants.{Bound, Drawn};
+ghost use Rattle.stark_parts.specs.declared.shape.TranscriptPhase.TheVariants.{Bound, Drawn, Opened};
 ghost use Rattle.stark_protocol.specs.Instance.{log_height};
 ghost use Rattle.stark_protocol.specs.ShapeFaults.{width_in_force};
 ghost use Rattle.stark_prover.specs.ProofOfTrace.{key_of};
@@ -65,12 +65,13 @@ where
     requires extended { zk_bits SC.Pcs.ZK ≤ degree_bits }
     requires few { log_chunks < 64 }
     ensures { IfOk result (λ shape. shape ≡ shape_of (A.layout air.now) (A.main_next_row_columns air.now) (A.preprocessed_next_row_columns air.now) (width_in_force (option_map key_of (option_map (λ h. h.now) held.entry)) (A.layout air.now).preprocessed)
-        degree_bits (log_height SC.Pcs.ZK degree_bits) (2 ^ log_chunks) SC.Pcs.ZK (SC.config.ood_bits config.now)) }
+        degree_bits (log_height SC.Pcs.ZK degree_bits) (2 ^ log_chunks) SC.Pcs.ZK (SC.config.ood_bits config.now) (SC.config.constraint_bits config.now)) }
 {
     let width = width_in_force(held, air.preprocessed_width());
     let log_height = degree_bits - config.is_zk();
     let num_chunks = power_of_two(log_chunks);
-    let bits = config.ood_proof_of_work_bits();
+    let ood_bits = config.ood_proof_of_work_bits();
+    let constraint_bits = config.constraint_proof_of_work_bits();
     let shape = StarkShape::new::<Val<SC>, A>(
         alloc,
         air,
@@ -79,9 +80,40 @@ where
         log_height,
         num_chunks,
         SC::Pcs::ZK,
-        bits,
+        ood_bits,
+        constraint_bits,
     )?;
     Ok(shape)
+}
+
+/// Alpha, and the witness of the work before it, zero where none is asked for.
+pub(crate) fn draw_alpha<C, F, EF, K>(
+    transcript: &mut StarkProverTranscript<'_, C, F, EF>,
+    trace: &K,
+    preprocessed: Option<&K>,
+    public_values: &[F],
+) -> Result<(EF, F), GrindExhausted>
+where
+    F: PrimeField64,
+    EF: ExtensionField<F>,
+    C: CanObserve<F> + CanObserve<K> + CanSample<EF> + GrindingChallenger<Witness = F>,
+    requires phase { transcript.old.phase ≡ Opened }
+    requires count { length public_values.now ≡ transcript.old.shape.num_public_values }
+    requires described { preprocessed_fault transcript.old.shape (is_some preprocessed) ≡ None }
+    ensures same_reference { transcript.new.challenger.ghost_name ≡ transcript.old.challenger.ghost_name }
+    ensures shape { transcript.new.shape ≡ transcript.old.shape }
+    ensures phase { IfOk result (λ _. transcript.new.phase ≡ Bound) }
+    ensures drawn { IfOk result (λ drawn. constraint_outcome ⟦<C as TranscriptSponge<F, EF, K>>⟧.sponge transcript.old.shape trace.now (option_map (λ k. k.now) preprocessed.entry) public_values.now drawn.1 transcript.old.challenger.now ≡ succeeds drawn.0 transcript.new.challenger.now Bound) }
+    ensures answer { IfOk result (λ drawn. (witness : Option F) × ((prover_constraint_outcome ⟦<C as TranscriptSponge<F, EF, K>>⟧.sponge transcript.old.shape trace.now (option_map (λ k. k.now) preprocessed.entry) public_values.now transcript.old.challenger.now).answer ≡ Ok (drawn.0, witness))) }
+    ensures state { transcript.new.challenger.now ≡ (prover_constraint_outcome ⟦<C as TranscriptSponge<F, EF, K>>⟧.sponge transcript.old.shape trace.now (option_map (λ k. k.now) preprocessed.entry) public_values.now transcript.old.challenger.now).state }
+    ensures no_work { IfOk result (λ drawn. transcript.old.shape.constraint_pow_bits ≡ 0 → drawn.1 ≡ F.ring.zero) }
+    ensures exhausted { IfErr result (λ error. IsExhausted ⟦<C as TranscriptSponge<F, EF, K>>⟧.sponge transcript.old.shape.constraint_pow_bits (constraint_events trace.now (option_map (λ k. k.now) preprocessed.entry) public_values.now) transcript.old.challenger.now error) }
+{
+    let (alpha, found) = transcript.constraint_phase::<K>(trace, preprocessed, public_values)?;
+    match found {
+        Some(witness) => Ok((alpha, witness)),
+        None => Ok((alpha, F::ZERO)),
+    }
 }
 
 /// Zeta, and the witness of the work before it, zero where none is asked for.
@@ -102,7 +134,7 @@ where
     ensures answer { IfOk result (λ drawn. (witness : Option F) × ((prover_ood_outcome ⟦<C as TranscriptSponge<F, EF, K>>⟧.sponge transcript.old.shape quotient.now (option_map (λ k. k.now) random.entry) transcript.old.challenger.now).answer ≡ Ok (drawn.0, witness))) }
     ensures state { transcript.new.challenger.now ≡ (prover_ood_outcome ⟦<C as TranscriptSponge<F, EF, K>>⟧.sponge transcript.old.shape quotient.now (option_map (λ k. k.now) random.entry) transcript.old.challenger.now).state }
     ensures no_work { IfOk result (λ drawn. transcript.old.shape.ood_pow_bits ≡ 0 → drawn.1 ≡ F.ring.zero) }
-    ensures exhausted { IfErr result (λ error. IsExhausted ⟦<C as TranscriptSponge<F, EF, K>>⟧.sponge transcript.old.shape.ood_pow_bits quotient.now (option_map (λ k. k.now) random.entry) transcript.old.challenger.now error) }
+    ensures exhausted { IfErr result (λ error. IsExhausted ⟦<C as TranscriptSponge<F, EF, K>>⟧.sponge transcript.old.shape.ood_pow_bits (ood_events quotient.now (option_map (λ k. k.now) random.entry)) transcript.old.challenger.now error) }
 {
     let (zeta, found) = transcript.ood_phase::<K>(quotient, random)?;
     match found {

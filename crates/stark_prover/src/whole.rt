@@ -20,13 +20,15 @@ use std::alloc::Global;
 /// The trace has `2^height` rows of the AIR's width, at least one column, and is committed at `2^(height + is_zk)` rows, at
 /// most the scheme's greatest height; there are as many public values as the AIR has. What is held of the preprocessed
 /// columns is there exactly where the AIR has some, has their number, and stands at that committed height. Whether the
-/// trace satisfies the AIR isn't tested: a proof of one that doesn't is refused.
+/// trace satisfies the AIR isn't tested: the verifier refuses the proof of one that doesn't, unless a draw is bad
+/// (`ood_error_bound` counts those).
 ///
 /// - `PeriodicColumn` where a periodic column doesn't fit the trace's rows.
 /// - `QuotientDomainTooLarge` where the quotient's domain is larger than the field or the scheme has room for.
 /// - `Pcs` where the scheme refuses, in the phase of its name: `trace commitment`, `quotient commitment`,
 ///   `randomization commitment` or `opening`.
-/// - `GrindExhausted` where no element is a witness of the work.
+/// - `GrindExhausted` where no element is a witness of the work before alpha, which is done behind `trace commitment` and before
+///   `quotient commitment`, or of that before zeta, which is done before `opening`; it has the bits of the one that failed.
 /// - `OutOfMemory` only where a growth was refused.
 pub fn prove_with_preprocessed<SC, A>(
     alloc: Global,

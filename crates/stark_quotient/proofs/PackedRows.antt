@@ -12,7 +12,7 @@ use Rattle.stark_air.specs.Value.{constraint_values}
 use Rattle.stark_parts.specs.Finalized.{lane_values}
 use Rattle.stark_parts.specs.Folded.{folded}
 use Rattle.stark_quotient.specs.FoldedPlaces.{embedded}
-use Rattle.stark_quotient.specs.SameLeaves.{AgreeWithin, same_constraints}
+use Rattle.stark_security.specs.SameLeaves.{AgreeWithin, same_constraints}
 use Rattle.stark_quotient.specs.PointRows.{IsLaneRow, PointRow, folded_over, packed_environment, packed_layout, row_environment}
 
 module _ {F P : Type 0} (lanes : P → List F) (i : ℕ) (blank : F) where

@@ -21,7 +21,7 @@ use Rattle.stark_parts.specs.Folded.{folded}
 use Rattle.stark_security.specs.ConstraintPolynomial.{AirInstance, Columns, environment_at, folded_at, height, next_point}
 use Rattle.stark_security.proofs.ConstraintDegrees.{value_of_embedded}
 use Rattle.stark_quotient.specs.PointwiseQuotient.{RowsOnCoset, leaves_at, next_row, point_above, pointwise_quotient}
-use Rattle.stark_quotient.specs.SameLeaves.{AgreeWithin, same_constraints}
+use Rattle.stark_security.specs.SameLeaves.{AgreeWithin, same_constraints}
 
 -- The rows are the columns' values at the points, seen in the extension, and the public values are the same.
 pub record AreValuesOfColumns {F E : Type 0} (i : AirInstance F E) (rows : RowsOnCoset F) (columns : Columns F E) : Type 0 where

@@ -61,8 +61,8 @@ declared | periodic => [1, 0, 0, 1] [0, 0] None None 0 [[0, 1]] None
 
 # The start of a part of two of three columns | the row | the next one. Of the current row the columns 0 and 2 of the part are read, of
 # the next one 1 and 2. A part sees the first two columns, or the last two, and no third.
-part | 0 | 1 2 3 | 4 5 6 => Some([Some(Ext4 { c0: 1, c1: 0, c2: 0, c3: 0 }), None, Some(Ext4 { c0: 5, c1: 0, c2: 0, c3: 0 }), None])
-part | 1 | 1 2 3 | 4 5 6 => Some([Some(Ext4 { c0: 2, c1: 0, c2: 0, c3: 0 }), None, Some(Ext4 { c0: 6, c1: 0, c2: 0, c3: 0 }), None])
+part | 0 | 1 2 3 | 4 5 6 => Some(((Some(Ext4 { c0: 1, c1: 0, c2: 0, c3: 0 }), None), (Some(Ext4 { c0: 5, c1: 0, c2: 0, c3: 0 }), None)))
+part | 1 | 1 2 3 | 4 5 6 => Some(((Some(Ext4 { c0: 2, c1: 0, c2: 0, c3: 0 }), None), (Some(Ext4 { c0: 6, c1: 0, c2: 0, c3: 0 }), None)))
 "#;
 
 /// The answer to a row of these tables.

@@ -152,6 +152,9 @@ where
     Ok(Some(value))
 }
 
+/// What is read of two columns of the current row, and of two of the next one.
+pub type Reads<V> = ((Option<V>, Option<V>), (Option<V>, Option<V>));
+
 /// What the part of two of three columns reads of any builder: of the current row the columns 0 and 2, of the next one 1 and 2.
 /// None where the part or its copy doesn't show the values of those two columns alone.
 fn part_of<AB: AirBuilder>(
@@ -159,7 +162,7 @@ fn part_of<AB: AirBuilder>(
     start: usize,
     local: &[AB::Var],
     next: &[AB::Var],
-) -> Result<Option<[Option<AB::Var>; 4]>, AllocError>
+) -> Result<Option<Reads<AB::Var>>, AllocError>
 where
     AB::Var: PartialEq,
     AB::MainWindow: Clone,
@@ -177,12 +180,8 @@ where
     if copy.current_slice() != local {
         return Ok(None);
     }
-    Ok(Some([
-        window.current(0),
-        window.current(2),
-        window.next(1),
-        window.next(2),
-    ]))
+    let current = (window.current(0), window.current(2));
+    Ok(Some((current, (window.next(1), window.next(2)))))
 }
 
 /// What `part_of` reads in a verifier's folder; none where there are other columns.
@@ -191,7 +190,7 @@ fn part_reads<'a, SC: StarkGenericConfig>(
     local: &'a [SC::Challenge],
     next: &'a [SC::Challenge],
     publics: &'a [Val<SC>],
-) -> Result<Option<[Option<SC::Challenge>; 4]>, AllocError> {
+) -> Result<Option<Reads<SC::Challenge>>, AllocError> {
     if local.len() != 3 || next.len() != 3 || start > 1 {
         return Ok(None);
     }
@@ -224,7 +223,7 @@ pub fn reads_of_a_part<'a, F, EF, C>(
     local: &'a [EF],
     next: &'a [EF],
     publics: &'a [F],
-) -> Result<Option<[Option<EF>; 4]>, AllocError>
+) -> Result<Option<Reads<EF>>, AllocError>
 where
     F: TwoAdicField + PrimeField64,
     EF: ExtensionField<F>,

@@ -11,7 +11,7 @@ use std::test::Fail;
 const CLEAR: &str = "\
 {\"next\":true,\"fixed\":true,\"fixed_next\":false,\"periodic\":[[0,1]],\"hint\":null,\
 \"key\":{\"width\":1,\"height\":2,\"commitment\":[[[2,1,0,0]]]},\
-\"challenger\":[4,0,0,0,3,0,0,0],\"work\":0,\"publics\":[5],\"fixed_row\":[[5,0,0,0]],\
+\"challenger\":[4,0,0,0,3,0,0,0],\"work\":0,\"alpha_work\":0,\"publics\":[5],\"fixed_row\":[[5,0,0,0]],\
 \"proof\":{\"opened_values\":{\"trace_local\":[[6817,0,0, 0]],\"trace_next\":[[5455,0,0,0]],\
 \"quotient_chunks\":[[[2814,0,0,0],[0,0,0,0],[0,0,0,0],[0,0,0,0]]],\"random\":null},\
 \"commitments\":{\"trace\":[[[6151,739,6144,11549]]],\
@@ -22,7 +22,7 @@ const CLEAR: &str = "\
 const MASKED: &str = "\
 {\"next\":true,\"fixed\":true,\"fixed_next\":false,\"periodic\":[[0,1]],\"hint\":null,\
 \"key\":{\"width\":1,\"height\":2,\"commitment\":[[[2,1,0,0]]]},\
-\"challenger\":[4,0,0,0,3,0,0,0],\"work\":0,\"publics\":[5],\"fixed_row\":[[5,0,0,0]],\
+\"challenger\":[4,0,0,0,3,0,0,0],\"work\":0,\"alpha_work\":0,\"publics\":[5],\"fixed_row\":[[5,0,0,0]],\
 \"proof\":{\"opened_values\":{\"trace_local\":[[36,0,0, 0]],\"trace_next\":[[12280,0,0,0]],\
 \"quotient_chunks\":[[[9603,0,0,0],[9340,0,0,0],[9340,0,0,0],[9340,0,0,0]],\
 [[6903,0,0,0],[5345,0,0,0],[5345,0,0,0],[5345,0,0,0]],\
@@ -69,7 +69,9 @@ const FAULTS: &str = "\
 9 another chunk | both | \"quotient_chunks\":[ > \"quotient_chunks\":[[[0,0,0,0],[0,0,0,0],[0,0,0,0],[0,0,0,0]], => Err(InvalidProofShape(OpenedValuesDimensionMismatch))
 9 long chunk | both | \"quotient_chunks\":[[ > \"quotient_chunks\":[[[0,0,0,0], => Err(InvalidProofShape(OpenedValuesDimensionMismatch))
 9 long random row | masked | \"random\":[ > \"random\":[[0,0,0,0], => Err(InvalidProofShape(OpenedValuesDimensionMismatch))
+10 alpha's witness of no work | both | \"ood_pow_witness\" > \"alpha_pow_witness\":7,\"ood_pow_witness\" => Err(InvalidProofShape(NonCanonicalAlphaPowWitness))
 10 witness of no work | both | \"ood_pow_witness\":0 > \"ood_pow_witness\":7 => Err(InvalidProofShape(NonCanonicalOodPowWitness))
+11 alpha's work not done | both | \"alpha_work\":0 > \"alpha_work\":1 => Err(InvalidAlphaPowWitness)
 11 work not done | both | \"work\":0 > \"work\":1 => Err(InvalidOodPowWitness)
 12 point of the domain | both | [4,0,0,0,3, > [4,0,0,0,1, => Err(OodPointInDomain)
 13 empty column | both | \"periodic\":[[0,1]] > \"periodic\":[[]] => Err(PeriodicColumn(Empty { column: 0 }))
@@ -127,6 +129,7 @@ const NEVER: &str = "\
 8 no next row & 8 wide next row | what isn't there has no length
 8 no next row & 8 unread next row | the AIR reads the next row, or it doesn't
 8 wide next row & 8 unread next row | the AIR reads the next row, or it doesn't
+10 alpha's witness of no work & 11 alpha's work not done | work is asked for, or it isn't
 10 witness of no work & 11 work not done | work is asked for, or it isn't";
 
 /// What the verifier with a scheme answers of an input, whose challenger hands out the numbers that stand in it.
@@ -306,14 +309,15 @@ fn pairs_are_of_faults_in_their_order(rt: HostRuntime) -> Result<(), Fail> {
 // The honest proof of the counter's trace 5, 6.
 const COUNTER: &str = "\
 {\"next\":true,\"fixed\":false,\"fixed_next\":false,\"periodic\":[],\"hint\":null,\
-\"challenger\":[4,0,0,0,3,0,0,0],\"work\":0,\"publics\":[5],\
+\"challenger\":[4,0,0,0,3,0,0,0],\"work\":0,\"alpha_work\":0,\"publics\":[5],\
 \"proof\":{\"opened_values\":{\"trace_local\":[[4,0,0,0]],\"trace_next\":[[7,0,0,0]],\
 \"quotient_chunks\":[[[12288,0,0,0],[0,0,0,0],[0,0,0,0],[0,0,0,0]]]},\
 \"commitments\":{\"trace\":[[[6150,6144]]],\"quotient_chunks\":[[[12288,0],[0,0],[0,0],[0,0]]]},\
 \"opening_proof\":null,\"degree_bits\":1,\"ood_pow_witness\":0}}";
 
-// An entry more, one less and another one in each row; another witness; the greatest height, and a hint that is past all domains. Then the
-// proof of one row, with that hint, and at the scheme's greatest height, of which 3 is a point and 11 is none.
+// An entry more, one less and another one in each row; another witness, and one before alpha, with and without work; the greatest
+// height, and a hint that is past all domains. Then the proof of one row, with that hint, and at the scheme's greatest height, of which
+// 3 is a point and 11 is none.
 const COUNTERS: &str = "\
 [5] > [5] => Ok(())
 [[4, > [[0,0,0,0],[4, => Err(InvalidProofShape(OpenedValuesDimensionMismatch))
@@ -326,6 +330,14 @@ const COUNTERS: &str = "\
 [[[12288,0,0,0],[0,0,0,0] > [[[12288,0,0,0] => Err(InvalidProofShape(OpenedValuesDimensionMismatch))
 [[[12288,0,0,0] > [[[12288,0,0,1] => Err(InvalidOpeningArgument(Value { round: 1 }))
 \"ood_pow_witness\":0 > \"ood_pow_witness\":1 => Err(InvalidProofShape(NonCanonicalOodPowWitness))
+\"alpha_work\":0 > \"alpha_work\":3 & \"ood_pow_witness\" > \"alpha_pow_witness\":7,\"ood_pow_witness\" => Ok(())
+\"alpha_work\":0 > \"alpha_work\":3 & \"ood_pow_witness\" > \"alpha_pow_witness\":6,\"ood_pow_witness\" => Err(InvalidAlphaPowWitness)
+\"ood_pow_witness\" > \"alpha_pow_witness\":7,\"ood_pow_witness\" => Err(InvalidProofShape(NonCanonicalAlphaPowWitness))
+\"ood_pow_witness\":0 > \"alpha_pow_witness\":7,\"ood_pow_witness\":7 => Err(InvalidProofShape(NonCanonicalAlphaPowWitness))
+\"ood_pow_witness\" > \"alpha_pow_witness\":0,\"ood_pow_witness\" => Ok(())
+\"alpha_work\":0 > \"alpha_work\":3 => Err(InvalidAlphaPowWitness)
+\"alpha_work\":0 > \"alpha_work\":3 & \"work\":0 > \"work\":1 => Err(InvalidAlphaPowWitness)
+\"alpha_work\":0 > \"alpha_work\":1 & \"work\":0 > \"work\":13 & \"ood_pow_witness\":0 > \"alpha_pow_witness\":1,\"ood_pow_witness\":8191 => Ok(())
 \"degree_bits\":1 > \"degree_bits\":18446744073709551615 => Err(InvalidProofShape(DegreeBitsTooLarge { air: None, maximum: 12, got: 18446744073709551615 }))
 \"hint\":null > \"hint\":9223372036854775809 => Err(InvalidProofShape(QuotientDomainTooLarge { air: None, maximum: 63, got: 64 }))
 \"periodic\":[] > \"periodic\":[[0,1,0,1],[]] => Err(PeriodicColumn(TooLong { column: 0 }))

@@ -1,6 +1,6 @@
 //! All that a verifier is given, as one JSON text, and what it answers: the declarations of an AIR, the key, the challenger's
-//! numbers and the bits of work, the public values, the opened preprocessed rows and the proof, whose JSON has none of those rows,
-//! since JSON can't spell all of them.
+//! numbers and the bits of work before zeta and before alpha, the public values, the opened preprocessed rows and the proof, whose
+//! JSON has none of those rows, since JSON can't spell all of them.
 use crate::calls::ClearConfig;
 use crate::declaring_air::DeclaringAir;
 use crate::proofs::value_of;
@@ -14,7 +14,7 @@ use stark_bench::ClearCommitment;
 use stark_clear::ClearPcs;
 use stark_parts::{Com, PcsError, StarkConfig, StarkGenericConfig, Val};
 use stark_support::{
-    CanObserve, ExtensionChallenger, ExtensionField, FieldChallenger, GrindingChallenger,
+    CanObserve, ExtensionChallenger, ExtensionField, Field, FieldChallenger, GrindingChallenger,
     JsonCodec, NeverNull, PrimeField64, TwoAdicField, list_from_json, lists_from_json,
 };
 use std::alloc::Global;
@@ -82,7 +82,7 @@ fn fixed_rows_of<EF: JsonCodec + Drop>(
     Ok(Some(PreprocessedOpenedValues { local, next }))
 }
 
-fn proof_of<K: NeverNull + Drop, EF: JsonCodec + Drop, P: JsonCodec + Drop, F: JsonCodec + Drop>(
+fn proof_of<K: NeverNull + Drop, EF: JsonCodec + Drop, P: JsonCodec + Drop, F: Field + NeverNull>(
     alloc: Global,
     value: &Value,
 ) -> Result<Proof<K, EF, P, F>, Fail> {
@@ -98,7 +98,7 @@ where
     SC: StarkGenericConfig,
     SC::Challenger: GrindingChallenger<Witness = Val<SC>>,
     SC::Challenge: JsonCodec,
-    Val<SC>: JsonCodec,
+    Val<SC>: NeverNull,
     Com<SC>: NeverNull,
     PcsProof<SC>: JsonCodec,
     PcsError<SC>: Debug,
@@ -114,7 +114,7 @@ where
 /// What the verifier answers of an input: the challenger | the scheme | the input. No mask is read by it.
 pub fn answer<F, EF, C>(alloc: Global, challenger: C, row: &str) -> Result<String, Fail>
 where
-    F: TwoAdicField + PrimeField64 + JsonCodec,
+    F: TwoAdicField + PrimeField64 + NeverNull,
     EF: ExtensionField<F> + JsonCodec,
     C: FieldChallenger<F>
         + CanObserve<ClearCommitment<F>>
@@ -125,12 +125,17 @@ where
     let (_challenger, row) = apart(row)?;
     let (scheme, text) = apart(row)?;
     let value = value_of(alloc, text)?;
-    let bits = number_at(&value, "work").ok_or("no bits of work")?;
+    let ood_bits = number_at(&value, "work").ok_or("no bits of work")?;
+    let alpha_bits = number_at(&value, "alpha_work").ok_or("no bits of work before alpha")?;
     if scheme == "masked" {
         let config = masked::<F, EF, C>(alloc, challenger, "1")?;
-        let config = config.with_ood_proof_of_work_bits(bits);
+        let config = config.with_ood_proof_of_work_bits(ood_bits);
+        let config = config.with_constraint_proof_of_work_bits(alpha_bits);
         return answered::<MaskedConfig<F, EF, C>>(alloc, &config, &value);
     }
-    let config = StarkConfig::new(ClearPcs::new(), challenger).with_ood_proof_of_work_bits(bits);
+    let config = StarkConfig::new(ClearPcs::new(), challenger).with_ood_proof_of_work_bits(
+        ood_bits,
+    );
+    let config = config.with_constraint_proof_of_work_bits(alpha_bits);
     answered::<ClearConfig<F, EF, C>>(alloc, &config, &value)
 }

@@ -2,7 +2,7 @@
 use crate::rows::{apart, numbers_in, option_in};
 use p3_uni_stark::{Commitments, OpenedValues, Proof, validate_degree_bits};
 use serde_json::Value;
-use stark_support::{JsonCodec, NeverNull};
+use stark_support::{Field, JsonCodec, NeverNull};
 use std::alloc::Global;
 use std::fmt::Debug;
 use std::test::Fail;
@@ -53,9 +53,13 @@ commitments | {"quotient_chunks":12289,"trace":null} => Element { field: "trace"
 commitments | {"quotient_chunks":12289,"random":[],"trace":1} => Element { field: "quotient_chunks" }
 commitments | {"quotient_chunks":2,"random":[],"trace":1} => Element { field: "random" }
 
-# The counter's proof, and one whose height is the greatest number; then what is refused, the fields in their order.
+# The counter's proof, and one whose height is the greatest number. A witness before alpha is written where it isn't zero. Then what is
+# refused, the fields in their order.
 proof | {"commitments":{"quotient_chunks":12288,"random":null,"trace":6150},"degree_bits":1,"ood_pow_witness":0,"opened_values":{"preprocessed_local":null,"preprocessed_next":null,"quotient_chunks":[[[12288,0,0,0],[0,0,0,0],[0,0,0,0],[0,0,0,0]]],"random":null,"trace_local":[[4,0,0,0]],"trace_next":[[7,0,0,0]]},"opening_proof":6144} => {"commitments":{"quotient_chunks":12288,"random":null,"trace":6150},"degree_bits":1,"ood_pow_witness":0,"opened_values":{"preprocessed_local":null,"preprocessed_next":null,"quotient_chunks":[[[12288,0,0,0],[0,0,0,0],[0,0,0,0],[0,0,0,0]]],"random":null,"trace_local":[[4,0,0,0]],"trace_next":[[7,0,0,0]]},"opening_proof":6144}
 proof | {"commitments":{"quotient_chunks":2,"random":3,"trace":1},"degree_bits":18446744073709551615,"ood_pow_witness":12288,"opened_values":{"preprocessed_local":null,"preprocessed_next":null,"quotient_chunks":[],"random":null,"trace_local":[],"trace_next":null},"opening_proof":4} => {"commitments":{"quotient_chunks":2,"random":3,"trace":1},"degree_bits":18446744073709551615,"ood_pow_witness":12288,"opened_values":{"preprocessed_local":null,"preprocessed_next":null,"quotient_chunks":[],"random":null,"trace_local":[],"trace_next":null},"opening_proof":4}
+proof | {"alpha_pow_witness":7,"commitments":{"quotient_chunks":12288,"random":null,"trace":6150},"degree_bits":1,"ood_pow_witness":0,"opened_values":{"preprocessed_local":null,"preprocessed_next":null,"quotient_chunks":[[[12288,0,0,0],[0,0,0,0],[0,0,0,0],[0,0,0,0]]],"random":null,"trace_local":[[4,0,0,0]],"trace_next":[[7,0,0,0]]},"opening_proof":6144} => {"alpha_pow_witness":7,"commitments":{"quotient_chunks":12288,"random":null,"trace":6150},"degree_bits":1,"ood_pow_witness":0,"opened_values":{"preprocessed_local":null,"preprocessed_next":null,"quotient_chunks":[[[12288,0,0,0],[0,0,0,0],[0,0,0,0],[0,0,0,0]]],"random":null,"trace_local":[[4,0,0,0]],"trace_next":[[7,0,0,0]]},"opening_proof":6144}
+proof | {"alpha_pow_witness":0,"commitments":{"quotient_chunks":12288,"random":null,"trace":6150},"degree_bits":1,"ood_pow_witness":0,"opened_values":{"preprocessed_local":null,"preprocessed_next":null,"quotient_chunks":[[[12288,0,0,0],[0,0,0,0],[0,0,0,0],[0,0,0,0]]],"random":null,"trace_local":[[4,0,0,0]],"trace_next":[[7,0,0,0]]},"opening_proof":6144} => {"commitments":{"quotient_chunks":12288,"random":null,"trace":6150},"degree_bits":1,"ood_pow_witness":0,"opened_values":{"preprocessed_local":null,"preprocessed_next":null,"quotient_chunks":[[[12288,0,0,0],[0,0,0,0],[0,0,0,0],[0,0,0,0]]],"random":null,"trace_local":[[4,0,0,0]],"trace_next":[[7,0,0,0]]},"opening_proof":6144}
+proof | {"alpha_pow_witness":null,"commitments":{"quotient_chunks":12288,"random":null,"trace":6150},"degree_bits":1,"ood_pow_witness":0,"opened_values":{"preprocessed_local":null,"preprocessed_next":null,"quotient_chunks":[[[12288,0,0,0],[0,0,0,0],[0,0,0,0],[0,0,0,0]]],"random":null,"trace_local":[[4,0,0,0]],"trace_next":[[7,0,0,0]]},"opening_proof":6144} => {"commitments":{"quotient_chunks":12288,"random":null,"trace":6150},"degree_bits":1,"ood_pow_witness":0,"opened_values":{"preprocessed_local":null,"preprocessed_next":null,"quotient_chunks":[[[12288,0,0,0],[0,0,0,0],[0,0,0,0],[0,0,0,0]]],"random":null,"trace_local":[[4,0,0,0]],"trace_next":[[7,0,0,0]]},"opening_proof":6144}
 proof | [] => WrongKind { field: "" }
 proof | {} => MissingField { field: "commitments" }
 proof | {"commitments":1} => WrongKind { field: "commitments" }
@@ -71,6 +75,9 @@ proof | {"commitments":{"quotient_chunks":2,"trace":1},"opened_values":{"quotien
 proof | {"commitments":{"quotient_chunks":2,"trace":1},"opened_values":{"quotient_chunks":[],"trace_local":[]},"opening_proof":1,"degree_bits":null} => WrongKind { field: "degree_bits" }
 proof | {"commitments":{"quotient_chunks":2,"trace":1},"opened_values":{"quotient_chunks":[],"trace_local":[]},"opening_proof":1,"degree_bits":1} => MissingField { field: "ood_pow_witness" }
 proof | {"commitments":{"quotient_chunks":2,"trace":1},"opened_values":{"quotient_chunks":[],"trace_local":[]},"opening_proof":1,"degree_bits":1,"ood_pow_witness":12289} => Element { field: "ood_pow_witness" }
+proof | {"commitments":{"quotient_chunks":2,"trace":1},"opened_values":{"quotient_chunks":[],"trace_local":[]},"opening_proof":1,"degree_bits":1,"ood_pow_witness":12289,"alpha_pow_witness":12289} => Element { field: "ood_pow_witness" }
+proof | {"commitments":{"quotient_chunks":2,"trace":1},"opened_values":{"quotient_chunks":[],"trace_local":[]},"opening_proof":1,"degree_bits":1,"ood_pow_witness":1,"alpha_pow_witness":12289} => Element { field: "alpha_pow_witness" }
+proof | {"commitments":{"quotient_chunks":2,"trace":1},"opened_values":{"quotient_chunks":[],"trace_local":[]},"opening_proof":1,"degree_bits":1,"ood_pow_witness":1,"alpha_pow_witness":[]} => Element { field: "alpha_pow_witness" }
 proof | {"commitments":{"quotient_chunks":2,"trace":1},"opened_values":{"preprocessed_next":[],"quotient_chunks":[],"trace_local":[]}} => Openings(NextWithoutCurrent)
 proof | {"commitments":{"quotient_chunks":2,"trace":1},"opened_values":1} => Openings(WrongKind { field: "" })
 
@@ -92,7 +99,7 @@ height | none | 64 0 0 100 => Err(DegreeBitsTooLarge { air: None, maximum: 63, g
 /// The answer to a row of these tables.
 pub fn answer<F, EF>(alloc: Global, row: &str) -> Result<String, Fail>
 where
-    F: NeverNull + Debug + Drop,
+    F: Field + NeverNull + Debug,
     EF: JsonCodec + Drop,
 {
     let (table, text) = apart(row)?;
@@ -131,7 +138,7 @@ fn commitments<F: NeverNull + Drop>(alloc: Global, text: &str) -> Result<String,
 
 fn proof<F, EF>(alloc: Global, text: &str) -> Result<String, Fail>
 where
-    F: NeverNull + Drop,
+    F: Field + NeverNull,
     EF: JsonCodec + Drop,
 {
     let value = value_of(alloc, text)?;

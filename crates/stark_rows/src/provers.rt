@@ -1,6 +1,6 @@
 //! Proofs that are made of a trace, and what the verifier answers of them. A row gives the challenger | a table's name | the scheme, with
-//! its masks and the call at which it stops | the bits of work | an AIR | the logarithm of the height, where it is read | the
-//! trace, row after row | the public values.
+//! its masks and the call at which it stops | the bits of work before zeta, and those before alpha where there are any | an AIR | the
+//! logarithm of the height, where it is read | the trace, row after row | the public values.
 ghost use Rattle.std.specs.Prelude.{ℕ};
 ghost use Rattle.stark_protocol.specs.Preprocessing.{HasHeight};
 
@@ -37,6 +37,12 @@ script 4 0 0 0 3 0 0 0 | made | clear | 0 | counter | 0 | 5 | 5 => {"commitments
 script 4 0 0 0 3 0 0 0 | made | clear | 1 | counter | 1 | 5 6 | 5 => {"commitments":{"quotient_chunks":[[[12288,0],[0,0],[0,0],[0,0]]],"random":null,"trace":[[[6150,6144]]]},"degree_bits":1,"ood_pow_witness":1,"opened_values":{"preprocessed_local":null,"preprocessed_next":null,"quotient_chunks":[[[12288,0,0,0],[0,0,0,0],[0,0,0,0],[0,0,0,0]]],"random":null,"trace_local":[[4,0,0,0]],"trace_next":[[7,0,0,0]]},"opening_proof":null} Ok(())
 script 4 0 0 0 3 0 0 0 | made | clear | 13 | counter | 1 | 5 6 | 5 => {"commitments":{"quotient_chunks":[[[12288,0],[0,0],[0,0],[0,0]]],"random":null,"trace":[[[6150,6144]]]},"degree_bits":1,"ood_pow_witness":8191,"opened_values":{"preprocessed_local":null,"preprocessed_next":null,"quotient_chunks":[[[12288,0,0,0],[0,0,0,0],[0,0,0,0],[0,0,0,0]]],"random":null,"trace_local":[[4,0,0,0]],"trace_next":[[7,0,0,0]]},"opening_proof":null} Ok(())
 script 4 0 0 0 3 0 0 0 | made | clear | 14 | counter | 1 | 5 6 | 5 => GrindExhausted { bits: 14 }
+# With work before alpha, of which the second number of bits is.
+script 4 0 0 0 3 0 0 0 | made | clear | 0 3 | counter | 1 | 5 6 | 5 => {"alpha_pow_witness":7,"commitments":{"quotient_chunks":[[[12288,0],[0,0],[0,0],[0,0]]],"random":null,"trace":[[[6150,6144]]]},"degree_bits":1,"ood_pow_witness":0,"opened_values":{"preprocessed_local":null,"preprocessed_next":null,"quotient_chunks":[[[12288,0,0,0],[0,0,0,0],[0,0,0,0],[0,0,0,0]]],"random":null,"trace_local":[[4,0,0,0]],"trace_next":[[7,0,0,0]]},"opening_proof":null} Ok(())
+script 4 0 0 0 3 0 0 0 | made | clear | 13 1 | counter | 1 | 5 6 | 5 => {"alpha_pow_witness":1,"commitments":{"quotient_chunks":[[[12288,0],[0,0],[0,0],[0,0]]],"random":null,"trace":[[[6150,6144]]]},"degree_bits":1,"ood_pow_witness":8191,"opened_values":{"preprocessed_local":null,"preprocessed_next":null,"quotient_chunks":[[[12288,0,0,0],[0,0,0,0],[0,0,0,0],[0,0,0,0]]],"random":null,"trace_local":[[4,0,0,0]],"trace_next":[[7,0,0,0]]},"opening_proof":null} Ok(())
+script 4 0 0 0 3 0 0 0 | made | clear | 1 14 | counter | 1 | 5 6 | 5 => GrindExhausted { bits: 14 }
+script 4 0 0 0 3 0 0 0 | made | clear | 14 1 | counter | 1 | 5 6 | 5 => GrindExhausted { bits: 14 }
+script 4 0 0 0 3 0 0 0 | made | clear | 14 15 | counter | 1 | 5 6 | 5 => GrindExhausted { bits: 15 }
 script 4 0 0 0 3 0 0 0 | made | clear | 0 | first row | 1 | 0 0 | empty => {"commitments":{"quotient_chunks":[[[0,7271],[0,0],[0,0],[0,0]]],"random":null,"trace":[[[0,0]]]},"degree_bits":1,"ood_pow_witness":0,"opened_values":{"preprocessed_local":null,"preprocessed_next":null,"quotient_chunks":[[[9524,0,0,0],[0,0,0,0],[0,0,0,0],[0,0,0,0]]],"random":null,"trace_local":[[0,0,0,0]],"trace_next":null},"opening_proof":null} Err(OodEvaluationMismatch { index: None })
 script 4 0 0 0 3 0 0 0 | made | clear | 0 | first row | 0 | 0 | empty => {"commitments":{"quotient_chunks":[[[0],[0],[0],[0]]],"random":null,"trace":[[[0]]]},"degree_bits":0,"ood_pow_witness":0,"opened_values":{"preprocessed_local":null,"preprocessed_next":null,"quotient_chunks":[[[0,0,0,0],[0,0,0,0],[0,0,0,0],[0,0,0,0]]],"random":null,"trace_local":[[0,0,0,0]],"trace_next":null},"opening_proof":null} Ok(())
 script 4 0 0 0 3 0 0 0 | made | clear | 0 | 3 | 1 | 5 6 | 5 => {"commitments":{"quotient_chunks":[[[12288,0],[0,0],[0,0],[0,0]],[[12288,0],[0,0],[0,0],[0,0]]],"random":null,"trace":[[[6150,6144]]]},"degree_bits":1,"ood_pow_witness":0,"opened_values":{"preprocessed_local":null,"preprocessed_next":null,"quotient_chunks":[[[12288,0,0,0],[0,0,0,0],[0,0,0,0],[0,0,0,0]],[[12288,0,0,0],[0,0,0,0],[0,0,0,0],[0,0,0,0]]],"random":null,"trace_local":[[4,0,0,0]],"trace_next":[[7,0,0,0]]},"opening_proof":null} Ok(())
@@ -46,6 +52,10 @@ script 4 0 0 0 3 0 0 0 | made | clear | 0 | 9223372036854775809 | 1 | 5 6 | 5 =>
 script 4 0 0 0 3 0 0 0 | made | masked by 1 | 0 | counter | 1 | 5 6 | 5 => {"commitments":{"quotient_chunks":[[[244,5,1625,1625],[12288,12288,1625,1625],[12288,12288,1625,1625],[12288,12288,1625,1625]],[[1539,5,5269,5269],[12288,12288,5269,5269],[12288,12288,5269,5269],[12288,12288,5269,5269]],[[12049,5,10664,10664],[12288,12288,10664,10664],[12288,12288,10664,10664],[12288,12288,10664,10664]],[[10758,9,3518,3518],[3,3,3518,3518],[3,3,3518,3518],[3,3,3518,3518]]],"random":[[[1,1,1,1],[1,1,1,1],[1,1,1,1],[1,1,1,1]]],"trace":[[[6149,6143,1,1]]]},"degree_bits":2,"ood_pow_witness":0,"opened_values":{"preprocessed_local":null,"preprocessed_next":null,"quotient_chunks":[[[9603,0,0,0],[9340,0,0,0],[9340,0,0,0],[9340,0,0,0]],[[6903,0,0,0],[5345,0,0,0],[5345,0,0,0],[5345,0,0,0]],[[2720,0,0,0],[2941,0,0,0],[2941,0,0,0],[2941,0,0,0]],[[2254,0,0,0],[3770,0,0,0],[3770,0,0,0],[3770,0,0,0]]],"random":[[40,0,0,0],[40,0,0,0],[40,0,0,0],[40,0,0,0]],"trace_local":[[36,0,0,0]],"trace_next":[[12280,0,0,0]]},"opening_proof":null} Ok(())
 script 4 0 0 0 3 0 0 0 | made | masked by 1 2 3 | 0 | fibonacci | 2 | 1 1 1 2 2 3 3 5 | 1 1 5 => accepted
 script 4 0 0 0 3 0 0 0 | made | masked by 1 2 3 | 0 | cubic | 1 | 0 0 | empty => accepted
+
+# By hashing, with both works.
+sha256 | made | clear | 2 3 | counter | 3 | 5 6 7 8 9 10 11 12 | 5 => accepted
+sha256 | made | masked by 1 2 3 | 2 3 | fibonacci | 2 | 1 1 1 2 2 3 3 5 | 1 1 5 => accepted
 "#;
 
 // Satisfying traces of one, two, four and eight rows; the periodic column has two, the preprocessed one four. At these heights
@@ -82,16 +92,23 @@ script 4 0 0 0 3 0 0 0 | changed | "random":[[40,0,0,0],[40,0,0,0],[40,0,0,0],[4
 script 4 0 0 0 3 0 0 0 | changed | "random":[[[1,1,1,1],[1,1,1,1],[1,1,1,1],[1,1,1,1]]] | "random":null => Err(RandomizationError)
 
 # What prover and verifier answer where the scheme stops at one of its calls, in the order preprocessing, trace, quotient,
-# randomization, opening. At zeta 1, a point of H, nothing is verified.
+# randomization, opening; the work before alpha stands behind the trace, that before zeta behind the randomization. At zeta 1, a point
+# of H, nothing is verified.
 script 4 0 0 0 3 0 0 0 | stopped | clear stopping at CommitPreprocessing | 0 | preprocessed | 1 2 3 4 | empty => Pcs { phase: "preprocessing commitment", source: Stopped }
 script 4 0 0 0 3 0 0 0 | stopped | clear stopping at Commit | 0 | counter | 1 | 5 6 | 5 => Pcs { phase: "trace commitment", source: Stopped }
 script 4 0 0 0 3 0 0 0 | stopped | clear stopping at CommitQuotient | 0 | counter | 1 | 5 6 | 5 => Pcs { phase: "quotient commitment", source: Stopped }
+script 4 0 0 0 3 0 0 0 | stopped | clear stopping at Commit | 0 14 | counter | 1 | 5 6 | 5 => Pcs { phase: "trace commitment", source: Stopped }
+script 4 0 0 0 3 0 0 0 | stopped | clear stopping at CommitQuotient | 0 14 | counter | 1 | 5 6 | 5 => GrindExhausted { bits: 14 }
+script 4 0 0 0 3 0 0 0 | stopped | clear stopping at CommitQuotient | 14 3 | counter | 1 | 5 6 | 5 => Pcs { phase: "quotient commitment", source: Stopped }
+script 4 0 0 0 3 0 0 0 | stopped | clear stopping at Open | 14 3 | counter | 1 | 5 6 | 5 => GrindExhausted { bits: 14 }
 script 4 0 0 0 3 0 0 0 | stopped | clear stopping at Open | 0 | counter | 1 | 5 6 | 5 => Pcs { phase: "opening", source: Stopped }
 script 4 0 0 0 3 0 0 0 | stopped | clear stopping at Verify | 0 | counter | 1 | 5 6 | 5 => Err(InvalidOpeningArgument(Stopped))
 script 4 0 0 0 1 0 0 0 | stopped | clear stopping at Verify | 0 | counter | 1 | 5 6 | 5 => Err(OodPointInDomain)
 script 4 0 0 0 3 0 0 0 | stopped | masked by 1 stopping at CommitPreprocessing | 0 | preprocessed | 1 2 3 4 | empty => Pcs { phase: "preprocessing commitment", source: Stopped }
 script 4 0 0 0 3 0 0 0 | stopped | masked by 1 stopping at Commit | 0 | counter | 1 | 5 6 | 5 => Pcs { phase: "trace commitment", source: Stopped }
 script 4 0 0 0 3 0 0 0 | stopped | masked by 1 stopping at CommitQuotient | 0 | counter | 1 | 5 6 | 5 => Pcs { phase: "quotient commitment", source: Stopped }
+script 4 0 0 0 3 0 0 0 | stopped | masked by 1 stopping at CommitQuotient | 0 14 | counter | 1 | 5 6 | 5 => GrindExhausted { bits: 14 }
+script 4 0 0 0 3 0 0 0 | stopped | masked by 1 stopping at Randomization | 14 3 | counter | 1 | 5 6 | 5 => Pcs { phase: "randomization commitment", source: Stopped }
 script 4 0 0 0 3 0 0 0 | stopped | masked by 1 stopping at Randomization | 0 | counter | 1 | 5 6 | 5 => Pcs { phase: "randomization commitment", source: Stopped }
 script 4 0 0 0 3 0 0 0 | stopped | masked by 1 stopping at Open | 0 | counter | 1 | 5 6 | 5 => Pcs { phase: "opening", source: Stopped }
 script 4 0 0 0 3 0 0 0 | stopped | masked by 1 stopping at Verify | 0 | counter | 1 | 5 6 | 5 => Err(InvalidOpeningArgument(Stopped))
@@ -110,7 +127,7 @@ const MASKED_PROOF: &str =
 /// The answer to a row of these tables.
 pub fn answer<F, EF, C>(alloc: Global, challenger: C, row: &str) -> Result<String, Fail>
 where
-    F: PrimeField64 + TwoAdicField + PackedField + JsonCodec,
+    F: PrimeField64 + TwoAdicField + PackedField + NeverNull,
     EF: PackedExtensionField<F> + JsonCodec,
     C: FieldChallenger<F>
         + CanObserve<ClearCommitment<F>>
@@ -154,7 +171,7 @@ where
     SC: StarkGenericConfig,
     SC::Challenge: PackedExtensionField<Val<SC>> + JsonCodec,
     SC::Challenger: GrindingChallenger<Witness = Val<SC>>,
-    Val<SC>: PackedField + JsonCodec,
+    Val<SC>: PackedField + NeverNull,
     Com<SC>: NeverNull,
     PcsProof<SC>: JsonCodec,
     PcsError<SC>: Debug,
@@ -175,7 +192,7 @@ where
     SC: StarkGenericConfig,
     SC::Challenge: PackedExtensionField<Val<SC>> + JsonCodec,
     SC::Challenger: GrindingChallenger<Witness = Val<SC>>,
-    Val<SC>: PackedField + JsonCodec,
+    Val<SC>: PackedField + NeverNull,
     Com<SC>: NeverNull,
     PcsProof<SC>: JsonCodec,
     PcsError<SC>: Debug,
@@ -195,7 +212,7 @@ where
     SC: StarkGenericConfig,
     SC::Challenge: PackedExtensionField<Val<SC>> + JsonCodec,
     SC::Challenger: GrindingChallenger<Witness = Val<SC>>,
-    Val<SC>: PackedField + JsonCodec,
+    Val<SC>: PackedField + NeverNull,
     Com<SC>: NeverNull,
     PcsProof<SC>: JsonCodec,
     PcsError<SC>: Debug,
@@ -240,6 +257,15 @@ fn scheme_in(text: &str) -> Result<(&str, Option<ClearCall>), Fail> {
     }
 }
 
+/// The bits of work before zeta and before alpha; none are asked for before alpha where there is one number.
+fn bits_in(text: &str) -> Result<[usize; 2], Fail> {
+    if text.split_once(' ').is_some() {
+        return Ok(numbers_in::<2>(text)?.map(|number| number as usize));
+    }
+    let [bits] = numbers_in::<1>(text)?;
+    Ok([bits as usize, 0])
+}
+
 /// The text of a named AIR's proof and the verifier's answer, with the scheme in the clear: the bits of work | the AIR and its trace.
 fn clear_text<F, EF, C>(
     alloc: Global,
@@ -248,7 +274,7 @@ fn clear_text<F, EF, C>(
     text: &str,
 ) -> Result<String, Fail>
 where
-    F: PrimeField64 + TwoAdicField + PackedField + JsonCodec,
+    F: PrimeField64 + TwoAdicField + PackedField + NeverNull,
     EF: PackedExtensionField<F> + JsonCodec,
     C: FieldChallenger<F>
         + CanObserve<ClearCommitment<F>>
@@ -257,12 +283,13 @@ where
         + Clone,
 {
     let (bits, rest) = apart(text)?;
-    let [bits] = numbers_in::<1>(bits)?;
+    let [ood_bits, alpha_bits] = bits_in(bits)?;
     let scheme = match call {
         Some(call) => ClearPcs::stopping_at(call),
         None => ClearPcs::new(),
     };
-    let config = StarkConfig::new(scheme, challenger).with_ood_proof_of_work_bits(bits as usize);
+    let config = StarkConfig::new(scheme, challenger).with_ood_proof_of_work_bits(ood_bits);
+    let config = config.with_constraint_proof_of_work_bits(alpha_bits);
     text_by_name::<ClearConfig<F, EF, C>>(alloc, &config, rest)
 }
 
@@ -275,7 +302,7 @@ fn masked_text<F, EF, C>(
     text: &str,
 ) -> Result<String, Fail>
 where
-    F: PrimeField64 + TwoAdicField + PackedField + JsonCodec,
+    F: PrimeField64 + TwoAdicField + PackedField + NeverNull,
     EF: PackedExtensionField<F> + JsonCodec,
     C: FieldChallenger<F>
         + CanObserve<ClearCommitment<F>>
@@ -284,7 +311,7 @@ where
         + Clone,
 {
     let (bits, rest) = apart(text)?;
-    let [bits] = numbers_in::<1>(bits)?;
+    let [ood_bits, alpha_bits] = bits_in(bits)?;
     let masks = elements_in::<F>(alloc, masks)?;
     if masks.is_empty() {
         return Err(Fail::new("no masks"));
@@ -293,14 +320,15 @@ where
         Some(call) => MaskedClearPcs::stopping_at(masks, call),
         None => MaskedClearPcs::new(masks),
     };
-    let config = StarkConfig::new(scheme, challenger).with_ood_proof_of_work_bits(bits as usize);
+    let config = StarkConfig::new(scheme, challenger).with_ood_proof_of_work_bits(ood_bits);
+    let config = config.with_constraint_proof_of_work_bits(alpha_bits);
     text_by_name::<MaskedConfig<F, EF, C>>(alloc, &config, rest)
 }
 
 /// The text of a named AIR's proof and the verifier's answer, or the prover's error: the scheme | the rest of a row.
 fn made<F, EF, C>(alloc: Global, challenger: C, text: &str) -> Result<String, Fail>
 where
-    F: PrimeField64 + TwoAdicField + PackedField + JsonCodec,
+    F: PrimeField64 + TwoAdicField + PackedField + NeverNull,
     EF: PackedExtensionField<F> + JsonCodec,
     C: FieldChallenger<F>
         + CanObserve<ClearCommitment<F>>
@@ -319,7 +347,7 @@ where
 /// The prover's error, or of a proof the verifier's answer alone, which stands behind the JSON.
 fn stopped<F, EF, C>(alloc: Global, challenger: C, text: &str) -> Result<String, Fail>
 where
-    F: PrimeField64 + TwoAdicField + PackedField + JsonCodec,
+    F: PrimeField64 + TwoAdicField + PackedField + NeverNull,
     EF: PackedExtensionField<F> + JsonCodec,
     C: FieldChallenger<F>
         + CanObserve<ClearCommitment<F>>
@@ -337,7 +365,7 @@ where
 /// Whether the whole text is that of the scheme which stops nowhere: the scheme | the call at which it stops | the rest of a row.
 fn not_made<F, EF, C>(alloc: Global, challenger: C, text: &str) -> Result<String, Fail>
 where
-    F: PrimeField64 + TwoAdicField + PackedField + JsonCodec,
+    F: PrimeField64 + TwoAdicField + PackedField + NeverNull,
     EF: PackedExtensionField<F> + JsonCodec,
     C: FieldChallenger<F>
         + CanObserve<ClearCommitment<F>>
@@ -360,7 +388,7 @@ where
 /// What the verifier answers of the masked counter's proof with a part of it changed.
 fn changed<F, EF, C>(alloc: Global, challenger: C, text: &str) -> Result<String, Fail>
 where
-    F: PrimeField64 + TwoAdicField + PackedField + JsonCodec,
+    F: PrimeField64 + TwoAdicField + PackedField + NeverNull,
     EF: PackedExtensionField<F> + JsonCodec,
     C: FieldChallenger<F>
         + CanObserve<ClearCommitment<F>>

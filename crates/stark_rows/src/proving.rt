@@ -17,7 +17,7 @@ use stark_parts::{
 };
 use stark_protocol::{PcsProverData, power_of_two};
 use stark_support::{
-    CanObserve, ExtensionChallenger, ExtensionField, FieldChallenger, GrindingChallenger,
+    CanObserve, ExtensionChallenger, ExtensionField, Field, FieldChallenger, GrindingChallenger,
     JsonCodec, NeverNull, PackedExtensionField, PackedField, PrimeField64, RowMajorMatrix,
     TwoAdicField, UnivariateStarkPcs, value_from_bytes,
 };
@@ -85,7 +85,7 @@ where
 }
 
 /// A proof's JSON.
-fn json_of<K: NeverNull + Drop, EF: JsonCodec + Drop, P: JsonCodec + Drop, F: JsonCodec + Drop>(
+fn json_of<K: NeverNull + Drop, EF: JsonCodec + Drop, P: JsonCodec + Drop, F: Field + NeverNull>(
     alloc: Global,
     proof: &Proof<K, EF, P, F>,
 ) -> Result<String, AllocError> {
@@ -100,7 +100,7 @@ fn text_of_verified<SC: StarkGenericConfig>(
 ) -> Result<String, AllocError>
 where
     SC::Challenge: JsonCodec,
-    Val<SC>: JsonCodec,
+    Val<SC>: NeverNull,
     Com<SC>: NeverNull,
     PcsProof<SC>: JsonCodec,
     PcsError<SC>: Debug,
@@ -123,7 +123,7 @@ where
     SC: StarkGenericConfig,
     SC::Challenge: PackedExtensionField<Val<SC>> + JsonCodec,
     SC::Challenger: GrindingChallenger<Witness = Val<SC>>,
-    Val<SC>: PackedField + JsonCodec,
+    Val<SC>: PackedField + NeverNull,
     Com<SC>: NeverNull,
     PcsProof<SC>: JsonCodec,
     PcsError<SC>: Debug,
@@ -162,7 +162,7 @@ where
 }
 
 /// The proof of a text; none where it is no proof.
-fn proof_in<K: NeverNull + Drop, EF: JsonCodec + Drop, P: JsonCodec + Drop, F: JsonCodec + Drop>(
+fn proof_in<K: NeverNull + Drop, EF: JsonCodec + Drop, P: JsonCodec + Drop, F: Field + NeverNull>(
     alloc: Global,
     text: &str,
 ) -> Option<Proof<K, EF, P, F>> {
@@ -182,7 +182,7 @@ where
     SC: StarkGenericConfig,
     SC::Challenger: GrindingChallenger<Witness = Val<SC>>,
     SC::Challenge: JsonCodec,
-    Val<SC>: JsonCodec,
+    Val<SC>: NeverNull,
     Com<SC>: NeverNull,
     PcsProof<SC>: JsonCodec,
     PcsError<SC>: Debug,
@@ -206,7 +206,7 @@ pub fn masked_reread<F, EF, C, A>(
     publics: &[F],
 ) -> Result<Option<String>, AllocError>
 where
-    F: TwoAdicField + PrimeField64 + JsonCodec,
+    F: TwoAdicField + PrimeField64 + NeverNull,
     EF: ExtensionField<F> + JsonCodec,
     C: FieldChallenger<F>
         + CanObserve<ClearCommitment<F>>

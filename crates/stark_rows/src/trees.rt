@@ -123,7 +123,7 @@ preprocessed => {"constants":[],"constraints":[{"base":2}],"nodes":[["main",0],[
 /// The answer to a row of these tables.
 pub fn answer<F, EF, C>(alloc: Global, challenger: C, row: &str) -> Result<String, Fail>
 where
-    F: PrimeField64 + TwoAdicField + PackedField + JsonCodec,
+    F: PrimeField64 + TwoAdicField + PackedField + NeverNull,
     EF: PackedExtensionField<F> + JsonCodec + Debug,
     C: FieldChallenger<F>
         + CanObserve<ClearCommitment<F>>
@@ -407,7 +407,7 @@ where
     SC: StarkGenericConfig,
     SC::Challenge: PackedExtensionField<Val<SC>> + JsonCodec,
     SC::Challenger: GrindingChallenger<Witness = Val<SC>>,
-    Val<SC>: PackedField + JsonCodec,
+    Val<SC>: PackedField + NeverNull,
     Com<SC>: NeverNull,
     PcsProof<SC>: JsonCodec,
     PcsError<SC>: Debug,
@@ -439,7 +439,7 @@ where
     SC: StarkGenericConfig,
     SC::Challenge: PackedExtensionField<Val<SC>> + JsonCodec,
     SC::Challenger: GrindingChallenger<Witness = Val<SC>>,
-    Val<SC>: PackedField + JsonCodec,
+    Val<SC>: PackedField + NeverNull,
     Com<SC>: NeverNull,
     PcsProof<SC>: JsonCodec,
     PcsError<SC>: Debug,
@@ -465,7 +465,7 @@ where
     SC: StarkGenericConfig,
     SC::Challenge: PackedExtensionField<Val<SC>> + JsonCodec,
     SC::Challenger: GrindingChallenger<Witness = Val<SC>>,
-    Val<SC>: PackedField + JsonCodec,
+    Val<SC>: PackedField + NeverNull,
     Com<SC>: NeverNull,
     PcsProof<SC>: JsonCodec,
     PcsError<SC>: Debug,

@@ -263,6 +263,7 @@ where
         opening_proof: ClearProof,
         degree_bits: degree_bits as usize,
         ood_pow_witness: element(witness),
+        alpha_pow_witness: element(0),
     };
     let publics = elements_in::<F>(alloc, publics)?;
     let key = key_in::<F>(alloc, key)?;

@@ -3,3 +3,4 @@ pub mod DegreeBound
 pub mod BadValues
 pub mod ErrorBound
 pub mod Openings
+pub mod SameLeaves

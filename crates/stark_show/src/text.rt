@@ -92,7 +92,7 @@ fn log_chunks<F: Field>(
     get_log_num_quotient_chunks(alloc, air, layout, log_height, 0)
 }
 
-/// The number of chunks of which the logarithm is given.
+/// Two to a power: a number of chunks of its logarithm.
 fn chunk_count(log: usize) -> u128
     requires { log ≤ 64 }
     ensures { result ≡ 2 ^ log }

@@ -82,6 +82,7 @@ pub record ShapeNumbers : Type 0 where
   pub opens_preprocessed_next_row : Bool
   pub has_randomization : Bool
   pub ood_pow_bits : ℕ
+  pub constraint_pow_bits : ℕ
 
 -- Each number is below 2 ^ 64.
 pub record IsBounded (n : ShapeNumbers) : Type 0 where
@@ -93,6 +94,7 @@ pub record IsBounded (n : ShapeNumbers) : Type 0 where
   pub num_periodic_columns : n.num_periodic_columns < 2 ^ 64
   pub num_quotient_chunks : n.num_quotient_chunks < 2 ^ 64
   pub ood_pow_bits : n.ood_pow_bits < 2 ^ 64
+  pub constraint_pow_bits : n.constraint_pow_bits < 2 ^ 64
 
 -- A flag as a number.
 abbrev pub flag : Bool → ℕ
@@ -127,14 +129,15 @@ shape_steps base extension n =
     message (codes "trace_commitment")
     ∷ step_if (ltb 0 n.preprocessed_width) (message (codes "preprocessed_commitment"))
     (elements Public (codes "public_values") (Fixed n.num_public_values) base
-    ∷ elements Challenge (codes "alpha") Scalar extension
+    ∷ step_if (ltb 0 n.constraint_pow_bits) (elements Pow (codes "alpha_pow") (Fixed n.constraint_pow_bits) base)
+    (elements Challenge (codes "alpha") Scalar extension
     ∷ message (codes "quotient_commitment")
     ∷ step_if n.has_randomization (message (codes "random_commitment"))
     (step_if (ltb 0 n.ood_pow_bits) (elements Pow (codes "ood_pow") (Fixed n.ood_pow_bits) base)
     (elements Challenge (codes "zeta") Scalar extension
     ∷ marker Begin (codes "opening_argument")
     ∷ marker End (codes "opening_argument")
-    ∷ [])))
+    ∷ []))))
 
 -- The numbers that the steps don't have.
 abbrev pub shape_items : ShapeNumbers → List ℕ
@@ -144,3 +147,24 @@ shape_items n =
 
 unfoldable pub shape_seed : ℕ → ℕ → ShapeNumbers → List ℕ
 shape_seed base extension n = seed_of (codes "p3-uni-stark") (shape_steps base extension n) (shape_items n)
+
+-- ---- without a grind before alpha
+
+-- The steps as they are without a grind before alpha: those of eleven numbers.
+abbrev pub plain_steps : ℕ → ℕ → ShapeNumbers → List Step
+plain_steps base extension n =
+    message (codes "trace_commitment")
+    ∷ step_if (ltb 0 n.preprocessed_width) (message (codes "preprocessed_commitment"))
+    (elements Public (codes "public_values") (Fixed n.num_public_values) base
+    ∷ elements Challenge (codes "alpha") Scalar extension
+    ∷ message (codes "quotient_commitment")
+    ∷ step_if n.has_randomization (message (codes "random_commitment"))
+    (step_if (ltb 0 n.ood_pow_bits) (elements Pow (codes "ood_pow") (Fixed n.ood_pow_bits) base)
+    (elements Challenge (codes "zeta") Scalar extension
+    ∷ marker Begin (codes "opening_argument")
+    ∷ marker End (codes "opening_argument")
+    ∷ [])))
+
+-- The seed as it is without a grind before alpha.
+unfoldable pub plain_seed : ℕ → ℕ → ShapeNumbers → List ℕ
+plain_seed base extension n = seed_of (codes "p3-uni-stark") (plain_steps base extension n) (shape_items n)

@@ -10,7 +10,7 @@ use Rattle.stark_support.specs.declared.pattern.Kind.{Kind}
 use Rattle.stark_support.specs.declared.pattern.Kind.TheVariants.{Message, Public, Challenge, Pow, Protocol}
 use Rattle.stark_support.specs.declared.pattern.Length.{Length}
 use Rattle.stark_support.specs.declared.pattern.Length.TheVariants.{Scalar, Fixed, Nothing}
-use Rattle.stark_support.specs.Seed.{Step, number, hierarchy_byte, kind_byte, length_tag, length_number, message, elements, marker, step_bytes, steps_bytes, items_bytes, seed_of, ShapeNumbers, IsBounded, flag, step_if, shape_steps, shape_items, shape_seed}
+use Rattle.stark_support.specs.Seed.{Step, number, hierarchy_byte, kind_byte, length_tag, length_number, message, elements, marker, step_bytes, steps_bytes, items_bytes, seed_of, ShapeNumbers, IsBounded, flag, step_if, shape_steps, shape_items, shape_seed, plain_steps, plain_seed}
 
 -- ---- numbers
 
@@ -146,6 +146,11 @@ if_pow : Kind → ℕ → ℕ → ℕ
 if_pow Pow n rest = n
 if_pow _ n rest = rest
 
+-- A number where a challenge is drawn, another where not.
+if_challenge : Kind → ℕ → ℕ → ℕ
+if_challenge Challenge n rest = n
+if_challenge _ n rest = rest
+
 if_message : Kind → ℕ → ℕ
 if_message Message rest = suc rest
 if_message _ rest = rest
@@ -157,6 +162,15 @@ publics (d ∷ ds) = if_public d.kind (length_number d.length) (publics ds)
 pow_bits : List StepSays → ℕ
 pow_bits [] = 0
 pow_bits (d ∷ ds) = if_pow d.kind (length_number d.length) (pow_bits ds)
+
+-- The bits of the work before the first challenge, and of that after it.
+bits_before : List StepSays → ℕ
+bits_before [] = 0
+bits_before (d ∷ ds) = if_challenge d.kind 0 (if_pow d.kind (length_number d.length) (bits_before ds))
+
+bits_after : List StepSays → ℕ
+bits_after [] = 0
+bits_after (d ∷ ds) = if_challenge d.kind (pow_bits ds) (bits_after ds)
 
 messages : List StepSays → ℕ
 messages [] = 0
@@ -171,6 +185,16 @@ bits_past : (b : Bool) (label : List ℕ) (rest : List Step) → pow_bits (map s
 unfolding pow_bits if_pow said
 bits_past true label rest = refl
 bits_past false label rest = refl
+
+before_past : (b : Bool) (label : List ℕ) (rest : List Step) → bits_before (map said (step_if b (message label) rest)) ≡ bits_before (map said rest)
+unfolding bits_before if_pow if_challenge said
+before_past true label rest = refl
+before_past false label rest = refl
+
+after_past : (b : Bool) (label : List ℕ) (rest : List Step) → bits_after (map said (step_if b (message label) rest)) ≡ bits_after (map said rest)
+unfolding bits_after if_challenge said
+after_past true label rest = refl
+after_past false label rest = refl
 
 messages_past : (b : Bool) (label : List ℕ) (rest : List Step) → messages (map said (step_if b (message label) rest)) ≡ flag b + messages (map said rest)
 unfolding messages if_message said
@@ -191,6 +215,18 @@ bits_found : (b : Bool) (n : ℕ) (label : List ℕ) (degree : ℕ) (rest : List
 unfolding pow_bits if_pow said
 bits_found true n label degree rest h = refl
 bits_found false n label degree rest h = h
+
+before_found : (b : Bool) (n : ℕ) (label : List ℕ) (degree : ℕ) (rest : List Step) → bits_before (map said rest) ≡ 0 →
+    bits_before (map said (step_if b (elements Pow label (Fixed n) degree) rest)) ≡ cond b n 0
+unfolding bits_before if_pow if_challenge said
+before_found true n label degree rest h = refl
+before_found false n label degree rest h = h
+
+after_past_work : (b : Bool) (n : ℕ) (label : List ℕ) (degree : ℕ) (rest : List Step) →
+    bits_after (map said (step_if b (elements Pow label (Fixed n) degree) rest)) ≡ bits_after (map said rest)
+unfolding bits_after if_challenge said
+after_past_work true n label degree rest = refl
+after_past_work false n label degree rest = refl
 
 messages_past_work : (b : Bool) (n : ℕ) (label : List ℕ) (degree : ℕ) (rest : List Step) →
     messages (map said (step_if b (elements Pow label (Fixed n) degree) rest)) ≡ messages (map said rest)
@@ -241,15 +277,23 @@ module _ (base extension : ℕ) where
     from_random : List Step
     from_random = step_if n.has_randomization (message (codes "random_commitment")) from_work
 
-    from_publics : List Step
-    from_publics = elements Public (codes "public_values") (Fixed n.num_public_values) base
-        ∷ elements Challenge (codes "alpha") Scalar extension
+    from_alpha : List Step
+    from_alpha = elements Challenge (codes "alpha") Scalar extension
         ∷ message (codes "quotient_commitment")
         ∷ from_random
 
+    first_work : Step
+    first_work = elements Pow (codes "alpha_pow") (Fixed n.constraint_pow_bits) base
+
+    from_first_work : List Step
+    from_first_work = step_if (ltb 0 n.constraint_pow_bits) first_work from_alpha
+
+    from_publics : List Step
+    from_publics = elements Public (codes "public_values") (Fixed n.num_public_values) base ∷ from_first_work
+
     in_parts : shape_steps base extension n ≡ message (codes "trace_commitment")
         ∷ step_if (ltb 0 n.preprocessed_width) (message (codes "preprocessed_commitment")) from_publics
-    unfolding from_publics from_random from_work work last_steps
+    unfolding from_publics from_first_work first_work from_alpha from_random from_work work last_steps
     in_parts = refl
 
     few_last : length last_steps ≡ 3
@@ -264,11 +308,19 @@ module _ (base extension : ℕ) where
     unfolding from_random
     few_random = omega (arith, length_past n.has_randomization (message (codes "random_commitment")) from_work, few_work)
 
-    few_publics : length from_publics ≤ 8
-    unfolding from_publics
-    few_publics = omega (arith, few_random)
+    few_alpha : length from_alpha ≤ 7
+    unfolding from_alpha
+    few_alpha = omega (arith, few_random)
 
-    steps_are_few : length (shape_steps base extension n) ≤ 10
+    few_first_work : length from_first_work ≤ 8
+    unfolding from_first_work
+    few_first_work = omega (arith, length_past (ltb 0 n.constraint_pow_bits) first_work from_alpha, few_alpha)
+
+    few_publics : length from_publics ≤ 9
+    unfolding from_publics
+    few_publics = omega (arith, few_first_work)
+
+    steps_are_few : length (shape_steps base extension n) ≤ 11
     steps_are_few =
         let a : length (shape_steps base extension n) ≡ suc (length (step_if (ltb 0 n.preprocessed_width) (message (codes "preprocessed_commitment")) from_publics)) = ap length in_parts in
         omega (arith, a, length_past (ltb 0 n.preprocessed_width) (message (codes "preprocessed_commitment")) from_publics, few_publics)
@@ -282,9 +334,17 @@ module _ (base extension : ℕ) where
       unfolding from_random
       random_fits = fits_past n.has_randomization (message (codes "random_commitment")) from_work (record { label = lit< tt; values = lit< tt }) work_fits
 
+      alpha_fits : StepsFit from_alpha
+      unfolding from_alpha StepsFit
+      alpha_fits = (record { label = lit< tt; values = lit< tt }, (record { label = lit< tt; values = lit< tt }, random_fits))
+
+      first_work_fits : StepsFit from_first_work
+      unfolding from_first_work first_work
+      first_work_fits = fits_past (ltb 0 n.constraint_pow_bits) first_work from_alpha (record { label = lit< tt; values = fits.constraint_pow_bits }) alpha_fits
+
       publics_fit : StepsFit from_publics
       unfolding from_publics StepsFit
-      publics_fit = (record { label = lit< tt; values = fits.num_public_values }, (record { label = lit< tt; values = lit< tt }, (record { label = lit< tt; values = lit< tt }, random_fits)))
+      publics_fit = (record { label = lit< tt; values = fits.num_public_values }, first_work_fits)
 
       steps_fit : StepsFit (shape_steps base extension n)
       unfolding StepsFit
@@ -319,9 +379,16 @@ module _ (base extension : ℕ) where
     unfolding publics if_public said from_publics
     publics_is = ap (λ s. publics (map said s)) in_parts ∙ publics_past (ltb 0 n.preprocessed_width) (codes "preprocessed_commitment") from_publics
 
-    bits_is : pow_bits (map said (shape_steps base extension n)) ≡ n.ood_pow_bits
-    unfolding pow_bits if_pow said from_publics from_random from_work work
-    bits_is = ap (λ s. pow_bits (map said s)) in_parts ∙ bits_past (ltb 0 n.preprocessed_width) (codes "preprocessed_commitment") from_publics
+    bits_before_is : bits_before (map said (shape_steps base extension n)) ≡ n.constraint_pow_bits
+    unfolding bits_before if_pow if_challenge said from_publics from_first_work first_work from_alpha
+    bits_before_is = ap (λ s. bits_before (map said s)) in_parts ∙ before_past (ltb 0 n.preprocessed_width) (codes "preprocessed_commitment") from_publics
+        ∙ before_found (ltb 0 n.constraint_pow_bits) n.constraint_pow_bits (codes "alpha_pow") base from_alpha refl
+        ∙ if_positive n.constraint_pow_bits
+
+    bits_after_is : bits_after (map said (shape_steps base extension n)) ≡ n.ood_pow_bits
+    unfolding bits_after pow_bits if_pow if_challenge said from_publics from_first_work first_work from_alpha from_random from_work work
+    bits_after_is = ap (λ s. bits_after (map said s)) in_parts ∙ after_past (ltb 0 n.preprocessed_width) (codes "preprocessed_commitment") from_publics
+        ∙ after_past_work (ltb 0 n.constraint_pow_bits) n.constraint_pow_bits (codes "alpha_pow") base from_alpha
         ∙ bits_past n.has_randomization (codes "random_commitment") from_work ∙ bits_found (ltb 0 n.ood_pow_bits) n.ood_pow_bits (codes "ood_pow") base last_steps no_bits
         ∙ if_positive n.ood_pow_bits
 
@@ -332,9 +399,13 @@ module _ (base extension : ℕ) where
         let b = messages_past_work (ltb 0 n.ood_pow_bits) n.ood_pow_bits (codes "ood_pow") base last_steps in
         omega (arith, a, b, no_messages)
 
+    messages_from_alpha : messages (map said from_alpha) ≡ suc (flag n.has_randomization)
+    unfolding messages if_message said from_alpha
+    messages_from_alpha = ap (λ k. suc k) messages_from_random
+
     messages_from_publics : messages (map said from_publics) ≡ suc (flag n.has_randomization)
-    unfolding messages if_message said from_publics
-    messages_from_publics = ap (λ k. suc k) messages_from_random
+    unfolding messages if_message said from_publics from_first_work first_work
+    messages_from_publics = messages_past_work (ltb 0 n.constraint_pow_bits) n.constraint_pow_bits (codes "alpha_pow") base from_alpha ∙ messages_from_alpha
 
     messages_is : messages (map said (shape_steps base extension n)) ≡ suc (flag (ltb 0 n.preprocessed_width) + suc (flag n.has_randomization))
     unfolding messages if_message said
@@ -354,7 +425,8 @@ module _ (base extension : ℕ) where
         let main_row : flag n.opens_main_next_row ≡ flag m.opens_main_next_row = ap (λ s. get_or s 6 0) f in
         let preprocessed_row : flag n.opens_preprocessed_next_row ≡ flag m.opens_preprocessed_next_row = ap (λ s. get_or s 7 0) f in
         let num_public_values = sym (publics_is n) ∙ ap publics e ∙ publics_is m in
-        let ood_pow_bits = sym (bits_is n) ∙ ap pow_bits e ∙ bits_is m in
+        let ood_pow_bits = sym (bits_after_is n) ∙ ap bits_after e ∙ bits_after_is m in
+        let constraint_pow_bits = sym (bits_before_is n) ∙ ap bits_before e ∙ bits_before_is m in
         let there : flag (ltb 0 n.preprocessed_width) ≡ flag (ltb 0 m.preprocessed_width) = ap (λ w. flag (ltb 0 w)) preprocessed_width in
         let random : flag n.has_randomization ≡ flag m.has_randomization = omega (arith, messages_is n, messages_is m, ap messages e, there) in
         λ i. record {
@@ -369,6 +441,7 @@ module _ (base extension : ℕ) where
           opens_preprocessed_next_row = same_flag _ _ preprocessed_row i;
           has_randomization = same_flag _ _ random i;
           ood_pow_bits = ood_pow_bits i;
+          constraint_pow_bits = constraint_pow_bits i;
         }
 
     pub seed_of_one_shape : IsBounded n → IsBounded m → shape_seed base extension n ≡ shape_seed base extension m → n ≡ m
@@ -398,3 +471,21 @@ seed_joined base extension n seed steps a b e f h k = e ∙ λ i. seed_of (codes
 pub no_other_shape : (base extension : ℕ) (n : ShapeNumbers) (seed : List ℕ) → IsBounded n → seed ≡ shape_seed base extension n →
     (other : ShapeNumbers) → IsBounded other → seed ≡ shape_seed base extension other → other ≡ n
 no_other_shape base extension n seed bounded e other fits f = seed_of_one_shape base extension other n fits bounded (sym f ∙ e)
+
+-- Without a grind before alpha the seed is that of eleven numbers.
+pub seed_without_first_work : (base extension : ℕ) (n : ShapeNumbers) → n.constraint_pow_bits ≡ 0 → shape_seed base extension n ≡ plain_seed base extension n
+unfolding shape_seed plain_seed
+seed_without_first_work base extension n none = ap (λ steps. seed_of (codes "p3-uni-stark") steps (shape_items n)) (ap (λ bits.
+    message (codes "trace_commitment")
+    ∷ step_if (ltb 0 n.preprocessed_width) (message (codes "preprocessed_commitment"))
+    (elements Public (codes "public_values") (Fixed n.num_public_values) base
+    ∷ step_if (ltb 0 bits) (elements Pow (codes "alpha_pow") (Fixed bits) base)
+    (elements Challenge (codes "alpha") Scalar extension
+    ∷ message (codes "quotient_commitment")
+    ∷ step_if n.has_randomization (message (codes "random_commitment"))
+    (step_if (ltb 0 n.ood_pow_bits) (elements Pow (codes "ood_pow") (Fixed n.ood_pow_bits) base)
+    (elements Challenge (codes "zeta") Scalar extension
+    ∷ marker Begin (codes "opening_argument")
+    ∷ marker End (codes "opening_argument")
+    ∷ [])))))
+    none)

@@ -27,8 +27,9 @@ fn products_behind<F: Field>(alloc: Global, values: &[F]) -> Result<Behind<F>, A
     Ok(Behind { product, rests })
 }
 
-/// The inverses of elements, none of which is zero, in their order: one inversion and three products for each of them, as
-/// Montgomery showed. Err only where memory was refused.
+/// The inverses of elements, none of which is zero, in their order; as many as are given. Takes one inversion and three
+/// products an element (Montgomery, "Speeding the Pollard and elliptic curve methods of factorization", 1987). Err only where
+/// memory was refused.
 pub fn batch_multiplicative_inverse<F: Field>(
     alloc: Global,
     values: &[F],

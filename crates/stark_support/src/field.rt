@@ -88,6 +88,7 @@ pub trait Field: Element
     fn known_element(self)
         ensures { is_element self };
 
+    /// The element whose product with this one, which isn't zero, is one.
     fn inverse(self) -> Self
         requires { self ≢ ring.zero }
         ensures { result ≡ inverse_of self };
@@ -147,11 +148,13 @@ pub trait PrimeField64: Field {
 
     ghost number_of: { Self → ℕ };
 
+    /// The element's number, which is below the modulus.
     fn as_canonical_u64(&self) -> u64
         ensures { result ≡ number_of self.now };
 
     ghost of_number: { ℕ → Self };
 
+    /// The element of a number, each of which is below the modulus.
     fn from_u8(number: u8) -> Self
         ensures { result ≡ of_number number };
 
@@ -173,6 +176,7 @@ pub trait TwoAdicField: Field {
 
     const TWO_ADICITY: usize;
 
+    /// A generator of the group of `2 ^ bits` elements, the same one at each call; the square of the one of `bits + 1`.
     fn two_adic_generator(bits: usize) -> Self
         requires { bits ≤ TWO_ADICITY }
         ensures { result ≡ root bits };
@@ -203,9 +207,11 @@ pub trait ExtensionField<F: Field>: Field + Algebra<F> {
 
     const DIMENSION: usize;
 
+    /// An element of the base field, as one of this field.
     fn from_base(x: F) -> Self
         ensures { result ≡ embed x };
 
+    /// The element's coordinate at this place of the basis, counted from 0.
     fn coordinate(self, index: usize) -> F
         requires { index < DIMENSION }
         ensures { slice_get (coordinates self) index ≡ Some result };
@@ -264,4 +270,11 @@ pub trait PackedExtensionField<F: PackedField>: ExtensionField<F> {
     ghost extension_packed_ring: { Self.ExtensionPacking.lane_ring ≡ Self.ring };
 
     ghost packed_as_wide: { Self.ExtensionPacking.WIDTH ≡ F.Packing.WIDTH };
+}
+
+/// Whether an element is zero.
+pub fn is_zero<F: Field>(element: F) -> bool
+    ensures { result ≡ F.eq element F.ring.zero }
+{
+    element == F::ZERO
 }

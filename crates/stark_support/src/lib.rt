@@ -31,7 +31,7 @@ pub use domain::{
 };
 pub use field::{
     Algebra, Element, ExtensionField, Field, PackedExtensionField, PackedField, PrimeField64,
-    QuarticBase, TwoAdicField,
+    QuarticBase, TwoAdicField, is_zero,
 };
 pub use interpolation::interpolate;
 pub use json::{

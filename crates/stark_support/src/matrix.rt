@@ -249,6 +249,7 @@ pub struct VerticalPair<Top, Bottom> {
 }
 
 impl<Top, Bottom> VerticalPair<Top, Bottom> {
+    /// The first matrix above the second.
     pub fn new(top: Top, bottom: Bottom) -> VerticalPair<Top, Bottom>
         ensures { result ≡ record { top = top; bottom = bottom } }
     {

@@ -112,7 +112,8 @@ fn with_read<AB: AirBuilder>(
     }
 }
 
-/// The values of the nodes, in their order. A window is asked for where the first needed node reads it. In place of a node that isn't needed stands a selector, which takes no memory.
+/// The values of the nodes, in their order. A window is asked for where the first needed node reads it. In place of a node that isn't
+/// needed stands a selector, which takes no memory.
 pub(crate) fn node_values<AB: AirBuilder>(
     alloc: Global,
     constants: &[AB::F],

@@ -1,13 +1,13 @@
 //! The prover's side of a transcript.
-ghost use Rattle.std.specs.Prelude.{◌≡◌, ◌++◌, ◌∷◌, [], false, ltb, IfOk, OnErr, None, is_some, length, option_map};
+ghost use Rattle.std.specs.Prelude.{◌≡◌, false, ltb, IfOk, OnErr, None, is_some, length, option_map};
 ghost use Rattle.std.specs.Fn.{FnOnceReturnsAtMut, FnOnceTakesAtMut};
-ghost use Rattle.stark_support.specs.Sponge.{draw_extension, observed_bytes, replay};
+ghost use Rattle.stark_support.specs.Sponge.{observed_bytes, replay};
 ghost use Rattle.stark_support.specs.Seed.{shape_seed};
 ghost use Rattle.stark_parts.specs.Shape.{shape_numbers};
-ghost use Rattle.stark_parts.specs.Replay.{IsWitness, constraint_events, constraint_outcome, ood_events, ood_outcome, preprocessed_fault, prover_ood_outcome, random_fault, succeeds};
+ghost use Rattle.stark_parts.specs.Replay.{IsWitness, constraint_events, constraint_outcome, ood_events, ood_outcome, preprocessed_fault, prover_constraint_outcome, prover_ood_outcome, random_fault, succeeds};
 
 use crate::shape::{GrindExhausted, StarkShape, TranscriptPhase};
-use crate::transcript::{find_work, observe_optional, observe_seed, play_constraints};
+use crate::transcript::{find_work, observe_optional, observe_seed, play_values};
 use stark_support::{
     CanObserve, CanSample, ExtensionField, GrindingChallenger, PrimeField64, TranscriptSponge,
 };
@@ -45,14 +45,15 @@ where
         })
     }
 
-    /// Observes the commitments to the traces and the public values, and draws alpha. A verifier of the same state and
-    /// inputs draws the same.
+    /// Observes the commitments to the traces and the public values, searches a witness where work is asked for, and draws
+    /// alpha. It fails where no element is a witness; the challenger then has the state before the search. A verifier of the
+    /// same state, inputs and witness draws the same.
     pub fn constraint_phase<K>(
         &mut self,
         trace: &K,
         preprocessed: Option<&K>,
         public_values: &[F],
-    ) -> EF
+    ) -> Result<(EF, Option<F>), GrindExhausted>
     where
         C: CanObserve<F> + CanObserve<K> + CanSample<EF> + GrindingChallenger<Witness = F>,
         requires phase { self.old.phase ≡ TranscriptPhase.Opened }
@@ -60,19 +61,27 @@ where
         requires described { preprocessed_fault self.old.shape (is_some preprocessed) ≡ None }
         ensures same_reference { self.new.challenger.ghost_name ≡ self.old.challenger.ghost_name }
         ensures shape { self.new.shape ≡ self.old.shape }
-        ensures answer { result ≡ ⟦<C as TranscriptSponge<F, EF, K>>⟧.sponge.draw (replay ⟦<C as TranscriptSponge<F, EF, K>>⟧.sponge (constraint_events trace.now (option_map (λ k. k.now) preprocessed.entry) public_values.now) self.old.challenger.now) }
-        ensures state { self.new.challenger.now ≡ replay ⟦<C as TranscriptSponge<F, EF, K>>⟧.sponge (constraint_events trace.now (option_map (λ k. k.now) preprocessed.entry) public_values.now ++ draw_extension ∷ []) self.old.challenger.now }
-        ensures phase { self.new.phase ≡ TranscriptPhase.Bound }
-        ensures as_verifier { constraint_outcome ⟦<C as TranscriptSponge<F, EF, K>>⟧.sponge self.old.shape trace.now (option_map (λ k. k.now) preprocessed.entry) public_values.now self.old.challenger.now ≡ succeeds result self.new.challenger.now TranscriptPhase.Bound }
+        ensures answer { result ≡ (prover_constraint_outcome ⟦<C as TranscriptSponge<F, EF, K>>⟧.sponge self.old.shape trace.now (option_map (λ k. k.now) preprocessed.entry) public_values.now self.old.challenger.now).answer }
+        ensures state { self.new.challenger.now ≡ (prover_constraint_outcome ⟦<C as TranscriptSponge<F, EF, K>>⟧.sponge self.old.shape trace.now (option_map (λ k. k.now) preprocessed.entry) public_values.now self.old.challenger.now).state }
+        ensures phase { self.new.phase ≡ (prover_constraint_outcome ⟦<C as TranscriptSponge<F, EF, K>>⟧.sponge self.old.shape trace.now (option_map (λ k. k.now) preprocessed.entry) public_values.now self.old.challenger.now).phase }
+        ensures bound { IfOk result (λ _. self.new.phase ≡ TranscriptPhase.Bound) }
+        ensures worked { IfOk result (λ drawn. is_some drawn.1 ≡ ltb 0 self.old.shape.constraint_pow_bits) }
+        ensures exhausted { OnErr result ((witness : F) → ⟦<C as TranscriptSponge<F, EF, K>>⟧.sponge.passes (replay ⟦<C as TranscriptSponge<F, EF, K>>⟧.sponge (constraint_events trace.now (option_map (λ k. k.now) preprocessed.entry) public_values.now) self.old.challenger.now) self.old.shape.constraint_pow_bits witness ≡ false) }
+        ensures as_verifier { IfOk result (λ drawn. (witness : F) → IsWitness drawn.1 witness → constraint_outcome ⟦<C as TranscriptSponge<F, EF, K>>⟧.sponge self.old.shape trace.now (option_map (λ k. k.now) preprocessed.entry) public_values.now witness self.old.challenger.now ≡ succeeds drawn.0 self.new.challenger.now TranscriptPhase.Bound) }
     {
         self.challenger.observe(trace);
-        let alpha = play_constraints::<C, F, EF, K>(
-            &mut *self.challenger,
-            preprocessed,
-            public_values,
-        );
-        self.phase = TranscriptPhase::Bound;
-        alpha
+        play_values::<C, F, EF, K>(&mut *self.challenger, preprocessed, public_values);
+        let bits = self.shape.constraint_pow_bits;
+        match find_work::<C, F, EF, K>(&mut *self.challenger, bits) {
+            Ok(bound) => {
+                self.phase = TranscriptPhase::Bound;
+                Ok(bound)
+            }
+            Err(exhausted) => {
+                self.phase = TranscriptPhase::Failed;
+                Err(exhausted)
+            }
+        }
     }
 
     /// Observes the commitments to the quotient's chunks and to a random polynomial, searches a witness where work is

@@ -8,7 +8,7 @@ ghost use Rattle.stark_parts.specs.Replay.{constraint_outcome, ood_outcome};
 
 use crate::shape::{StarkShape, StarkTranscriptFailure, TranscriptPhase};
 use crate::transcript::{
-    check_work, observe_optional, observe_seed, play_constraints, preprocessed_fault, random_fault,
+    check_work, observe_optional, observe_seed, play_values, preprocessed_fault, random_fault,
 };
 use stark_support::{
     CanObserve, CanSample, ExtensionField, GrindingChallenger, PrimeField64, TranscriptSponge,
@@ -47,13 +47,16 @@ where
         })
     }
 
-    /// Observes the commitments to the traces and the public values, and draws alpha. It fails where the commitment to
-    /// the preprocessed trace isn't there though the shape describes one, or is there though it describes none.
+    /// Observes the commitments to the traces and the public values, checks the work where some is asked for, and draws
+    /// alpha. It fails where the commitment to the preprocessed trace isn't there though the shape describes one, or is
+    /// there though it describes none, and where the witness doesn't pass. Where no work is asked for, the witness plays no part
+    /// (`alpha_without_work`).
     pub fn constraint_phase<K>(
         &mut self,
         trace: &K,
         preprocessed: Option<&K>,
         public_values: &[F],
+        witness: F,
     ) -> Result<EF, StarkTranscriptFailure>
     where
         C: CanObserve<F> + CanObserve<K> + CanSample<EF> + GrindingChallenger<Witness = F>,
@@ -61,9 +64,9 @@ where
         requires count { length public_values.now ≡ self.old.shape.num_public_values }
         ensures same_reference { self.new.challenger.ghost_name ≡ self.old.challenger.ghost_name }
         ensures shape { self.new.shape ≡ self.old.shape }
-        ensures answer { result ≡ (constraint_outcome ⟦<C as TranscriptSponge<F, EF, K>>⟧.sponge self.old.shape trace.now (option_map (λ k. k.now) preprocessed.entry) public_values.now self.old.challenger.now).answer }
-        ensures state { self.new.challenger.now ≡ (constraint_outcome ⟦<C as TranscriptSponge<F, EF, K>>⟧.sponge self.old.shape trace.now (option_map (λ k. k.now) preprocessed.entry) public_values.now self.old.challenger.now).state }
-        ensures phase { self.new.phase ≡ (constraint_outcome ⟦<C as TranscriptSponge<F, EF, K>>⟧.sponge self.old.shape trace.now (option_map (λ k. k.now) preprocessed.entry) public_values.now self.old.challenger.now).phase }
+        ensures answer { result ≡ (constraint_outcome ⟦<C as TranscriptSponge<F, EF, K>>⟧.sponge self.old.shape trace.now (option_map (λ k. k.now) preprocessed.entry) public_values.now witness self.old.challenger.now).answer }
+        ensures state { self.new.challenger.now ≡ (constraint_outcome ⟦<C as TranscriptSponge<F, EF, K>>⟧.sponge self.old.shape trace.now (option_map (λ k. k.now) preprocessed.entry) public_values.now witness self.old.challenger.now).state }
+        ensures phase { self.new.phase ≡ (constraint_outcome ⟦<C as TranscriptSponge<F, EF, K>>⟧.sponge self.old.shape trace.now (option_map (λ k. k.now) preprocessed.entry) public_values.now witness self.old.challenger.now).phase }
         ensures bound { IfOk result (λ _. self.new.phase ≡ TranscriptPhase.Bound) }
     {
         self.challenger.observe(trace);
@@ -71,13 +74,19 @@ where
             self.phase = TranscriptPhase::Failed;
             return Err(failure);
         }
-        let alpha = play_constraints::<C, F, EF, K>(
-            &mut *self.challenger,
-            preprocessed,
-            public_values,
-        );
-        self.phase = TranscriptPhase::Bound;
-        Ok(alpha)
+        play_values::<C, F, EF, K>(&mut *self.challenger, preprocessed, public_values);
+        let bits = self.shape.constraint_pow_bits;
+        let failure = StarkTranscriptFailure::AlphaPowWitness { bits };
+        match check_work::<C, F, EF, K>(&mut *self.challenger, failure, bits, witness) {
+            Ok(alpha) => {
+                self.phase = TranscriptPhase::Bound;
+                Ok(alpha)
+            }
+            Err(failure) => {
+                self.phase = TranscriptPhase::Failed;
+                Err(failure)
+            }
+        }
     }
 
     /// Observes the commitments to the quotient's chunks and to a random polynomial, checks the work where some is asked
@@ -106,7 +115,8 @@ where
         }
         observe_optional::<C, F, EF, K>(&mut *self.challenger, random);
         let bits = self.shape.ood_pow_bits;
-        match check_work::<C, F, EF, K>(&mut *self.challenger, bits, witness) {
+        let failure = StarkTranscriptFailure::OodPowWitness { bits };
+        match check_work::<C, F, EF, K>(&mut *self.challenger, failure, bits, witness) {
             Ok(zeta) => {
                 self.phase = TranscriptPhase::Drawn;
                 Ok(zeta)

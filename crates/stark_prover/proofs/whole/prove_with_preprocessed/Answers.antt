@@ -22,6 +22,7 @@ returns-clause-honest g c =
       scheme = config.scheme c.args.config.now;
       first_state = config.first_state c.args.config.now;
       ood_bits = config.ood_bits c.args.config.now;
+      constraint_bits = config.constraint_bits c.args.config.now;
       layout = air.layout c.args.air.now;
       main_next_columns = air.main_next_row_columns c.args.air.now;
       preprocessed_next_columns = air.preprocessed_next_row_columns c.args.air.now;

@@ -1,5 +1,0 @@
-use Rattle.std.proofs.Common.{rules}
-use Rattle.p3_uni_stark.proofs.verifier.steps.check_shape.Goals as goal
-
-pub returns : goal.returns
-returns c = search rules

@@ -1,0 +1,11 @@
+pub mod PointSteps
+pub mod ClaimSteps
+pub mod Verdicts
+pub mod EquationVerdict
+pub mod ShapeSteps
+pub mod Balance
+pub mod Excluded
+pub mod EquationSteps
+pub mod TakenValueSteps
+pub mod SoundAcceptanceSteps
+pub mod Carried

@@ -1,0 +1,124 @@
+-- What a proof without a fault of shape has.
+use Rattle.std.proofs.Common.{◌≡◌, ◌∙◌, ◌≤◌, ◌==◌, ◌&&◌, arith, sym, refl, ℕ, All, Bool, true, false, not, List, [], ◌∷◌, length, replicate, unwrap_or, Option, None, Some, nat_lt}
+use Rattle.std.specs.List.{list_all}
+use Rattle.std.proofs.lemmas.Bool.{and_parts, eqb-true, ltb-false}
+use Rattle.std.proofs.lemmas.List.{length-replicate}
+use Rattle.std.proofs.lemmas.List.Sums.{AllPass-from_list_all}
+use Rattle.std.specs.Option.{option_or}
+use Rattle.stark_support.specs.OptionFacts.{both_none}
+use Rattle.stark_air.specs.Layout.{Layout, Covers}
+use Rattle.stark_air.specs.Declaration.{Trace, IsDeclared, next_width}
+use Rattle.stark_parts.specs.Shape.{opens_next_row}
+use Rattle.stark_parts.specs.declared.error.InvalidProofShapeError.TheVariants.{NonCanonicalAlphaPowWitness, NonCanonicalOodPowWitness, OpenedValuesDimensionMismatch, PreprocessedVerifierKeyInconsistency, PublicValuesLengthMismatch, TraceNextMismatch}
+use Rattle.stark_protocol.specs.declared.preprocessed.PreprocessedVerifierKey.{PreprocessedVerifierKey}
+use Rattle.stark_protocol.specs.Equation.{opened_layout}
+use Rattle.stark_proof.specs.ProofView.{OpeningsView, PreprocessedView}
+use Rattle.stark_protocol.specs.Acceptance.{preprocessed_local, preprocessed_next, rows_of}
+use Rattle.stark_protocol.specs.ShapeFaults.{dimensions_fault, expected_next, fault_if, key_degree_fault, key_width_fault, opened_fault, preprocessed_fault, preprocessed_rows_fault, publics_fault, random_fits, trace_next_fault, unread_next_fault, width_in_force, width_of, witness_fault}
+
+-- ---- a test that finds no fault
+
+pub not_found : {X : Type 0} (b : Bool) (error : X) → fault_if b error ≡ None → b ≡ false
+not_found true error e = absurd (cc)
+not_found false error e = refl
+
+-- the test that an error denies
+pub met : {X : Type 0} (b : Bool) (error : X) → fault_if (not b) error ≡ None → b ≡ true
+met true error e = refl
+met false error e = absurd (cc)
+
+-- ---- widths
+
+pub in_force : {K : Type 0} (key : Option (PreprocessedVerifierKey K)) (width : ℕ) → key_width_fault key width ≡ None → width_in_force key width ≡ width
+in_force None width e = refl
+in_force (Some key) width e = eqb-true key.width width (and_parts (nat_lt 0 key.width) (key.width == width) (met (nat_lt 0 key.width && key.width == width) PreprocessedVerifierKeyInconsistency e)).1
+
+next_is_wide : {E : Type 0} (zero : E) (width wide : ℕ) (reads_next : Bool) (next : Option (List E)) → wide ≡ width → width_of next ≡ expected_next reads_next wide → unread_next_fault reads_next next ≡ None
+    → length (unwrap_or next (replicate width zero)) ≡ width
+next_is_wide zero width wide reads_next None same got unread = length-replicate width zero
+next_is_wide zero width wide true (Some row) same got unread = got ∙ same
+next_is_wide zero width wide false (Some row) same got unread = absurd (cc)
+
+fixed_widths : {E : Type 0} (zero : E) (width wide : ℕ) (reads_next : Bool) (rows : Option (PreprocessedView E)) → wide ≡ width → preprocessed_rows_fault wide reads_next rows ≡ None
+    → (length (preprocessed_local rows) ≡ width) × (length (preprocessed_next (replicate width zero) rows) ≡ width)
+fixed_widths zero width wide reads_next None same e =
+    let none : wide ≤ 0 = ltb-false 0 wide (not_found (nat_lt 0 wide) _ e) in
+    (omega (arith, same), omega (arith, same))
+fixed_widths zero width wide reads_next (Some rows) same e =
+    let later = (both_none (fault_if (wide == 0) _) _ e).1 in
+    let both = both_none (fault_if (not (length rows.local == wide && width_of rows.next == expected_next reads_next wide)) _) (unread_next_fault reads_next rows.next) later in
+    let parts = and_parts (length rows.local == wide) (width_of rows.next == expected_next reads_next wide) (met (length rows.local == wide && width_of rows.next == expected_next reads_next wide) _ both.0) in
+    (eqb-true (length rows.local) wide parts.0 ∙ same, next_is_wide zero width wide reads_next rows.next same (eqb-true (width_of rows.next) (expected_next reads_next wide) parts.1) both.1)
+
+trace_next_width : {E : Type 0} (zero : E) (reads_next : Bool) (width : ℕ) (next : Option (List E)) → trace_next_fault reads_next width next ≡ None → length (unwrap_or next (replicate width zero)) ≡ width
+trace_next_width zero true width None e = absurd (cc)
+trace_next_width zero true width (Some row) e = eqb-true (length row) width (met (length row == width) (TraceNextMismatch None) e)
+trace_next_width zero false width None e = length-replicate width zero
+trace_next_width zero false width (Some row) e = absurd (cc)
+
+next_at_most : (columns : List ℕ) (width : ℕ) → next_width columns width ≤ width
+next_at_most [] width = omega arith
+next_at_most (column ∷ columns) width = omega arith
+
+-- as many public values as the AIR reads
+pub publics_are : {E : Type 0} (expected publics : ℕ) (reads_next : Bool) (width count dimension : ℕ) (opened : OpeningsView E) (alpha_bits : ℕ) (alpha_is_zero : Bool) (bits : ℕ) (is_zero : Bool)
+    → opened_fault expected publics reads_next width count dimension opened alpha_bits alpha_is_zero bits is_zero ≡ None → publics ≡ expected
+publics_are expected publics reads_next width count dimension opened alpha_bits alpha_is_zero bits is_zero clear =
+    eqb-true publics expected (met (publics == expected) (PublicValuesLengthMismatch expected publics) (both_none (publics_fault expected publics) _ clear).0)
+
+-- ---- a proof without a fault
+
+-- The opened rows, public values and chunks of a proof, beside what an AIR declares.
+module _ {F E K : Type 0} (zero : E) (key : Option (PreprocessedVerifierKey K)) (layout : Layout) (main_next fixed_next : List ℕ) (degree_bits : ℕ) (opened : OpeningsView E) (publics : List F) (count dimension alpha_bits : ℕ) (alpha_is_zero : Bool) (bits : ℕ) (is_zero : Bool)
+    (rows_clear : preprocessed_fault key layout.preprocessed (opens_next_row fixed_next) degree_bits opened.preprocessed ≡ None)
+    (values_clear : opened_fault layout.publics (length publics) (opens_next_row main_next) layout.main count dimension opened alpha_bits alpha_is_zero bits is_zero ≡ None) where
+  fixed_widths_are : (length (preprocessed_local opened.preprocessed) ≡ layout.preprocessed) × (length (preprocessed_next (replicate layout.preprocessed zero) opened.preprocessed) ≡ layout.preprocessed)
+  fixed_widths_are =
+      let wide = width_in_force key layout.preprocessed in
+      let parts = both_none (preprocessed_rows_fault wide (opens_next_row fixed_next) opened.preprocessed) _ rows_clear in
+      fixed_widths zero layout.preprocessed wide (opens_next_row fixed_next) opened.preprocessed
+      (in_force key layout.preprocessed (both_none (key_width_fault key layout.preprocessed) (key_degree_fault key degree_bits) parts.1).0) parts.0
+
+  pub one_width : length (preprocessed_local opened.preprocessed) ≡ length (preprocessed_next (replicate layout.preprocessed zero) opened.preprocessed)
+  one_width = fixed_widths_are.0 ∙ sym fixed_widths_are.1
+
+  publics_counted : length publics ≡ layout.publics
+  publics_counted = publics_are layout.publics (length publics) (opens_next_row main_next) layout.main count dimension opened alpha_bits alpha_is_zero bits is_zero values_clear
+
+  past_publics : option_or (trace_next_fault (opens_next_row main_next) layout.main opened.trace_next)
+      (option_or (dimensions_fault layout.main count dimension opened.trace_local opened.quotient_chunks opened.random)
+      (option_or (witness_fault NonCanonicalAlphaPowWitness alpha_bits alpha_is_zero) (witness_fault NonCanonicalOodPowWitness bits is_zero))) ≡ None
+  past_publics = (both_none (publics_fault layout.publics (length publics)) _ values_clear).1
+
+  next_width_is : length (unwrap_or opened.trace_next (replicate layout.main zero)) ≡ layout.main
+  next_width_is = trace_next_width zero (opens_next_row main_next) layout.main opened.trace_next (both_none (trace_next_fault (opens_next_row main_next) layout.main opened.trace_next) _ past_publics).0
+
+  dimensions_are : (length opened.trace_local == layout.main
+      && (length opened.quotient_chunks == count && (list_all (λ chunk. length chunk == dimension) opened.quotient_chunks && random_fits dimension opened.random))) ≡ true
+  dimensions_are =
+      let past_next = (both_none (trace_next_fault (opens_next_row main_next) layout.main opened.trace_next) _ past_publics).1 in
+      met _ OpenedValuesDimensionMismatch (both_none (dimensions_fault layout.main count dimension opened.trace_local opened.quotient_chunks opened.random) _ past_next).0
+
+  chunk_dimensions : (length opened.quotient_chunks == count && (list_all (λ chunk. length chunk == dimension) opened.quotient_chunks && random_fits dimension opened.random)) ≡ true
+  chunk_dimensions = (and_parts (length opened.trace_local == layout.main) _ dimensions_are).1
+
+  pub chunks_counted : length opened.quotient_chunks ≡ count
+  chunks_counted = eqb-true _ _ (and_parts (length opened.quotient_chunks == count) _ chunk_dimensions).0
+
+  pub chunks_long : All (λ chunk. length chunk ≡ dimension) opened.quotient_chunks
+  chunks_long =
+      let rest = (and_parts (length opened.quotient_chunks == count) _ chunk_dimensions).1 in
+      let all = (and_parts (list_all (λ chunk. length chunk == dimension) opened.quotient_chunks) _ rest).0 in
+      λ k d within. eqb-true _ _ (AllPass-from_list_all (λ chunk. length chunk == dimension) opened.quotient_chunks all k d within)
+
+  -- The opened rows have what the AIR reads.
+  pub rows_cover : (periodic : List E) (fixed : Option (Trace F)) (columns : List (List F)) → IsDeclared layout fixed columns main_next fixed_next → length periodic ≡ length columns
+      → Covers (opened_layout (rows_of zero layout.main layout.preprocessed opened periodic publics)) layout
+  rows_cover periodic fixed columns declared counted = record {
+    main = omega (arith, eqb-true (length opened.trace_local) layout.main (and_parts (length opened.trace_local == layout.main) _ dimensions_are).0);
+    main_next = omega (arith, next_width_is, declared.main_next_row, next_at_most main_next layout.main);
+    preprocessed = omega (arith, fixed_widths_are.0);
+    preprocessed_next = omega (arith, fixed_widths_are.1, declared.preprocessed_next_row, next_at_most fixed_next layout.preprocessed);
+    publics = omega (arith, publics_counted);
+    periodics = omega (arith, counted, declared.periodic_columns);
+  }

@@ -1,0 +1,45 @@
+use Rattle.std.proofs.Common.{◌^◌, length}
+use Rattle.stark_proof.specs.ProofView.{openings_view}
+use Rattle.stark_parts.specs.Shape.{opens_next_row}
+use Rattle.stark_verifier.proofs.Carried.{carried}
+use Rattle.stark_verifier.proofs.Excluded.{exact}
+use Rattle.stark_verifier.proofs.ShapeSteps.{publics_are}
+use Rattle.stark_verifier.proofs.SoundAcceptanceSteps.{sound_of_parts}
+use Rattle.stark_verifier.proofs.Verdicts.{equation_refused, run_refused, shape_refused}
+use Rattle.stark_verifier.proofs.verdict.verify_with_preprocessed.Goals as goal
+
+pub check_run-requires-clause-counted : goal.check_run-requires-clause-counted
+check_run-requires-clause-counted g c =
+    let layout = g.A.BaseAir.layout c.args.air.now in
+    publics_are layout.publics (length c.args.public_values.now) (opens_next_row (g.A.BaseAir.main_next_row_columns c.args.air.now)) layout.main (2 ^ c.in_ok-domains.domains.log_chunks) g.SC.Challenge.ExtensionField.DIMENSION (openings_view c.args.proof.now.opened_values)
+    (g.SC.StarkGenericConfig.config.constraint_bits c.args.config.now) (g.SC.Pcs.Domain.Val.PartialEq.eq c.args.proof.now.alpha_pow_witness g.SC.Pcs.Domain.Val.Field.ring.zero) (g.SC.StarkGenericConfig.config.ood_bits c.args.config.now) (g.SC.Pcs.Domain.Val.PartialEq.eq c.args.proof.now.ood_pow_witness g.SC.Pcs.Domain.Val.Field.ring.zero) c.in_ok-domains.ensures.opened
+
+pub returns-in_err-domains-clause-refused : goal.returns-in_err-domains-clause-refused
+returns-in_err-domains-clause-refused g c = carried _ _ _ c.from_residual.ensures (shape_refused c.in_err-domains.ensures.fault)
+
+pub returns-in_err-domains-clause-exact : goal.returns-in_err-domains-clause-exact
+returns-in_err-domains-clause-exact g c =
+    carried _ _ _ c.from_residual.ensures (exact g.met.SC.Pcs.UnivariateStarkPcs.scheme_laws (shape_refused c.in_err-domains.ensures.fault))
+
+pub returns-in_err-point-clause-refused : goal.returns-in_err-point-clause-refused
+returns-in_err-point-clause-refused g c =
+    carried _ _ _ c.from_residual-in_err-point.ensures (run_refused c.in_ok-domains.ensures.clear c.in_err-point.ensures.fault)
+
+pub returns-in_err-point-clause-exact : goal.returns-in_err-point-clause-exact
+returns-in_err-point-clause-exact g c =
+    carried _ _ _ c.from_residual-in_err-point.ensures
+    (exact g.met.SC.Pcs.UnivariateStarkPcs.scheme_laws (run_refused c.in_ok-domains.ensures.clear c.in_err-point.ensures.fault))
+
+pub returns-in_err-test_equation-clause-refused : goal.returns-in_err-test_equation-clause-refused
+returns-in_err-test_equation-clause-refused g c =
+    carried _ _ _ c.from_residual-in_err-test_equation.ensures
+    (equation_refused c.in_ok-domains.ensures.clear c.in_ok-point.ensures.holds c.in_err-test_equation.ensures.fault)
+
+pub returns-in_err-test_equation-clause-exact : goal.returns-in_err-test_equation-clause-exact
+returns-in_err-test_equation-clause-exact g c =
+    carried _ _ _ c.from_residual-in_err-test_equation.ensures
+    (exact g.met.SC.Pcs.UnivariateStarkPcs.scheme_laws (equation_refused c.in_ok-domains.ensures.clear c.in_ok-point.ensures.holds c.in_err-test_equation.ensures.fault))
+
+pub returns-clause-sound : goal.returns-clause-sound
+returns-clause-sound g c =
+    sound_of_parts c.in_ok-domains.ensures.clear c.in_ok-point.ensures.holds c.in_ok-test_equation.ensures.holds g.met.SC.Challenge.Field.field_laws (g.met.A.Air.leaves_within c.args.air.now) (g.met.A.BaseAir.as_declared c.args.air.now)

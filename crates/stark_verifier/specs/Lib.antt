@@ -1,0 +1,2 @@
+pub mod TakenValues
+pub mod SoundAcceptance

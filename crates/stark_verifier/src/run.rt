@@ -1,0 +1,283 @@
+//! The run of a verifier's transcript: the challenges, the tests at the sampled point, the opening argument.
+ghost use Rattle.std.specs.Option.{option_copied};
+ghost use Rattle.std.specs.Prelude.{◌≡◌, ◌≢◌, ◌⊎◌, ◌^◌, ◌≤◌, ◌<◌, ◌+◌, IfErr, IfOk, None, length, map, option_map};
+ghost use Rattle.stark_support.specs.Coset.{coset_size, coset_vanishing};
+ghost use Rattle.stark_support.specs.Periodic.{first_fault};
+ghost use Rattle.stark_support.specs.Scheme.{natural_coset, zk_bits};
+ghost use Rattle.stark_parts.specs.Shape.{shape_of};
+ghost use Rattle.stark_parts.specs.declared.error.VerificationError.TheVariants.{OutOfMemory};
+ghost use Rattle.stark_parts.specs.declared.shape.TranscriptPhase.TheVariants.{Delegated, Drawn, Opened};
+ghost use Rattle.stark_protocol.specs.Acceptance.{IsPointOfH, periodic_values};
+ghost use Rattle.stark_protocol.specs.Challenges.{challenges_outcome};
+ghost use Rattle.stark_protocol.specs.FirstFault.{IsOutOfMemoryOr, PointFault};
+ghost use Rattle.stark_protocol.specs.Instance.{log_height, trace_coset};
+ghost use Rattle.stark_protocol.specs.ShapeFaults.{width_in_force};
+ghost use Rattle.stark_protocol.specs.Sizes.{log_parts_of};
+
+use crate::argument::delegate_openings;
+use crate::point::check_point;
+use crate::preprocessed::width_in_force;
+use crate::steps::ProofDomains;
+use stark_air::{Air, BaseAir};
+use stark_parts::{
+    Com, Domain, PcsError, StarkGenericConfig, StarkShape, StarkTranscriptFailure,
+    StarkVerifierTranscript, Val, VerificationError,
+};
+use stark_proof::Commitments;
+use stark_protocol::{
+    PreprocessedVerifierKey, StarkOperations, StarkProof, StarkRun, power_of_two,
+};
+use stark_support::{
+    CanObserve, CanSample, ExtensionField, GrindingChallenger, Pcs, PrimeField64, TranscriptSponge,
+};
+use std::alloc::{AllocError, Global};
+
+/// What a transcript's run gives.
+#[derive(Drop)]
+pub struct SampledPoint<EF> {
+    /// The challenge that folds the constraints.
+    pub alpha: EF,
+    /// The point out of the domain.
+    pub zeta: EF,
+    /// The periodic columns' values there.
+    pub periodic_values: Vec<EF>,
+}
+
+/// Alpha and zeta: both phases of the transcript before its opening argument.
+fn draw_challenges<C, F, EF, K>(
+    transcript: &mut StarkVerifierTranscript<'_, C, F, EF>,
+    preprocessed: Option<&K>,
+    commitments: &Commitments<K>,
+    public_values: &[F],
+    alpha_witness: F,
+    witness: F,
+) -> Result<(EF, EF), StarkTranscriptFailure>
+where
+    F: PrimeField64,
+    EF: ExtensionField<F>,
+    C: CanObserve<F> + CanObserve<K> + CanSample<EF> + GrindingChallenger<Witness = F>,
+    requires phase { transcript.old.phase ≡ Opened }
+    requires count { length public_values.now ≡ transcript.old.shape.num_public_values }
+    ensures same_reference { transcript.new.challenger.ghost_name ≡ transcript.old.challenger.ghost_name }
+    ensures answer { result ≡ (challenges_outcome ⟦<C as TranscriptSponge<F, EF, K>>⟧.sponge transcript.old.shape commitments.now.trace (option_map (λ k. k.now) preprocessed.entry) public_values.now alpha_witness commitments.now.quotient_chunks commitments.now.random witness transcript.old.challenger.now).answer }
+    ensures state { transcript.new.challenger.now ≡ (challenges_outcome ⟦<C as TranscriptSponge<F, EF, K>>⟧.sponge transcript.old.shape commitments.now.trace (option_map (λ k. k.now) preprocessed.entry) public_values.now alpha_witness commitments.now.quotient_chunks commitments.now.random witness transcript.old.challenger.now).state }
+    ensures drawn { IfOk result (λ _. transcript.new.phase ≡ Drawn) }
+{
+    let trace = &commitments.trace;
+    let alpha = transcript.constraint_phase::<K>(
+        trace,
+        preprocessed,
+        public_values,
+        alpha_witness,
+    )?;
+    let random = commitments.random.as_ref();
+    let zeta = transcript.ood_phase::<K>(&commitments.quotient_chunks, random, witness)?;
+    Ok((alpha, zeta))
+}
+
+/// A key's commitment.
+fn commitment_of<K>(key: Option<&PreprocessedVerifierKey<K>>) -> Option<&K>
+    ensures { option_map (λ k. k.now) result ≡ option_map (λ k. k.commitment) (option_map (λ k. k.now) key.entry) }
+{
+    match key {
+        Some(key) => Some(&key.commitment),
+        None => None,
+    }
+}
+
+/// The shape of a proof's transcript.
+fn describe<SC, A>(
+    alloc: Global,
+    config: &SC,
+    air: &A,
+    degree_bits: usize,
+    key: Option<&PreprocessedVerifierKey<Com<SC>>>,
+    log_chunks: usize,
+) -> Result<StarkShape, AllocError>
+where
+    SC: StarkGenericConfig,
+    A: BaseAir<Val<SC>>,
+    requires extended { zk_bits SC.Pcs.ZK ≤ degree_bits }
+    requires few { log_chunks < 64 }
+    ensures { IfOk result (λ shape. shape ≡ shape_of (A.layout air.now) (A.main_next_row_columns air.now) (A.preprocessed_next_row_columns air.now) (width_in_force (option_map (λ k. k.now) key.entry) (A.layout air.now).preprocessed)
+        degree_bits (log_height SC.Pcs.ZK degree_bits) (2 ^ log_chunks) SC.Pcs.ZK (SC.config.ood_bits config.now) (SC.config.constraint_bits config.now)) }
+{
+    let width = width_in_force(key, air.preprocessed_width());
+    let log_height = degree_bits - config.is_zk();
+    let num_chunks = power_of_two(log_chunks);
+    let ood_bits = config.ood_proof_of_work_bits();
+    let constraint_bits = config.constraint_proof_of_work_bits();
+    let shape = StarkShape::new::<Val<SC>, A>(
+        alloc,
+        air,
+        width,
+        degree_bits,
+        log_height,
+        num_chunks,
+        SC::Pcs::ZK,
+        ood_bits,
+        constraint_bits,
+    )?;
+    Ok(shape)
+}
+
+/// The challenges of a proof.
+fn replay_proof<SC, A>(
+    config: &SC,
+    air: &A,
+    proof: &StarkProof<SC>,
+    public_values: &[Val<SC>],
+    key: Option<&PreprocessedVerifierKey<Com<SC>>>,
+    transcript: &mut StarkVerifierTranscript<'_, SC::Challenger, Val<SC>, SC::Challenge>,
+) -> Result<(SC::Challenge, SC::Challenge), StarkTranscriptFailure>
+where
+    SC: StarkGenericConfig,
+    SC::Challenger: GrindingChallenger<Witness = Val<SC>>,
+    A: Air<Val<SC>>,
+    requires counted { length public_values.now ≡ (A.layout air.now).publics }
+    requires opened { transcript.old.phase ≡ Opened }
+    requires described { transcript.old.shape ≡ ⟦<SC as StarkRun<A>>⟧.described config.now air.now proof.now public_values.now (option_copied key) }
+    requires seeded { transcript.old.challenger.now ≡ ⟦<SC as StarkRun<A>>⟧.seeded config.now air.now proof.now public_values.now (option_copied key) }
+    ensures same_reference { transcript.new.challenger.ghost_name ≡ transcript.old.challenger.ghost_name }
+    ensures drawn { IfOk result (λ _. transcript.new.phase ≡ Drawn) }
+    ensures answer { result ≡ (⟦<SC as StarkRun<A>>⟧.challenges config.now air.now proof.now public_values.now (option_copied key.entry)).answer }
+    ensures state { transcript.new.challenger.now ≡ (⟦<SC as StarkRun<A>>⟧.challenges config.now air.now proof.now public_values.now (option_copied key.entry)).state }
+{
+    let commitments = &proof.commitments;
+    let preprocessed = commitment_of(key);
+    let alpha_witness = proof.alpha_pow_witness;
+    let witness = proof.ood_pow_witness;
+    draw_challenges(
+        transcript,
+        preprocessed,
+        commitments,
+        public_values,
+        alpha_witness,
+        witness,
+    )
+}
+
+/// The tests at zeta; the answer is the periodic columns' values there.
+fn test_point<SC, A>(
+    alloc: Global,
+    air: &A,
+    degree_bits: usize,
+    domains: ProofDomains<Domain<SC>>,
+    zeta: SC::Challenge,
+) -> Result<Vec<SC::Challenge>, VerificationError<PcsError<SC>>>
+where
+    SC: StarkGenericConfig,
+    SC::Challenger: GrindingChallenger<Witness = Val<SC>>,
+    A: BaseAir<Val<SC>>,
+    requires trace { SC.Pcs.Domain.coset_of domains.trace ≡ trace_coset SC.Pcs.Domain.Val.ring SC.Pcs.ZK degree_bits }
+    ensures outside { IfOk result (λ _. IsPointOfH ⟦<SC as StarkOperations>⟧.operations.opening.fields (log_height SC.Pcs.ZK degree_bits) zeta → ⊥) }
+    ensures nonzero { IfOk result (λ _. coset_vanishing SC.Challenge.ring (λ c. c) SC.Challenge.inverse_of (coset_size (SC.Pcs.Domain.coset_of domains.trace)) (SC.Challenge.embed (SC.Pcs.Domain.coset_of domains.trace).shift) zeta ≢ SC.Challenge.ring.zero) }
+    ensures fitting { IfOk result (λ _. first_fault (2 ^ log_height SC.Pcs.ZK degree_bits) 0 (map (λ column. length column) (A.periodic_columns air.now)) ≡ None) }
+    ensures values { IfOk result (λ values. values.items ≡ periodic_values ⟦<SC as StarkOperations>⟧.operations.opening.fields (A.periodic_columns air.now) (log_height SC.Pcs.ZK degree_bits) zeta) }
+    ensures fault { IfErr result (λ error. (error ≡ OutOfMemory) ⊎ PointFault (IsPointOfH ⟦<SC as StarkOperations>⟧.operations.opening.fields (log_height SC.Pcs.ZK degree_bits) zeta)
+        (first_fault (2 ^ log_height SC.Pcs.ZK degree_bits) 0 (map (λ column. length column) (A.periodic_columns air.now))) error) }
+{
+    let trace = &domains.trace;
+    let values = check_point::<Domain<SC>, SC::Challenge, A, PcsError<SC>>(
+        alloc, air, trace, zeta,
+    )?;
+    Ok(values)
+}
+
+/// The transcript up to the end of its opening argument.
+fn play<SC, A>(
+    alloc: Global,
+    config: &SC,
+    air: &A,
+    proof: &StarkProof<SC>,
+    public_values: &[Val<SC>],
+    key: Option<&PreprocessedVerifierKey<Com<SC>>>,
+    domains: ProofDomains<Domain<SC>>,
+    transcript: &mut StarkVerifierTranscript<'_, SC::Challenger, Val<SC>, SC::Challenge>,
+) -> Result<SampledPoint<SC::Challenge>, VerificationError<PcsError<SC>>>
+where
+    SC: StarkGenericConfig,
+    SC::Challenger: GrindingChallenger<Witness = Val<SC>>,
+    A: Air<Val<SC>>,
+    requires trace { SC.Pcs.Domain.coset_of domains.trace ≡ trace_coset SC.Pcs.Domain.Val.ring SC.Pcs.ZK proof.now.degree_bits }
+    requires committed { SC.Pcs.Domain.coset_of domains.committed ≡ natural_coset SC.Pcs.Domain.Val.ring proof.now.degree_bits }
+    requires counted { length public_values.now ≡ (A.layout air.now).publics }
+    requires opened { transcript.old.phase ≡ Opened }
+    requires described { transcript.old.shape ≡ ⟦<SC as StarkRun<A>>⟧.described config.now air.now proof.now public_values.now (option_copied key) }
+    requires seeded { transcript.old.challenger.now ≡ ⟦<SC as StarkRun<A>>⟧.seeded config.now air.now proof.now public_values.now (option_copied key) }
+    ensures same_reference { transcript.new.challenger.ghost_name ≡ transcript.old.challenger.ghost_name }
+    ensures delegated { IfOk result (λ _. transcript.new.phase ≡ Delegated) }
+    ensures holds { IfOk result (λ point. ⟦<SC as StarkRun<A>>⟧.run_holds config.now air.now proof.now public_values.now (option_copied key.entry) point.alpha point.zeta) }
+    ensures nonzero { IfOk result (λ point. coset_vanishing SC.Challenge.ring (λ c. c) SC.Challenge.inverse_of (coset_size (SC.Pcs.Domain.coset_of domains.trace)) (SC.Challenge.embed (SC.Pcs.Domain.coset_of domains.trace).shift) point.zeta ≢ SC.Challenge.ring.zero) }
+    ensures values { IfOk result (λ point. point.periodic_values.items ≡ periodic_values ⟦<SC as StarkOperations>⟧.operations.opening.fields (A.periodic_columns air.now) (log_height SC.Pcs.ZK proof.now.degree_bits) point.zeta) }
+    ensures fault { IfErr result (IsOutOfMemoryOr (⟦<SC as StarkRun<A>>⟧.run_fault config.now air.now proof.now public_values.now (option_copied key.entry))) }
+{
+    let (alpha, zeta) = replay_proof(config, air, proof, public_values, key, transcript)?;
+    let periodic_values = test_point::<SC, A>(alloc, air, proof.degree_bits, domains, zeta)?;
+    delegate_openings(alloc, config, proof, key, domains, zeta, transcript)?;
+    Ok(SampledPoint {
+        alpha,
+        zeta,
+        periodic_values,
+    })
+}
+
+/// The run of the transcript from the configuration's first state: the challenges, the tests at zeta, the opening argument.
+pub fn check_run<SC, A>(
+    alloc: Global,
+    config: &SC,
+    air: &A,
+    proof: &StarkProof<SC>,
+    public_values: &[Val<SC>],
+    key: Option<&PreprocessedVerifierKey<Com<SC>>>,
+    domains: ProofDomains<Domain<SC>>,
+) -> Result<SampledPoint<SC::Challenge>, VerificationError<PcsError<SC>>>
+where
+    SC: StarkGenericConfig,
+    SC::Challenger: GrindingChallenger<Witness = Val<SC>>,
+    A: Air<Val<SC>>,
+    requires trace { SC.Pcs.Domain.coset_of domains.trace ≡ trace_coset SC.Pcs.Domain.Val.ring SC.Pcs.ZK proof.now.degree_bits }
+    requires committed { SC.Pcs.Domain.coset_of domains.committed ≡ natural_coset SC.Pcs.Domain.Val.ring proof.now.degree_bits }
+    requires chunks { domains.log_chunks ≡ log_parts_of (A.constraints air.now) (A.degree_hint air.now) (zk_bits SC.Pcs.ZK) + zk_bits SC.Pcs.ZK }
+    requires extended { zk_bits SC.Pcs.ZK ≤ proof.now.degree_bits }
+    requires few { domains.log_chunks < 64 }
+    requires counted { length public_values.now ≡ (A.layout air.now).publics }
+    ensures holds { IfOk result (λ point. ⟦<SC as StarkRun<A>>⟧.run_holds config.now air.now proof.now public_values.now (option_copied key.entry) point.alpha point.zeta) }
+    ensures nonzero { IfOk result (λ point. coset_vanishing SC.Challenge.ring (λ c. c) SC.Challenge.inverse_of (coset_size (SC.Pcs.Domain.coset_of domains.trace)) (SC.Challenge.embed (SC.Pcs.Domain.coset_of domains.trace).shift) point.zeta ≢ SC.Challenge.ring.zero) }
+    ensures values { IfOk result (λ point. point.periodic_values.items ≡ periodic_values ⟦<SC as StarkOperations>⟧.operations.opening.fields (A.periodic_columns air.now) (log_height SC.Pcs.ZK proof.now.degree_bits) point.zeta) }
+    ensures fault { IfErr result (IsOutOfMemoryOr (⟦<SC as StarkRun<A>>⟧.run_fault config.now air.now proof.now public_values.now (option_copied key.entry))) }
+{
+    let mut challenger = config.initialise_challenger(alloc)?;
+    let shape = describe::<SC, A>(
+        alloc,
+        config,
+        air,
+        proof.degree_bits,
+        key,
+        domains.log_chunks,
+    )?;
+    let mut transcript = StarkVerifierTranscript::<SC::Challenger, Val<SC>, SC::Challenge>::new(
+        alloc,
+        &mut challenger,
+        shape,
+    )?;
+    match play(
+        alloc,
+        config,
+        air,
+        proof,
+        public_values,
+        key,
+        domains,
+        &mut transcript,
+    ) {
+        Ok(point) => {
+            transcript.finish();
+            Ok(point)
+        }
+        Err(fault) => {
+            transcript.abort();
+            Err(fault)
+        }
+    }
+}

@@ -1,8 +1,8 @@
 -- The verifier's answer for an honest proof.
 use Rattle.std.proofs.Common.{◌≡◌, ◌⊎◌, inl, inr, ℕ, Option, Result, Ok, Err, IfErr}
 use Rattle.stark_air.specs.Declaration.{Trace}
-use Rattle.stark_parts.specs.declared.error.VerificationError.{VerificationError}
-use Rattle.stark_parts.specs.declared.error.VerificationError.TheVariants.{OutOfMemory}
+use Rattle.stark_transcript.specs.declared.error.VerificationError.{VerificationError}
+use Rattle.stark_transcript.specs.declared.error.VerificationError.TheVariants.{OutOfMemory}
 use Rattle.stark_proof.specs.ProofView.{ProofView}
 use Rattle.stark_protocol.specs.Acceptance.{Accepted}
 use Rattle.stark_protocol.specs.FirstFault.{IsOutOfMemoryOr}

@@ -12,9 +12,7 @@ ghost use Rattle.stark_prover.specs.CommittedColumns.{IsPreprocessedCommitment};
 ghost use Rattle.p3_uni_stark.specs.Completeness.{IsHonest};
 
 use stark_air::Air;
-use stark_parts::{
-    Com, PcsError, PcsProverError, ProvingError, StarkGenericConfig, Val, VerificationError,
-};
+use stark_parts::{Com, PcsError, PcsProverError, StarkGenericConfig, Val};
 use stark_protocol::{
     PcsProverData, PreprocessedProverData, PreprocessedVerifierKey, StarkInstance, StarkOperations,
     StarkProof,
@@ -23,6 +21,7 @@ use stark_prover::{StarkProving, prove_with_preprocessed};
 use stark_support::{
     GrindingChallenger, PackedExtensionField, PackedField, Pcs, RowMajorMatrix, UnivariateStarkPcs,
 };
+use stark_transcript::{ProvingError, VerificationError};
 use stark_verifier::{StarkVerdict, verify_with_preprocessed};
 use std::alloc::Global;
 

@@ -10,12 +10,11 @@ pub use stark_air::{
     get_max_constraint_degree_extension, get_symbolic_constraints,
 };
 pub use stark_parts::{
-    Com, Domain, GrindExhausted, InvalidProofShapeError, PackedChallenge, PackedVal, PcsError,
-    PcsProverError, ProverConstraintFolder, ProvingError, StarkConfig, StarkGenericConfig,
-    StarkOpeningLayout, StarkProverTranscript, StarkShape, StarkTranscriptFailure,
-    StarkVerifierTranscript, Val, VectorizedChallenge, VectorizedConstraintFolder, VectorizedVal,
-    VerificationError, VerifierConstraintFolder, get_log_num_quotient_chunks,
-    get_log_num_quotient_chunks_for_domain, get_log_quotient_degree_extension,
+    Com, Domain, PackedChallenge, PackedVal, PcsError, PcsProverError, ProverConstraintFolder,
+    StarkConfig, StarkGenericConfig, StarkOpeningLayout, Val, VectorizedChallenge,
+    VectorizedConstraintFolder, VectorizedVal, VerifierConstraintFolder,
+    get_log_num_quotient_chunks, get_log_num_quotient_chunks_for_domain,
+    get_log_quotient_degree_extension,
 };
 pub use stark_proof::{
     Commitments, OpenedValues, OpeningsDecodeError, PreprocessedOpenedValues, Proof,
@@ -31,6 +30,10 @@ pub use stark_security::{
     OpeningShape, StarkSecurityParams, num_batched_openings, ood_error_bound,
 };
 pub use stark_support::{GrindingSites, PeriodicColumnShapeError};
+pub use stark_transcript::{
+    GrindExhausted, InvalidProofShapeError, ProvingError, StarkProverTranscript, StarkShape,
+    StarkTranscriptFailure, StarkVerifierTranscript, VerificationError,
+};
 pub use stark_verifier::{
     StarkVerdict, validate_degree_bits, verify, verify_constraints, verify_with_preprocessed,
 };

@@ -3,6 +3,6 @@ pub mod ExtensionLaneFacts
 pub mod PointLists
 pub mod SelectorLists
 pub mod TurnedLists
-pub mod PairLists
+pub mod HalfLists
 pub mod CoordinateFacts
 pub mod WeightedSums

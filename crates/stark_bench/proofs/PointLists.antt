@@ -1,30 +1,33 @@
 -- Lists of values made of other lists, place by place; the values of a subgroup's vanishing polynomial repeat.
-use Rattle.std.proofs.Common.{◌≡◌, ◌≢◌, ◌∙◌, ℕ, zero, suc, ◌+◌, ◌*◌, ◌-◌, ◌/◌, ◌%◌, ◌^◌, ◌<◌, ◌≤◌, List, [], ◌∷◌, ◌++◌, All, Some, length, map, take, option_map, get_or, ap, sym, arith, refl, subst}
+use Rattle.std.proofs.Common.{◌≡◌, ◌≢◌, ◌∙◌, ℕ, zero, suc, ◌+◌, ◌*◌, ◌-◌, ◌/◌, ◌%◌, ◌^◌, ◌<◌, ◌≤◌, List, [], ◌∷◌, ◌++◌, All, Some, length, map, take, option_map, get_or, ap, sym, arith, refl, subst, drop, inl, inr}
 use Rattle.std.specs.List.{slice_get}
-use Rattle.std.proofs.lemmas.List.{length-map, length-take-le}
+use Rattle.std.proofs.lemmas.List.{get_or-drop, length-append, length-drop, length-map, length-take-le}
 use Rattle.std.proofs.lemmas.Nat.{pow-add}
-use Rattle.std.proofs.lemmas.Option.{get_or_from_slice_get, slice_get-map}
-use Rattle.std.proofs.Math.Nat.{mod-lt, mod-add-div}
+use Rattle.std.proofs.lemmas.Bool.{cases_lt}
+use Rattle.std.proofs.lemmas.Option.{get_or_from_slice_get, slice_get-get_or, slice_get-map}
+use Rattle.std.proofs.Math.Nat.{add-mod_right, mod-eq_of_lt, mod-lt, mod-add-div}
 use Rattle.stark_support.specs.CosetValueFacts.{all_values}
 use Rattle.stark_support.specs.LogarithmFacts.{two_power_at_most}
 use Rattle.stark_support.specs.SelectorFacts.{IsSubgroup, first_is_quotient, not_first_point}
 use Rattle.stark_support.specs.Selectors.{Subgroup, first_row_selector, transition_selector}
 use Rattle.stark_support.specs.Powers.{power}
-use Rattle.stark_support.specs.PowerFacts.{power-add, power-mul, power-one, power-power}
+use Rattle.stark_support.specs.PowerFacts.{power-add, power-mul, power-one, power-power, power-zero}
 use Rattle.stark_support.specs.Ring.{RingOps, RingLaws, FieldLaws, difference}
 use Rattle.stark_support.specs.Coset.{TwoAdicCoset, AreValuesOn, coset_point, subgroup_vanishing}
 use Rattle.stark_support.specs.ListFacts.{one_more_number, one_more_listed}
-use Rattle.stark_bench.specs.PointLists.{AreQuotients, AreRepeated, AreTurned}
+use Rattle.stark_support.specs.RingSolver.{solve, ◌⊗◌, v0, v1, v2}
+use Rattle.stark_bench.proofs.HalfLists.{slice_get-left, slice_get-right}
+use Rattle.stark_bench.specs.PointLists.{AreQuotients, AreRepeated, AreTurned, RepeatOn}
 
 module _ {K : Type 0} (ring : RingOps K) (inverse : K → K) (elements divisors : List K) where
   pub no_quotients : (over : List K) → over ≡ [] → AreQuotients ring inverse elements divisors 0 over
   no_quotients over e = record { number = ap length e; at_place = λ i h. absurd (omega arith) }
 
-  pub one_more_quotient : (n : ℕ) (before after : List K) (q : K) → AreQuotients ring inverse elements divisors n before → after ≡ before ++ q ∷ [] → q ≡ ring.mul (get_or elements n ring.zero) (inverse (get_or divisors n ring.zero))
+  pub one_more_quotient : (n : ℕ) (before after : List K) (q : K) → AreQuotients ring inverse elements divisors n before → after ≡ before ++ q ∷ [] → q ≡ ring.mul (get_or elements (n % length elements) ring.zero) (inverse (get_or divisors n ring.zero))
       → AreQuotients ring inverse elements divisors (n + 1) after
   one_more_quotient n before after q so_far e is = record {
     number = one_more_number before after q n so_far.number e;
-    at_place = one_more_listed (λ i. Some (ring.mul (get_or elements i ring.zero) (inverse (get_or divisors i ring.zero)))) before after q n so_far.number so_far.at_place (ap Some (sym is)) e;
+    at_place = one_more_listed (λ i. Some (ring.mul (get_or elements (i % length elements) ring.zero) (inverse (get_or divisors i ring.zero)))) before after q n so_far.number so_far.at_place (ap Some (sym is)) e;
   }
 
 module _ {K : Type 0} (list : List K) where
@@ -37,22 +40,43 @@ module _ {K : Type 0} (list : List K) where
     at_place = one_more_listed (λ i. slice_get list (i % length list)) before after x n so_far.number so_far.at_place is e;
   }
 
-module _ {K : Type 0} (ring : RingOps K) (factor : K) (elements : List K) (further : ℕ) where
-  pub nothing_turned : (all : List K) → all ≡ [] → AreTurned ring factor elements further 0 all
-  nothing_turned all e = record { number = ap length e; at_place = λ i h. absurd (omega arith) }
-
-  pub one_more_turned : (n : ℕ) (before after : List K) (x : K) → AreTurned ring factor elements further n before → after ≡ before ++ x ∷ [] → x ≡ ring.mul factor (get_or elements ((n + further) % length elements) ring.zero)
-      → AreTurned ring factor elements further (n + 1) after
-  one_more_turned n before after x so_far e is = record {
-    number = one_more_number before after x n so_far.number e;
-    at_place = one_more_listed (λ i. Some (ring.mul factor (get_or elements ((i + further) % length elements) ring.zero))) before after x n so_far.number so_far.at_place (ap Some (sym is)) e;
-  }
-
 slice_get-take : {A : Type 0} (xs : List A) (k i : ℕ) → i < k → slice_get (take k xs) i ≡ slice_get xs i
 slice_get-take xs zero i h = absurd (omega arith)
 slice_get-take [] (suc k) i h = refl
 slice_get-take (x ∷ xs) (suc k) zero h = refl
 slice_get-take (x ∷ xs) (suc k) (suc i) h = slice_get-take xs k i (omega arith)
+
+module _ {K : Type 0} (ring : RingOps K) (factor : K) (elements : List K) (further : ℕ) (within : further ≤ length elements) where
+  back_number : length (map (ring.mul factor) (drop further elements)) ≡ length elements - further
+  back_number = length-map (drop further elements) (ring.mul factor) ∙ length-drop further elements
+
+  back_turned : (i : ℕ) → i < length elements - further → slice_get (map (ring.mul factor) (drop further elements)) i ≡ Some (ring.mul factor (get_or elements ((i + further) % length elements) ring.zero))
+  back_turned i h =
+      let place : further + i ≡ (i + further) % length elements = omega arith ∙ sym (mod-eq_of_lt (omega arith)) in
+      slice_get-map (ring.mul factor) (drop further elements) i
+      ∙ ap (option_map (ring.mul factor)) (slice_get-get_or (drop further elements) i ring.zero (omega (arith, h, length-drop further elements)) ∙ ap Some (get_or-drop further elements i ring.zero))
+      ∙ ap (λ k. Some (ring.mul factor (get_or elements k ring.zero))) place
+
+  front_turned : (i : ℕ) → length elements - further ≤ i → i < length elements → slice_get (map (ring.mul factor) (take further elements)) (i - (length elements - further)) ≡ Some (ring.mul factor (get_or elements ((i + further) % length elements) ring.zero))
+  front_turned i past h =
+      let n = length elements in
+      let j = i - (n - further) in
+      let below : j < further = omega arith in
+      let round : i + further ≡ j + n = omega arith in
+      let place : j ≡ (i + further) % n = sym (ap (λ k. k % n) round ∙ add-mod_right j n ∙ mod-eq_of_lt (omega arith)) in
+      slice_get-map (ring.mul factor) (take further elements) j
+      ∙ ap (option_map (ring.mul factor)) (slice_get-take elements further j below ∙ slice_get-get_or elements j ring.zero (omega arith))
+      ∙ ap (λ k. Some (ring.mul factor (get_or elements k ring.zero))) place
+
+  -- the elements from a place on and then those before it
+  pub turned_parts : (all : List K) → all ≡ map (ring.mul factor) (drop further elements) ++ map (ring.mul factor) (take further elements) → AreTurned ring factor elements further (length elements) all
+  turned_parts all e = record {
+    number = omega (arith, ap length e, length-append (map (ring.mul factor) (drop further elements)) (map (ring.mul factor) (take further elements)), back_number, length-map (take further elements) (ring.mul factor), length-take-le further elements within);
+    at_place = λ i h. ap (λ l. slice_get l i) e ∙ elim (cases_lt i (length elements - further)) [
+      | inl below ↦ slice_get-left (map (ring.mul factor) (drop further elements)) (map (ring.mul factor) (take further elements)) i (omega (arith, below, back_number)) ∙ back_turned i below
+      | inr past ↦ slice_get-right (map (ring.mul factor) (drop further elements)) (map (ring.mul factor) (take further elements)) (length elements - further) i back_number past ∙ front_turned i past h
+    ];
+  }
 
 module _ {K : Type 0} (ring : RingOps K) (root : ℕ → K) (coset : TwoAdicCoset K) where
   pub mapped_values : (n : ℕ) (f g : K → K) (xs ys : List K) → AreValuesOn ring root coset n f xs → ys ≡ map g xs → AreValuesOn ring root coset n (λ x. g (f x)) ys
@@ -71,11 +95,12 @@ module _ {K : Type 0} (ring : RingOps K) (root : ℕ → K) (coset : TwoAdicCose
     at_row = λ i h. again.at_place i h ∙ ap (λ m. slice_get xs (i % m)) listed.number ∙ listed.at_row (i % p) (mod-lt i some) ∙ ap Some (repeats i);
   }
 
-  pub quotient_values : (inverse : K → K) (n : ℕ) (f g : K → K) (xs ds over : List K) → AreValuesOn ring root coset n f xs → AreValuesOn ring root coset n g ds → AreQuotients ring inverse xs ds (length ds) over
+  pub quotient_values : (inverse : K → K) (n : ℕ) (f g : K → K) (xs ds over : List K) → RepeatOn ring root coset f xs → AreValuesOn ring root coset n g ds → AreQuotients ring inverse xs ds (length ds) over
       → AreValuesOn ring root coset n (λ x. ring.mul (f x) (inverse (g x))) over
   quotient_values inverse n f g xs ds over elements divisors quotients = record {
     number = quotients.number ∙ divisors.number;
-    at_row = λ i h. quotients.at_place i (omega (arith, h, divisors.number)) ∙ ap (λ x. Some (ring.mul x (inverse (get_or ds i ring.zero)))) (get_or_from_slice_get xs i (f (coset_point ring root coset i)) ring.zero (elements.at_row i h)) ∙
+    at_row = λ i h. quotients.at_place i (omega (arith, h, divisors.number))
+        ∙ ap (λ x. Some (ring.mul x (inverse (get_or ds i ring.zero)))) (get_or_from_slice_get xs (i % length xs) (f (coset_point ring root coset i)) ring.zero (elements.at_row i)) ∙
         ap (λ d. Some (ring.mul (f (coset_point ring root coset i)) (inverse d))) (get_or_from_slice_get ds i (g (coset_point ring root coset i)) ring.zero (divisors.at_row i h));
   }
 
@@ -89,6 +114,44 @@ module _ {K : Type 0} (ring : RingOps K) (root : ℕ → K) (coset : TwoAdicCose
     number = length-take-le k xs (omega (arith, listed.number));
     at_row = λ i h. slice_get-take xs k i h ∙ listed.at_row i (omega arith);
   }
+
+-- the points of a coset, twice as many: the others are those times the power that comes next
+module _ {K : Type 0} {ring : RingOps K} (laws : RingLaws ring) (root : ℕ → K) (coset : TwoAdicCoset K) where
+  point_further : (n i : ℕ) → ring.mul (power ring (root coset.log_size) n) (coset_point ring root coset i) ≡ coset_point ring root coset (n + i)
+  point_further n i =
+      let w = root coset.log_size in
+      solve laws (power ring w n ∷ coset.shift ∷ power ring w i ∷ []) (v0 ⊗ (v1 ⊗ v2)) (v1 ⊗ (v0 ⊗ v2)) refl ∙ ap (ring.mul coset.shift) (sym (power-add laws w n i))
+
+  pub one_point : (all : List K) → all ≡ coset.shift ∷ [] → AreValuesOn ring root coset (2 ^ 0) (λ x. x) all
+  one_point all e = record {
+    number = ap length e;
+    at_row = λ i h.
+        let none : i ≡ 0 = omega (arith, h) in
+        ap (λ l. slice_get l i) e ∙ ap (slice_get (coset.shift ∷ [])) none ∙ ap Some (sym (laws.mul_one coset.shift) ∙ ap (ring.mul coset.shift) (sym (power-zero laws (root coset.log_size)) ∙ ap (power ring (root coset.log_size)) (sym none)));
+  }
+
+  pub first_step : root coset.log_size ≡ power ring (root coset.log_size) (2 ^ 0)
+  unfolding power
+  first_step = sym (laws.mul_one (root coset.log_size))
+
+  pub next_step : (k : ℕ) (step : K) → step ≡ power ring (root coset.log_size) (2 ^ k) → ring.mul step step ≡ power ring (root coset.log_size) (2 ^ (k + 1))
+  next_step k step e = ap (λ s. ring.mul s s) e ∙ sym (power-add laws (root coset.log_size) (2 ^ k) (2 ^ k)) ∙ ap (power ring (root coset.log_size)) (omega (arith, pow-add 2 k 1))
+
+  pub points_doubled : (k : ℕ) (step : K) (points all : List K) → step ≡ power ring (root coset.log_size) (2 ^ k) → AreValuesOn ring root coset (2 ^ k) (λ x. x) points → all ≡ points ++ map (ring.mul step) points
+      → AreValuesOn ring root coset (2 ^ (k + 1)) (λ x. x) all
+  points_doubled k step points all is listed e =
+      let twice : 2 ^ (k + 1) ≡ 2 ^ k + 2 ^ k = omega (arith, pow-add 2 k 1) in
+      record {
+        number = omega (arith, ap length e, length-append points (map (ring.mul step) points), length-map points (ring.mul step), listed.number, twice);
+        at_row = λ i h. ap (λ l. slice_get l i) e ∙ elim (cases_lt i (2 ^ k)) [
+          | inl below ↦ slice_get-left points (map (ring.mul step) points) i (omega (arith, below, listed.number)) ∙ listed.at_row i below
+          | inr past ↦
+              let j = i - 2 ^ k in
+              let place : 2 ^ k + j ≡ i = omega (arith, past) in
+              slice_get-right points (map (ring.mul step) points) (2 ^ k) i listed.number past ∙ slice_get-map (ring.mul step) points j ∙ ap (option_map (ring.mul step)) (listed.at_row j (omega (arith, h, past, twice)))
+              ∙ ap Some (ap (λ s. ring.mul s (coset_point ring root coset j)) is ∙ point_further (2 ^ k) j ∙ ap (coset_point ring root coset) place)
+        ];
+      }
 
 -- x^n - 1, with n a power of two, on the points of a coset: it repeats after as many points as the coset has for each of the group's
 module _ {K : Type 0} {ring : RingOps K} (laws : RingLaws ring) (root : ℕ → K) (coset : TwoAdicCoset K) (order : power ring (root coset.log_size) (2 ^ coset.log_size) ≡ ring.one) (k : ℕ) where
@@ -132,10 +195,11 @@ module _ {K : Type 0} {ring : RingOps K} (laws : RingLaws ring) (root : ℕ → 
     pub some_values : 0 < length values
     some_values = omega (arith, listed.number, some_points)
 
-    pub vanishing_everywhere : (all : List K) → AreRepeated values (length points) all → AreValuesOn ring root coset (2 ^ coset.log_size) (λ x. subgroup_vanishing ring (2 ^ k) x) all
-    vanishing_everywhere all again =
-        all_values ring root coset (λ x. subgroup_vanishing ring (2 ^ k) x) (length points) (2 ^ coset.log_size) all at.number
-        (repeated_values ring root coset (length points) (2 ^ (coset.log_size - k)) (λ x. subgroup_vanishing ring (2 ^ k) x) values all some_points vanishing_repeats listed again)
+    pub vanishing_everywhere : RepeatOn ring root coset (λ x. subgroup_vanishing ring (2 ^ k) x) values
+    vanishing_everywhere = record {
+      some = some_values;
+      at_row = λ i. ap (λ m. slice_get values (i % m)) listed.number ∙ listed.at_row (i % 2 ^ (coset.log_size - k)) (mod-lt i some_points) ∙ ap Some (vanishing_repeats i);
+    }
 
     module _ (inverse : K → K) (inverses : List K) (e : inverses ≡ map inverse values) where
       inverses_listed : AreValuesOn ring root coset (2 ^ (coset.log_size - k)) (λ x. inverse (subgroup_vanishing ring (2 ^ k) x)) inverses
@@ -162,7 +226,7 @@ module _ {K : Type 0} {ring : RingOps K} {inverse : K → K} (laws : FieldLaws r
   pub transitions : (c : K) (ds : List K) → c ≡ group.generator_inverse → ds ≡ map (λ x. difference ring x c) points → AreValuesOn ring root coset n (transition_selector ring (λ k. k) group) ds
   transitions c ds is e = same_values ring root coset n (λ x. difference ring x c) (transition_selector ring (λ k. k) group) ds (λ i h. ap (difference ring (coset_point ring root coset i)) is) (less_listed c ds e)
 
-  module _ (vanishing : List K) (values : AreValuesOn ring root coset n (λ x. subgroup_vanishing ring group.size x) vanishing) (c : K) (ds over : List K) (e : ds ≡ map (λ x. difference ring x c) points)
+  module _ (vanishing : List K) (values : RepeatOn ring root coset (λ x. subgroup_vanishing ring group.size x) vanishing) (c : K) (ds over : List K) (e : ds ≡ map (λ x. difference ring x c) points)
       (quotients : AreQuotients ring inverse vanishing ds (length ds) over) where
     pub first_rows : c ≡ ring.one → AreValuesOn ring root coset n (first_row_selector ring (λ k. k) group) over
     first_rows is =

@@ -7,7 +7,7 @@ use Rattle.stark_support.specs.SelectorFacts.{IsSubgroup, last_is_quotient, not_
 use Rattle.stark_support.specs.Selectors.{Subgroup, first_row_selector, last_row_selector, transition_selector}
 use Rattle.stark_support.specs.Subgroup.{group_of}
 use Rattle.stark_support.specs.TwoAdic.{TwoAdicLaws}
-use Rattle.stark_bench.specs.PointLists.{AreQuotients}
+use Rattle.stark_bench.specs.PointLists.{AreQuotients, RepeatOn}
 use Rattle.stark_bench.proofs.PointLists.{all_are, first_rows, none_is_first, quotient_values, same_values, transitions}
 
 module _ {K : Type 0} {ring : RingOps K} {inverse : K → K} (laws : FieldLaws ring inverse) (adicity : ℕ) (root : ℕ → K) (generator : K) (two_adic : TwoAdicLaws ring adicity root generator)
@@ -31,7 +31,7 @@ module _ {K : Type 0} {ring : RingOps K} {inverse : K → K} (laws : FieldLaws r
       pub no_last_listed : All (λ d. d ≢ ring.zero) transitions
       no_last_listed = all_are ring root coset n (transition_selector ring (λ k. k) group) (λ d. d ≢ ring.zero) transitions (λ i h. not_last_point laws group is_group (coset_point ring root coset i) (outside i)) differences
 
-      pub last_rows_divided : (vanishing over : List K) → AreValuesOn ring root coset n (λ x. subgroup_vanishing ring group.size x) vanishing → AreQuotients ring inverse vanishing transitions (length transitions) over
+      pub last_rows_divided : (vanishing over : List K) → RepeatOn ring root coset (λ x. subgroup_vanishing ring group.size x) vanishing → AreQuotients ring inverse vanishing transitions (length transitions) over
           → AreValuesOn ring root coset n (last_row_selector ring (λ k. k) group) over
       last_rows_divided vanishing over values quotients =
           same_values ring root coset n (λ x. ring.mul (subgroup_vanishing ring group.size x) (inverse (transition_selector ring (λ k. k) group x))) (last_row_selector ring (λ k. k) group) over
@@ -49,7 +49,7 @@ module _ {K : Type 0} {ring : RingOps K} {inverse : K → K} (laws : FieldLaws r
       pub transitions_listed : one ≡ group.generator_inverse → AreValuesOn ring root coset n (transition_selector ring (λ k. k) group) ds
       transitions_listed is = transitions laws root group is_group coset outside n points at one ds is less_points
 
-      module _ (vanishing : List K) (values : AreValuesOn ring root coset n (λ x. subgroup_vanishing ring group.size x) vanishing) (over elements divisors : List K) (shown_elements : elements ≡ vanishing) (shown_divisors : divisors ≡ ds)
+      module _ (vanishing : List K) (values : RepeatOn ring root coset (λ x. subgroup_vanishing ring group.size x) vanishing) (over elements divisors : List K) (shown_elements : elements ≡ vanishing) (shown_divisors : divisors ≡ ds)
           (quotients : AreQuotients ring inverse elements divisors (length divisors) over) where
         over_listed : AreQuotients ring inverse vanishing ds (length ds) over
         over_listed = subst (λ ys. AreQuotients ring inverse vanishing ys (length ys) over) shown_divisors (subst (λ xs. AreQuotients ring inverse xs divisors (length divisors) over) shown_elements quotients)

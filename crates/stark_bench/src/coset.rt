@@ -1,12 +1,11 @@
 //! The two-adic cosets of a field, as domains.
-ghost use Rattle.std.specs.Prelude.{◌≡◌, ◌≢◌, ◌<◌, ◌≤◌, ◌+◌, ◌-◌, ◌*◌, ◌/◌, ◌%◌, ℕ, ⊤, ◌^◌, All, IfOk, Some, length, map, refl};
+ghost use Rattle.std.specs.Prelude.{◌≡◌, ◌≢◌, ◌<◌, ◌≤◌, ◌+◌, ◌-◌, ◌*◌, ℕ, ⊤, ◌^◌, ◌++◌, ◌∷◌, [], All, IfOk, length, map, refl, vec_capacity, vec_len};
 ghost use Rattle.stark_support.specs.Coset.{AreDisjoint, AreValuesOn, TwoAdicCoset, coset_size, subgroup_vanishing};
 ghost use Rattle.stark_support.specs.Ring.{difference};
 ghost use Rattle.stark_support.specs.SelectorFacts.{IsSubgroup};
 ghost use Rattle.stark_support.specs.Selectors.{first_row_selector, last_row_selector, transition_selector};
 ghost use Rattle.stark_support.specs.Subgroup.{group_of};
-ghost use Rattle.std.specs.List.{slice_get};
-ghost use Rattle.stark_bench.specs.PointLists.{ArePairProducts, AreQuotients, AreRepeated, AreTurned};
+ghost use Rattle.stark_bench.specs.PointLists.{AreQuotients, AreRepeated, AreTurned, RepeatOn, products_of};
 
 use stark_support::{
     DomainShape, Element, ExtensionField, Field, LagrangeSelectors, PeriodicColumns,
@@ -90,77 +89,99 @@ fn group_selectors<E: Field>(generator: E, log_size: usize, point: E) -> Lagrang
     }
 }
 
-/// What is left of each element where `c` is taken away.
+/// What is left of each element where `c` is taken away. There is room for all of them from the start, so that no step asks for it and
+/// the loop can become vector code, as the loops below.
 fn differences<F: Field>(alloc: Global, elements: &[F], c: F) -> Result<Vec<F>, AllocError>
     ensures { IfOk result (λ left. left.items ≡ map (λ x. difference F.ring x c) elements.now) }
 {
     let mut left = Vec::with_capacity(alloc, elements.len())?;
     for x in elements {
-        left.push(*x - c)?;
+        left.push_reserved(*x - c);
     }
     Ok(left)
 }
 
-/// The element at a place, or one past the end.
-fn element_or_one<F: Field>(elements: &[F], place: usize) -> F
-    ensures there { place < length elements.now → slice_get elements.now place ≡ Some result }
-    ensures past { length elements.now ≤ place → result ≡ F.ring.one }
+/// Puts a factor times each element behind what the list holds.
+fn push_scaled<F: Field>(all: &mut Vec<F>, elements: &[F], factor: F)
+    requires room { vec_len all.old + length elements.now ≤ vec_capacity all.old }
+    ensures items { all.new.items ≡ all.old.items ++ map (F.ring.mul factor) elements.now }
+    ensures capacity { vec_capacity all.new ≡ vec_capacity all.old }
 {
-    match elements.get(place) {
-        Some(x) => *x,
-        None => F::ONE,
+    for x in elements {
+        all.push_reserved(factor * *x);
     }
 }
 
-/// The other place of a pair, where each even place and the one behind it are a pair.
-fn other_of_pair(place: usize) -> usize
-    requires { place + 1 < 2 ^ 64 }
-    ensures { result ≡ place + 1 - 2 * (place % 2) }
+/// Puts a factor times each element that the list holds behind all of them.
+fn push_own_scaled<F: Field>(all: &mut Vec<F>, factor: F)
+    requires room { 2 * vec_len all.old ≤ vec_capacity all.old }
+    ensures items { all.new.items ≡ all.old.items ++ map (F.ring.mul factor) all.old.items }
+    ensures capacity { vec_capacity all.new ≡ vec_capacity all.old }
 {
-    if place % 2 == 0 { place + 1 } else { place - 1 }
-}
-
-/// The products of the elements in pairs: the first and the second, the third and the fourth and so on; a last one without another
-/// stands alone.
-fn pair_products<F: Field>(alloc: Global, elements: &[F]) -> Result<Vec<F>, AllocError>
-    ensures { IfOk result (λ products. ArePairProducts F.ring elements.now (length elements.now - length elements.now / 2) products.items) }
-{
-    let count = elements.len() - elements.len() / 2;
-    let mut products = Vec::with_capacity(alloc, count)?;
-    for pair in 0..count {
-        products.push(elements[2 * pair] * element_or_one(elements, 2 * pair + 1))?;
+    for index in 0..all.len() {
+        all.push_reserved(factor * all[index]);
     }
-    Ok(products)
 }
 
-/// Each element over the one at its place in the other list, which is as long. Each two divisors have one inverse, which is that of their
-/// product; so there are half as many to take, one after the other, and half as much memory is asked for.
-fn quotients<F: Field>(alloc: Global, elements: &[F], divisors: &[F]) -> Result<Vec<F>, AllocError>
-    requires number { length elements.now ≡ length divisors.now }
+/// Puts the products of two lists' elements, place by place, behind what the list holds.
+fn push_products<F: Field>(all: &mut Vec<F>, lefts: &[F], rights: &[F])
+    requires number { length lefts.now ≡ length rights.now }
+    requires room { vec_len all.old + length lefts.now ≤ vec_capacity all.old }
+    ensures items { all.new.items ≡ all.old.items ++ products_of F.ring lefts.now rights.now }
+    ensures capacity { vec_capacity all.new ≡ vec_capacity all.old }
+{
+    for index in 0..lefts.len() {
+        all.push_reserved(lefts[index] * rights[index]);
+    }
+}
+
+/// The products of two lists' elements, place by place.
+fn products<F: Field>(alloc: Global, lefts: &[F], rights: &[F]) -> Result<Vec<F>, AllocError>
+    requires { length lefts.now ≡ length rights.now }
+    ensures { IfOk result (λ all. all.items ≡ products_of F.ring lefts.now rights.now) }
+{
+    let mut all = Vec::with_capacity(alloc, lefts.len())?;
+    push_products(&mut all, lefts, rights);
+    Ok(all)
+}
+
+/// The elements of a list over and over, each over the divisor at its place, by an inverse of each divisor.
+fn quotients_by_inverses<F: Field>(
+    alloc: Global,
+    elements: &[F],
+    divisors: &[F],
+) -> Result<Vec<F>, AllocError>
+    requires some { 0 < length elements.now }
     requires nonzero { All (λ d. d ≢ F.ring.zero) divisors.now }
     ensures { IfOk result (λ over. AreQuotients F.ring F.inverse_of elements.now divisors.now (length divisors.now) over.items) }
 {
-    let products = pair_products(alloc, divisors)?;
-    let inverses = batch_multiplicative_inverse(alloc, products.as_slice())?;
-    let mut over = Vec::with_capacity(alloc, elements.len())?;
-    for index in 0..elements.len() {
-        let other = element_or_one(divisors, other_of_pair(index));
-        over.push(elements[index] * (inverses[index / 2] * other))?;
+    let inverses = batch_multiplicative_inverse(alloc, divisors)?;
+    let mut over = Vec::with_capacity(alloc, divisors.len())?;
+    for index in 0..divisors.len() {
+        over.push(elements[index % elements.len()] * inverses[index])?;
     }
     Ok(over)
 }
 
-/// The place that lies `further` behind one of so many, taken round the end.
-fn place_behind(place: usize, further: usize, count: usize) -> usize
-    requires place { place < count }
-    requires further { further ≤ count }
-    ensures { result ≡ (place + further) % count }
+/// The elements of a list over and over, each over the divisor at its place. A divisor of the first half and the one at its place in the
+/// second share a quotient, that by their product, if the same element is over both; so half as many are to take, and of these again half,
+/// until few are left.
+fn quotients<F: Field>(alloc: Global, elements: &[F], divisors: &[F]) -> Result<Vec<F>, AllocError>
+    requires some { 0 < length elements.now }
+    requires nonzero { All (λ d. d ≢ F.ring.zero) divisors.now }
+    ensures { IfOk result (λ over. AreQuotients F.ring F.inverse_of elements.now divisors.now (length divisors.now) over.items) }
 {
-    if place < count - further {
-        place + further
-    } else {
-        place - (count - further)
+    let half = divisors.len() / 2;
+    if half < 16 || divisors.len() % 2 != 0 || half % elements.len() != 0 {
+        return quotients_by_inverses(alloc, elements, divisors);
     }
+    let (front, back) = divisors.split_at(half);
+    let both = products(alloc, front, back)?;
+    let shared = quotients(alloc, elements, both.as_slice())?;
+    let mut over = Vec::with_capacity(alloc, divisors.len())?;
+    push_products(&mut over, shared.as_slice(), back);
+    push_products(&mut over, shared.as_slice(), front);
+    Ok(over)
 }
 
 /// At each place a factor times the element that lies `further` behind, taken round the end.
@@ -173,18 +194,32 @@ fn turned<F: Field>(
     requires { further ≤ length elements.now }
     ensures { IfOk result (λ all. AreTurned F.ring factor elements.now further (length elements.now) all.items) }
 {
+    let (front, back) = elements.split_at(further);
     let mut all = Vec::with_capacity(alloc, elements.len())?;
-    for index in 0..elements.len() {
-        all.push(factor * elements[place_behind(index, further, elements.len())])?;
+    push_scaled(&mut all, back, factor);
+    push_scaled(&mut all, front, factor);
+    Ok(all)
+}
+
+/// So many times the same element.
+fn filled<F: Field>(alloc: Global, x: F, count: usize) -> Result<Vec<F>, AllocError>
+    ensures { IfOk result (λ all. AreRepeated (x ∷ []) count all.items) }
+{
+    let mut all = Vec::with_capacity(alloc, count)?;
+    for _index in 0..count {
+        all.push_reserved(x);
     }
     Ok(all)
 }
 
-/// So many elements, which are those of a list over and over.
+/// So many elements, which are those of a list over and over; no place is divided where the list has one.
 fn repeated<F: Field>(alloc: Global, list: &[F], count: usize) -> Result<Vec<F>, AllocError>
     requires { 0 < length list.now }
     ensures { IfOk result (λ all. AreRepeated list.now count all.items) }
 {
+    if list.len() == 1 {
+        return filled(alloc, list[0], count);
+    }
     let mut all = Vec::with_capacity(alloc, count)?;
     for index in 0..count {
         all.push(list[index % list.len()])?;
@@ -215,7 +250,7 @@ fn points_for_each(log_size: usize, log_of_group: usize) -> usize
     1 << log_size.saturating_sub(log_of_group)
 }
 
-/// The vanishing values of a subgroup at points, and their inverses.
+/// The vanishing values of a subgroup at the first points, after which they repeat, and the inverses at all of them.
 #[derive(Drop)]
 struct Vanishing<F> {
     values: Vec<F>,
@@ -223,22 +258,22 @@ struct Vanishing<F> {
 }
 
 impl<F: TwoAdicField> Coset<F> {
-    /// The points, in row order.
+    /// The points, in row order: each round doubles them.
     fn points(&self, alloc: Global) -> Result<Vec<F>, AllocError>
         ensures { IfOk result (λ points. AreValuesOn F.ring F.root (record { shift = self.now.shift; log_size = self.now.log_size }) (2 ^ self.now.log_size) (λ x. x) points.items) }
     {
-        let step = F::two_adic_generator(self.log_size);
         let mut points = Vec::with_capacity(alloc, self.size())?;
-        let mut point = self.shift;
-        for _row in 0..self.size() {
-            points.push(point)?;
-            point = point * step;
+        points.push(self.shift)?;
+        let mut step = F::two_adic_generator(self.log_size);
+        for _round in 0..self.log_size {
+            push_own_scaled(&mut points, step);
+            step = step * step;
         }
         Ok(points)
     }
 
-    /// A subgroup's vanishing values at the points of a coset apart from it, and their inverses. They are taken once for each
-    /// coset of the subgroup, as they repeat.
+    /// A subgroup's vanishing values at the points of a coset apart from it, once for each coset of the subgroup, as they repeat, and their
+    /// inverses at all the points.
     fn vanishing_on(
         &self,
         alloc: Global,
@@ -248,16 +283,14 @@ impl<F: TwoAdicField> Coset<F> {
         requires subgroup { self.now.shift ≡ F.ring.one }
         requires disjoint { AreDisjoint F.ring F.root (record { shift = self.now.shift; log_size = self.now.log_size }) (record { shift = coset.now.shift; log_size = coset.now.log_size }) }
         requires points { AreValuesOn F.ring F.root (record { shift = coset.now.shift; log_size = coset.now.log_size }) (2 ^ coset.now.log_size) (λ x. x) points.now }
-        ensures values { IfOk result (λ v. AreValuesOn F.ring F.root (record { shift = coset.now.shift; log_size = coset.now.log_size }) (2 ^ coset.now.log_size) (λ x. subgroup_vanishing F.ring (2 ^ self.now.log_size) x) v.values.items) }
+        ensures values { IfOk result (λ v. RepeatOn F.ring F.root (record { shift = coset.now.shift; log_size = coset.now.log_size }) (λ x. subgroup_vanishing F.ring (2 ^ self.now.log_size) x) v.values.items) }
         ensures inverses { IfOk result (λ v. AreValuesOn F.ring F.root (record { shift = coset.now.shift; log_size = coset.now.log_size }) (2 ^ coset.now.log_size) (λ x. F.inverse_of (subgroup_vanishing F.ring (2 ^ self.now.log_size) x)) v.inverses.items) }
     {
         let period = points_for_each(coset.log_size, self.log_size);
         let values = vanishing_values(alloc, &points[..period], self.log_size)?;
         let inverses = batch_multiplicative_inverse(alloc, values.as_slice())?;
-        Ok(Vanishing {
-            values: repeated(alloc, values.as_slice(), points.len())?,
-            inverses: repeated(alloc, inverses.as_slice(), points.len())?,
-        })
+        let inverses = repeated(alloc, inverses.as_slice(), points.len())?;
+        Ok(Vanishing { values, inverses })
     }
 
     /// A subgroup's last row selector at the points of a coset apart from it. Times the generator each point is again one of the coset
@@ -273,7 +306,7 @@ impl<F: TwoAdicField> Coset<F> {
     ) -> Result<Vec<F>, AllocError>
         requires subgroup { self.now.shift ≡ F.ring.one }
         requires disjoint { AreDisjoint F.ring F.root (record { shift = self.now.shift; log_size = self.now.log_size }) (record { shift = coset.now.shift; log_size = coset.now.log_size }) }
-        requires vanishing { AreValuesOn F.ring F.root (record { shift = coset.now.shift; log_size = coset.now.log_size }) (2 ^ coset.now.log_size) (λ x. subgroup_vanishing F.ring (2 ^ self.now.log_size) x) vanishing.now }
+        requires vanishing { RepeatOn F.ring F.root (record { shift = coset.now.shift; log_size = coset.now.log_size }) (λ x. subgroup_vanishing F.ring (2 ^ self.now.log_size) x) vanishing.now }
         requires first_rows { AreValuesOn F.ring F.root (record { shift = coset.now.shift; log_size = coset.now.log_size }) (2 ^ coset.now.log_size) (first_row_selector F.ring (λ c. c) (group_of F.inverse_of (F.root self.now.log_size) self.now.log_size)) first_rows.now }
         requires transitions { AreValuesOn F.ring F.root (record { shift = coset.now.shift; log_size = coset.now.log_size }) (2 ^ coset.now.log_size) (transition_selector F.ring (λ c. c) (group_of F.inverse_of (F.root self.now.log_size) self.now.log_size)) transitions.now }
         ensures { IfOk result (λ l. AreValuesOn F.ring F.root (record { shift = coset.now.shift; log_size = coset.now.log_size }) (2 ^ coset.now.log_size) (last_row_selector F.ring (λ c. c) (group_of F.inverse_of (F.root self.now.log_size) self.now.log_size)) l.items) }

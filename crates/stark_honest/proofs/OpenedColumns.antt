@@ -6,7 +6,7 @@ use Rattle.stark_support.specs.Scheme.{QuotientChunk, row_at}
 use Rattle.stark_air.specs.Declaration.{Trace, IsDeclared, next_width}
 use Rattle.stark_air.specs.Layout.{Layout}
 use Rattle.stark_air.specs.Tree.{Constraint}
-use Rattle.stark_parts.specs.Shape.{opens_next_row}
+use Rattle.stark_transcript.specs.Shape.{opens_next_row}
 use Rattle.stark_proof.specs.ProofView.{OpeningsView, PreprocessedView}
 use Rattle.stark_protocol.specs.Acceptance.{periodic_values, preprocessed_local, preprocessed_next, rows_of}
 use Rattle.stark_protocol.specs.Equation.{opened_environment}

@@ -2,7 +2,7 @@
 use Rattle.std.specs.Prelude.{◌≡◌, ℕ, Bool, true, List, [], map, None, Some}
 use Rattle.stark_support.specs.Scheme.{QuotientChunk, committed_chunk, row_at}
 use Rattle.stark_air.specs.Tree.{Constraint}
-use Rattle.stark_parts.specs.Shape.{opens_next_row}
+use Rattle.stark_transcript.specs.Shape.{opens_next_row}
 use Rattle.stark_proof.specs.ProofView.{OpeningsView, PreprocessedView}
 use Rattle.stark_protocol.specs.Instance.{FieldsOps}
 use Rattle.stark_security.specs.ConstraintPolynomial.{AirInstance, Columns}

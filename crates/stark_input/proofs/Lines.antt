@@ -12,20 +12,20 @@ use Rattle.stark_input.specs.declared.verdict.Refusal.TheVariants as refusal
 use Rattle.stark_input.specs.declared.verdict.RunEnd.{RunEnd}
 use Rattle.stark_input.specs.declared.verdict.RunEnd.TheVariants.{Accepted, Refused, BadInput, InputFailed, OutputFailed}
 
-abbrev first_of : List ℕ → ℕ
+abbrev pub first_of : List ℕ → ℕ
 first_of [] = 0
 first_of (x ∷ xs) = x
 
-first_of_accepted : (bytes : List ℕ) → take 8 bytes ≡ codes "accepted" → first_of bytes ≡ 97
+pub first_of_accepted : (bytes : List ℕ) → take 8 bytes ≡ codes "accepted" → first_of bytes ≡ 97
 first_of_accepted [] e = absurd (cc)
 first_of_accepted (x ∷ xs) e = let h : x ∷ take 7 xs ≡ 97 ∷ codes "ccepted" = e in cc
 
-first_of_object : (bytes : List ℕ) → take 1 bytes ≡ codes "{" → first_of bytes ≡ 123
+pub first_of_object : (bytes : List ℕ) → take 1 bytes ≡ codes "{" → first_of bytes ≡ 123
 first_of_object [] e = absurd (cc)
 first_of_object (x ∷ xs) e = let h : x ∷ take 0 xs ≡ 123 ∷ [] = e in cc
 
 -- a front of a line begins as the line does
-first_of_front : (count : ℕ) (line : List ℕ) (c : ℕ) → c ≢ 0 → first_of (take count line) ≡ c → first_of line ≡ c
+pub first_of_front : (count : ℕ) (line : List ℕ) (c : ℕ) → c ≢ 0 → first_of (take count line) ≡ c → first_of line ≡ c
 first_of_front zero [] c some e = e
 first_of_front zero (x ∷ xs) c some e = absurd (some (sym e))
 first_of_front (suc count) [] c some e = e
@@ -48,17 +48,17 @@ first_of_no_memory : (f : Finding) (c : ℕ) → f ≡ finding.Verdict (verdict.
 first_of_no_memory f c memory e other = other (sym e ∙ ap (λ g. first_of (finding_line g)) memory)
 
 -- what a run wrote is what it appended
-wrote : (old new : Option (List ℕ)) (bytes line : List ℕ) → Wrote old new bytes → Appends old new line → bytes ≡ line
+pub wrote : (old new : Option (List ℕ)) (bytes line : List ℕ) → Wrote old new bytes → Appends old new line → bytes ≡ line
 wrote None new bytes line w a = absurd w
 wrote (Some xs) None bytes line w a = absurd w
 wrote (Some xs) (Some ys) bytes line w a = append_cancel_left xs bytes line (sym w ∙ a)
 
-wrote_nothing : (old new : Option (List ℕ)) (bytes : List ℕ) → Wrote old new bytes → Keeps old new → bytes ≡ []
+pub wrote_nothing : (old new : Option (List ℕ)) (bytes : List ℕ) → Wrote old new bytes → Keeps old new → bytes ≡ []
 wrote_nothing None new bytes w k = absurd w
 wrote_nothing (Some xs) None bytes w k = absurd w
 wrote_nothing (Some xs) (Some ys) bytes w k = append_cancel_left xs bytes [] (sym w ∙ k ∙ sym (append-nil xs))
 
-whole : (bytes line : List ℕ) → bytes ≡ line → bytes ≡ take (length line) line
+pub whole : (bytes line : List ℕ) → bytes ≡ line → bytes ≡ take (length line) line
 whole bytes line e = e ∙ sym (take-length line)
 
 -- what a run wrote is the front of the line of what it found

@@ -4,7 +4,7 @@ use Rattle.stark_air.specs.Declaration.{Trace}
 use Rattle.stark_air.specs.Layout.{Layout}
 use Rattle.stark_air.specs.Tree.{Constraint}
 use Rattle.stark_support.specs.Logarithm.{IsCeilingOfLog}
-use Rattle.stark_parts.specs.Shape.{opens_next_row}
+use Rattle.stark_transcript.specs.Shape.{opens_next_row}
 use Rattle.stark_parts.specs.Sizing.{constraint_degree, quotient_multiple}
 use Rattle.stark_clear.specs.Samples.{column_layout, counter_layout, counter_constraints, cubic_constraints, fibonacci_layout, fibonacci_constraints, periodic_layout, periodic_constraints, preprocessed_layout, preprocessed_constraints, pair_layout, pair_constraints}
 use Rattle.stark_bench.specs.Residues.{residue}

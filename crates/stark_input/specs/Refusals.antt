@@ -1,11 +1,11 @@
 -- Why a proof is refused, or none is made, by name.
 use Rattle.std.specs.Prelude.{ℕ, List, codes, Result, Ok, Err}
-use Rattle.stark_parts.specs.declared.error.InvalidProofShapeError.{InvalidProofShapeError}
-use Rattle.stark_parts.specs.declared.error.InvalidProofShapeError.TheVariants as shape
-use Rattle.stark_parts.specs.declared.error.VerificationError.{VerificationError}
-use Rattle.stark_parts.specs.declared.error.VerificationError.TheVariants as error
-use Rattle.stark_parts.specs.declared.error.ProvingError.{ProvingError}
-use Rattle.stark_parts.specs.declared.error.ProvingError.TheVariants as proving
+use Rattle.stark_transcript.specs.declared.error.InvalidProofShapeError.{InvalidProofShapeError}
+use Rattle.stark_transcript.specs.declared.error.InvalidProofShapeError.TheVariants as shape
+use Rattle.stark_transcript.specs.declared.error.VerificationError.{VerificationError}
+use Rattle.stark_transcript.specs.declared.error.VerificationError.TheVariants as error
+use Rattle.stark_transcript.specs.declared.error.ProvingError.{ProvingError}
+use Rattle.stark_transcript.specs.declared.error.ProvingError.TheVariants as proving
 use Rattle.stark_input.specs.declared.refusal.ProofRefusal.{ProofRefusal}
 use Rattle.stark_input.specs.declared.refusal.ProofRefusal.TheVariants as proof
 use Rattle.stark_input.specs.declared.verdict.Refusal.{Refusal}

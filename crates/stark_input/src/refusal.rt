@@ -4,7 +4,7 @@ ghost use Rattle.std.specs.Prelude.{◌≡◌, ◌++◌, codes};
 ghost use Rattle.stark_input.specs.Refusals.{proof_name_of, prover_refusal_of, refusal_of, shape_refusal_of, verdict_of_answer};
 
 use crate::verdict::{Refusal, Verdict};
-use stark_parts::{InvalidProofShapeError, ProvingError, VerificationError};
+use stark_transcript::{InvalidProofShapeError, ProvingError, VerificationError};
 
 /// Why a proof is refused, beside what a check of numbers finds.
 #[derive(Clone, Copy, Debug, PartialEq, Eq)]

@@ -1,7 +1,7 @@
 -- What a verifier's answer says of a proof.
 use Rattle.std.proofs.Common.{◌≡◌, ◌⊎◌, ◌∙◌, inl, inr, ap, refl, sym, subst, ℕ, List, Option, Some, None, Result, Ok, Err, IfOk, IfErr, IfSome}
-use Rattle.stark_parts.specs.declared.error.VerificationError.{VerificationError}
-use Rattle.stark_parts.specs.declared.error.VerificationError.TheVariants as error
+use Rattle.stark_transcript.specs.declared.error.VerificationError.{VerificationError}
+use Rattle.stark_transcript.specs.declared.error.VerificationError.TheVariants as error
 use Rattle.stark_air.specs.Declaration.{Trace}
 use Rattle.stark_protocol.specs.Acceptance.{Accepted}
 use Rattle.stark_protocol.specs.FirstFault.{FirstFault}

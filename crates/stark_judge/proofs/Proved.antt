@@ -11,7 +11,7 @@ use Rattle.stark_bench.specs.ElementJson.{base_written, element_written}
 use Rattle.stark_bench.specs.Residues.{residue_ring}
 use Rattle.stark_clear.specs.ClearJson.{proof_written}
 use Rattle.stark_clear.specs.declared.clear.pcs.ClearProof.{ClearProof}
-use Rattle.stark_parts.specs.declared.error.ProvingError.{ProvingError}
+use Rattle.stark_transcript.specs.declared.error.ProvingError.{ProvingError}
 use Rattle.stark_proof.specs.ProofJson.{commitments_writing, nonzero, openings_writing, preprocessed_local, preprocessed_next, proof_object, proof_writing, value_or_null}
 use Rattle.stark_proof.specs.ProofView.{OpeningsView, ProofView, proof_view}
 use Rattle.stark_proof.specs.declared.values.Commitments.{Commitments}

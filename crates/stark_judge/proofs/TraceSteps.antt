@@ -7,7 +7,7 @@ use Rattle.stark_support.specs.Scheme.{SchemeOps}
 use Rattle.stark_support.specs.Ring.{RingOps}
 use Rattle.stark_air.specs.Declaration.{Trace}
 use Rattle.stark_air.specs.Layout.{Layout}
-use Rattle.stark_parts.specs.declared.error.ProvingError.{ProvingError}
+use Rattle.stark_transcript.specs.declared.error.ProvingError.{ProvingError}
 use Rattle.stark_proof.specs.ProofView.{proof_view}
 use Rattle.stark_proof.specs.declared.values.Proof.{Proof}
 use Rattle.stark_protocol.specs.Instance.{Instance, ProtocolOps}

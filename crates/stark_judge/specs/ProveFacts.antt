@@ -3,7 +3,7 @@ use Rattle.std.specs.Prelude.{◌≡◌, ℕ, ◌++◌, take, List, Option, None
 use Rattle.std.proofs.Common.{◌∙◌, ap, inl, inr, subst, sym}
 use Rattle.stark_air.specs.Declaration.{Trace}
 use Rattle.stark_clear.specs.declared.clear.pcs.ClearProof.{ClearProof}
-use Rattle.stark_parts.specs.declared.error.ProvingError.{ProvingError}
+use Rattle.stark_transcript.specs.declared.error.ProvingError.{ProvingError}
 use Rattle.stark_proof.specs.ProofJson.{proof_writing}
 use Rattle.stark_proof.specs.ProofView.{ProofView}
 use Rattle.stark_protocol.specs.Instance.{ProtocolOps}

@@ -1,7 +1,7 @@
 -- What a verifier finds of an input.
 use Rattle.std.specs.Prelude.{◌≡◌, ◌⊎◌, ℕ, false, List, Option, None, Some}
 use Rattle.stark_air.specs.Declaration.{Trace}
-use Rattle.stark_parts.specs.declared.error.VerificationError.{VerificationError}
+use Rattle.stark_transcript.specs.declared.error.VerificationError.{VerificationError}
 use Rattle.stark_protocol.specs.Acceptance.{Accepted}
 use Rattle.stark_protocol.specs.FirstFault.{FirstFault}
 use Rattle.stark_protocol.specs.Instance.{Instance, ProtocolOps}

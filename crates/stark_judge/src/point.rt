@@ -12,12 +12,13 @@ use stark_air::Air;
 use stark_bench::{ClearCommitment, Coset};
 use stark_clear::ClearPcs;
 use stark_input::{Refusal, Verdict};
-use stark_parts::{Domain, StarkConfig, StarkGenericConfig, Val, VerificationError};
+use stark_parts::{Domain, StarkConfig, StarkGenericConfig, Val};
 use stark_protocol::quotient_at;
 use stark_support::{
     CanObserve, ExtensionChallenger, ExtensionField, Field, FieldChallenger, PeriodicColumns,
     PolynomialSpace, PrimeField64, TwoAdicField, checked_log_size_sum,
 };
+use stark_transcript::VerificationError;
 use std::alloc::Global;
 
 /// A configuration in the clear.

@@ -1,9 +1,9 @@
 //! Configurations, the places of rounds, and what errors become.
-use stark_parts::{
-    GrindExhausted, InvalidProofShapeError, ProvingError, StarkConfig, StarkOpeningLayout,
-    StarkTranscriptFailure, VerificationError,
-};
+use stark_parts::{StarkConfig, StarkOpeningLayout};
 use stark_support::{PeriodicColumnShapeError, SchemeFault};
+use stark_transcript::{
+    GrindExhausted, InvalidProofShapeError, ProvingError, StarkTranscriptFailure, VerificationError,
+};
 use std::alloc::AllocError;
 use std::test::Fail;
 

@@ -7,8 +7,8 @@ ghost use Rattle.std.proofs.lemmas.List.{length-map};
 use crate::rows::{apart, numbers_in};
 use stark_air::{BaseAir, every_column};
 use stark_bench::S12289;
-use stark_parts::StarkShape;
 use stark_support::{DomainSeparator, ExtensionField, Field, RowMajorMatrix};
+use stark_transcript::StarkShape;
 use std::alloc::{AllocError, Global};
 use std::test::Fail;
 

@@ -4,13 +4,13 @@ ghost use Rattle.std.specs.Prelude.{◌≡◌, IfOk, length};
 use crate::elements::element;
 use crate::rows::{apart, numbers_in};
 use stark_bench::ClearCommitment;
-use stark_parts::{
-    StarkProverTranscript, StarkShape, StarkTranscriptFailure, StarkVerifierTranscript,
-    alpha_without_work,
-};
 use stark_support::{
     CanObserve, CanSample, ExtensionChallenger, ExtensionField, FieldChallenger,
     GrindingChallenger, PrimeField64,
+};
+use stark_transcript::{
+    StarkProverTranscript, StarkShape, StarkTranscriptFailure, StarkVerifierTranscript,
+    alpha_without_work,
 };
 use std::alloc::{AllocError, Global};
 use std::fmt::Debug;

@@ -1,13 +1,9 @@
 pub mod Folded
 pub mod Folding
-pub mod Shape
-pub mod Replay
-pub mod ReplayFacts
 pub mod Sizing
 pub mod ConstraintBound
 pub mod SizingLaw
 pub mod Config
-pub mod Errors
 pub mod PackedFacts
 pub mod PackedSums
 pub mod Finalized

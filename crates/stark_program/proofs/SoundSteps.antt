@@ -14,7 +14,7 @@ use Rattle.stark_support.specs.Polynomial.{HasDegreeBelow}
 use Rattle.stark_support.specs.Scheme.{CommittedMatrix, matrix_row, natural_coset, row_at, zk_bits}
 use Rattle.stark_air.specs.Declaration.{IsDeclared, Trace}
 use Rattle.stark_air.specs.Layout.{LeavesWithin}
-use Rattle.stark_parts.specs.Shape.{opens_next_row}
+use Rattle.stark_transcript.specs.Shape.{opens_next_row}
 use Rattle.stark_proof.specs.ProofView.{PreprocessedView, ProofView}
 use Rattle.stark_clear.specs.ClearClaims.{ClaimsAreTrue}
 use Rattle.stark_clear.specs.ClearScheme.{IsFull, columns_of}

@@ -1,1 +1,2 @@
 pub mod SetUpSteps
+pub mod Carried

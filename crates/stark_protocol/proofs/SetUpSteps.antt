@@ -9,8 +9,8 @@ use Rattle.stark_support.specs.Scheme.{SchemeOps, TakesRows, matrix_row, natural
 use Rattle.stark_support.specs.declared.scheme.SchemeFault.{SchemeFault}
 use Rattle.stark_support.specs.declared.scheme.SchemeFault.TheVariants.{Refused, OutOfMemory}
 use Rattle.stark_air.specs.Declaration.{Trace}
-use Rattle.stark_parts.specs.Errors.{IsFaultIn}
-use Rattle.stark_parts.specs.declared.error.ProvingError.{ProvingError}
+use Rattle.stark_transcript.specs.Errors.{IsFaultIn}
+use Rattle.stark_transcript.specs.declared.error.ProvingError.{ProvingError}
 use Rattle.stark_protocol.specs.Preprocessing.{IsSetUp, IsSetUpFault}
 
 -- how many rows a matrix has

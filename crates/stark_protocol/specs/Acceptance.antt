@@ -9,13 +9,13 @@ use Rattle.stark_support.specs.declared.periodic.PeriodicColumnShapeError.{Perio
 use Rattle.stark_support.specs.Scheme.{natural_coset, zk_bits}
 use Rattle.stark_support.specs.Sponge.{observed_bytes}
 use Rattle.stark_support.specs.Seed.{shape_seed}
-use Rattle.stark_parts.specs.Shape.{opens_next_row, shape_numbers, shape_of}
-use Rattle.stark_parts.specs.Replay.{PhaseOutcome}
-use Rattle.stark_parts.specs.declared.shape.StarkShape.{StarkShape}
-use Rattle.stark_parts.specs.declared.shape.StarkTranscriptFailure.{StarkTranscriptFailure}
-use Rattle.stark_parts.specs.declared.error.InvalidProofShapeError.{InvalidProofShapeError}
-use Rattle.stark_parts.specs.declared.error.VerificationError.{VerificationError}
-use Rattle.stark_parts.specs.declared.error.VerificationError.TheVariants.{InvalidProofShape}
+use Rattle.stark_transcript.specs.Shape.{opens_next_row, shape_numbers, shape_of}
+use Rattle.stark_transcript.specs.Replay.{PhaseOutcome}
+use Rattle.stark_transcript.specs.declared.shape.StarkShape.{StarkShape}
+use Rattle.stark_transcript.specs.declared.shape.StarkTranscriptFailure.{StarkTranscriptFailure}
+use Rattle.stark_transcript.specs.declared.error.InvalidProofShapeError.{InvalidProofShapeError}
+use Rattle.stark_transcript.specs.declared.error.VerificationError.{VerificationError}
+use Rattle.stark_transcript.specs.declared.error.VerificationError.TheVariants.{InvalidProofShape}
 use Rattle.stark_protocol.specs.Challenges.{challenges_outcome}
 use Rattle.stark_protocol.specs.Equation.{EquationHolds, OpenedRows}
 use Rattle.stark_protocol.specs.Instance.{FieldsOps, Instance, ProtocolOps, log_height, trace_coset}

@@ -1,10 +1,10 @@
 -- The run of a verifier's transcript: both challenges, or the failure that comes first.
 use Rattle.std.specs.Prelude.{List, Option, Result, Ok, Err}
 use Rattle.stark_support.specs.Sponge.{SpongeOps}
-use Rattle.stark_parts.specs.declared.shape.StarkShape.{StarkShape}
-use Rattle.stark_parts.specs.declared.shape.StarkTranscriptFailure.{StarkTranscriptFailure}
-use Rattle.stark_parts.specs.declared.shape.TranscriptPhase.TheVariants.{Drawn}
-use Rattle.stark_parts.specs.Replay.{PhaseOutcome, constraint_outcome, fails, ood_outcome, succeeds}
+use Rattle.stark_transcript.specs.declared.shape.StarkShape.{StarkShape}
+use Rattle.stark_transcript.specs.declared.shape.StarkTranscriptFailure.{StarkTranscriptFailure}
+use Rattle.stark_transcript.specs.declared.shape.TranscriptPhase.TheVariants.{Drawn}
+use Rattle.stark_transcript.specs.Replay.{PhaseOutcome, constraint_outcome, fails, ood_outcome, succeeds}
 
 -- What follows a first phase's answer, where it is a challenge.
 abbrev pub continued : {C A B X : Type 0} → Result A X → C → (A → PhaseOutcome C B X) → PhaseOutcome C B X

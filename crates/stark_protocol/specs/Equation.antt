@@ -9,9 +9,9 @@ use Rattle.stark_air.specs.Value.{Environment, constraint_values}
 use Rattle.stark_air.specs.Layout.{Layout}
 use Rattle.stark_air.specs.Rows.{environment_of, layout_of}
 use Rattle.stark_parts.specs.Folded.{folded}
-use Rattle.stark_parts.specs.declared.error.VerificationError.{VerificationError}
-use Rattle.stark_parts.specs.declared.error.VerificationError.TheVariants.{InvalidProofShape, OodEvaluationMismatch}
-use Rattle.stark_parts.specs.declared.error.InvalidProofShapeError.TheVariants.{PreprocessedTraceWidthMismatch}
+use Rattle.stark_transcript.specs.declared.error.VerificationError.{VerificationError}
+use Rattle.stark_transcript.specs.declared.error.VerificationError.TheVariants.{InvalidProofShape, OodEvaluationMismatch}
+use Rattle.stark_transcript.specs.declared.error.InvalidProofShapeError.TheVariants.{PreprocessedTraceWidthMismatch}
 
 -- What is opened of a trace at one point, with the periodic columns' values there and the public values.
 pub record OpenedRows (F : Type 0) (E : Type 0) : Type 0 where

@@ -1,10 +1,10 @@
 -- The first fault of a proof that isn't accepted, in the order of the tests, and the error that names it.
 use Rattle.std.specs.Prelude.{◌≡◌, ◌⊎◌, Option, None, Some, Ok, Err}
 use Rattle.stark_support.specs.declared.periodic.PeriodicColumnShapeError.{PeriodicColumnShapeError}
-use Rattle.stark_parts.specs.Errors.{transcript_error}
-use Rattle.stark_parts.specs.declared.shape.StarkTranscriptFailure.{StarkTranscriptFailure}
-use Rattle.stark_parts.specs.declared.error.VerificationError.{VerificationError}
-use Rattle.stark_parts.specs.declared.error.VerificationError.TheVariants.{OutOfMemory, PeriodicColumn, OodEvaluationMismatch, OodPointInDomain}
+use Rattle.stark_transcript.specs.Errors.{transcript_error}
+use Rattle.stark_transcript.specs.declared.shape.StarkTranscriptFailure.{StarkTranscriptFailure}
+use Rattle.stark_transcript.specs.declared.error.VerificationError.{VerificationError}
+use Rattle.stark_transcript.specs.declared.error.VerificationError.TheVariants.{OutOfMemory, PeriodicColumn, OodEvaluationMismatch, OodPointInDomain}
 use Rattle.stark_protocol.specs.Instance.{Instance, ProtocolOps, log_height}
 use Rattle.stark_protocol.specs.OpenedClaims.{OpeningsFault}
 use Rattle.stark_proof.specs.ProofView.{ProofView}

@@ -3,8 +3,8 @@ use Rattle.std.specs.Prelude.{◌≡◌, ◌⊎◌, ℕ, ◌+◌, Bool, List, []
 use Rattle.stark_support.specs.Coset.{TwoAdicCoset}
 use Rattle.stark_support.specs.Claims.{RoundClaim}
 use Rattle.stark_support.specs.Scheme.{natural_coset, zk_bits}
-use Rattle.stark_parts.specs.declared.error.VerificationError.{VerificationError}
-use Rattle.stark_parts.specs.declared.error.VerificationError.TheVariants.{InvalidOpeningArgument, OutOfMemory}
+use Rattle.stark_transcript.specs.declared.error.VerificationError.{VerificationError}
+use Rattle.stark_transcript.specs.declared.error.VerificationError.TheVariants.{InvalidOpeningArgument, OutOfMemory}
 use Rattle.stark_protocol.specs.declared.preprocessed.PreprocessedVerifierKey.{PreprocessedVerifierKey}
 use Rattle.stark_proof.specs.ProofView.{PreprocessedView, OpeningsView, ProofView}
 use Rattle.stark_protocol.specs.Instance.{OpeningOps, log_height}

@@ -4,8 +4,8 @@ use Rattle.stark_support.specs.Ring.{RingOps}
 use Rattle.stark_support.specs.Scheme.{SchemeOps, TakesRows, matrix_row, natural_coset, zk_bits}
 use Rattle.stark_support.specs.declared.scheme.SchemeFault.TheVariants.{Refused}
 use Rattle.stark_air.specs.Declaration.{Trace}
-use Rattle.stark_parts.specs.Errors.{IsFaultIn}
-use Rattle.stark_parts.specs.declared.error.ProvingError.{ProvingError}
+use Rattle.stark_transcript.specs.Errors.{IsFaultIn}
+use Rattle.stark_transcript.specs.declared.error.ProvingError.{ProvingError}
 use Rattle.stark_protocol.specs.declared.preprocessed.PreprocessedProverData.{PreprocessedProverData}
 use Rattle.stark_protocol.specs.declared.preprocessed.PreprocessedVerifierKey.{PreprocessedVerifierKey}
 

@@ -16,8 +16,8 @@ use Rattle.stark_support.specs.LogarithmFacts.{at_most_or_above, two_power_at_mo
 use Rattle.stark_support.specs.Recomposition.{common_log_size, recomposition}
 use Rattle.stark_air.specs.Tree.{Constraint}
 use Rattle.stark_parts.specs.Sizing.{constraint_degree, quotient_multiple}
-use Rattle.stark_parts.specs.declared.error.InvalidProofShapeError.{InvalidProofShapeError}
-use Rattle.stark_parts.specs.declared.error.InvalidProofShapeError.TheVariants.{QuotientDomainTooLarge}
+use Rattle.stark_transcript.specs.declared.error.InvalidProofShapeError.{InvalidProofShapeError}
+use Rattle.stark_transcript.specs.declared.error.InvalidProofShapeError.TheVariants.{QuotientDomainTooLarge}
 use Rattle.stark_protocol.specs.ShapeFaults.{fault_if, quotient_fault}
 use Rattle.stark_protocol.specs.Sizes.{chunk_shifts, log_ceiling, log_ceiling_from, log_parts_of, quotient_coset}
 

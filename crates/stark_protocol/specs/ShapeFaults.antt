@@ -2,10 +2,10 @@
 use Rattle.std.specs.Prelude.{ℕ, ◌+◌, Bool, true, false, not, ◌&&◌, ◌==◌, nat_lt, nat_le, List, length, Option, None, Some}
 use Rattle.std.specs.List.{list_all}
 use Rattle.std.specs.Option.{option_or}
-use Rattle.stark_parts.specs.declared.error.InvalidProofShapeError.{InvalidProofShapeError}
-use Rattle.stark_parts.specs.declared.error.InvalidProofShapeError.TheVariants.{DegreeBitsTooSmall, DegreeBitsTooLarge, UnexpectedPreprocessedValues, PreprocessedTraceWidthMismatch, UnexpectedPreprocessedNext, PreprocessedVerifierKeyInconsistency, PreprocessedDegreeMismatch, QuotientDomainTooLarge, PublicValuesLengthMismatch, TraceNextMismatch, UnexpectedTraceNext, OpenedValuesDimensionMismatch, NonCanonicalAlphaPowWitness, NonCanonicalOodPowWitness}
-use Rattle.stark_parts.specs.declared.error.VerificationError.{VerificationError}
-use Rattle.stark_parts.specs.declared.error.VerificationError.TheVariants.{RandomizationError}
+use Rattle.stark_transcript.specs.declared.error.InvalidProofShapeError.{InvalidProofShapeError}
+use Rattle.stark_transcript.specs.declared.error.InvalidProofShapeError.TheVariants.{DegreeBitsTooSmall, DegreeBitsTooLarge, UnexpectedPreprocessedValues, PreprocessedTraceWidthMismatch, UnexpectedPreprocessedNext, PreprocessedVerifierKeyInconsistency, PreprocessedDegreeMismatch, QuotientDomainTooLarge, PublicValuesLengthMismatch, TraceNextMismatch, UnexpectedTraceNext, OpenedValuesDimensionMismatch, NonCanonicalAlphaPowWitness, NonCanonicalOodPowWitness}
+use Rattle.stark_transcript.specs.declared.error.VerificationError.{VerificationError}
+use Rattle.stark_transcript.specs.declared.error.VerificationError.TheVariants.{RandomizationError}
 use Rattle.stark_protocol.specs.declared.preprocessed.PreprocessedVerifierKey.{PreprocessedVerifierKey}
 use Rattle.stark_proof.specs.ProofView.{PreprocessedView, OpeningsView}
 

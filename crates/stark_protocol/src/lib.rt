@@ -7,6 +7,7 @@ mod operations;
 mod preprocessed;
 mod quotient;
 mod recomposition;
+mod transcript;
 
 pub use heights::{natural_domain, power_of_two};
 pub use operations::{PcsProof, StarkInstance, StarkOperations, StarkProof, StarkRun};
@@ -15,3 +16,4 @@ pub use preprocessed::{
 };
 pub use quotient::{log_parts_of, quotient_domain_of};
 pub use recomposition::{quotient_at, recompose_quotient_from_chunks};
+pub use transcript::transcript_shape;

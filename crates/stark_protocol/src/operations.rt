@@ -1,9 +1,9 @@
 //! What a verifier's clauses say of a configuration's types and values, in two records.
 ghost use Rattle.std.specs.Prelude.{List, Option};
-ghost use Rattle.stark_parts.specs.Replay.{PhaseOutcome};
-ghost use Rattle.stark_parts.specs.declared.error.VerificationError.{VerificationError};
-ghost use Rattle.stark_parts.specs.declared.shape.StarkShape.{StarkShape};
-ghost use Rattle.stark_parts.specs.declared.shape.StarkTranscriptFailure.{StarkTranscriptFailure};
+ghost use Rattle.stark_transcript.specs.Replay.{PhaseOutcome};
+ghost use Rattle.stark_transcript.specs.declared.error.VerificationError.{VerificationError};
+ghost use Rattle.stark_transcript.specs.declared.shape.StarkShape.{StarkShape};
+ghost use Rattle.stark_transcript.specs.declared.shape.StarkTranscriptFailure.{StarkTranscriptFailure};
 ghost use Rattle.stark_proof.specs.ProofView.{proof_view};
 ghost use Rattle.stark_proof.specs.declared.values.Proof.{Proof};
 ghost use Rattle.stark_protocol.specs.Acceptance.{IsBalanced, RunHolds, challenges, described, seeded, shape_fault};

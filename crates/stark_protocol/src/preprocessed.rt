@@ -6,8 +6,9 @@ ghost use Rattle.stark_protocol.specs.Preprocessing.{HasHeight, IsCommittedWithi
 
 use crate::heights::natural_domain;
 use stark_air::BaseAir;
-use stark_parts::{Com, Domain, PcsProverError, ProvingError, StarkGenericConfig, Val};
+use stark_parts::{Com, Domain, PcsProverError, StarkGenericConfig, Val};
 use stark_support::{Pcs, RowMajorMatrix, UnivariateStarkPcs};
+use stark_transcript::ProvingError;
 use std::alloc::Global;
 
 /// What a configuration's scheme keeps of a commitment, to open it.

@@ -4,8 +4,9 @@ ghost use Rattle.stark_protocol.specs.ShapeFaults.{quotient_fault};
 ghost use Rattle.stark_protocol.specs.Sizes.{log_parts_of, quotient_coset};
 
 use stark_air::{Air, AirLayout};
-use stark_parts::{InvalidProofShapeError, get_log_num_quotient_chunks_for_domain};
+use stark_parts::get_log_num_quotient_chunks_for_domain;
 use stark_support::{PolynomialSpace, checked_log_size_sum};
+use stark_transcript::InvalidProofShapeError;
 use std::alloc::{AllocError, Global};
 
 /// The logarithm of the number of parts of an AIR's quotient over a domain.

@@ -9,10 +9,10 @@ use Rattle.std.proofs.lemmas.List.{length-map}
 use Rattle.std.proofs.lemmas.List.Folds.{list_all-map}
 use Rattle.stark_support.specs.Scheme.{QuotientChunk, SchemeLaws, committed_chunk, zk_bits}
 use Rattle.stark_air.specs.Declaration.{Trace}
-use Rattle.stark_parts.specs.Shape.{opens_next_row}
-use Rattle.stark_parts.specs.declared.error.InvalidProofShapeError.{InvalidProofShapeError}
-use Rattle.stark_parts.specs.declared.error.InvalidProofShapeError.TheVariants.{DegreeBitsTooLarge, DegreeBitsTooSmall, NonCanonicalAlphaPowWitness, NonCanonicalOodPowWitness, OpenedValuesDimensionMismatch, PreprocessedVerifierKeyInconsistency, PreprocessedDegreeMismatch, PreprocessedTraceWidthMismatch, PublicValuesLengthMismatch, TraceNextMismatch, UnexpectedPreprocessedValues}
-use Rattle.stark_parts.specs.declared.error.ProvingError.{ProvingError}
+use Rattle.stark_transcript.specs.Shape.{opens_next_row}
+use Rattle.stark_transcript.specs.declared.error.InvalidProofShapeError.{InvalidProofShapeError}
+use Rattle.stark_transcript.specs.declared.error.InvalidProofShapeError.TheVariants.{DegreeBitsTooLarge, DegreeBitsTooSmall, NonCanonicalAlphaPowWitness, NonCanonicalOodPowWitness, OpenedValuesDimensionMismatch, PreprocessedVerifierKeyInconsistency, PreprocessedDegreeMismatch, PreprocessedTraceWidthMismatch, PublicValuesLengthMismatch, TraceNextMismatch, UnexpectedPreprocessedValues}
+use Rattle.stark_transcript.specs.declared.error.ProvingError.{ProvingError}
 use Rattle.stark_proof.specs.ProofView.{OpeningsView, ProofView}
 use Rattle.stark_protocol.specs.Acceptance.{log_parts, of_shape, shape_fault}
 use Rattle.stark_protocol.specs.Instance.{Instance, ProtocolOps}

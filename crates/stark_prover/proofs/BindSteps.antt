@@ -7,11 +7,11 @@ use Rattle.stark_support.specs.Periodic.{ColumnFits, first_fault}
 use Rattle.stark_support.specs.PeriodicFacts.{all_fit}
 use Rattle.stark_support.specs.Scheme.{QuotientChunk, natural_coset}
 use Rattle.stark_air.specs.Declaration.{Trace}
-use Rattle.stark_parts.specs.Replay.{constraint_events, constraint_outcome, prover_constraint_outcome, succeeds}
-use Rattle.stark_parts.specs.declared.error.ProvingError.{ProvingError}
-use Rattle.stark_parts.specs.declared.shape.GrindExhausted.{GrindExhausted}
-use Rattle.stark_parts.specs.declared.shape.StarkShape.{StarkShape}
-use Rattle.stark_parts.specs.declared.shape.TranscriptPhase.TheVariants.{Bound}
+use Rattle.stark_transcript.specs.Replay.{constraint_events, constraint_outcome, prover_constraint_outcome, succeeds}
+use Rattle.stark_transcript.specs.declared.error.ProvingError.{ProvingError}
+use Rattle.stark_transcript.specs.declared.shape.GrindExhausted.{GrindExhausted}
+use Rattle.stark_transcript.specs.declared.shape.StarkShape.{StarkShape}
+use Rattle.stark_transcript.specs.declared.shape.TranscriptPhase.TheVariants.{Bound}
 use Rattle.stark_protocol.specs.Instance.{Instance, ProtocolOps, log_height, trace_coset}
 use Rattle.stark_protocol.specs.declared.preprocessed.PreprocessedProverData.{PreprocessedProverData}
 use Rattle.stark_prover.specs.CommittedColumns.{IsQuotientCommitment, IsQuotientRefusal, rows_of_columns}

@@ -1,28 +1,15 @@
 -- From what the stages of a prover find to what it answers.
-use Rattle.std.proofs.Common.{◌≡◌, ◌⊎◌, inl, inr, refl, sym, subst, List, ℕ, Option, None, Some, Result, Ok, Err, IfErr, IfOk, IsErr, IsErrAnd}
+use Rattle.std.proofs.Common.{◌≡◌, ◌⊎◌, inl, inr, refl, sym, subst, List, ℕ, Option, None, Some, Result, IfErr, IsErr, IsErrAnd}
 use Rattle.stark_support.specs.Claims.{IfRefused}
 use Rattle.stark_support.specs.declared.scheme.SchemeFault.{SchemeFault}
 use Rattle.stark_support.specs.declared.scheme.SchemeFault.TheVariants.{Refused, OutOfMemory}
 use Rattle.stark_support.specs.declared.periodic.PeriodicColumnShapeError.{PeriodicColumnShapeError}
-use Rattle.stark_parts.specs.Errors.{IsFaultIn}
-use Rattle.stark_parts.specs.declared.error.InvalidProofShapeError.{InvalidProofShapeError}
-use Rattle.stark_parts.specs.declared.error.ProvingError.{ProvingError}
+use Rattle.stark_protocol.proofs.Carried.{carried}
+use Rattle.stark_transcript.specs.Errors.{IsFaultIn}
+use Rattle.stark_transcript.specs.declared.error.InvalidProofShapeError.{InvalidProofShapeError}
+use Rattle.stark_transcript.specs.declared.error.ProvingError.{ProvingError}
 use Rattle.stark_prover.specs.SchemeFaults.{IsSchemeFault}
 use Rattle.stark_prover.specs.Sizes.{IsQuotientSizeFault, SizesFault, in_columns, in_quotient}
-
--- The error that `?` returns is the one that the call gave: what is said of that one is said of it.
-pub carried : {T E : Type 0} (P : E → Type 0) (r : Result T E) (e : E) → IsErr r × IsErrAnd r (λ error. error ≡ e) → P e → IfErr r P
-carried P (Ok x) e made holds = tt
-carried P (Err error) e made holds = subst P (sym made.1) holds
-
--- Of a result that is handed on, what is said follows from what the call says.
-pub on_ok : {T E : Type 0} (P Q : T → Type 0) (r : Result T E) → ((x : T) → P x → Q x) → IfOk r P → IfOk r Q
-on_ok P Q (Ok x) follows held = follows x held
-on_ok P Q (Err e) follows held = tt
-
-pub on_err : {T E : Type 0} (P Q : E → Type 0) (r : Result T E) → ((e : E) → P e → Q e) → IfErr r P → IfErr r Q
-on_err P Q (Ok x) follows held = tt
-on_err P Q (Err e) follows held = follows e held
 
 pub columns_refused : {T Y : Type 0} (columns : ℕ → Option PeriodicColumnShapeError) (quotient : Option InvalidProofShapeError) (m n : ℕ) → m ≡ n → (r : Result T (ProvingError Y)) (fault : PeriodicColumnShapeError) → columns m ≡ Some fault
     → IsErr r × IsErrAnd r (λ error. error ≡ ProvingError.PeriodicColumn fault) → IfErr r (λ error. (error ≡ ProvingError.OutOfMemory) ⊎ SizesFault (columns n) quotient error)

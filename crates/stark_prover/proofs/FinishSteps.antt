@@ -5,12 +5,12 @@ use Rattle.stark_support.specs.Claims.{RoundPoints}
 use Rattle.stark_support.specs.Periodic.{first_fault}
 use Rattle.stark_support.specs.Scheme.{OpenedRound, natural_coset, true_claim, zk_bits}
 use Rattle.stark_air.specs.Declaration.{Trace}
-use Rattle.stark_parts.specs.Replay.{ood_events, ood_outcome, prover_ood_outcome, succeeds}
-use Rattle.stark_parts.specs.Shape.{opens_next_row}
-use Rattle.stark_parts.specs.declared.error.ProvingError.{ProvingError}
-use Rattle.stark_parts.specs.declared.shape.GrindExhausted.{GrindExhausted}
-use Rattle.stark_parts.specs.declared.shape.StarkShape.{StarkShape}
-use Rattle.stark_parts.specs.declared.shape.TranscriptPhase.TheVariants.{Drawn}
+use Rattle.stark_transcript.specs.Replay.{ood_events, ood_outcome, prover_ood_outcome, succeeds}
+use Rattle.stark_transcript.specs.Shape.{opens_next_row}
+use Rattle.stark_transcript.specs.declared.error.ProvingError.{ProvingError}
+use Rattle.stark_transcript.specs.declared.shape.GrindExhausted.{GrindExhausted}
+use Rattle.stark_transcript.specs.declared.shape.StarkShape.{StarkShape}
+use Rattle.stark_transcript.specs.declared.shape.TranscriptPhase.TheVariants.{Drawn}
 use Rattle.stark_proof.specs.ProofView.{OpeningsView, ProofView}
 use Rattle.stark_protocol.specs.Instance.{Instance, ProtocolOps, log_height}
 use Rattle.stark_protocol.specs.OpenedClaims.{claims_of, next_point, preprocessed_place}

@@ -9,7 +9,7 @@ use Rattle.stark_support.specs.Scheme.{SchemeLaws, TakesRows, matrix_row, natura
 use Rattle.stark_air.specs.Declaration.{IsDeclared, Trace}
 use Rattle.stark_air.specs.Layout.{LeavesWithin}
 use Rattle.stark_honest.specs.HonestQuotient.{AreLawful}
-use Rattle.stark_parts.specs.declared.error.ProvingError.{ProvingError}
+use Rattle.stark_transcript.specs.declared.error.ProvingError.{ProvingError}
 use Rattle.stark_proof.specs.ProofView.{ProofView}
 use Rattle.stark_protocol.specs.Acceptance.{IsPointOfH, log_parts}
 use Rattle.stark_protocol.specs.Instance.{Instance, OpeningOps, ProtocolOps, log_height as committed_from}

@@ -5,7 +5,7 @@ use Rattle.stark_support.specs.Ring.{RingOps}
 use Rattle.stark_support.specs.Coset.{TwoAdicCoset}
 use Rattle.stark_support.specs.Claims.{RoundClaim}
 use Rattle.stark_support.specs.Scheme.{AreQuotientChunks, OpenedRound, QuotientChunk, SchemeOps, committed_chunk, natural_coset, row_at, true_claim, true_matrix_claims, zk_bits}
-use Rattle.stark_parts.specs.Shape.{opens_next_row}
+use Rattle.stark_transcript.specs.Shape.{opens_next_row}
 use Rattle.stark_proof.specs.ProofView.{OpeningsView, PreprocessedView}
 use Rattle.stark_protocol.specs.Instance.{Instance, ProtocolOps}
 use Rattle.stark_protocol.specs.Sizes.{quotient_coset}

@@ -3,9 +3,9 @@ use Rattle.std.proofs.Common.{◌≡◌, ◌∙◌, ap, refl, sym, subst, ℕ, B
 use Rattle.std.specs.Prelude.{IfSome, is_some}
 use Rattle.stark_support.specs.Scheme.{QuotientChunk}
 use Rattle.stark_air.specs.Declaration.{Trace}
-use Rattle.stark_parts.specs.Replay.{optional_fault, random_fault}
-use Rattle.stark_parts.specs.declared.shape.StarkShape.{StarkShape}
-use Rattle.stark_parts.specs.declared.shape.StarkTranscriptFailure.{StarkTranscriptFailure}
+use Rattle.stark_transcript.specs.Replay.{optional_fault, random_fault}
+use Rattle.stark_transcript.specs.declared.shape.StarkShape.{StarkShape}
+use Rattle.stark_transcript.specs.declared.shape.StarkTranscriptFailure.{StarkTranscriptFailure}
 use Rattle.stark_proof.specs.ProofView.{ProofView}
 use Rattle.stark_protocol.specs.Instance.{Instance, ProtocolOps}
 use Rattle.stark_protocol.specs.declared.preprocessed.PreprocessedProverData.{PreprocessedProverData}

@@ -14,7 +14,7 @@ use Rattle.stark_support.specs.CosetFacts.{shifted_is_disjoint}
 use Rattle.stark_support.specs.Operations.{ring_operations}
 use Rattle.stark_support.specs.Coset.{AreDisjoint, IsTwoAdicCoset, TwoAdicCoset, coset_point, coset_size, subgroup_vanishing}
 use Rattle.stark_support.specs.Scheme.{AreQuotientChunks, HasRows, QuotientChunk, SchemeOps, committed_chunk, matrix_row, zk_bits}
-use Rattle.stark_parts.specs.declared.error.ProvingError.{ProvingError}
+use Rattle.stark_transcript.specs.declared.error.ProvingError.{ProvingError}
 use Rattle.stark_support.specs.Selectors.{first_row_selector, last_row_selector, transition_selector}
 use Rattle.stark_air.specs.Declaration.{Trace}
 use Rattle.stark_air.specs.Rows.{environment_of}

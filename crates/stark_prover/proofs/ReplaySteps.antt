@@ -2,9 +2,9 @@
 use Rattle.std.specs.Prelude.{◌≡◌, List, Option}
 use Rattle.std.proofs.Common.{◌∙◌, ap}
 use Rattle.stark_support.specs.Sponge.{SpongeOps}
-use Rattle.stark_parts.specs.Replay.{constraint_outcome, ood_outcome, succeeds}
-use Rattle.stark_parts.specs.declared.shape.StarkShape.{StarkShape}
-use Rattle.stark_parts.specs.declared.shape.TranscriptPhase.TheVariants.{Bound, Drawn}
+use Rattle.stark_transcript.specs.Replay.{constraint_outcome, ood_outcome, succeeds}
+use Rattle.stark_transcript.specs.declared.shape.StarkShape.{StarkShape}
+use Rattle.stark_transcript.specs.declared.shape.TranscriptPhase.TheVariants.{Bound, Drawn}
 use Rattle.stark_protocol.specs.Challenges.{challenges_outcome, continued, paired}
 
 -- Both phases, one after the other.

@@ -4,7 +4,7 @@ use Rattle.std.specs.Prelude.{codes, Bool, IfErr, IfOk, IfSome, Result, Ok, Err}
 use Rattle.stark_support.specs.Periodic.{first_fault}
 use Rattle.stark_support.specs.Scheme.{natural_coset, zk_bits}
 use Rattle.stark_air.specs.Declaration.{Trace}
-use Rattle.stark_parts.specs.declared.error.ProvingError.{ProvingError}
+use Rattle.stark_transcript.specs.declared.error.ProvingError.{ProvingError}
 use Rattle.stark_protocol.specs.Instance.{Instance, ProtocolOps, log_height}
 use Rattle.stark_protocol.specs.declared.preprocessed.PreprocessedProverData.{PreprocessedProverData}
 use Rattle.stark_proof.specs.ProofView.{ProofView}

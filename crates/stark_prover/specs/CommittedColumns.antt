@@ -4,7 +4,7 @@ use Rattle.std.specs.List.{flat_map}
 use Rattle.stark_support.specs.Ring.{RingOps}
 use Rattle.stark_support.specs.Coset.{TwoAdicCoset, coset_point, coset_size}
 use Rattle.stark_support.specs.Scheme.{AreQuotientChunks, QuotientChunk, SchemeOps, TakesRows, committed_chunk, matrix_row, natural_coset, row_at}
-use Rattle.stark_parts.specs.declared.error.ProvingError.{ProvingError}
+use Rattle.stark_transcript.specs.declared.error.ProvingError.{ProvingError}
 use Rattle.stark_air.specs.Declaration.{Trace}
 use Rattle.stark_security.specs.ConstraintPolynomial.{AirInstance}
 use Rattle.stark_protocol.specs.declared.preprocessed.PreprocessedProverData.{PreprocessedProverData}

@@ -3,7 +3,7 @@ use Rattle.std.specs.Prelude.{◌≡◌, ℕ, ◌+◌, Bool, true, false, List, 
 use Rattle.stark_support.specs.Coset.{TwoAdicCoset}
 use Rattle.stark_support.specs.Scheme.{QuotientChunk, committed_chunk, natural_coset, row_at, zk_bits}
 use Rattle.stark_air.specs.Declaration.{Trace}
-use Rattle.stark_parts.specs.Shape.{opens_next_row}
+use Rattle.stark_transcript.specs.Shape.{opens_next_row}
 use Rattle.stark_security.specs.ConstraintPolynomial.{AirInstance}
 use Rattle.stark_honest.specs.TrueOpenings.{air_over}
 use Rattle.stark_proof.specs.ProofView.{OpeningsView, PreprocessedView, ProofView}

@@ -6,13 +6,13 @@ use Rattle.stark_support.specs.Seed.{shape_seed}
 use Rattle.stark_support.specs.Sponge.{observed_bytes, replay}
 use Rattle.stark_support.specs.declared.periodic.PeriodicColumnShapeError.{PeriodicColumnShapeError}
 use Rattle.stark_air.specs.Declaration.{Trace}
-use Rattle.stark_parts.specs.Replay.{PhaseOutcome, constraint_events, constraint_outcome, ood_events, prover_constraint_outcome, prover_ood_outcome, succeeds}
-use Rattle.stark_parts.specs.Shape.{opens_next_row, shape_numbers, shape_of}
-use Rattle.stark_parts.specs.declared.error.InvalidProofShapeError.{InvalidProofShapeError}
-use Rattle.stark_parts.specs.declared.error.ProvingError.{ProvingError}
-use Rattle.stark_parts.specs.declared.shape.GrindExhausted.{GrindExhausted}
-use Rattle.stark_parts.specs.declared.shape.StarkShape.{StarkShape}
-use Rattle.stark_parts.specs.declared.shape.TranscriptPhase.TheVariants.{Bound}
+use Rattle.stark_transcript.specs.Replay.{PhaseOutcome, constraint_events, constraint_outcome, ood_events, prover_constraint_outcome, prover_ood_outcome, succeeds}
+use Rattle.stark_transcript.specs.Shape.{opens_next_row, shape_numbers, shape_of}
+use Rattle.stark_transcript.specs.declared.error.InvalidProofShapeError.{InvalidProofShapeError}
+use Rattle.stark_transcript.specs.declared.error.ProvingError.{ProvingError}
+use Rattle.stark_transcript.specs.declared.shape.GrindExhausted.{GrindExhausted}
+use Rattle.stark_transcript.specs.declared.shape.StarkShape.{StarkShape}
+use Rattle.stark_transcript.specs.declared.shape.TranscriptPhase.TheVariants.{Bound}
 use Rattle.stark_protocol.specs.Instance.{Instance, ProtocolOps, log_height}
 use Rattle.stark_protocol.specs.OpenedClaims.{next_point}
 use Rattle.stark_protocol.specs.ShapeFaults.{quotient_fault, width_in_force}

@@ -4,7 +4,7 @@ use Rattle.std.specs.List.{AllByRecursion}
 use Rattle.stark_support.specs.Ring.{RingOps}
 use Rattle.stark_support.specs.Claims.{RoundPoints}
 use Rattle.stark_support.specs.Scheme.{OpenedRound, RoundStands, SchemeOps, handed, true_claim, true_values, zk_bits}
-use Rattle.stark_parts.specs.declared.error.ProvingError.{ProvingError}
+use Rattle.stark_transcript.specs.declared.error.ProvingError.{ProvingError}
 use Rattle.stark_proof.specs.ProofView.{OpeningsView, PreprocessedView}
 use Rattle.stark_prover.specs.SchemeFaults.{IsSchemeFault}
 

@@ -1,8 +1,8 @@
 -- A scheme's own refusal, as a prover's error.
 use Rattle.std.specs.Prelude.{List, ℕ}
 use Rattle.stark_support.specs.declared.scheme.SchemeFault.TheVariants.{Refused}
-use Rattle.stark_parts.specs.Errors.{IsFaultIn}
-use Rattle.stark_parts.specs.declared.error.ProvingError.{ProvingError}
+use Rattle.stark_transcript.specs.Errors.{IsFaultIn}
+use Rattle.stark_transcript.specs.declared.error.ProvingError.{ProvingError}
 
 -- In the phase of this name the scheme refuses, for a reason that it may have.
 pub record IsSchemeFault {Y : Type 0} (name : List ℕ) (MayRefuse : Y → Type 0) (error : ProvingError Y) : Type 0 where

@@ -1,7 +1,7 @@
 -- A search for a witness that finds none.
 use Rattle.std.specs.Prelude.{◌≡◌, ℕ, false, List}
 use Rattle.stark_support.specs.Sponge.{Event, SpongeOps, replay}
-use Rattle.stark_parts.specs.declared.shape.GrindExhausted.{GrindExhausted}
+use Rattle.stark_transcript.specs.declared.shape.GrindExhausted.{GrindExhausted}
 
 -- So many bits are asked for once these events are played, and no element is a witness of them.
 pub record IsExhausted {C F E K : Type 0} (ops : SpongeOps C F E K) (bits : ℕ) (events : List (Event F K)) (state : C) (error : GrindExhausted) : Type 0 where

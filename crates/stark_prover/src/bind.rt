@@ -3,8 +3,8 @@
 ghost use Rattle.std.specs.Prelude.{◌≡◌, ◌⊎◌, ◌≤◌, List, IfErr, IfOk, IfSome, None, is_some, length, option_map};
 ghost use Rattle.stark_support.specs.Scheme.{QuotientChunk, zk_bits};
 ghost use Rattle.stark_air.specs.Declaration.{Trace};
-ghost use Rattle.stark_parts.specs.Replay.{preprocessed_fault};
-ghost use Rattle.stark_parts.specs.declared.shape.TranscriptPhase.TheVariants.{Bound, Opened};
+ghost use Rattle.stark_transcript.specs.Replay.{preprocessed_fault};
+ghost use Rattle.stark_transcript.specs.declared.shape.TranscriptPhase.TheVariants.{Bound, Opened};
 ghost use Rattle.stark_protocol.specs.Instance.{log_height};
 ghost use Rattle.stark_protocol.specs.Sizes.{log_parts_of};
 ghost use Rattle.stark_prover.specs.CommittedColumns.{IsRandomCommitment};
@@ -16,14 +16,13 @@ use crate::quotient::commit_quotient;
 use crate::sizes::ProverDomains;
 use crate::transcript::{commitment_of, draw_alpha};
 use stark_air::Air;
-use stark_parts::{
-    Com, Domain, PcsProverError, ProvingError, StarkGenericConfig, StarkProverTranscript, Val,
-};
+use stark_parts::{Com, Domain, PcsProverError, StarkGenericConfig, Val};
 use stark_protocol::{PcsProverData, PreprocessedProverData};
 use stark_support::{
     ExtensionField, GrindingChallenger, PackedExtensionField, PackedField, Pcs, PolynomialSpace,
     UnivariateStarkPcs,
 };
+use stark_transcript::{ProvingError, StarkProverTranscript};
 use std::alloc::Global;
 
 /// What a proof has before its point is drawn.

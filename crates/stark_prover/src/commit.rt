@@ -6,9 +6,10 @@ ghost use Rattle.stark_protocol.specs.Instance.{log_height};
 ghost use Rattle.stark_prover.specs.CommittedColumns.{IsRandomCommitment, IsTraceCommitment};
 ghost use Rattle.stark_prover.specs.SchemeFaults.{IsSchemeFault};
 
-use stark_parts::{Com, Domain, PcsProverError, ProvingError, StarkGenericConfig, Val};
+use stark_parts::{Com, Domain, PcsProverError, StarkGenericConfig, Val};
 use stark_protocol::{PcsProverData, power_of_two};
 use stark_support::{Pcs, RowMajorMatrix, UnivariateStarkPcs};
+use stark_transcript::ProvingError;
 use std::alloc::Global;
 
 /// A commitment, and what the scheme keeps of it.

@@ -2,8 +2,8 @@
 ghost use Rattle.std.specs.Prelude.{◌≡◌, ◌⊎◌, ◌≤◌, IfErr, IfOk, IfSome, List, None, is_some, length, option_map};
 ghost use Rattle.stark_support.specs.Scheme.{zk_bits};
 ghost use Rattle.stark_air.specs.Declaration.{Trace};
-ghost use Rattle.stark_parts.specs.Replay.{preprocessed_fault};
-ghost use Rattle.stark_parts.specs.declared.shape.TranscriptPhase.TheVariants.{Delegated, Opened};
+ghost use Rattle.stark_transcript.specs.Replay.{preprocessed_fault};
+ghost use Rattle.stark_transcript.specs.declared.shape.TranscriptPhase.TheVariants.{Delegated, Opened};
 ghost use Rattle.stark_proof.specs.ProofView.{openings_view, proof_view};
 ghost use Rattle.stark_protocol.specs.Instance.{log_height};
 ghost use Rattle.stark_protocol.specs.Sizes.{log_parts_of};
@@ -15,15 +15,14 @@ use crate::operations::StarkProving;
 use crate::point::{OpenedProof, open_bound};
 use crate::sizes::ProverDomains;
 use stark_air::Air;
-use stark_parts::{
-    Com, Domain, PcsProverError, ProvingError, StarkGenericConfig, StarkProverTranscript, Val,
-};
+use stark_parts::{Com, Domain, PcsProverError, StarkGenericConfig, Val};
 use stark_proof::{Commitments, Proof};
 use stark_protocol::{PcsProverData, PreprocessedProverData, StarkProof};
 use stark_support::{
     ExtensionField, GrindingChallenger, PackedExtensionField, PackedField, Pcs, PolynomialSpace,
     UnivariateStarkPcs,
 };
+use stark_transcript::{ProvingError, StarkProverTranscript};
 use std::alloc::Global;
 
 /// The commitment, where there is one.

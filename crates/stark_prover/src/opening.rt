@@ -4,15 +4,16 @@ ghost use Rattle.stark_support.specs.Scheme.{OpenedRound, true_claim};
 ghost use Rattle.stark_proof.specs.ProofView.{OpeningsView, openings_view};
 ghost use Rattle.stark_prover.specs.SchemeFaults.{IsSchemeFault};
 ghost use Rattle.stark_support.specs.Claims.{opened_view};
-ghost use Rattle.stark_parts.specs.declared.shape.TranscriptPhase.TheVariants.{Delegated, Drawn};
+ghost use Rattle.stark_transcript.specs.declared.shape.TranscriptPhase.TheVariants.{Delegated, Drawn};
 ghost use Rattle.stark_prover.specs.Rounds.{IsOpeningAnswer, StandBehind, place_of, points_of, rounds_of};
 
 use crate::opened::values_of;
 use crate::rounds::{OpeningPoints, place_of, rounds_of};
-use stark_parts::{PcsProverError, ProvingError, StarkGenericConfig, StarkProverTranscript, Val};
+use stark_parts::{PcsProverError, StarkGenericConfig, Val};
 use stark_proof::OpenedValues;
 use stark_protocol::{PcsProof, PcsProverData};
 use stark_support::{ExtensionField, OpenedRounds, Pcs, UnivariateStarkPcs};
+use stark_transcript::{ProvingError, StarkProverTranscript};
 use std::alloc::Global;
 
 /// What a scheme keeps of the commitments of a proof.

@@ -2,8 +2,8 @@
 ghost use Rattle.std.specs.Prelude.{ℕ, List, Option, option_map};
 ghost use Rattle.stark_support.specs.Scheme.{QuotientChunk};
 ghost use Rattle.stark_air.specs.Declaration.{Trace};
-ghost use Rattle.stark_parts.specs.declared.error.ProvingError.{ProvingError};
-ghost use Rattle.stark_parts.specs.declared.shape.StarkShape.{StarkShape};
+ghost use Rattle.stark_transcript.specs.declared.error.ProvingError.{ProvingError};
+ghost use Rattle.stark_transcript.specs.declared.shape.StarkShape.{StarkShape};
 ghost use Rattle.stark_proof.specs.ProofView.{proof_view};
 ghost use Rattle.stark_proof.specs.declared.values.Proof.{Proof};
 ghost use Rattle.stark_protocol.specs.declared.preprocessed.PreprocessedProverData.{PreprocessedProverData};

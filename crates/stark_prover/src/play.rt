@@ -12,14 +12,13 @@ use crate::operations::StarkProving;
 use crate::sizes::ProverDomains;
 use crate::transcript::describe;
 use stark_air::Air;
-use stark_parts::{
-    Com, Domain, PcsProverError, ProvingError, StarkGenericConfig, StarkProverTranscript, Val,
-};
+use stark_parts::{Com, Domain, PcsProverError, StarkGenericConfig, Val};
 use stark_protocol::{PcsProverData, PreprocessedProverData, StarkProof};
 use stark_support::{
     ExtensionField, GrindingChallenger, PackedExtensionField, PackedField, Pcs, PolynomialSpace,
     UnivariateStarkPcs,
 };
+use stark_transcript::{ProvingError, StarkProverTranscript};
 use std::alloc::Global;
 
 /// The proof of a committed trace.

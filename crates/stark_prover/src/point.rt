@@ -2,8 +2,8 @@
 ghost use Rattle.std.specs.Prelude.{◌≡◌, ◌⊎◌, IfErr, IfOk, IfSome, List, None, is_some, option_map};
 ghost use Rattle.stark_support.specs.Scheme.{zk_bits};
 ghost use Rattle.stark_air.specs.Declaration.{Trace};
-ghost use Rattle.stark_parts.specs.Replay.{random_fault};
-ghost use Rattle.stark_parts.specs.declared.shape.TranscriptPhase.TheVariants.{Bound, Delegated};
+ghost use Rattle.stark_transcript.specs.Replay.{random_fault};
+ghost use Rattle.stark_transcript.specs.declared.shape.TranscriptPhase.TheVariants.{Bound, Delegated};
 ghost use Rattle.stark_proof.specs.ProofView.{openings_view};
 ghost use Rattle.stark_protocol.specs.Instance.{log_height};
 ghost use Rattle.stark_protocol.specs.Sizes.{log_parts_of};
@@ -18,12 +18,11 @@ use crate::points::opening_points;
 use crate::sizes::ProverDomains;
 use crate::transcript::{data_of, draw_point};
 use stark_air::Air;
-use stark_parts::{
-    Com, Domain, PcsProverError, ProvingError, StarkGenericConfig, StarkProverTranscript, Val,
-};
+use stark_parts::{Com, Domain, PcsProverError, StarkGenericConfig, Val};
 use stark_proof::OpenedValues;
 use stark_protocol::{PcsProof, PcsProverData, PreprocessedProverData};
 use stark_support::{ExtensionField, GrindingChallenger, Pcs, PolynomialSpace, UnivariateStarkPcs};
+use stark_transcript::{ProvingError, StarkProverTranscript};
 use std::alloc::Global;
 
 /// What is opened of a proof at its point.

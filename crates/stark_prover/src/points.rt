@@ -1,13 +1,13 @@
 //! The points of the opening argument.
 ghost use Rattle.std.specs.Prelude.{◌≡◌, ◌^◌, ◌<◌, IfOk};
-ghost use Rattle.stark_parts.specs.Shape.{opens_next_row};
+ghost use Rattle.stark_transcript.specs.Shape.{opens_next_row};
 
 use crate::rounds::OpeningPoints;
 use crate::sizes::ProverDomains;
 use stark_air::BaseAir;
-use stark_parts::opens_next_row;
 use stark_protocol::power_of_two;
 use stark_support::{ExtensionField, Field, PolynomialSpace, TwoAdicField};
+use stark_transcript::opens_next_row;
 use std::alloc::{AllocError, Global};
 
 /// Zeta and the next point, and which rows are read there.

@@ -11,13 +11,14 @@ ghost use Rattle.stark_prover.specs.Sizes.{AreDomains};
 use crate::commit::{Committed, commit_flat};
 use crate::sizes::ProverDomains;
 use stark_air::{Air, AirLayout};
-use stark_parts::{Com, Domain, PcsProverError, ProvingError, StarkGenericConfig, Val};
+use stark_parts::{Com, Domain, PcsProverError, StarkGenericConfig, Val};
 use stark_protocol::{PcsProverData, PreprocessedProverData};
 use stark_quotient::{QuotientOperations, quotient_values};
 use stark_support::{
     ExtensionField, PackedExtensionField, PackedField, Pcs, PolynomialSpace, RowMajorMatrix,
     UnivariateStarkPcs,
 };
+use stark_transcript::ProvingError;
 use std::alloc::{AllocError, Global};
 
 /// The values of the preprocessed columns on the quotient's domain, where there are any.

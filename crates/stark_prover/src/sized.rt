@@ -8,12 +8,13 @@ use crate::operations::StarkProving;
 use crate::play::play;
 use crate::sizes::fitting_domains;
 use stark_air::Air;
-use stark_parts::{Com, PcsProverError, ProvingError, StarkGenericConfig, Val};
+use stark_parts::{Com, PcsProverError, StarkGenericConfig, Val};
 use stark_protocol::{PcsProverData, PreprocessedProverData, StarkProof};
 use stark_support::{
     ExtensionField, GrindingChallenger, PackedExtensionField, PackedField, Pcs, RowMajorMatrix,
     UnivariateStarkPcs,
 };
+use stark_transcript::ProvingError;
 use std::alloc::Global;
 
 /// The proof of a trace of `2^log_height` rows.

@@ -8,11 +8,10 @@ ghost use Rattle.stark_protocol.specs.Sizes.{log_parts_of, quotient_coset};
 ghost use Rattle.stark_prover.specs.Sizes.{AreDomains, IsOfSize, IsQuotientSizeFault, IsSizeError, SizesFault};
 
 use stark_air::{Air, BaseAir};
-use stark_parts::{
-    Domain, InvalidProofShapeError, PcsProverError, ProvingError, StarkGenericConfig, Val,
-};
+use stark_parts::{Domain, PcsProverError, StarkGenericConfig, Val};
 use stark_protocol::{log_parts_of, natural_domain, power_of_two, quotient_domain_of};
 use stark_support::{Pcs, PeriodicColumnShapeError, PeriodicColumns, UnivariateStarkPcs};
+use stark_transcript::{InvalidProofShapeError, ProvingError};
 use std::alloc::Global;
 
 /// The domains of a proof, and the number of its quotient's chunks.

@@ -1,23 +1,22 @@
 //! The transcript of a proof, from its seed to the point out of the domain.
 ghost use Rattle.std.specs.Prelude.{◌≡◌, ◌+◌, ◌^◌, ◌<◌, ◌≤◌, IfErr, IfOk, None, Ok, Option, is_some, length, option_map};
 ghost use Rattle.stark_support.specs.Scheme.{zk_bits};
-ghost use Rattle.stark_parts.specs.Replay.{constraint_events, constraint_outcome, ood_events, ood_outcome, preprocessed_fault, prover_constraint_outcome, prover_ood_outcome, random_fault, succeeds};
-ghost use Rattle.stark_parts.specs.Shape.{shape_of};
-ghost use Rattle.stark_parts.specs.declared.shape.TranscriptPhase.TheVariants.{Bound, Drawn, Opened};
+ghost use Rattle.stark_transcript.specs.Replay.{constraint_events, constraint_outcome, ood_events, ood_outcome, preprocessed_fault, prover_constraint_outcome, prover_ood_outcome, random_fault, succeeds};
+ghost use Rattle.stark_transcript.specs.Shape.{shape_of};
+ghost use Rattle.stark_transcript.specs.declared.shape.TranscriptPhase.TheVariants.{Bound, Drawn, Opened};
 ghost use Rattle.stark_protocol.specs.Instance.{log_height};
 ghost use Rattle.stark_protocol.specs.ShapeFaults.{width_in_force};
 ghost use Rattle.stark_prover.specs.ProofOfTrace.{key_of};
 ghost use Rattle.stark_prover.specs.Work.{IsExhausted};
 
 use stark_air::BaseAir;
-use stark_parts::{
-    Com, GrindExhausted, StarkGenericConfig, StarkProverTranscript, StarkShape, Val,
-};
-use stark_protocol::{PcsProverData, PreprocessedProverData, power_of_two};
+use stark_parts::{Com, StarkGenericConfig, Val};
+use stark_protocol::{PcsProverData, PreprocessedProverData, transcript_shape};
 use stark_support::{
-    CanObserve, CanSample, ExtensionField, Field, GrindingChallenger, Pcs, PrimeField64,
-    TranscriptSponge, UnivariateStarkPcs,
+    CanObserve, CanSample, ExtensionField, Field, GrindingChallenger, PrimeField64,
+    TranscriptSponge,
 };
+use stark_transcript::{GrindExhausted, StarkProverTranscript, StarkShape};
 use std::alloc::{AllocError, Global};
 
 /// The preprocessed width: that of what is held, and else the AIR's.
@@ -68,22 +67,7 @@ where
         degree_bits (log_height SC.Pcs.ZK degree_bits) (2 ^ log_chunks) SC.Pcs.ZK (SC.config.ood_bits config.now) (SC.config.constraint_bits config.now)) }
 {
     let width = width_in_force(held, air.preprocessed_width());
-    let log_height = degree_bits - config.is_zk();
-    let num_chunks = power_of_two(log_chunks);
-    let ood_bits = config.ood_proof_of_work_bits();
-    let constraint_bits = config.constraint_proof_of_work_bits();
-    let shape = StarkShape::new::<Val<SC>, A>(
-        alloc,
-        air,
-        width,
-        degree_bits,
-        log_height,
-        num_chunks,
-        SC::Pcs::ZK,
-        ood_bits,
-        constraint_bits,
-    )?;
-    Ok(shape)
+    transcript_shape(alloc, config, air, width, degree_bits, log_chunks)
 }
 
 /// Alpha, and the witness of the work before it, zero where none is asked for.

@@ -7,12 +7,13 @@ use crate::height::log_height_of;
 use crate::operations::StarkProving;
 use crate::sized::prove_sized;
 use stark_air::Air;
-use stark_parts::{Com, PcsProverError, ProvingError, StarkGenericConfig, Val};
+use stark_parts::{Com, PcsProverError, StarkGenericConfig, Val};
 use stark_protocol::{PcsProverData, PreprocessedProverData, StarkProof};
 use stark_support::{
     ExtensionField, GrindingChallenger, PackedExtensionField, PackedField, Pcs, RowMajorMatrix,
     UnivariateStarkPcs,
 };
+use stark_transcript::ProvingError;
 use std::alloc::Global;
 
 /// A proof that a trace satisfies an AIR, with what is held of the AIR's preprocessed columns.

@@ -266,6 +266,32 @@ fn periodic_table<SC: StarkGenericConfig, A: BaseAir<Val<SC>>>(
     Ok(table)
 }
 
+/// The selectors of the trace's domain and the table of the AIR's periodic columns, at the quotient domain's points.
+fn prepare<SC: StarkGenericConfig, A: BaseAir<Val<SC>>>(
+    alloc: Global,
+    pcs: &SC::Pcs,
+    air: &A,
+    trace_domain: Domain<SC>,
+    quotient_domain: Domain<SC>,
+) -> Result<(LagrangeSelectors<Vec<Val<SC>>>, PeriodicLdeTable<Val<SC>>), AllocError>
+    requires subgroup { (SC.Pcs.Domain.coset_of trace_domain).shift ≡ SC.Pcs.Domain.Val.ring.one }
+    requires disjoint { AreDisjoint SC.Pcs.Domain.Val.ring SC.Pcs.Domain.Val.root (SC.Pcs.Domain.coset_of trace_domain) (SC.Pcs.Domain.coset_of quotient_domain) }
+    requires periodic { All (λ column. ColumnFits (coset_size (SC.Pcs.Domain.coset_of trace_domain)) (length column)) (A.periodic_columns air.now) }
+    ensures { IfOk result (λ made. ArePrepared SC.Pcs.Domain.Val.ring SC.Pcs.Domain.Val.inverse_of SC.Pcs.Domain.Val.root (SC.Pcs.Domain.coset_of trace_domain) (SC.Pcs.Domain.coset_of quotient_domain) (A.periodic_columns air.now)
+        made.0.is_first_row.items made.0.is_last_row.items made.0.is_transition.items made.0.inv_vanishing.items made.1.values.items made.1.width made.1.period) }
+{
+    let periodic = periodic_table::<SC, A>(alloc, pcs, air, trace_domain, quotient_domain)?;
+    let selectors = trace_domain.selectors_on_coset(alloc, &quotient_domain)?;
+    Ok((selectors, periodic))
+}
+
+/// How many rows further the next row lies, beside so many points.
+fn rows_to_next<D: PolynomialSpace>(size: usize, trace_domain: &D) -> usize
+    ensures { result ≡ size / coset_size (D.coset_of trace_domain.now) }
+{
+    size / points_of(trace_domain)
+}
+
 /// The values of the quotient that the AIR's constraints, folded by `alpha`, leave over the vanishing polynomial of
 /// `trace_domain`: at each point of `quotient_domain`, in its order, the sum of `alpha^(n - 1 - j)` times constraint `j` for
 /// each of the `n`, over `Z_H`. The current row of a point is the matrices' row of the same number, the next one lies as many
@@ -297,10 +323,11 @@ where
     ensures { IfOk result (λ values. ArePointwiseQuotients (⟦<SC as QuotientOperations<A>>⟧.air_over air.now trace_domain) (⟦<SC as QuotientOperations<A>>⟧.rows_on quotient_domain (record { width = trace_on_quotient_domain.now.width; values = trace_on_quotient_domain.now.values.items })
         (matrix_or_empty (option_map (λ m. record { width = m.now.width; values = m.now.values.items }) preprocessed_on_quotient_domain.entry)) public_values.now) alpha values.items) }
 {
-    let periodic = periodic_table::<SC, A>(alloc, pcs, air, trace_domain, quotient_domain)?;
-    let selectors = trace_domain.selectors_on_coset(alloc, &quotient_domain)?;
+    let prepared = prepare::<SC, A>(alloc, pcs, air, trace_domain, quotient_domain)?;
+    let (selectors, periodic) = prepared;
     let powers = alpha_powers::<SC, A>(alloc, air, layout, alpha)?;
     let size = points_of(&quotient_domain);
+    let step = rows_to_next(size, &trace_domain);
     let on = OnCoset {
         trace_domain,
         quotient_domain,
@@ -311,7 +338,7 @@ where
         periodic,
         powers,
         size,
-        step: size / points_of(&trace_domain),
+        step,
     };
     if Val::<SC>::BENEFITS_FROM_LOCKSTEP_EVALUATION {
         values_on::<SC, A, VectorizedEval<SC, QUOTIENT_ILP>>(alloc, air, &on)

@@ -14,8 +14,7 @@ use stark_air::{Air, AirBuilder, BaseAir, RowWindow, SubAirBuilder, WindowAccess
 use stark_bench::{ClearCommitment, Coset};
 use stark_clear::{ClearPcs, ClearProof, CounterAir};
 use stark_parts::{
-    Com, PcsError, StarkConfig, StarkGenericConfig, Val, VerificationError,
-    VerifierConstraintFolder, fold_constraints,
+    Com, PcsError, StarkConfig, StarkGenericConfig, Val, VerifierConstraintFolder, fold_constraints,
 };
 use stark_protocol::quotient_at;
 use stark_support::{
@@ -23,6 +22,7 @@ use stark_support::{
     GrindingChallenger, LagrangeSelectors, PolynomialSpace, PrimeField64, RowMajorMatrixView,
     TwoAdicField, VerticalPair,
 };
+use stark_transcript::VerificationError;
 use std::alloc::{AllocError, Global};
 use std::fmt::Debug;
 

@@ -12,15 +12,14 @@ use p3_uni_stark::{
 use stark_air::{Air, BaseAir};
 use stark_bench::ClearCommitment;
 use stark_clear::MaskedClearPcs;
-use stark_parts::{
-    Com, PcsError, PcsProverError, ProvingError, StarkConfig, StarkGenericConfig, Val,
-};
+use stark_parts::{Com, PcsError, PcsProverError, StarkConfig, StarkGenericConfig, Val};
 use stark_protocol::{PcsProverData, power_of_two};
 use stark_support::{
     CanObserve, ExtensionChallenger, ExtensionField, Field, FieldChallenger, GrindingChallenger,
     JsonCodec, NeverNull, PackedExtensionField, PackedField, PrimeField64, RowMajorMatrix,
     TwoAdicField, UnivariateStarkPcs, value_from_bytes,
 };
+use stark_transcript::ProvingError;
 use std::alloc::{AllocError, Global};
 use std::fmt::Debug;
 use std::test::Fail;

@@ -4,7 +4,7 @@ ghost use Rattle.stark_support.specs.Scheme.{zk_bits};
 ghost use Rattle.stark_air.specs.Degree.{greatest_degree};
 ghost use Rattle.stark_air.specs.Layout.{Covers};
 ghost use Rattle.stark_air.specs.SymbolicLayout.{symbolic_layout};
-ghost use Rattle.stark_parts.specs.Shape.{opens_next_row};
+ghost use Rattle.stark_transcript.specs.Shape.{opens_next_row};
 ghost use Rattle.stark_parts.specs.Sizing.{constraint_degree, quotient_multiple};
 ghost use Rattle.stark_security.specs.ErrorBound.{IsChunkCount};
 ghost use Rattle.stark_security.specs.Openings.{hides, batched_openings};

@@ -4,8 +4,8 @@ use Rattle.stark_support.specs.Coset.{TwoAdicCoset}
 use Rattle.stark_support.specs.Recomposition.{recomposition}
 use Rattle.stark_support.specs.Scheme.{natural_coset, zk_bits}
 use Rattle.stark_support.specs.Subgroup.{subgroup_of}
-use Rattle.stark_parts.specs.declared.error.VerificationError.{VerificationError}
-use Rattle.stark_parts.specs.declared.error.VerificationError.TheVariants.{OutOfMemory}
+use Rattle.stark_transcript.specs.declared.error.VerificationError.{VerificationError}
+use Rattle.stark_transcript.specs.declared.error.VerificationError.TheVariants.{OutOfMemory}
 use Rattle.stark_protocol.specs.Equation.{EquationHolds}
 use Rattle.stark_protocol.specs.Instance.{Instance, ProtocolOps, log_height, trace_coset}
 use Rattle.stark_proof.specs.ProofView.{ProofView}

@@ -8,8 +8,8 @@ use Rattle.stark_air.specs.Tree.{Constraint}
 use Rattle.stark_air.specs.Value.{constraint_values}
 use Rattle.stark_air.specs.Rows.{environment_of}
 use Rattle.stark_parts.specs.Folded.{folded}
-use Rattle.stark_parts.specs.declared.error.VerificationError.TheVariants.{InvalidProofShape, OodEvaluationMismatch}
-use Rattle.stark_parts.specs.declared.error.InvalidProofShapeError.TheVariants.{PreprocessedTraceWidthMismatch}
+use Rattle.stark_transcript.specs.declared.error.VerificationError.TheVariants.{InvalidProofShape, OodEvaluationMismatch}
+use Rattle.stark_transcript.specs.declared.error.InvalidProofShapeError.TheVariants.{PreprocessedTraceWidthMismatch}
 use Rattle.stark_protocol.specs.Equation.{OpenedRows, ConstraintsHold, ConstraintsFault, folded_constraints, two_widths, unbalanced}
 
 -- Where the test of equality answers false, the two differ.

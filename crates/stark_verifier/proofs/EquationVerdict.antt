@@ -4,8 +4,8 @@ use Rattle.std.proofs.lemmas.List.{length-map, get_or-map}
 use Rattle.stark_support.specs.Ring.{RingOps}
 use Rattle.stark_support.specs.Selectors.{Subgroup}
 use Rattle.stark_air.specs.Tree.{Constraint}
-use Rattle.stark_parts.specs.declared.error.VerificationError.{VerificationError}
-use Rattle.stark_parts.specs.declared.error.VerificationError.TheVariants.{OutOfMemory}
+use Rattle.stark_transcript.specs.declared.error.VerificationError.{VerificationError}
+use Rattle.stark_transcript.specs.declared.error.VerificationError.TheVariants.{OutOfMemory}
 use Rattle.stark_protocol.specs.Equation.{ConstraintsFault, ConstraintsHold, EquationHolds, OpenedRows, row_or_empty, two_widths, unbalanced}
 use Rattle.stark_proof.specs.ProofView.{PreprocessedView}
 use Rattle.stark_protocol.specs.Acceptance.{preprocessed_local}

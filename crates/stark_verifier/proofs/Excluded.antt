@@ -2,8 +2,8 @@
 use Rattle.std.proofs.Common.{◌≡◌, ap, subst, ◌⊎◌, inl, inr, Option, None, Result, Ok}
 use Rattle.stark_support.specs.Scheme.{SchemeLaws}
 use Rattle.stark_support.specs.declared.periodic.PeriodicColumnShapeError.{PeriodicColumnShapeError}
-use Rattle.stark_parts.specs.declared.error.VerificationError.{VerificationError}
-use Rattle.stark_parts.specs.declared.error.VerificationError.TheVariants.{OutOfMemory}
+use Rattle.stark_transcript.specs.declared.error.VerificationError.{VerificationError}
+use Rattle.stark_transcript.specs.declared.error.VerificationError.TheVariants.{OutOfMemory}
 use Rattle.stark_protocol.specs.declared.preprocessed.PreprocessedVerifierKey.{PreprocessedVerifierKey}
 use Rattle.stark_protocol.specs.Instance.{Instance, OpeningOps, ProtocolOps, log_height}
 use Rattle.stark_protocol.specs.OpenedClaims.{OpeningsFault, OpeningsHold, claims, preprocessed_place, refused}

@@ -8,4 +8,3 @@ pub mod Excluded
 pub mod EquationSteps
 pub mod TakenValueSteps
 pub mod SoundAcceptanceSteps
-pub mod Carried

@@ -8,8 +8,8 @@ use Rattle.std.specs.Option.{option_or}
 use Rattle.stark_support.specs.OptionFacts.{both_none}
 use Rattle.stark_air.specs.Layout.{Layout, Covers}
 use Rattle.stark_air.specs.Declaration.{Trace, IsDeclared, next_width}
-use Rattle.stark_parts.specs.Shape.{opens_next_row}
-use Rattle.stark_parts.specs.declared.error.InvalidProofShapeError.TheVariants.{NonCanonicalAlphaPowWitness, NonCanonicalOodPowWitness, OpenedValuesDimensionMismatch, PreprocessedVerifierKeyInconsistency, PublicValuesLengthMismatch, TraceNextMismatch}
+use Rattle.stark_transcript.specs.Shape.{opens_next_row}
+use Rattle.stark_transcript.specs.declared.error.InvalidProofShapeError.TheVariants.{NonCanonicalAlphaPowWitness, NonCanonicalOodPowWitness, OpenedValuesDimensionMismatch, PreprocessedVerifierKeyInconsistency, PublicValuesLengthMismatch, TraceNextMismatch}
 use Rattle.stark_protocol.specs.declared.preprocessed.PreprocessedVerifierKey.{PreprocessedVerifierKey}
 use Rattle.stark_protocol.specs.Equation.{opened_layout}
 use Rattle.stark_proof.specs.ProofView.{OpeningsView, PreprocessedView}

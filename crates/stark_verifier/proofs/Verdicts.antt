@@ -1,10 +1,10 @@
 -- From what the parts of a verifier find to what it answers.
 use Rattle.std.proofs.Common.{◌≡◌, ◌⊎◌, inl, inr, sym, subst, ℕ, Option, None, Some, Ok, Err}
 use Rattle.stark_support.specs.declared.periodic.PeriodicColumnShapeError.{PeriodicColumnShapeError}
-use Rattle.stark_parts.specs.Errors.{transcript_error}
-use Rattle.stark_parts.specs.declared.shape.StarkTranscriptFailure.{StarkTranscriptFailure}
-use Rattle.stark_parts.specs.declared.error.VerificationError.{VerificationError}
-use Rattle.stark_parts.specs.declared.error.VerificationError.TheVariants.{OutOfMemory}
+use Rattle.stark_transcript.specs.Errors.{transcript_error}
+use Rattle.stark_transcript.specs.declared.shape.StarkTranscriptFailure.{StarkTranscriptFailure}
+use Rattle.stark_transcript.specs.declared.error.VerificationError.{VerificationError}
+use Rattle.stark_transcript.specs.declared.error.VerificationError.TheVariants.{OutOfMemory}
 use Rattle.stark_protocol.specs.Instance.{Instance, ProtocolOps, log_height}
 use Rattle.stark_protocol.specs.OpenedClaims.{OpeningsFault}
 use Rattle.stark_proof.specs.ProofView.{ProofView}

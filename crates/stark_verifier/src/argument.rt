@@ -4,16 +4,15 @@ ghost use Rattle.stark_support.specs.Scheme.{natural_coset};
 ghost use Rattle.stark_protocol.specs.Instance.{trace_coset};
 ghost use Rattle.stark_protocol.specs.OpenedClaims.{OpeningsFault, OpeningsHold, OpeningsVerdict};
 ghost use Rattle.stark_proof.specs.ProofView.{proof_view};
-ghost use Rattle.stark_parts.specs.declared.error.VerificationError.TheVariants.{OutOfMemory};
-ghost use Rattle.stark_parts.specs.declared.shape.TranscriptPhase.TheVariants.{Delegated, Drawn};
+ghost use Rattle.stark_transcript.specs.declared.error.VerificationError.TheVariants.{OutOfMemory};
+ghost use Rattle.stark_transcript.specs.declared.shape.TranscriptPhase.TheVariants.{Delegated, Drawn};
 
 use crate::claims::{claims_of, preprocessed_place};
 use crate::steps::ProofDomains;
-use stark_parts::{
-    Com, Domain, PcsError, StarkGenericConfig, StarkVerifierTranscript, Val, VerificationError,
-};
+use stark_parts::{Com, Domain, PcsError, StarkGenericConfig, Val};
 use stark_protocol::{PreprocessedVerifierKey, StarkOperations, StarkProof};
 use stark_support::{GrindingChallenger, Pcs, PolynomialSpace, SchemeFault, UnivariateStarkPcs};
+use stark_transcript::{StarkVerifierTranscript, VerificationError};
 use std::alloc::Global;
 
 /// Whether the scheme accepts the proof's claims, over the challenger that it is lent.

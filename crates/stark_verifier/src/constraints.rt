@@ -6,10 +6,9 @@ ghost use Rattle.stark_air.specs.Layout.{Covers};
 ghost use Rattle.stark_protocol.specs.Equation.{ConstraintsFault, ConstraintsHold, OpenedRows, opened_layout, row_or_empty};
 
 use stark_air::Air;
-use stark_parts::{
-    Domain, InvalidProofShapeError, StarkGenericConfig, Val, VerificationError, fold_constraints,
-};
+use stark_parts::{Domain, StarkGenericConfig, Val, fold_constraints};
 use stark_support::PolynomialSpace;
+use stark_transcript::{InvalidProofShapeError, VerificationError};
 
 /// An opened row; one that isn't opened has no value.
 fn row_or_empty<'a, EF>(row: Option<&'a [EF]>) -> &'a [EF]

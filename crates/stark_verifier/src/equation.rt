@@ -4,7 +4,7 @@ ghost use Rattle.stark_support.specs.Coset.{coset_size, coset_vanishing};
 ghost use Rattle.stark_support.specs.Recomposition.{recomposition};
 ghost use Rattle.stark_support.specs.Subgroup.{subgroup_of};
 ghost use Rattle.stark_air.specs.Layout.{Covers};
-ghost use Rattle.stark_parts.specs.declared.error.VerificationError.TheVariants.{OutOfMemory};
+ghost use Rattle.stark_transcript.specs.declared.error.VerificationError.TheVariants.{OutOfMemory};
 ghost use Rattle.stark_protocol.specs.Acceptance.{preprocessed_next, rows_of};
 ghost use Rattle.stark_protocol.specs.Equation.{EquationHolds, opened_layout, row_or_empty};
 ghost use Rattle.stark_protocol.specs.FirstFault.{EquationFault};
@@ -15,10 +15,11 @@ use crate::constraints::verify_constraints;
 use crate::run::SampledPoint;
 use crate::steps::ProofDomains;
 use stark_air::Air;
-use stark_parts::{Domain, StarkGenericConfig, Val, VerificationError};
+use stark_parts::{Domain, StarkGenericConfig, Val};
 use stark_proof::{OpenedValues, PreprocessedOpenedValues};
 use stark_protocol::quotient_at;
 use stark_support::{ExtensionField, Field, PolynomialSpace};
+use stark_transcript::VerificationError;
 use std::alloc::{AllocError, Global};
 
 /// An element, so many times.

@@ -1,6 +1,6 @@
 //! What a verdict says.
 ghost use Rattle.std.specs.Prelude.{List, Option};
-ghost use Rattle.stark_parts.specs.declared.error.VerificationError.{VerificationError};
+ghost use Rattle.stark_transcript.specs.declared.error.VerificationError.{VerificationError};
 ghost use Rattle.stark_proof.specs.ProofView.{proof_view};
 ghost use Rattle.stark_proof.specs.declared.values.Proof.{Proof};
 ghost use Rattle.stark_protocol.specs.Acceptance.{Accepted};

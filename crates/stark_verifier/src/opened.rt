@@ -4,8 +4,8 @@ ghost use Rattle.std.specs.List.{list_all};
 ghost use Rattle.stark_proof.specs.ProofView.{openings_view};
 ghost use Rattle.stark_protocol.specs.ShapeFaults.{dimensions_fault, opened_fault, publics_fault, random_fits, randomization_fault, trace_next_fault, witness_fault};
 
-use stark_parts::{InvalidProofShapeError, VerificationError};
 use stark_proof::OpenedValues;
+use stark_transcript::{InvalidProofShapeError, VerificationError};
 
 /// Whether a random commitment and its opening are there exactly under zero knowledge.
 pub fn check_randomization<K, R, X>(

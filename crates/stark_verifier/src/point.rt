@@ -4,11 +4,11 @@ ghost use Rattle.stark_support.specs.Coset.{coset_size, coset_vanishing};
 ghost use Rattle.stark_support.specs.Periodic.{first_fault, periodic_value};
 ghost use Rattle.stark_support.specs.Powers.{power};
 ghost use Rattle.stark_protocol.specs.FirstFault.{PointFault};
-ghost use Rattle.stark_parts.specs.declared.error.VerificationError.TheVariants.{OutOfMemory};
+ghost use Rattle.stark_transcript.specs.declared.error.VerificationError.TheVariants.{OutOfMemory};
 
 use stark_air::BaseAir;
-use stark_parts::VerificationError;
 use stark_support::{DomainShape, ExtensionField, Field, PeriodicColumns, PolynomialSpace};
+use stark_transcript::VerificationError;
 use std::alloc::Global;
 
 /// Whether a point is one of a subgroup.

@@ -3,9 +3,9 @@ ghost use Rattle.std.specs.Prelude.{◌≡◌, IfErr, IfOk, None, Some, option_m
 ghost use Rattle.stark_proof.specs.ProofView.{preprocessed_view};
 ghost use Rattle.stark_protocol.specs.ShapeFaults.{expected_next, key_degree_fault, key_width_fault, preprocessed_fault, preprocessed_rows_fault, unread_next_fault, width_in_force, width_of};
 
-use stark_parts::InvalidProofShapeError;
 use stark_proof::PreprocessedOpenedValues;
 use stark_protocol::PreprocessedVerifierKey;
+use stark_transcript::InvalidProofShapeError;
 
 /// The key's width where a key is given, and else the AIR's.
 pub fn width_in_force<K>(key: Option<&PreprocessedVerifierKey<K>>, air_width: usize) -> usize

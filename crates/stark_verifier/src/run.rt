@@ -4,9 +4,9 @@ ghost use Rattle.std.specs.Prelude.{◌≡◌, ◌≢◌, ◌⊎◌, ◌^◌, �
 ghost use Rattle.stark_support.specs.Coset.{coset_size, coset_vanishing};
 ghost use Rattle.stark_support.specs.Periodic.{first_fault};
 ghost use Rattle.stark_support.specs.Scheme.{natural_coset, zk_bits};
-ghost use Rattle.stark_parts.specs.Shape.{shape_of};
-ghost use Rattle.stark_parts.specs.declared.error.VerificationError.TheVariants.{OutOfMemory};
-ghost use Rattle.stark_parts.specs.declared.shape.TranscriptPhase.TheVariants.{Delegated, Drawn, Opened};
+ghost use Rattle.stark_transcript.specs.Shape.{shape_of};
+ghost use Rattle.stark_transcript.specs.declared.error.VerificationError.TheVariants.{OutOfMemory};
+ghost use Rattle.stark_transcript.specs.declared.shape.TranscriptPhase.TheVariants.{Delegated, Drawn, Opened};
 ghost use Rattle.stark_protocol.specs.Acceptance.{IsPointOfH, periodic_values};
 ghost use Rattle.stark_protocol.specs.Challenges.{challenges_outcome};
 ghost use Rattle.stark_protocol.specs.FirstFault.{IsOutOfMemoryOr, PointFault};
@@ -19,16 +19,16 @@ use crate::point::check_point;
 use crate::preprocessed::width_in_force;
 use crate::steps::ProofDomains;
 use stark_air::{Air, BaseAir};
-use stark_parts::{
-    Com, Domain, PcsError, StarkGenericConfig, StarkShape, StarkTranscriptFailure,
-    StarkVerifierTranscript, Val, VerificationError,
-};
+use stark_parts::{Com, Domain, PcsError, StarkGenericConfig, Val};
 use stark_proof::Commitments;
 use stark_protocol::{
-    PreprocessedVerifierKey, StarkOperations, StarkProof, StarkRun, power_of_two,
+    PreprocessedVerifierKey, StarkOperations, StarkProof, StarkRun, transcript_shape,
 };
 use stark_support::{
-    CanObserve, CanSample, ExtensionField, GrindingChallenger, Pcs, PrimeField64, TranscriptSponge,
+    CanObserve, CanSample, ExtensionField, GrindingChallenger, PrimeField64, TranscriptSponge,
+};
+use stark_transcript::{
+    StarkShape, StarkTranscriptFailure, StarkVerifierTranscript, VerificationError,
 };
 use std::alloc::{AllocError, Global};
 
@@ -103,22 +103,7 @@ where
         degree_bits (log_height SC.Pcs.ZK degree_bits) (2 ^ log_chunks) SC.Pcs.ZK (SC.config.ood_bits config.now) (SC.config.constraint_bits config.now)) }
 {
     let width = width_in_force(key, air.preprocessed_width());
-    let log_height = degree_bits - config.is_zk();
-    let num_chunks = power_of_two(log_chunks);
-    let ood_bits = config.ood_proof_of_work_bits();
-    let constraint_bits = config.constraint_proof_of_work_bits();
-    let shape = StarkShape::new::<Val<SC>, A>(
-        alloc,
-        air,
-        width,
-        degree_bits,
-        log_height,
-        num_chunks,
-        SC::Pcs::ZK,
-        ood_bits,
-        constraint_bits,
-    )?;
-    Ok(shape)
+    transcript_shape(alloc, config, air, width, degree_bits, log_chunks)
 }
 
 /// The challenges of a proof.

@@ -2,8 +2,8 @@
 ghost use Rattle.std.specs.Prelude.{◌≡◌, ◌+◌, ◌-◌, ◌^◌, ◌<◌, ◌≤◌, IfErr, IfOk, None, Some};
 ghost use Rattle.stark_protocol.specs.ShapeFaults.{degree_fault};
 
-use stark_parts::InvalidProofShapeError;
 use stark_support::checked_pow2;
+use stark_transcript::InvalidProofShapeError;
 
 /// Tests the bits of the committed trace's height, and answers those of the trace's own height, without the bit that zero
 /// knowledge adds, and the committed height. `is_zk` is 1 in zero knowledge and else 0; `air` names the instance in an error,

@@ -2,29 +2,27 @@
 ghost use Rattle.std.specs.Prelude.{◌≡◌, ◌+◌, ◌-◌, ◌^◌, ◌<◌, ◌≤◌, ◌⊎◌, IfErr, IfOk, None, Some, length, option_map};
 ghost use Rattle.std.specs.Option.{option_copied, option_or};
 ghost use Rattle.stark_support.specs.Scheme.{natural_coset, zk_bits};
-ghost use Rattle.stark_parts.specs.Shape.{opens_next_row};
+ghost use Rattle.stark_transcript.specs.Shape.{opens_next_row};
 ghost use Rattle.stark_proof.specs.ProofView.{openings_view, preprocessed_view};
 ghost use Rattle.stark_protocol.specs.ShapeFaults.{degree_fault, opened_fault, preprocessed_fault, quotient_fault, randomization_fault};
 ghost use Rattle.stark_protocol.specs.Sizes.{log_parts_of, quotient_coset};
 ghost use Rattle.stark_protocol.specs.FirstFault.{IsOutOfMemoryOr};
 ghost use Rattle.stark_protocol.specs.Instance.{log_height, trace_coset};
 ghost use Rattle.stark_protocol.specs.Acceptance.{of_shape};
-ghost use Rattle.stark_parts.specs.declared.error.VerificationError.TheVariants.{OutOfMemory};
+ghost use Rattle.stark_transcript.specs.declared.error.VerificationError.TheVariants.{OutOfMemory};
 
 use crate::opened::{check_opened, check_randomization};
 use crate::preprocessed::check_preprocessed;
 use crate::shape::validate_degree_bits;
 use stark_air::{Air, BaseAir};
-use stark_parts::{
-    Com, Domain, InvalidProofShapeError, PcsError, StarkGenericConfig, Val, VerificationError,
-    opens_next_row,
-};
+use stark_parts::{Com, Domain, PcsError, StarkGenericConfig, Val};
 use stark_proof::PreprocessedOpenedValues;
 use stark_protocol::{
     PreprocessedVerifierKey, StarkProof, StarkRun, log_parts_of, natural_domain, power_of_two,
     quotient_domain_of,
 };
 use stark_support::{ExtensionField, GrindingChallenger, Pcs, UnivariateStarkPcs, is_zero};
+use stark_transcript::{InvalidProofShapeError, VerificationError, opens_next_row};
 use std::alloc::Global;
 
 /// The domains of a proof, and the number of its quotient's chunks.

@@ -8,7 +8,7 @@ ghost use Rattle.stark_protocol.specs.FirstFault.{EquationFault, IsOutOfMemoryOr
 ghost use Rattle.stark_protocol.specs.Instance.{log_height, trace_coset};
 ghost use Rattle.stark_proof.specs.ProofView.{openings_view};
 ghost use Rattle.stark_protocol.specs.ShapeFaults.{opened_fault, preprocessed_fault};
-ghost use Rattle.stark_parts.specs.Shape.{opens_next_row};
+ghost use Rattle.stark_transcript.specs.Shape.{opens_next_row};
 ghost use Rattle.stark_protocol.specs.Sizes.{log_parts_of, quotient_coset};
 
 use crate::equation::check_equation;
@@ -16,9 +16,10 @@ use crate::findings::StarkVerdict;
 use crate::run::{SampledPoint, check_run};
 use crate::steps::{ProofDomains, check_shape};
 use stark_air::Air;
-use stark_parts::{Com, Domain, PcsError, StarkGenericConfig, Val, VerificationError};
+use stark_parts::{Com, Domain, PcsError, StarkGenericConfig, Val};
 use stark_protocol::{PreprocessedVerifierKey, StarkOperations, StarkProof, StarkRun};
 use stark_support::{ExtensionField, GrindingChallenger, PolynomialSpace};
+use stark_transcript::VerificationError;
 use std::alloc::Global;
 
 /// The equation of a proof whose shape has no fault.

@@ -3,6 +3,7 @@ use Rattle.std.proofs.Common.{◌≡◌, ◌≢◌, ℕ, zero, suc, List, [], �
 use Rattle.std.proofs.Math.Seq.{take-length}
 use Rattle.std.proofs.lemmas.List.{append_cancel_left}
 use Rattle.std.specs.Io.KnownBytes.{Appends, Keeps}
+use Rattle.stark_input.proofs.Lines.{first_of, first_of_accepted, first_of_front, first_of_object, whole, wrote, wrote_nothing}
 use Rattle.stark_input.specs.Input.{Base}
 use Rattle.stark_input.specs.Running.{WhereAccepted, WhereObject, Wrote}
 use Rattle.stark_input.specs.Verdict.{line_of}
@@ -16,25 +17,6 @@ use Rattle.voskligan_program.specs.Showing.{SaysShowing, showing_line}
 use Rattle.voskligan_program.specs.Shown.{IsShowing, IsUnshown, SaysShown, ShowsInput}
 use Rattle.voskligan_program.specs.declared.showing.Showing.{Showing}
 use Rattle.voskligan_program.specs.declared.showing.Showing.TheVariants.{Text, Unshown}
-
-abbrev first_of : List ℕ → ℕ
-first_of [] = 0
-first_of (x ∷ xs) = x
-
-first_of_accepted : (bytes : List ℕ) → take 8 bytes ≡ codes "accepted" → first_of bytes ≡ 97
-first_of_accepted [] e = absurd (cc)
-first_of_accepted (x ∷ xs) e = let h : x ∷ take 7 xs ≡ 97 ∷ codes "ccepted" = e in cc
-
-first_of_object : (bytes : List ℕ) → take 1 bytes ≡ codes "{" → first_of bytes ≡ 123
-first_of_object [] e = absurd (cc)
-first_of_object (x ∷ xs) e = let h : x ∷ take 0 xs ≡ 123 ∷ [] = e in cc
-
--- a front of a line begins as the line does
-first_of_front : (count : ℕ) (line : List ℕ) (c : ℕ) → c ≢ 0 → first_of (take count line) ≡ c → first_of line ≡ c
-first_of_front zero [] c some e = e
-first_of_front zero (x ∷ xs) c some e = absurd (some (sym e))
-first_of_front (suc count) [] c some e = e
-first_of_front (suc count) (x ∷ xs) c some e = e
 
 -- A text begins with the word `columns`.
 first_of_text : (number : Base → ℕ) (input text : List ℕ) → ShowsInput number input text → first_of text ≡ 99
@@ -56,20 +38,6 @@ module _ (number : Base → ℕ) (c : ℕ) (no_text : 99 ≢ c) (no_refusal : 11
   begins_otherwise input (Text text) shows e = unlike 99 c _ (first_of_text number input _ shows) e no_text
   begins_otherwise input (Unshown v) (inl memory) e = unlike 114 c _ (first_of_memory v memory) e no_refusal
   begins_otherwise input (Unshown v) (inr bad) e = unlike 98 c _ (first_of_bad_input v bad.1) e no_bad_input
-
--- what a run wrote is what it appended
-wrote : (old new : Option (List ℕ)) (bytes line : List ℕ) → Wrote old new bytes → Appends old new line → bytes ≡ line
-wrote None new bytes line w a = absurd w
-wrote (Some xs) None bytes line w a = absurd w
-wrote (Some xs) (Some ys) bytes line w a = append_cancel_left xs bytes line (sym w ∙ a)
-
-wrote_nothing : (old new : Option (List ℕ)) (bytes : List ℕ) → Wrote old new bytes → Keeps old new → bytes ≡ []
-wrote_nothing None new bytes w k = absurd w
-wrote_nothing (Some xs) None bytes w k = absurd w
-wrote_nothing (Some xs) (Some ys) bytes w k = append_cancel_left xs bytes [] (sym w ∙ k ∙ sym (append-nil xs))
-
-whole : (bytes line : List ℕ) → bytes ≡ line → bytes ≡ take (length line) line
-whole bytes line e = e ∙ sym (take-length line)
 
 -- what a run wrote is the front of the lines of what it shows
 front : (end : RunEnd) (s : Showing) (old new : Option (List ℕ)) (bytes : List ℕ) → SaysShowing end s old new → Wrote old new bytes → (count : ℕ) × (bytes ≡ take count (showing_line s))

@@ -1,4 +1,4 @@
-use Rattle.std.proofs.Common.{◌^◌, ◌≤◌, sym, subst}
+use Rattle.std.proofs.Common.{◌^◌, ◌≤◌, sym, subst, rules}
 use Rattle.stark_support.specs.Coset.{coset_size}
 use Rattle.stark_protocol.specs.Instance.{log_height}
 use Rattle.stark_protocol.proofs.SetUpSteps.{committed_within, height_is}
@@ -24,3 +24,9 @@ returns-in-Ok-clause-stands g c =
 pub returns-in-Err-clause-fault : goal.returns-in-Err-clause-fault
 returns-in-Err-clause-fault g c =
     scheme_fault_at _ (λ s d. g.SC.Pcs.Pcs.scheme.RefusesCommit s d c.args.trace.values.items c.args.trace.width) _ _ _ _ c.in-Err.fault _ c.pcs.ensures c.requires.domain c.in-Err.ensures.refused c.in_phase.ensures
+
+pub returns-in-Ok-clause-fault : goal.returns-in-Ok-clause-fault
+returns-in-Ok-clause-fault c = search rules
+
+pub returns-in-Err-clause-stands : goal.returns-in-Err-clause-stands
+returns-in-Err-clause-stands c = search rules

@@ -1,5 +1,5 @@
 use Rattle.std.proofs.Common.{◌∙◌}
-use Rattle.stark_prover.proofs.Faults.{carried}
+use Rattle.stark_protocol.proofs.Carried.{carried}
 use Rattle.stark_prover.proofs.PartsSteps.{bound_made, proof_by_view, random_clear, randomization_of}
 use Rattle.stark_prover.proofs.finish.finish.Goals as goal
 

@@ -1,6 +1,6 @@
 use Rattle.std.proofs.Common.{◌∙◌, ◌^◌, ap, inr, refl}
 use Rattle.stark_support.specs.Coset.{TwoAdicCoset}
-use Rattle.stark_prover.proofs.Faults.{carried}
+use Rattle.stark_protocol.proofs.Carried.{carried}
 use Rattle.stark_prover.proofs.FinishSteps.{behind, height_is, opening_refused, proof_made, work_refused}
 use Rattle.stark_prover.proofs.point.open_bound.Goals as goal
 

@@ -1,6 +1,6 @@
 use Rattle.std.proofs.Common.{◌∙◌, ap}
 use Rattle.std.specs.List.{flat_map}
-use Rattle.stark_prover.proofs.Faults.{on_err, on_ok}
+use Rattle.stark_protocol.proofs.Carried.{on_err, on_ok}
 use Rattle.stark_prover.proofs.QuotientSteps.{chunks_fit, flat_height, one_column, quotient_committed, quotient_refused}
 use Rattle.stark_prover.proofs.quotient.commit_quotient.Goals as goal
 

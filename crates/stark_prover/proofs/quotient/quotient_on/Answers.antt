@@ -1,4 +1,4 @@
-use Rattle.std.proofs.Common.{ap, subst, sym}
+use Rattle.std.proofs.Common.{ap, subst, sym, rules}
 use Rattle.stark_support.specs.Scheme.{HasRows}
 use Rattle.stark_support.specs.declared.matrix.RowMajorMatrix.{RowMajorMatrix}
 use Rattle.stark_air.specs.Declaration.{Trace}
@@ -21,3 +21,12 @@ returns g c = λ columns fixed commitment stands fixed_stands.
     over_columns _ ring root coset (as_trace c.in_ok-main.main) _ columns fixed c.args.public_values.now c.args.alpha
     (c.in_ok-main.ensures c.args.domains.degree_bits columns commitment stands)
     (subst (λ (t : Trace g.row.SC-Pcs-Domain-Val.Denot). HasRows ring root coset fixed t.values t.width) (sym seen) (c.in_ok-fixed.ensures fixed fixed_stands)) _ c.in_ok-values.ensures
+
+pub returns-in_err-main : goal.returns-in_err-main
+returns-in_err-main c = search rules
+
+pub returns-in_err-fixed : goal.returns-in_err-fixed
+returns-in_err-fixed c = search rules
+
+pub returns-in_err-values : goal.returns-in_err-values
+returns-in_err-values c = search rules

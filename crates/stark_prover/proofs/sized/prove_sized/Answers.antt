@@ -1,5 +1,6 @@
+use Rattle.std.proofs.Common.{rules}
 use Rattle.stark_proof.specs.ProofView.{proof_view}
-use Rattle.stark_prover.proofs.Faults.{carried}
+use Rattle.stark_protocol.proofs.Carried.{carried}
 use Rattle.stark_prover.proofs.SizedSteps.{ready_at, run_made, run_refused, sizes_refused, trace_refused}
 use Rattle.stark_prover.proofs.sized.prove_sized.Goals as goal
 
@@ -22,3 +23,9 @@ returns-clause-fault g c =
     let domains = c.in_ok-domains.ensures in
     let stands = c.in_ok-committed.ensures.stands in
     run_refused _ domains.bits (ready_at _ domains.bits domains.fitting domains.clear stands.1 c.requires.stands.1) _ c.play.ensures.fault
+
+pub returns-in_err-committed-clause-made : goal.returns-in_err-committed-clause-made
+returns-in_err-committed-clause-made g c = search rules
+
+pub returns-in_err-domains-clause-made : goal.returns-in_err-domains-clause-made
+returns-in_err-domains-clause-made g c = search rules

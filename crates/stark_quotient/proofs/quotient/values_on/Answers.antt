@@ -1,4 +1,4 @@
-use Rattle.std.proofs.Common.{◌∙◌, ◌<◌, ◌+◌, ◌-◌, ◌++◌, ap, arith, subst, sym, take}
+use Rattle.std.proofs.Common.{◌∙◌, ◌<◌, ◌+◌, ◌-◌, ◌++◌, ap, arith, rules, subst, sym, take}
 use Rattle.stark_quotient.proofs.PointSteps.{more_quotients, power_room, some_power}
 use Rattle.stark_quotient.proofs.quotient.values_on.Goals as goal
 
@@ -29,3 +29,6 @@ loop-start-preserved g c =
       c.quotients_of_group.ensures.main_width ∙ c.loop-start.invariant.1,
       c.quotients_of_group.ensures.preprocessed_width ∙ c.loop-start.invariant.2,
     )
+
+pub returns : goal.returns
+returns g c = search rules

@@ -1,5 +1,5 @@
 use Rattle.std.proofs.Common.{arith, false}
-use Rattle.stark_parts.specs.Shape.{opens_next_row}
+use Rattle.stark_transcript.specs.Shape.{opens_next_row}
 use Rattle.stark_rows.specs.SizedAirs.{next_columns_if}
 use Rattle.stark_rows.proofs.SmallParams.{batched_fit}
 use Rattle.stark_rows.proofs.security.params.Goals as goal

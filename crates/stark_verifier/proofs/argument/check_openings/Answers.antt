@@ -7,3 +7,6 @@ returns-in-Err-Refused-clause-fault g c = inr (refused (search rules))
 
 pub returns-in-Ok : goal.returns-in-Ok
 returns-in-Ok g c = search rules
+
+pub returns-in_err-claims : goal.returns-in_err-claims
+returns-in_err-claims c = search rules

@@ -3,3 +3,12 @@ use Rattle.stark_verifier.proofs.opened.check_opened.Goals as goal
 
 pub returns : goal.returns
 returns c = search rules
+
+pub returns-in_err-check_dimensions : goal.returns-in_err-check_dimensions
+returns-in_err-check_dimensions g c = search rules
+
+pub returns-in_err-check_trace_next : goal.returns-in_err-check_trace_next
+returns-in_err-check_trace_next g c = search rules
+
+pub returns-in_err-check_witness : goal.returns-in_err-check_witness
+returns-in_err-check_witness g c = search rules

@@ -1,5 +1,5 @@
 use Rattle.std.proofs.Common.{◌∙◌, refl, sym, rules}
-use Rattle.stark_verifier.proofs.Carried.{carried}
+use Rattle.stark_protocol.proofs.Carried.{carried}
 use Rattle.stark_verifier.proofs.Verdicts.{openings_refused, point_refused, replay_refused}
 use Rattle.stark_verifier.proofs.run.play.Goals as goal
 
@@ -17,3 +17,48 @@ returns-in_err-delegate_openings-clause-fault g c =
 
 pub returns : goal.returns
 returns c = search rules
+
+pub returns-in_err-alpha-clause-same_reference : goal.returns-in_err-alpha-clause-same_reference
+returns-in_err-alpha-clause-same_reference g c = search rules
+
+pub returns-in_err-alpha-clause-delegated : goal.returns-in_err-alpha-clause-delegated
+returns-in_err-alpha-clause-delegated g c = search rules
+
+pub returns-in_err-alpha-clause-holds : goal.returns-in_err-alpha-clause-holds
+returns-in_err-alpha-clause-holds g c = search rules
+
+pub returns-in_err-alpha-clause-nonzero : goal.returns-in_err-alpha-clause-nonzero
+returns-in_err-alpha-clause-nonzero g c = search rules
+
+pub returns-in_err-alpha-clause-values : goal.returns-in_err-alpha-clause-values
+returns-in_err-alpha-clause-values g c = search rules
+
+pub returns-in_err-delegate_openings-clause-same_reference : goal.returns-in_err-delegate_openings-clause-same_reference
+returns-in_err-delegate_openings-clause-same_reference g c = search rules
+
+pub returns-in_err-delegate_openings-clause-delegated : goal.returns-in_err-delegate_openings-clause-delegated
+returns-in_err-delegate_openings-clause-delegated g c = search rules
+
+pub returns-in_err-delegate_openings-clause-holds : goal.returns-in_err-delegate_openings-clause-holds
+returns-in_err-delegate_openings-clause-holds g c = search rules
+
+pub returns-in_err-delegate_openings-clause-nonzero : goal.returns-in_err-delegate_openings-clause-nonzero
+returns-in_err-delegate_openings-clause-nonzero g c = search rules
+
+pub returns-in_err-delegate_openings-clause-values : goal.returns-in_err-delegate_openings-clause-values
+returns-in_err-delegate_openings-clause-values g c = search rules
+
+pub returns-in_err-periodic_values-clause-same_reference : goal.returns-in_err-periodic_values-clause-same_reference
+returns-in_err-periodic_values-clause-same_reference g c = search rules
+
+pub returns-in_err-periodic_values-clause-delegated : goal.returns-in_err-periodic_values-clause-delegated
+returns-in_err-periodic_values-clause-delegated g c = search rules
+
+pub returns-in_err-periodic_values-clause-holds : goal.returns-in_err-periodic_values-clause-holds
+returns-in_err-periodic_values-clause-holds g c = search rules
+
+pub returns-in_err-periodic_values-clause-nonzero : goal.returns-in_err-periodic_values-clause-nonzero
+returns-in_err-periodic_values-clause-nonzero g c = search rules
+
+pub returns-in_err-periodic_values-clause-values : goal.returns-in_err-periodic_values-clause-values
+returns-in_err-periodic_values-clause-values g c = search rules

@@ -1,7 +1,7 @@
 use Rattle.std.proofs.Common.{◌∙◌, ◌^◌, ap, length, option_map}
 use Rattle.std.proofs.lemmas.List.{length-map}
 use Rattle.stark_proof.specs.ProofView.{openings_view}
-use Rattle.stark_verifier.proofs.Carried.{on_err, on_ok}
+use Rattle.stark_protocol.proofs.Carried.{on_err, on_ok}
 use Rattle.stark_verifier.proofs.Balance.{balanced_fault, balanced_held}
 use Rattle.stark_verifier.proofs.ShapeSteps.{chunks_counted, chunks_long, one_width, rows_cover}
 use Rattle.stark_verifier.proofs.verdict.test_equation.Goals as goal

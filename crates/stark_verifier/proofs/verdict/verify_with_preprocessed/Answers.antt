@@ -1,7 +1,7 @@
-use Rattle.std.proofs.Common.{◌^◌, length}
+use Rattle.std.proofs.Common.{◌^◌, length, rules}
 use Rattle.stark_proof.specs.ProofView.{openings_view}
-use Rattle.stark_parts.specs.Shape.{opens_next_row}
-use Rattle.stark_verifier.proofs.Carried.{carried}
+use Rattle.stark_transcript.specs.Shape.{opens_next_row}
+use Rattle.stark_protocol.proofs.Carried.{carried}
 use Rattle.stark_verifier.proofs.Excluded.{exact}
 use Rattle.stark_verifier.proofs.ShapeSteps.{publics_are}
 use Rattle.stark_verifier.proofs.SoundAcceptanceSteps.{sound_of_parts}
@@ -43,3 +43,30 @@ returns-in_err-test_equation-clause-exact g c =
 pub returns-clause-sound : goal.returns-clause-sound
 returns-clause-sound g c =
     sound_of_parts c.in_ok-domains.ensures.clear c.in_ok-point.ensures.holds c.in_ok-test_equation.ensures.holds g.met.SC.Challenge.Field.field_laws (g.met.A.Air.leaves_within c.args.air.now) (g.met.A.BaseAir.as_declared c.args.air.now)
+
+pub returns-clause-accepted : goal.returns-clause-accepted
+returns-clause-accepted g c = search rules
+
+pub returns-clause-refused : goal.returns-clause-refused
+returns-clause-refused g c = search rules
+
+pub returns-clause-exact : goal.returns-clause-exact
+returns-clause-exact g c = search rules
+
+pub returns-in_err-point-clause-accepted : goal.returns-in_err-point-clause-accepted
+returns-in_err-point-clause-accepted g c = search rules
+
+pub returns-in_err-point-clause-sound : goal.returns-in_err-point-clause-sound
+returns-in_err-point-clause-sound g c = search rules
+
+pub returns-in_err-domains-clause-accepted : goal.returns-in_err-domains-clause-accepted
+returns-in_err-domains-clause-accepted g c = search rules
+
+pub returns-in_err-domains-clause-sound : goal.returns-in_err-domains-clause-sound
+returns-in_err-domains-clause-sound g c = search rules
+
+pub returns-in_err-test_equation-clause-accepted : goal.returns-in_err-test_equation-clause-accepted
+returns-in_err-test_equation-clause-accepted g c = search rules
+
+pub returns-in_err-test_equation-clause-sound : goal.returns-in_err-test_equation-clause-sound
+returns-in_err-test_equation-clause-sound g c = search rules

@@ -1,4 +1,4 @@
-use Rattle.std.proofs.Common.{◌≡◌, ◌≢◌, ◌∙◌, ◌-◌, ◌^◌, ◌≤◌, ap, arith}
+use Rattle.std.proofs.Common.{◌-◌, ◌^◌, ◌≤◌, arith}
 use Rattle.std.proofs.lemmas.Result.{IfOk-weaker}
 use Rattle.stark_support.specs.Coset.{TwoAdicCoset, IsTwoAdicCoset}
 use Rattle.stark_support.specs.LogarithmFacts.{two_power_at_most}

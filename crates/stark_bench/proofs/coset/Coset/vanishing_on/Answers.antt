@@ -5,7 +5,7 @@ use Rattle.stark_support.specs.CosetFacts.{root_has_order}
 use Rattle.stark_support.specs.CosetValueFacts.{apart_outside}
 use Rattle.stark_support.specs.LogarithmFacts.{two_power_at_most}
 use Rattle.stark_bench.specs.PointLists.{AreRepeated}
-use Rattle.stark_bench.proofs.PointLists.{all_are, first_vanishing, inverses_everywhere, some_inverses, some_values, vanishing_everywhere}
+use Rattle.stark_bench.proofs.PointLists.{all_are, first_vanishing, inverses_everywhere, some_inverses, vanishing_everywhere}
 use Rattle.stark_bench.proofs.coset.Coset.vanishing_on.Goals as goal
 
 pub slice_bounds-vanishing_values-end : goal.slice_bounds-vanishing_values-end
@@ -35,24 +35,13 @@ repeated-requires g c =
     let root = g.F.TwoAdicField.root in
     let coset : TwoAdicCoset g.row.F.Denot = record { shift = c.args.coset.now.shift; log_size = c.args.coset.now.log_size } in
     let k = c.args.self.now.log_size in
-    let order = (root_has_order laws _ root _ g.met.F.TwoAdicField.two_adic coset.log_size c.args.coset.now.within).reaches in
-    let values = c.in_ok-values.values.items in
-    let listed = first_vanishing laws.of_ring root coset order k c.args.points.now values c.points_for_each-period.result c.requires.points c.points_for_each-period.ensures c.in_ok-values.ensures in
-    subst (λ xs. 0 < length xs) (sym c.as_slice-2.ensures.value) (some_values laws.of_ring root coset order k c.args.points.now values c.requires.points listed)
-
-pub repeated-requires-2 : goal.repeated-requires-2
-repeated-requires-2 g c =
-    let laws = g.met.F.Field.field_laws in
-    let root = g.F.TwoAdicField.root in
-    let coset : TwoAdicCoset g.row.F.Denot = record { shift = c.args.coset.now.shift; log_size = c.args.coset.now.log_size } in
-    let k = c.args.self.now.log_size in
     let inverse = g.F.Field.inverse_of in
     let order = (root_has_order laws _ root _ g.met.F.TwoAdicField.two_adic coset.log_size c.args.coset.now.within).reaches in
     let values = c.in_ok-values.values.items in
     let inverses = c.in_ok-inverses.inverses.items in
     let listed = first_vanishing laws.of_ring root coset order k c.args.points.now values c.points_for_each-period.result c.requires.points c.points_for_each-period.ensures c.in_ok-values.ensures in
     let inverted : inverses ≡ map inverse values = c.in_ok-inverses.ensures ∙ ap (map inverse) c.as_slice.ensures.value in
-    subst (λ xs. 0 < length xs) (sym c.as_slice-3.ensures.value) (some_inverses laws.of_ring root coset order k c.args.points.now values c.requires.points listed inverse inverses inverted)
+    subst (λ xs. 0 < length xs) (sym c.as_slice-2.ensures.value) (some_inverses laws.of_ring root coset order k c.args.points.now values c.requires.points listed inverse inverses inverted)
 
 pub returns-clause-values : goal.returns-clause-values
 returns-clause-values g c =
@@ -64,8 +53,7 @@ returns-clause-values g c =
     let points = c.args.points.now in
     let values = c.in_ok-values.values.items in
     let listed = first_vanishing laws.of_ring root coset order k points values c.points_for_each-period.result c.requires.points c.points_for_each-period.ensures c.in_ok-values.ensures in
-    let all = c.in_ok-repeated.field-0.items in
-    vanishing_everywhere laws.of_ring root coset order k points values c.requires.points listed all (subst (λ xs. AreRepeated xs (length points) all) c.as_slice-2.ensures.value c.in_ok-repeated.ensures)
+    vanishing_everywhere laws.of_ring root coset order k points values c.requires.points listed
 
 pub returns-clause-inverses : goal.returns-clause-inverses
 returns-clause-inverses g c =
@@ -80,5 +68,5 @@ returns-clause-inverses g c =
     let inverses = c.in_ok-inverses.inverses.items in
     let listed = first_vanishing laws.of_ring root coset order k points values c.points_for_each-period.result c.requires.points c.points_for_each-period.ensures c.in_ok-values.ensures in
     let inverted : inverses ≡ map inverse values = c.in_ok-inverses.ensures ∙ ap (map inverse) c.as_slice.ensures.value in
-    let all = c.in_ok-repeated-2.field-0.items in
-    inverses_everywhere laws.of_ring root coset order k points values c.requires.points listed inverse inverses inverted all (subst (λ xs. AreRepeated xs (length points) all) c.as_slice-3.ensures.value c.in_ok-repeated-2.ensures)
+    let all = c.in_ok-inverses-2.inverses.items in
+    inverses_everywhere laws.of_ring root coset order k points values c.requires.points listed inverse inverses inverted all (subst (λ xs. AreRepeated xs (length points) all) c.as_slice-2.ensures.value c.in_ok-inverses-2.ensures)

@@ -1,6 +1,7 @@
 use Rattle.std.proofs.Common.{◌∙◌, ◌^◌, ap, subst, sym}
 use Rattle.stark_support.specs.Coset.{TwoAdicCoset, IsTwoAdicCoset, AreValuesOn, subgroup_vanishing}
 use Rattle.stark_support.specs.CosetValueFacts.{own_subgroup}
+use Rattle.stark_bench.specs.PointLists.{RepeatOn}
 use Rattle.stark_bench.proofs.SelectorLists.{first_rows_listed, inverses_listed, no_first, transitions_listed}
 use Rattle.stark_bench.proofs.coset.CosetPolynomialSpace.selectors_on_coset.Goals as goal
 
@@ -23,7 +24,7 @@ last_rows_on-requires-clause-vanishing g c =
     let self : TwoAdicCoset g.row.F.Denot = record { shift = c.args.self.now.shift; log_size = c.args.self.now.log_size } in
     let valid : IsTwoAdicCoset g.F.Field.ring g.F.TwoAdicField.TWO_ADICITY self = record { shift_nonzero = c.args.self.now.shift_nonzero; within = c.args.self.now.within } in
     let coset : TwoAdicCoset g.row.F.Denot = record { shift = c.args.coset.now.shift; log_size = c.args.coset.now.log_size } in
-    subst (AreValuesOn g.F.Field.ring g.F.TwoAdicField.root coset (2 ^ coset.log_size) (λ x. subgroup_vanishing g.F.Field.ring (2 ^ self.log_size) x)) (sym c.as_slice-values.ensures.value) c.in_ok-vanishing.ensures.values
+    subst (RepeatOn g.F.Field.ring g.F.TwoAdicField.root coset (λ x. subgroup_vanishing g.F.Field.ring (2 ^ self.log_size) x)) (sym c.as_slice-values.ensures.value) c.in_ok-vanishing.ensures.values
 
 pub last_rows_on-requires-clause-first_rows : goal.last_rows_on-requires-clause-first_rows
 last_rows_on-requires-clause-first_rows g c =

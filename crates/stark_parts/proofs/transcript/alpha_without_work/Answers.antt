@@ -1,8 +1,0 @@
-use Rattle.stark_parts.specs.ReplayFacts.{prover_without_work, verifier_without_work}
-use Rattle.stark_parts.proofs.transcript.alpha_without_work.Goals as goal
-
-pub returns-clause-verifier : goal.returns-clause-verifier
-returns-clause-verifier g c = λ ops shape trace preprocessed publics witness start none. verifier_without_work ops shape trace preprocessed publics witness start none
-
-pub returns-clause-prover : goal.returns-clause-prover
-returns-clause-prover g c = λ ops shape trace preprocessed publics start none. prover_without_work ops shape trace preprocessed publics start none

@@ -1,5 +1,0 @@
-use Rattle.std.proofs.Common.{rules}
-use Rattle.stark_parts.proofs.transcript.prover.StarkProverTranscript.finish.Goals as goal
-
-pub returns : goal.returns
-returns g c = search rules

@@ -1,0 +1,4 @@
+pub mod Shape
+pub mod Replay
+pub mod ReplayFacts
+pub mod Errors

@@ -1,0 +1,147 @@
+//! The transcript of a proof of one AIR, played over a challenger that the caller lends.
+ghost use Rattle.std.specs.Prelude.{◌≡◌, ◌++◌, List, Option, option_map, IfOk, IfErr};
+ghost use Rattle.stark_support.specs.Sponge.{SpongeOps, observed_bytes, replay};
+ghost use Rattle.stark_support.specs.Seed.{shape_seed};
+ghost use Rattle.stark_transcript.specs.Shape.{shape_numbers};
+ghost use Rattle.stark_transcript.specs.declared.shape.StarkShape.{StarkShape};
+ghost use Rattle.stark_transcript.specs.Replay.{checked, constraint_outcome, element_events, ground, optional_events, optional_fault, plain_constraint_outcome, plain_prover_outcome, preprocessed_fault, prover_constraint_outcome, random_fault};
+
+mod prover;
+mod verifier;
+
+use crate::shape::{GrindExhausted, StarkShape, StarkTranscriptFailure};
+pub use prover::StarkProverTranscript;
+use stark_support::{
+    CanObserve, CanSample, ExtensionField, GrindingChallenger, PrimeField64, TranscriptSponge,
+    observe_bytes, observe_slice,
+};
+use std::alloc::{AllocError, Global};
+pub use verifier::StarkVerifierTranscript;
+
+fn optional_fault(
+    is_described: bool,
+    is_there: bool,
+    missing: StarkTranscriptFailure,
+    unexpected: StarkTranscriptFailure,
+) -> Option<StarkTranscriptFailure>
+    ensures { result ≡ optional_fault is_described is_there missing unexpected }
+{
+    match (is_described, is_there) {
+        (true, false) => Some(missing),
+        (false, true) => Some(unexpected),
+        _ => None,
+    }
+}
+
+fn preprocessed_fault(shape: &StarkShape, is_there: bool) -> Option<StarkTranscriptFailure>
+    ensures { result ≡ preprocessed_fault shape.now is_there }
+{
+    let width = shape.preprocessed_width;
+    optional_fault(
+        width > 0,
+        is_there,
+        StarkTranscriptFailure::MissingPreprocessedCommitment { width },
+        StarkTranscriptFailure::UnexpectedPreprocessedCommitment,
+    )
+}
+
+fn random_fault(shape: &StarkShape, is_there: bool) -> Option<StarkTranscriptFailure>
+    ensures { result ≡ random_fault shape.now is_there }
+{
+    optional_fault(
+        shape.has_randomization,
+        is_there,
+        StarkTranscriptFailure::MissingRandomCommitment,
+        StarkTranscriptFailure::UnexpectedRandomCommitment,
+    )
+}
+
+// Observes a shape's seed. Where memory is refused, nothing is observed.
+fn observe_seed<C, F, EF>(
+    alloc: Global,
+    challenger: &mut C,
+    shape: &StarkShape,
+) -> Result<(), AllocError>
+where
+    F: PrimeField64,
+    EF: ExtensionField<F>,
+    C: CanObserve<F>,
+    ensures seeded { IfOk result (λ _. challenger.new ≡ observed_bytes C.after_observe F.of_number (shape_seed 1 EF.DIMENSION (shape_numbers shape.now)) challenger.old) }
+    ensures untouched { IfErr result (λ _. challenger.new ≡ challenger.old) }
+{
+    let separator = shape.domain_separator::<F, EF>(alloc)?;
+    observe_bytes::<C, F>(challenger, separator.seed());
+    Ok(())
+}
+
+fn observe_optional<C, F, EF, K>(challenger: &mut C, commitment: Option<&K>)
+where
+    F: PrimeField64,
+    C: CanObserve<F> + CanObserve<K> + CanSample<EF> + GrindingChallenger<Witness = F>,
+    ensures { challenger.new ≡ replay ⟦<C as TranscriptSponge<F, EF, K>>⟧.sponge (optional_events (option_map (λ k. k.now) commitment.entry)) challenger.old }
+{
+    if let Some(commitment) = commitment {
+        challenger.observe(commitment);
+    }
+}
+
+// What follows the commitment to the trace: the preprocessed one and the public values.
+#[tactic(auto, using(stark_support::specs::SpongeFacts::replay_append, stark_support::specs::SpongeFacts::replay_elements))]
+fn play_values<C, F, EF, K>(challenger: &mut C, preprocessed: Option<&K>, public_values: &[F])
+where
+    F: PrimeField64,
+    C: CanObserve<F> + CanObserve<K> + CanSample<EF> + GrindingChallenger<Witness = F>,
+    ensures { challenger.new ≡ replay ⟦<C as TranscriptSponge<F, EF, K>>⟧.sponge (optional_events (option_map (λ k. k.now) preprocessed.entry) ++ element_events public_values.now) challenger.old }
+{
+    observe_optional::<C, F, EF, K>(&mut *challenger, preprocessed);
+    observe_slice(&mut *challenger, public_values);
+}
+
+// The check of the work, where some is asked for, and the challenge behind it. Where the witness doesn't pass, the failure
+// given is answered.
+fn check_work<C, F, EF, K>(
+    challenger: &mut C,
+    failure: StarkTranscriptFailure,
+    bits: usize,
+    witness: F,
+) -> Result<EF, StarkTranscriptFailure>
+where
+    F: PrimeField64,
+    C: CanObserve<F> + CanObserve<K> + CanSample<EF> + GrindingChallenger<Witness = F>,
+    ensures answer { result ≡ (checked ⟦<C as TranscriptSponge<F, EF, K>>⟧.sponge failure bits witness challenger.old).answer }
+    ensures state { challenger.new ≡ (checked ⟦<C as TranscriptSponge<F, EF, K>>⟧.sponge failure bits witness challenger.old).state }
+{
+    if bits > 0 && !challenger.check_witness(bits, witness) {
+        return Err(failure);
+    }
+    Ok(challenger.sample())
+}
+
+// The search for a witness, where work is asked for, and the challenge behind it.
+fn find_work<C, F, EF, K>(
+    challenger: &mut C,
+    bits: usize,
+) -> Result<(EF, Option<F>), GrindExhausted>
+where
+    F: PrimeField64,
+    C: CanObserve<F> + CanObserve<K> + CanSample<EF> + GrindingChallenger<Witness = F>,
+    ensures answer { result ≡ (ground ⟦<C as TranscriptSponge<F, EF, K>>⟧.sponge bits challenger.old).answer }
+    ensures state { challenger.new ≡ (ground ⟦<C as TranscriptSponge<F, EF, K>>⟧.sponge bits challenger.old).state }
+{
+    if bits == 0 {
+        return Ok((challenger.sample(), None));
+    }
+    match challenger.grind(bits) {
+        Some(witness) => Ok((challenger.sample(), Some(witness))),
+        None => Err(GrindExhausted { bits }),
+    }
+}
+
+/// A law, with no code: where a shape asks for no work before alpha, the phase that draws alpha is that of a protocol without
+/// such work. The verifier's is so whatever the witness, and the prover's finds none.
+pub fn alpha_without_work<C, F, EF, K>()
+    ensures verifier { (ops : SpongeOps C F EF K) (shape : StarkShape) (trace : K) (preprocessed : Option K) (publics : List F) (witness : F) (start : C) → shape.constraint_pow_bits ≡ 0
+        → constraint_outcome ops shape trace preprocessed publics witness start ≡ plain_constraint_outcome ops shape trace preprocessed publics start }
+    ensures prover { (ops : SpongeOps C F EF K) (shape : StarkShape) (trace : K) (preprocessed : Option K) (publics : List F) (start : C) → shape.constraint_pow_bits ≡ 0
+        → prover_constraint_outcome ops shape trace preprocessed publics start ≡ plain_prover_outcome ops trace preprocessed publics start }
+{}

@@ -4,15 +4,10 @@
 mod completeness;
 
 pub use completeness::{StarkCompleteness, VerifiedProof, prove_and_verify};
-pub use stark_air::{
-    AirLayout, BaseEntry, ConstraintLayout, SubAirBuilder, SubSliced, SymbolicAirBuilder,
-    SymbolicExpression, SymbolicVariable, get_all_symbolic_constraints, get_constraint_layout,
-    get_max_constraint_degree_extension, get_symbolic_constraints,
-};
+pub use stark_air::{AirLayout, SubAirBuilder, SubSliced};
 pub use stark_parts::{
-    Com, Domain, PackedChallenge, PackedVal, PcsError, PcsProverError, ProverConstraintFolder,
-    StarkConfig, StarkGenericConfig, StarkOpeningLayout, Val, VectorizedChallenge,
-    VectorizedConstraintFolder, VectorizedVal, VerifierConstraintFolder,
+    Com, Domain, PackedChallenge, PackedVal, PcsError, PcsProverError, StarkConfig,
+    StarkGenericConfig, StarkOpeningLayout, Val, VerifierConstraintFolder,
     get_log_num_quotient_chunks, get_log_num_quotient_chunks_for_domain,
     get_log_quotient_degree_extension,
 };
@@ -25,11 +20,19 @@ pub use stark_protocol::{
     StarkProof, recompose_quotient_from_chunks, setup_preprocessed,
 };
 pub use stark_prover::{StarkProving, prove, prove_with_preprocessed};
+pub use stark_prover_folder::{
+    ProverConstraintFolder, VectorizedChallenge, VectorizedConstraintFolder, VectorizedVal,
+};
 pub use stark_quotient::{QUOTIENT_ILP, QuotientAir, quotient_values};
 pub use stark_security::{
     OpeningShape, StarkSecurityParams, num_batched_openings, ood_error_bound,
 };
 pub use stark_support::{GrindingSites, PeriodicColumnShapeError};
+pub use stark_symbolic::{
+    BaseEntry, ConstraintLayout, SymbolicAirBuilder, SymbolicExpression, SymbolicVariable,
+    get_all_symbolic_constraints, get_constraint_layout, get_max_constraint_degree_extension,
+    get_symbolic_constraints,
+};
 pub use stark_transcript::{
     GrindExhausted, InvalidProofShapeError, ProvingError, StarkProverTranscript, StarkShape,
     StarkTranscriptFailure, StarkVerifierTranscript, VerificationError,

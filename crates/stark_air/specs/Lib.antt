@@ -6,17 +6,7 @@ pub mod Emission
 pub mod Under
 pub mod Rows
 pub mod Shift
-pub mod ConstantFolding
-pub mod Symbolic
-pub mod Degree
-pub mod TreeCode
-pub mod SymbolicView
 pub mod Collecting
 pub mod SymbolicLayout
-pub mod SymbolicRow
-pub mod SymbolicTrees
-pub mod GreatestDegree
-pub mod Places
-pub mod SymbolicBuilder
 pub mod CollectingBoth
 pub mod LaneValues

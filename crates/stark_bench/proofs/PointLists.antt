@@ -1,5 +1,5 @@
 -- Lists of values made of other lists, place by place; the values of a subgroup's vanishing polynomial repeat.
-use Rattle.std.proofs.Common.{◌≡◌, ◌≢◌, ◌∙◌, ℕ, zero, suc, ◌+◌, ◌*◌, ◌-◌, ◌/◌, ◌%◌, ◌^◌, ◌<◌, ◌≤◌, List, [], ◌∷◌, ◌++◌, All, Some, length, map, take, option_map, get_or, ap, sym, arith, refl, subst, drop, inl, inr}
+use Rattle.std.proofs.Common.{◌≡◌, ◌≢◌, ◌∙◌, ℕ, ◌+◌, ◌*◌, ◌-◌, ◌/◌, ◌%◌, ◌^◌, ◌<◌, ◌≤◌, List, [], ◌∷◌, ◌++◌, All, Some, length, map, take, option_map, get_or, ap, sym, arith, refl, subst, drop, inl, inr}
 use Rattle.std.specs.List.{slice_get}
 use Rattle.std.proofs.lemmas.List.{get_or-drop, length-append, length-drop, length-map, length-take-le}
 use Rattle.std.proofs.lemmas.Nat.{pow-add}
@@ -14,9 +14,8 @@ use Rattle.stark_support.specs.Powers.{power}
 use Rattle.stark_support.specs.PowerFacts.{power-add, power-mul, power-one, power-power, power-zero}
 use Rattle.stark_support.specs.Ring.{RingOps, RingLaws, FieldLaws, difference}
 use Rattle.stark_support.specs.Coset.{TwoAdicCoset, AreValuesOn, coset_point, subgroup_vanishing}
-use Rattle.stark_support.specs.ListFacts.{one_more_number, one_more_listed}
+use Rattle.stark_support.specs.ListFacts.{one_more_number, one_more_listed, slice_get-append_left, slice_get-append_right, slice_get-take}
 use Rattle.stark_support.specs.RingSolver.{solve, ◌⊗◌, v0, v1, v2}
-use Rattle.stark_bench.proofs.HalfLists.{slice_get-left, slice_get-right}
 use Rattle.stark_bench.specs.PointLists.{AreQuotients, AreRepeated, AreTurned, RepeatOn}
 
 module _ {K : Type 0} (ring : RingOps K) (inverse : K → K) (elements divisors : List K) where
@@ -39,12 +38,6 @@ module _ {K : Type 0} (list : List K) where
     number = one_more_number before after x n so_far.number e;
     at_place = one_more_listed (λ i. slice_get list (i % length list)) before after x n so_far.number so_far.at_place is e;
   }
-
-slice_get-take : {A : Type 0} (xs : List A) (k i : ℕ) → i < k → slice_get (take k xs) i ≡ slice_get xs i
-slice_get-take xs zero i h = absurd (omega arith)
-slice_get-take [] (suc k) i h = refl
-slice_get-take (x ∷ xs) (suc k) zero h = refl
-slice_get-take (x ∷ xs) (suc k) (suc i) h = slice_get-take xs k i (omega arith)
 
 module _ {K : Type 0} (ring : RingOps K) (factor : K) (elements : List K) (further : ℕ) (within : further ≤ length elements) where
   back_number : length (map (ring.mul factor) (drop further elements)) ≡ length elements - further
@@ -73,8 +66,8 @@ module _ {K : Type 0} (ring : RingOps K) (factor : K) (elements : List K) (furth
   turned_parts all e = record {
     number = omega (arith, ap length e, length-append (map (ring.mul factor) (drop further elements)) (map (ring.mul factor) (take further elements)), back_number, length-map (take further elements) (ring.mul factor), length-take-le further elements within);
     at_place = λ i h. ap (λ l. slice_get l i) e ∙ elim (cases_lt i (length elements - further)) [
-      | inl below ↦ slice_get-left (map (ring.mul factor) (drop further elements)) (map (ring.mul factor) (take further elements)) i (omega (arith, below, back_number)) ∙ back_turned i below
-      | inr past ↦ slice_get-right (map (ring.mul factor) (drop further elements)) (map (ring.mul factor) (take further elements)) (length elements - further) i back_number past ∙ front_turned i past h
+      | inl below ↦ slice_get-append_left (map (ring.mul factor) (drop further elements)) (map (ring.mul factor) (take further elements)) i (omega (arith, below, back_number)) ∙ back_turned i below
+      | inr past ↦ slice_get-append_right (map (ring.mul factor) (drop further elements)) (map (ring.mul factor) (take further elements)) (length elements - further) i back_number past ∙ front_turned i past h
     ];
   }
 
@@ -144,11 +137,11 @@ module _ {K : Type 0} {ring : RingOps K} (laws : RingLaws ring) (root : ℕ → 
       record {
         number = omega (arith, ap length e, length-append points (map (ring.mul step) points), length-map points (ring.mul step), listed.number, twice);
         at_row = λ i h. ap (λ l. slice_get l i) e ∙ elim (cases_lt i (2 ^ k)) [
-          | inl below ↦ slice_get-left points (map (ring.mul step) points) i (omega (arith, below, listed.number)) ∙ listed.at_row i below
+          | inl below ↦ slice_get-append_left points (map (ring.mul step) points) i (omega (arith, below, listed.number)) ∙ listed.at_row i below
           | inr past ↦
               let j = i - 2 ^ k in
               let place : 2 ^ k + j ≡ i = omega (arith, past) in
-              slice_get-right points (map (ring.mul step) points) (2 ^ k) i listed.number past ∙ slice_get-map (ring.mul step) points j ∙ ap (option_map (ring.mul step)) (listed.at_row j (omega (arith, h, past, twice)))
+              slice_get-append_right points (map (ring.mul step) points) (2 ^ k) i listed.number past ∙ slice_get-map (ring.mul step) points j ∙ ap (option_map (ring.mul step)) (listed.at_row j (omega (arith, h, past, twice)))
               ∙ ap Some (ap (λ s. ring.mul s (coset_point ring root coset j)) is ∙ point_further (2 ^ k) j ∙ ap (coset_point ring root coset) place)
         ];
       }

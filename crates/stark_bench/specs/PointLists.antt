@@ -1,14 +1,8 @@
 -- Lists of values made of other lists, place by place.
-use Rattle.std.specs.Prelude.{◌≡◌, ℕ, ◌+◌, ◌<◌, ◌%◌, List, [], ◌∷◌, get_or, length, Some}
+use Rattle.std.specs.Prelude.{◌≡◌, ℕ, ◌+◌, ◌<◌, ◌%◌, List, get_or, length, Some}
 use Rattle.std.specs.List.{slice_get}
 use Rattle.stark_support.specs.Coset.{TwoAdicCoset, coset_point}
 use Rattle.stark_support.specs.Ring.{RingOps}
-
--- the products of two lists' elements, place by place
-unfoldable pub products_of : {K : Type 0} → RingOps K → List K → List K → List K
-products_of ring [] ys = []
-products_of ring (x ∷ xs) [] = []
-products_of ring (x ∷ xs) (y ∷ ys) = ring.mul x y ∷ products_of ring xs ys
 
 -- at the first `count` places: the elements of a list over and over, each over the divisor at its place
 pub record AreQuotients {K : Type 0} (ring : RingOps K) (inverse : K → K) (elements divisors : List K) (count : ℕ) (over : List K) : Type 0 where

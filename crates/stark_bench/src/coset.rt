@@ -1,11 +1,12 @@
 //! The two-adic cosets of a field, as domains.
 ghost use Rattle.std.specs.Prelude.{◌≡◌, ◌≢◌, ◌<◌, ◌≤◌, ◌+◌, ◌-◌, ◌*◌, ℕ, ⊤, ◌^◌, ◌++◌, ◌∷◌, [], All, IfOk, length, map, refl, vec_capacity, vec_len};
+ghost use Rattle.std.specs.Simd.Lanes.{zip2};
 ghost use Rattle.stark_support.specs.Coset.{AreDisjoint, AreValuesOn, TwoAdicCoset, coset_size, subgroup_vanishing};
 ghost use Rattle.stark_support.specs.Ring.{difference};
 ghost use Rattle.stark_support.specs.SelectorFacts.{IsSubgroup};
 ghost use Rattle.stark_support.specs.Selectors.{first_row_selector, last_row_selector, transition_selector};
 ghost use Rattle.stark_support.specs.Subgroup.{group_of};
-ghost use Rattle.stark_bench.specs.PointLists.{AreQuotients, AreRepeated, AreTurned, RepeatOn, products_of};
+ghost use Rattle.stark_bench.specs.PointLists.{AreQuotients, AreRepeated, AreTurned, RepeatOn};
 
 use stark_support::{
     DomainShape, Element, ExtensionField, Field, LagrangeSelectors, PeriodicColumns,
@@ -127,7 +128,7 @@ fn push_own_scaled<F: Field>(all: &mut Vec<F>, factor: F)
 fn push_products<F: Field>(all: &mut Vec<F>, lefts: &[F], rights: &[F])
     requires number { length lefts.now ≡ length rights.now }
     requires room { vec_len all.old + length lefts.now ≤ vec_capacity all.old }
-    ensures items { all.new.items ≡ all.old.items ++ products_of F.ring lefts.now rights.now }
+    ensures items { all.new.items ≡ all.old.items ++ zip2 F.ring.mul lefts.now rights.now }
     ensures capacity { vec_capacity all.new ≡ vec_capacity all.old }
 {
     for index in 0..lefts.len() {
@@ -138,7 +139,7 @@ fn push_products<F: Field>(all: &mut Vec<F>, lefts: &[F], rights: &[F])
 /// The products of two lists' elements, place by place.
 fn products<F: Field>(alloc: Global, lefts: &[F], rights: &[F]) -> Result<Vec<F>, AllocError>
     requires { length lefts.now ≡ length rights.now }
-    ensures { IfOk result (λ all. all.items ≡ products_of F.ring lefts.now rights.now) }
+    ensures { IfOk result (λ all. all.items ≡ zip2 F.ring.mul lefts.now rights.now) }
 {
     let mut all = Vec::with_capacity(alloc, lefts.len())?;
     push_products(&mut all, lefts, rights);

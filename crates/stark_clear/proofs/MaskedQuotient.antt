@@ -9,6 +9,7 @@ use Rattle.std.proofs.lemmas.List.{length-map, length-replicate, map-append}
 use Rattle.std.proofs.lemmas.List.Elements.{All-from_recursion}
 use Rattle.std.proofs.lemmas.Nat.{pow_pos}
 use Rattle.std.proofs.lemmas.Option.{same_Some}
+use Rattle.stark_support.specs.ListFacts.{no_such}
 use Rattle.stark_support.specs.Ring.{RingOps, FieldLaws, difference}
 use Rattle.stark_support.specs.Embedding.{IsEmbedding}
 use Rattle.stark_support.specs.KeepsRing.{kept_power}
@@ -25,7 +26,6 @@ use Rattle.stark_support.specs.Scheme.{AreQuotientChunks, IsChunk, IsMasked, Quo
 use Rattle.stark_clear.specs.ClearScheme.{IsFull, columns_of}
 use Rattle.stark_clear.specs.Masks.{AreMaskedChunks, HasMasks, balancing_mask, balancing_masks, chunk_columns, chunk_masks, less_all, masked_chunk, masked_chunks, masked_column, quotient_masks, range, vanishing_scale}
 use Rattle.stark_clear.specs.PlainChunks.{ArePlainChunks}
-use Rattle.stark_clear.specs.PlainChunkFacts.{no_chunk}
 use Rattle.stark_clear.specs.RowFacts.{all_listed, size_in_parts}
 use Rattle.stark_clear.proofs.BalancingSteps.{masks_at}
 use Rattle.stark_clear.proofs.MaskSteps.{chunks_have_masks}
@@ -181,9 +181,9 @@ module _ {F E : Type 0} {field : RingOps F} {base_inverse : F → F} {ring : Rin
     -- Chunk j is that of the lists at its place.
     chunk_there : (a n : ℕ) (plain masks : List (List (List F))) (j : ℕ) (q : QuotientChunk F) → slice_get (chunks_from a n plain masks) j ≡ Some q
         → (p m : List (List F)) × (slice_get plain j ≡ Some p) × (slice_get masks j ≡ Some m) × (q ≡ masked_chunk field base_inverse (coset_part field root coset log_parts (a + j)) p m)
-    chunk_there a zero plain masks j q there = absurd (no_chunk j q there)
-    chunk_there a (suc n) [] masks j q there = absurd (no_chunk j q there)
-    chunk_there a (suc n) (p ∷ plain) [] j q there = absurd (no_chunk j q there)
+    chunk_there a zero plain masks j q there = absurd (no_such j q there)
+    chunk_there a (suc n) [] masks j q there = absurd (no_such j q there)
+    chunk_there a (suc n) (p ∷ plain) [] j q there = absurd (no_such j q there)
     chunk_there a (suc n) (p ∷ plain) (m ∷ masks) zero q there =
         (p, m, refl, refl, sym (same_Some _ _ there) ∙ ap (λ k. masked_chunk field base_inverse (coset_part field root coset log_parts k) p m) (first_place a))
     chunk_there a (suc n) (p ∷ plain) (m ∷ masks) (suc j) q there =
@@ -191,7 +191,7 @@ module _ {F E : Type 0} {field : RingOps F} {base_inverse : F → F} {ring : Rin
         (later.0, later.1, later.2, later.3, later.4 ∙ ap (λ k. masked_chunk field base_inverse (coset_part field root coset log_parts k) later.0 later.1) (later_place a j))
 
     all_at : {A : Type 0} (P : A → Type 0) (xs : List A) (j : ℕ) (y : A) → AllByRecursion P xs → slice_get xs j ≡ Some y → P y
-    all_at P [] j y each there = absurd (no_chunk j y there)
+    all_at P [] j y each there = absurd (no_such j y there)
     all_at P (z ∷ xs) zero y each there = subst P (same_Some z y there) each.0
     all_at P (z ∷ xs) (suc j) y each there = all_at P xs j y each.1 there
 

@@ -1,10 +1,10 @@
 -- Points of a coset in row order, and polynomials with zeros behind their coefficients.
-use Rattle.std.specs.Prelude.{◌≡◌, ◌⊎◌, ◌*◌, ℕ, zero, suc, ◌+◌, ◌-◌, ◌<◌, ◌≤◌, List, [], ◌∷◌, ◌++◌, map, length, Some, option_map, refl}
+use Rattle.std.specs.Prelude.{◌≡◌, ◌⊎◌, ◌*◌, ℕ, zero, suc, ◌+◌, ◌-◌, ◌<◌, ◌≤◌, List, [], ◌∷◌, ◌++◌, map, length, Some, option_map}
 use Rattle.std.specs.List.{slice_get}
 use Rattle.std.proofs.Common.{inl, inr, sym, ap, ◌∙◌, arith, subst, append_assoc, add-one}
 use Rattle.std.proofs.lemmas.List.{length-map, append-nil}
 use Rattle.std.proofs.lemmas.Option.{slice_get-map, slice_get_within, same_Some}
-use Rattle.stark_support.specs.ListFacts.{last_or_below, one_more_number}
+use Rattle.stark_support.specs.ListFacts.{last_or_below, no_such, one_more_number, slice_get-append_left, slice_get-last}
 use Rattle.stark_support.specs.Ring.{RingOps, RingLaws, FieldLaws}
 use Rattle.stark_support.specs.Coset.{TwoAdicCoset, IsTwoAdicCoset, coset_point, coset_size}
 use Rattle.stark_support.specs.CosetFacts.{root_has_order}
@@ -77,28 +77,16 @@ module _ {K : Type 0} (ring : RingOps K) (s g : K) where
 
 -- ---- columns, one after the other
 
-get_below : {A : Type 0} (xs : List A) (a : A) (i : ℕ) → i < length xs → slice_get (xs ++ a ∷ []) i ≡ slice_get xs i
-get_below [] a i h = absurd (omega arith)
-get_below (x ∷ xs) a zero h = refl
-get_below (x ∷ xs) a (suc i) h = get_below xs a i (omega arith)
-
-get_last : {A : Type 0} (xs : List A) (a : A) → slice_get (xs ++ a ∷ []) (length xs) ≡ Some a
-get_last [] a = refl
-get_last (x ∷ xs) a = get_last xs a
-
-none_below_zero : {c : ℕ} → c < 0 → ⊥
-none_below_zero h = omega arith
-
 pub none_there : {A : Type 0} (columns : List A) (c : ℕ) (x : A) → columns ≡ [] → slice_get columns c ≡ Some x → ⊥
-none_there columns c x e h = none_below_zero (slice_get_within [] c x (subst (λ t. slice_get t c ≡ Some x) e h))
+none_there columns c x e h = no_such c x (subst (λ t. slice_get t c ≡ Some x) e h)
 
 -- What stands in a list with one more element: it, at the end, or an earlier one.
 pub seen : {A : Type 0} (before after : List A) (x y : A) (n c : ℕ) → length before ≡ n → after ≡ before ++ x ∷ [] → slice_get after c ≡ Some y → ((c ≡ n) × (y ≡ x)) ⊎ (slice_get before c ≡ Some y)
 seen before after x y n c number pushed h =
     let there : slice_get (before ++ x ∷ []) c ≡ Some y = sym (ap (λ t. slice_get t c) pushed) ∙ h in
     elim (last_or_below c n (omega (arith, slice_get_within after c y h, one_more_number before after x n number pushed))) [
-      | inl w ↦ inl (w, same_Some y x (sym there ∙ ap (slice_get (before ++ x ∷ [])) (w ∙ sym number) ∙ get_last before x))
-      | inr w ↦ inr (sym (get_below before x c (omega (arith, number))) ∙ there)
+      | inl w ↦ inl (w, same_Some y x (sym there ∙ ap (slice_get (before ++ x ∷ [])) (w ∙ sym number) ∙ slice_get-last before x))
+      | inr w ↦ inr (sym (slice_get-append_left before (x ∷ []) c (omega (arith, number))) ∙ there)
     ]
 
 module _ {K : Type 0} (ring : RingOps K) (root : ℕ → K) (coset : TwoAdicCoset K) (values : List K) (first step size : ℕ) where

@@ -3,11 +3,11 @@ use Rattle.std.specs.Prelude.{◌≡◌, ℕ, zero, suc, ◌+◌, ◌*◌, ◌-�
 use Rattle.std.specs.Int.{IsPowerOfTwo}
 use Rattle.std.specs.List.{AllByRecursion, slice_get, slice_index_or}
 use Rattle.std.proofs.Common.{inl, inr, get_or, sym, ap, ◌∙◌, arith, subst}
-use Rattle.std.proofs.lemmas.Option.{same_Some, slice_get-get_or, slice_get-map, slice_get_within}
+use Rattle.std.proofs.lemmas.Option.{same_Some, slice_get-get_or, slice_get-map}
 use Rattle.std.proofs.lemmas.List.{length-map}
 use Rattle.stark_clear.specs.ColumnPoints.{AreColumns}
 use Rattle.stark_clear.specs.RowFacts.{all_listed, cell_of_part_fits, place_in_part, row_of_part_fits, size_in_parts, takes_rows}
-use Rattle.stark_support.specs.ListFacts.{one_more_number}
+use Rattle.stark_support.specs.ListFacts.{no_such, one_more_number}
 use Rattle.stark_support.specs.LogarithmFacts.{same_exponent}
 use Rattle.stark_clear.specs.ColumnFacts.{none_there, seen}
 use Rattle.stark_support.specs.Ring.{RingOps, RingLaws}
@@ -18,12 +18,6 @@ use Rattle.stark_support.specs.Recomposition.{lagrange_weight, weighted_sum_from
 use Rattle.stark_support.specs.Scheme.{AreQuotientChunks, IsChunk, IsMasked, QuotientChunk, TakesRows, committed_chunk, matrix_row}
 use Rattle.stark_clear.specs.ClearScheme.{IsFull, columns_of}
 use Rattle.stark_clear.specs.PlainChunks.{ArePlainChunks, plain_chunk, plain_chunks, plain_column}
-
-none_below : {j : ℕ} → j < 0 → ⊥
-none_below h = omega arith
-
-pub no_chunk : {A : Type 0} (j : ℕ) (q : A) → slice_get [] j ≡ Some q → ⊥
-no_chunk j q h = none_below (slice_get_within [] j q h)
 
 module _ {F E : Type 0} (field : RingOps F) {ring : RingOps E} (laws : RingLaws ring) (inverse : E → E) (embed : F → E) where
   no_mask : (v z : E) → v ≡ ring.add v (ring.mul ring.zero z)
@@ -84,7 +78,7 @@ module _ {F E : Type 0} (field : RingOps F) {ring : RingOps E} (laws : RingLaws 
     -- Chunk j from the i-th part on is that of the columns at its place.
     chunk_there : (i : ℕ) (matrices : List (List (List F))) (j : ℕ) (q : QuotientChunk F) → slice_get (plain_chunks field root coset log_parts i matrices) j ≡ Some q
         → (columns : List (List F)) × (slice_get matrices j ≡ Some columns) × (q ≡ plain_chunk (coset_part field root coset log_parts (i + j)) columns)
-    chunk_there i [] j q there = absurd (no_chunk j q there)
+    chunk_there i [] j q there = absurd (no_such j q there)
     chunk_there i (columns ∷ matrices) zero q there =
         (columns, refl, sym (same_Some _ _ there) ∙ ap (λ k. plain_chunk (coset_part field root coset log_parts k) columns) (first_place i))
     chunk_there i (columns ∷ matrices) (suc j) q there =

@@ -2,9 +2,8 @@
 use Rattle.std.specs.Prelude.{◌≡◌, ℕ, zero, suc, ◌+◌, ◌-◌, ◌*◌, ◌^◌, ◌/◌, ◌%◌, ◌<◌, ◌≤◌, List, [], ◌∷◌, length, take, Option, Some, option_map, refl}
 use Rattle.std.specs.List.{AllByRecursion, flat_map, slice_get}
 use Rattle.std.proofs.Common.{sym, ap, ◌∙◌, arith, drop, get_or, pow-add, subst}
-use Rattle.std.proofs.Math.Nat.{add-mul, div-zero, mul_assoc, mul-mod_left}
-use Rattle.std.proofs.lemmas.List.{length-map, length-append}
-use Rattle.std.proofs.lemmas.List.Concat.{flat_map-cons}
+use Rattle.std.proofs.Math.Nat.{add-mul, mul_assoc, mul-mod_left}
+use Rattle.std.proofs.lemmas.List.{length-map}
 use Rattle.std.proofs.lemmas.Option.{slice_get-map, slice_get-get_or, slice_get_past, same_Some}
 use Rattle.stark_support.specs.Ring.{RingOps}
 use Rattle.stark_support.specs.Coset.{TwoAdicCoset, coset_point, coset_size}
@@ -12,19 +11,13 @@ use Rattle.stark_support.specs.JoinedRows.{cut, row_of_joined}
 use Rattle.stark_support.specs.Polynomial.{value}
 use Rattle.stark_support.specs.Scheme.{HasRows, TakesRows, natural_coset, matrix_row, row_at}
 use Rattle.stark_support.specs.SchemeFacts.{natural_of_size}
-use Rattle.stark_support.proofs.CellSteps.{cell_within}
+use Rattle.stark_support.proofs.CellSteps.{full_rows, whole_row}
+use Rattle.stark_support.proofs.Coordinates.{joined_length}
 use Rattle.stark_clear.specs.ColumnPoints.{AreColumns, points_of}
 use Rattle.stark_clear.specs.ColumnFacts.{point_at, points_number}
 
-none_below : {r : ℕ} → r < 0 → ⊥
-none_below h = omega arith
-
 none_here : {A : Type 0} (i j : ℕ) → ◌≡◌ {A = Option A} (slice_get [] i) (slice_get [] j)
 none_here i j = slice_get_past [] i (omega arith) ∙ sym (slice_get_past [] j (omega arith))
-
-joined_number : {A B : Type 0} (f : A → List B) (w : ℕ) → ((x : A) → length (f x) ≡ w) → (xs : List A) → length (flat_map f xs) ≡ length xs * w
-joined_number f w each [] = omega arith
-joined_number f w each (x ∷ xs) = ap length (flat_map-cons f x xs) ∙ length-append (f x) (flat_map f xs) ∙ (let rest = joined_number f w each xs in let first = each x in omega (arith, rest, first))
 
 -- The columns' values at all points of a coset, a row a point.
 pub has_rows : {F : Type 0} (ring : RingOps F) (root : ℕ → F) (coset : TwoAdicCoset F) (columns : List (List F)) (points values : List F) (width : ℕ) → points ≡ points_of ring root coset
@@ -38,7 +31,7 @@ has_rows ring root coset columns points values width are joined wide =
             ap (λ t. matrix_row t width r) joined
             ∙ row_of_joined (row_at ring (λ c. c) columns) width each points r (coset_point ring root coset r) (ap (λ t. slice_get t r) are ∙ point_at ring root coset r below);
       };
-      number = ap length joined ∙ joined_number (row_at ring (λ c. c) columns) width each points ∙ ap (λ n. n * width) (ap length are ∙ points_number ring root coset);
+      number = ap length joined ∙ joined_length (row_at ring (λ c. c) columns) width each points ∙ ap (λ n. n * width) (ap length are ∙ points_number ring root coset);
     }
 
 -- ---- rows that columns take
@@ -100,15 +93,6 @@ pub all_listed : {A : Type 0} (P : A → Type 0) (xs : List A) → ((i : ℕ) (x
 all_listed P [] h = tt
 all_listed P (x ∷ xs) h = (h 0 x refl, all_listed P xs (λ i y e. h (suc i) y e))
 
-last_in_row : (w : ℕ) → 0 < w → w - 1 < w
-last_in_row w h = omega arith
-
-pub row_fits : (r width count : ℕ) → r < count / width → r * width + width ≤ count
-row_fits r zero count h = absurd (none_below (subst (λ n. r < n) (div-zero count) h))
-row_fits r (suc w) count h =
-    let cell = cell_within r (suc w) (suc w - 1) count h (last_in_row (suc w) (omega arith)) in
-    omega (arith, cell)
-
 in_order : (r c width : ℕ) → 0 + c + r * width ≡ r * width + c
 in_order r c width = omega arith
 
@@ -116,22 +100,17 @@ pub natural_rows : {F : Type 0} (ring : RingOps F) (root : ℕ → F) (coset : T
     → coset.shift ≡ ring.one → coset_size coset ≡ length values / width → (k : ℕ) → 2 ^ k ≡ length values / width → TakesRows ring root (natural_coset ring k) width (matrix_row values width) columns
 natural_rows ring root coset values width size columns are shift height k power =
     subst (λ d. TakesRows ring root d width (matrix_row values width) columns) (natural_of_size ring coset (length values / width) k shift height power)
-    (takes_rows ring root coset values 0 width width size columns are (λ r. r) (λ r c. in_order r c width) (λ r below. row_fits r width (length values) (omega (arith, height, below))))
+    (takes_rows ring root coset values 0 width width size columns are (λ r. r) (λ r c. in_order r c width) (λ r below. whole_row r width (length values) (omega (arith, height, below))))
 
 -- Joined rows of one width are whole.
 pub whole_rows : {A B : Type 0} (f : A → List B) (w : ℕ) → ((x : A) → length (f x) ≡ w) → (xs : List A) (values : List B) (width : ℕ) → values ≡ flat_map f xs → width ≡ w → length values % width ≡ 0
 whole_rows f w each xs values width joined wide =
-    ap (λ n. length values % n) wide ∙ ap (λ n. n % w) (ap length joined ∙ joined_number f w each xs) ∙ mul-mod_left (length xs) w
+    ap (λ n. length values % n) wide ∙ ap (λ n. n % w) (ap length joined ∙ joined_length f w each xs) ∙ mul-mod_left (length xs) w
 
 -- ---- the rows of a part
 
-row_after : (r rows width : ℕ) → r < rows → r * width + width ≤ rows * width
-row_after zero (suc rows) width h = omega arith
-row_after (suc r) (suc rows) width h = let before = row_after r rows width (omega arith) in omega arith
-row_after r zero width h = absurd (omega arith)
-
 in_rows : (i r parts rows : ℕ) → i < parts → r < rows → i + r * parts < rows * parts
-in_rows i r parts rows h k = let after = row_after r rows parts k in omega arith
+in_rows i r parts rows h k = let after = full_rows r rows parts k in omega arith
 
 -- Value c of row i + r * parts, counted from the first of row i in steps of `parts` rows.
 pub place_in_part : (i r parts width c : ℕ) → i * width + c + r * (parts * width) ≡ (i + r * parts) * width + c
@@ -142,7 +121,7 @@ place_in_part i r parts width c =
 
 pub row_of_part_fits : (i r parts rows width count : ℕ) → i < parts → r < rows → count ≡ rows * parts * width → (i + r * parts) * width + width ≤ count
 row_of_part_fits i r parts rows width count h k whole =
-    let after = row_after (i + r * parts) (rows * parts) width (in_rows i r parts rows h k) in
+    let after = full_rows (i + r * parts) (rows * parts) width (in_rows i r parts rows h k) in
     omega (arith, after, whole)
 
 pub cell_of_part_fits : (i r parts rows width c count : ℕ) → i < parts → r < rows → c < width → count ≡ rows * parts * width → i * width + c + r * (parts * width) < count

@@ -1,5 +1,6 @@
 -- The leaves of the equation over truly opened values are those of the columns.
 use Rattle.std.proofs.Common.{◌≡◌, ◌∙◌, ap, sym, arith, refl, ℕ, ◌^◌, ◌<◌, Bool, true, List, [], ◌∷◌, map, replicate, slice_index_or, unwrap_or, Option, None, Some}
+use Rattle.stark_support.specs.ListFacts.{mapped_or_filler}
 use Rattle.stark_support.specs.Periodic.{periodic_value}
 use Rattle.stark_support.specs.Polynomial.{value}
 use Rattle.stark_support.specs.Scheme.{QuotientChunk, row_at}
@@ -12,7 +13,7 @@ use Rattle.stark_protocol.specs.Acceptance.{periodic_values, preprocessed_local,
 use Rattle.stark_protocol.specs.Equation.{opened_environment}
 use Rattle.stark_protocol.specs.Instance.{FieldsOps}
 use Rattle.stark_security.specs.ConstraintPolynomial.{environment_at, group}
-use Rattle.stark_quotient.specs.QuotientOfColumns.{value_leaf, leaf_of_row}
+use Rattle.stark_quotient.specs.QuotientOfColumns.{value_leaf}
 use Rattle.stark_security.specs.SameLeaves.{AgreeWithin}
 use Rattle.stark_honest.specs.TrueOpenings.{AreTrueOpenings, air_over, columns_above}
 use Rattle.stark_honest.proofs.ChunkPolynomials.{row_above}
@@ -65,7 +66,7 @@ module _ {F E : Type 0} (fields : FieldsOps F E) where
               preprocessed_next_leaf fixed_next l.preprocessed l.preprocessed_next opened.preprocessed (replicate l.preprocessed fields.ring.zero) fixed next_zeta
               declared.preprocessed_next_row true_values.preprocessed_next true_values.no_preprocessed c below;
           public_value = λ k below. refl;
-          periodic_value = λ c below. leaf_of_row (λ column. periodic_value fields.base fields.base_inverse (fields.root log_size) (2 ^ log_size) fields.ring fields.embed column zeta) periodic c [] fields.ring.zero refl;
+          periodic_value = λ c below. mapped_or_filler (λ column. periodic_value fields.base fields.base_inverse (fields.root log_size) (2 ^ log_size) fields.ring fields.embed column zeta) periodic c [] fields.ring.zero refl;
           first_row = refl;
           last_row = refl;
           transition = refl;

@@ -4,6 +4,7 @@ use Rattle.std.specs.List.{AllByRecursion}
 use Rattle.std.proofs.Math.Nat.{div_self}
 use Rattle.std.proofs.lemmas.List.Elements.{recursion_from_All}
 use Rattle.std.proofs.lemmas.Nat.{pow_pos}
+use Rattle.stark_support.specs.ListFacts.{mapped_or_filler}
 use Rattle.stark_support.specs.Ring.{RingOps, RingLaws, FieldLaws}
 use Rattle.stark_support.specs.RingFacts.{one_mul}
 use Rattle.stark_support.specs.Operations.{ring_operations}
@@ -25,7 +26,7 @@ use Rattle.stark_security.specs.BadValues.{Satisfies, point}
 use Rattle.stark_quotient.specs.EmbeddedPoint.{embedded_first_row, embedded_last_row, embedded_transition}
 use Rattle.stark_quotient.specs.FoldedPlaces.{embedded, embedded_value}
 use Rattle.stark_quotient.specs.PointwiseQuotient.{leaves_at, next_row, point_above}
-use Rattle.stark_quotient.specs.QuotientOfColumns.{AreValuesOfColumns, leaf_of_row, leaves_agree}
+use Rattle.stark_quotient.specs.QuotientOfColumns.{AreValuesOfColumns, leaves_agree}
 use Rattle.stark_security.specs.SameLeaves.{AgreeWithin, same_constraints}
 use Rattle.stark_honest.specs.RowSatisfaction.{TraceRows, HoldsInEachRow, leaves_in_row, periodic_entry, row_after, row_point, rows_on_group}
 
@@ -69,7 +70,7 @@ module _ {F E : Type 0} (i : AirInstance F E) (base_laws : FieldLaws i.base i.ba
   leaves_embedded : (k : ℕ) → AgreeWithin l (embedded i.embed (leaves_in_row i rows k)) (leaves_at i (rows_on_group i rows) k)
   leaves_embedded k =
       let leaf : (row : List F) (c : ℕ) → i.embed (slice_index_or row c i.base.zero) ≡ slice_index_or (map i.embed row) c i.ring.zero
-      = λ row c. sym (leaf_of_row i.embed row c i.base.zero i.ring.zero embeds.keeps.zero) in
+      = λ row c. sym (mapped_or_filler i.embed row c i.base.zero i.ring.zero embeds.keeps.zero) in
       record {
         main_current = λ c below. leaf (rows.main k) c;
         main_next = λ c below. leaf (rows.main (row_after i k)) c ∙ ap (λ n. slice_index_or (map i.embed (rows.main n)) c i.ring.zero) (sym (next_is k));

@@ -13,11 +13,11 @@ use Rattle.stark_input.specs.declared.verdict.RunEnd.{RunEnd}
 use Rattle.stark_input.specs.declared.verdict.RunEnd.TheVariants.{Accepted, Refused, BadInput, InputFailed, OutputFailed}
 
 -- an input that is the reader's
-abbrev some_input : Option (List ℕ) → List ℕ
+abbrev pub some_input : Option (List ℕ) → List ℕ
 some_input None = []
 some_input (Some bytes) = bytes
 
-is_some_input : (known : Option (List ℕ)) → IsInput known (some_input known)
+pub is_some_input : (known : Option (List ℕ)) → IsInput known (some_input known)
 is_some_input None = tt
 is_some_input (Some bytes) = refl
 

@@ -1,5 +1,5 @@
 -- The trace's domain and the quotient's.
-use Rattle.std.proofs.Common.{◌≡◌, ◌∙◌, ap, arith, ℕ, ◌+◌, ◌^◌, ◌<◌, ◌≤◌, Option, Some, None, IfSome}
+use Rattle.std.proofs.Common.{◌≡◌, ◌∙◌, ap, arith, ℕ, ◌+◌, ◌^◌, ◌<◌, Option, Some, None, IfSome}
 use Rattle.std.proofs.lemmas.Nat.{pow_below}
 use Rattle.stark_support.specs.Ring.{RingOps}
 use Rattle.stark_support.specs.Coset.{TwoAdicCoset}
@@ -10,12 +10,6 @@ use Rattle.stark_input.specs.Input.{Base}
 use Rattle.stark_protocol.specs.Sizes.{quotient_coset}
 use Rattle.stark_protocol.specs.QuotientFacts.{domain_of_size}
 use Rattle.stark_judge.specs.Check.{trace_coset}
-
-pub same_ceiling : (j k n : ℕ) → IsCeilingOfLog j n → IsCeilingOfLog k n → j ≡ k
-same_ceiling j k n one other =
-    let above : j ≤ k = one.least k other.covers in
-    let below : k ≤ j = other.least j one.covers in
-    omega arith
 
 -- the same of a domain that may not be there
 pub domain_if_some : {D F : Type 0} (view : D → TwoAdicCoset F) (base : RingOps F) (generator : F) (coset : TwoAdicCoset F) (log_height log_chunks size : ℕ) (domain : Option D)

@@ -3,6 +3,7 @@ use Rattle.std.proofs.Common.{◌≡◌, ◌≢◌, ◌⊎◌, inl, inr, refl, s
 use Rattle.std.specs.List.{list_all}
 use Rattle.std.proofs.lemmas.Bool.{and_parts, eqb-true, eq-eqb, ne_eqb, le-leb, lt-leb, cases_lt, true≢false}
 use Rattle.std.proofs.Math.Nat.{mod-eq_of_lt}
+use Rattle.stark_support.specs.ListFacts.{same_maps}
 use Rattle.stark_support.specs.LogarithmFacts.{two_power_at_most}
 use Rattle.std.proofs.lemmas.List.{length-map, get_or-map}
 use Rattle.std.proofs.lemmas.Simd.{map-map}
@@ -155,10 +156,6 @@ module _ {V : Type 0} (items : V → List Extension) (count : V → ℕ) (counte
       let inside : k < length chunks = omega (arith, within, ap length same) in
       ap (λ vs. count (get_or vs k d)) same ∙ counted (get_or chunks k d) ∙ ap length (sym (get_or-map items chunks k d (items d) inside)) ∙
       four k (items d) (omega (arith, inside, length-map chunks items))
-
-same_maps : {V W : Type 0} (f g : V → W) → ((v : V) → f v ≡ g v) → (vs : List V) → map f vs ≡ map g vs
-same_maps f g same [] = refl
-same_maps f g same (v ∷ vs) = ap (λ w. w ∷ map f vs) (same v) ∙ ap (λ ws. g v ∷ ws) (same_maps f g same vs)
 
 module _ (air : CheckedAir) (m : CheckNumbers) where
   pub coset_vanishing_is : (coset : TwoAdicCoset Base) → coset ≡ trace_coset m.log_height → coset_vanishing elements (λ c. c) inverse_of (coset_size coset) (element_of coset.shift) m.zeta ≡ vanishing m

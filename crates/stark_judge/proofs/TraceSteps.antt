@@ -1,8 +1,9 @@
 -- From what is set up and read to a prover's conditions and answer.
-use Rattle.std.proofs.Common.{◌≡◌, ◌∙◌, ◌⊎◌, inl, inr, ap, refl, sym, arith, ℕ, suc, ◌+◌, ◌*◌, ◌^◌, ◌<◌, ◌≤◌, ◌==◌, ◌&&◌, ◌%◌, Bool, true, false, List, [], ◌∷◌, ◌++◌, length, length-append, Option, Result, Ok, Err, IfOk, IfErr}
+use Rattle.std.proofs.Common.{◌≡◌, ◌∙◌, ◌⊎◌, inl, inr, ap, sym, arith, ℕ, suc, ◌+◌, ◌*◌, ◌^◌, ◌<◌, ◌≤◌, ◌==◌, ◌%◌, Bool, true, List, [], ◌∷◌, ◌++◌, length, length-append, Option, Result, Ok, Err, IfOk, IfErr}
 use Rattle.std.proofs.lemmas.Bool.{eqb-true}
 use Rattle.std.proofs.Math.Nat.{mul-mod_left, suc-mul, zero-mul}
 use Rattle.std.specs.List.{flat_map, list_all}
+use Rattle.stark_support.specs.RingSolver.{both_parts}
 use Rattle.stark_support.specs.Scheme.{SchemeOps}
 use Rattle.stark_support.specs.Ring.{RingOps}
 use Rattle.stark_air.specs.Declaration.{Trace}
@@ -60,15 +61,11 @@ module _ {S F E C K T P X Y : Type 0} (ops : ProtocolOps S F E C K T P X Y) (coo
 
 -- ---- what was read
 
-both : (a b : Bool) → (a && b) ≡ true → (a ≡ true) × (b ≡ true)
-both true b e = (refl, e)
-both false b e = absurd (let clash : false ≡ true = e in cc)
-
 -- Rows of one width, one after the other.
 rows_count : (width : ℕ) (rows : List (List Base)) → list_all (λ row. length row == width) rows ≡ true → length (flat_map (λ row. row) rows) ≡ length rows * width
 rows_count width [] all = sym (zero-mul width)
 rows_count width (row ∷ rows) all =
-    let split = both (length row == width) (list_all (λ r. length r == width) rows) all in
+    let split = both_parts (length row == width) (list_all (λ r. length r == width) rows) all in
     let here : length row ≡ width = eqb-true (length row) width split.0 in
     let rest : length (flat_map (λ r. r) rows) ≡ length rows * width = rows_count width rows split.1 in
     let joined : length (row ++ flat_map (λ r. r) rows) ≡ length row + length (flat_map (λ r. r) rows) = length-append row (flat_map (λ r. r) rows) in

@@ -34,13 +34,13 @@ module _ {Y : Type 0} (Holds : ProofView (Listed Base) Extension ClearProof Base
   tells_line (finding.Verdict v) is tells = absurd is
 
 -- What is found of an input that isn't read.
-not_read_opens : (f : Finding) → f ≡ finding.Verdict verdict.BadInput → OpensIfProof f
+pub not_read_opens : (f : Finding) → f ≡ finding.Verdict verdict.BadInput → OpensIfProof f
 not_read_opens f is = subst OpensIfProof (sym is) tt
 
-not_read_proof : (f : Finding) → f ≡ finding.Verdict verdict.BadInput → IsProof f → ⊥
+pub not_read_proof : (f : Finding) → f ≡ finding.Verdict verdict.BadInput → IsProof f → ⊥
 not_read_proof f is proof = subst IsProof is proof
 
-not_read_accepted : finding.Verdict verdict.Accepted ≡ finding.Verdict verdict.BadInput → ⊥
+pub not_read_accepted : finding.Verdict verdict.Accepted ≡ finding.Verdict verdict.BadInput → ⊥
 not_read_accepted is = cc
 
 module _ {S C T X Y : Type 0} (ops : ProtocolOps S Base Extension C (Listed Base) T ClearProof X Y) (coordinates : Extension → List Base) (log_rows : ℕ) (scheme : S) (first_state : C) (air : CheckedAir) (height : ℕ) (trace : Trace Base) (publics : List Base) (ood_bits alpha_bits : ℕ) where

@@ -2,6 +2,7 @@
 #![tactic(auto)]
 
 mod check;
+mod config;
 mod judge;
 mod point;
 mod prove;

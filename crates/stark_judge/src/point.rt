@@ -7,12 +7,12 @@ ghost use Rattle.stark_protocol.specs.Equation.{OpenedRows, opened_layout};
 ghost use Rattle.stark_protocol.specs.Sizes.{quotient_coset};
 ghost use Rattle.stark_judge.specs.Point.{EquationVerdict, IsOutsideCoset, PointVerdict};
 
+use crate::config::ClearConfig;
 use p3_uni_stark::verify_constraints;
 use stark_air::Air;
 use stark_bench::{ClearCommitment, Coset};
-use stark_clear::ClearPcs;
 use stark_input::{Refusal, Verdict};
-use stark_parts::{Domain, StarkConfig, StarkGenericConfig, Val};
+use stark_parts::{Domain, StarkGenericConfig, Val};
 use stark_protocol::quotient_at;
 use stark_support::{
     CanObserve, ExtensionChallenger, ExtensionField, Field, FieldChallenger, PeriodicColumns,
@@ -20,9 +20,6 @@ use stark_support::{
 };
 use stark_transcript::VerificationError;
 use std::alloc::Global;
-
-/// A configuration in the clear.
-pub type ClearConfig<F, EF, C> = StarkConfig<ClearPcs<F>, EF, C>;
 
 /// The error of a commitment scheme that isn't there: a check opens no commitment.
 #[derive(Drop)]

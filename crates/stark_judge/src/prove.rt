@@ -18,7 +18,7 @@ ghost use Rattle.stark_input.specs.declared.verdict.Verdict.{Verdict};
 ghost use Rattle.stark_judge.specs.ProveFacts.{proved_accepts_none, proved_line, proved_opens};
 ghost use Rattle.stark_judge.specs.Prove.{AnswersWithHeld, IsProofOfRead, IsProved, IsProvedBy, IsProvedRead, IsTraceFor, TellsAnswer, program_writing};
 
-use crate::point::ClearConfig;
+use crate::config::{ClearConfig, clear_config};
 use crate::verify::ProgramConfig;
 use p3_uni_stark::{
     Proof, ProvingError, StarkInstance, StarkOperations, StarkProof, setup_preprocessed,
@@ -26,14 +26,14 @@ use p3_uni_stark::{
 use stark_air::Air;
 use stark_bench::{ClearCommitment, F12289, ScriptChallenger, Sha256Challenger};
 use stark_clear::{
-    ClearPcs, ClearProof, ClearProverError, CounterAir, CubicAir, FibonacciAir, PairAir,
-    PeriodicAir, PreprocessedAir,
+    ClearProof, ClearProverError, CounterAir, CubicAir, FibonacciAir, PairAir, PeriodicAir,
+    PreprocessedAir,
 };
 use stark_input::{
     CheckShape, ChosenChallenger, DeclaredAir, Extension, Finding, Refusal, SampleAir, TraceInput,
     Verdict, refusal_of_prover, trace_input_from, values_of,
 };
-use stark_parts::{PcsProverError, StarkConfig, StarkGenericConfig, Val};
+use stark_parts::{PcsProverError, StarkGenericConfig, Val};
 use stark_prover::{prove, prove_with_preprocessed};
 use stark_support::{
     CanObserve, ExtensionChallenger, ExtensionField, Field, FieldChallenger, GrindingChallenger,
@@ -204,11 +204,7 @@ where
         → (result ≡ Finding.Verdict (Verdict.Refused Refusal.OutOfMemory)) ⊎ IsProved (⟦<ProgramConfig<C> as StarkOperations>⟧.operations) (⟦<Extension as ExtensionField<F12289>>⟧.coordinates) log_rows clear_pcs challenger
         (⟦<A as DeclaredAir>⟧.declared air.now) height (record { width = trace.width; values = trace.values.items }) publics.now ood_bits alpha_bits result }
 {
-    let asking: ProgramConfig<C> = StarkConfig::new(
-        ClearPcs::new(),
-        challenger,
-    ).with_ood_proof_of_work_bits(ood_bits);
-    let config = asking.with_constraint_proof_of_work_bits(alpha_bits);
+    let config: ProgramConfig<C> = clear_config(challenger, ood_bits, alpha_bits);
     let answer = prove_over(alloc, &config, air, log_rows, trace, publics);
     told_of_prover(alloc, &answer)
 }

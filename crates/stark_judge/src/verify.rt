@@ -12,7 +12,7 @@ ghost use Rattle.stark_judge.specs.SoundRun.{IsSoundlyRead};
 ghost use Rattle.stark_judge.specs.Verify.{IsJudged, IsJudgedBy, IsVerified, JudgesWithKey};
 ghost use Rattle.stark_input.specs.declared.verdict.Verdict.{Verdict};
 
-use crate::point::ClearConfig;
+use crate::config::{ClearConfig, clear_config};
 use p3_uni_stark::{
     Proof, ProvingError, StarkInstance, StarkOperations, StarkProof, setup_preprocessed, verify,
     verify_with_preprocessed,
@@ -20,13 +20,13 @@ use p3_uni_stark::{
 use stark_air::Air;
 use stark_bench::{ClearCommitment, F12289, ScriptChallenger, Sha256Challenger};
 use stark_clear::{
-    ClearPcs, ClearProof, CounterAir, CubicAir, FibonacciAir, PairAir, PeriodicAir, PreprocessedAir,
+    ClearProof, CounterAir, CubicAir, FibonacciAir, PairAir, PeriodicAir, PreprocessedAir,
 };
 use stark_input::{
     ChosenChallenger, DeclaredAir, Extension, ProofInput, Refusal, SampleAir, Verdict,
     proof_input_from, told,
 };
-use stark_parts::{StarkConfig, StarkGenericConfig, Val};
+use stark_parts::{StarkGenericConfig, Val};
 use stark_support::{
     CanObserve, ExtensionChallenger, ExtensionField, FieldChallenger, GrindingChallenger,
     JsonCodec, JsonFault, PrimeField64, TwoAdicField,
@@ -142,11 +142,7 @@ where
     ensures { (result ≡ Verdict.Refused Refusal.OutOfMemory) ⊎ IsJudged (⟦<ProgramConfig<C> as StarkOperations>⟧.operations) log_rows clear_pcs challenger
         (⟦<A as DeclaredAir>⟧.declared air.now) (proof_view proof.now) publics.now ood_bits alpha_bits result }
 {
-    let asking: ProgramConfig<C> = StarkConfig::new(
-        ClearPcs::new(),
-        challenger,
-    ).with_ood_proof_of_work_bits(ood_bits);
-    let config = asking.with_constraint_proof_of_work_bits(alpha_bits);
+    let config: ProgramConfig<C> = clear_config(challenger, ood_bits, alpha_bits);
     judge_over(alloc, &config, air, log_rows, proof, publics)
 }
 

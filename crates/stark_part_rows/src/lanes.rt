@@ -5,9 +5,8 @@ use crate::rows::apart;
 use stark_air::{AirBuilder, ExtensionBuilder, RowWindow};
 use stark_bench::ClearCommitment;
 use stark_clear::ClearPcs;
-use stark_parts::{
-    PackedChallenge, PackedVal, ProverConstraintFolder, StarkConfig, StarkGenericConfig, Val,
-};
+use stark_parts::{PackedChallenge, PackedVal, StarkConfig, StarkGenericConfig, Val};
+use stark_prover_folder::ProverConstraintFolder;
 use stark_support::{
     CanObserve, ExtensionChallenger, ExtensionField, Field, FieldChallenger, PackedExtensionField,
     PackedField, PackedValue, PrimeField64, RowMajorMatrixView, TwoAdicField,

@@ -1,5 +1,3 @@
 pub mod Windows
-pub mod FinalizedSteps
-pub mod PairSteps
 pub mod SizingSteps
 pub mod SizingRows

@@ -2,7 +2,7 @@
 use Rattle.std.proofs.Common.{◌≡◌, ◌∙◌, refl, ap, sym, arith, subst, ℕ, zero, suc, ◌+◌, ◌-◌, ◌*◌, ◌^◌, ◌<◌, ◌≤◌, List, [], ◌∷◌, max, Option, unwrap_or}
 use Rattle.std.specs.List.{AllByRecursion}
 use Rattle.std.proofs.lemmas.Nat.{pow-add, pow_pos}
-use Rattle.stark_air.specs.Degree.{degree, greatest_degree, saturated}
+use Rattle.stark_symbolic.specs.Degree.{degree, greatest_degree, saturated}
 use Rattle.stark_air.specs.Tree.{Tree, Constraint, base, extension, constant, main_current, main_next, preprocessed_current, preprocessed_next, public_value, periodic_value, first_row, last_row, transition, sum, difference, product, negation}
 use Rattle.stark_parts.specs.Sizing.{constraint_degree, quotient_multiple}
 use Rattle.stark_parts.specs.ConstraintBound.{greatest_bound, tree_bound}

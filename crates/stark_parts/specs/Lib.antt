@@ -4,6 +4,3 @@ pub mod Sizing
 pub mod ConstraintBound
 pub mod SizingLaw
 pub mod Config
-pub mod PackedFacts
-pub mod PackedSums
-pub mod Finalized

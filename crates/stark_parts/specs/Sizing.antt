@@ -1,7 +1,7 @@
 -- How many chunks a quotient is cut into.
 use Rattle.std.specs.Prelude.{ℕ, ◌+◌, ◌-◌, max, List, Option, unwrap_or}
 use Rattle.stark_air.specs.Tree.{Constraint}
-use Rattle.stark_air.specs.Degree.{saturated, greatest_degree}
+use Rattle.stark_symbolic.specs.Degree.{saturated, greatest_degree}
 
 -- The greatest degree multiple of the constraints, or the author's own bound where that is more; d for the transition selector.
 abbrev pub constraint_degree : {F : Type 0} → ℕ → List (Constraint F) → Option ℕ → ℕ

@@ -1,7 +1,7 @@
 -- Which constraints the sizing of a quotient's domain is enough for.
 use Rattle.std.specs.Prelude.{ℕ, ◌+◌, ◌-◌, ◌^◌, ◌<◌, ◌≤◌, List, max}
 use Rattle.std.specs.List.{AllByRecursion}
-use Rattle.stark_air.specs.Degree.{greatest_degree}
+use Rattle.stark_symbolic.specs.Degree.{greatest_degree}
 use Rattle.stark_air.specs.Tree.{Tree, Constraint, base, extension, constant, main_current, main_next, preprocessed_current, preprocessed_next, public_value, periodic_value, first_row, last_row, transition, sum, difference, product, negation}
 use Rattle.stark_parts.specs.ConstraintBound.{greatest_bound}
 

@@ -6,11 +6,11 @@ ghost use Rattle.stark_air.specs.SymbolicLayout.{symbolic_layout};
 ghost use Rattle.stark_parts.specs.Sizing.{constraint_degree, quotient_multiple};
 ghost use Rattle.stark_parts.specs.SizingLaw.{AreSizable, HasSmallBound};
 
-use stark_air::{
-    Air, AirLayout, BaseAir, get_max_constraint_degree_extension,
-    get_max_constraint_degree_with_transition,
-};
+use stark_air::{Air, AirLayout, BaseAir};
 use stark_support::{DomainShape, Field, log2_ceil_usize};
+use stark_symbolic::{
+    get_max_constraint_degree_extension, get_max_constraint_degree_with_transition,
+};
 use std::alloc::{AllocError, Global};
 
 /// The greater of a degree and the author's own bound.

@@ -38,7 +38,7 @@ module _ (verified : SampleAir → List ℕ → Verdict → Type 0) (proved : Sa
   prove_judged command air input f is found = subst (λ k. IsFindingOrLacksMemory verified proved (Some k) input f) (sym is) found
 
 -- A verdict is no proof.
-no_proof : (f : Finding) (v : Verdict) → f ≡ finding.Verdict v → IsProof f → ⊥
+pub no_proof : (f : Finding) (v : Verdict) → f ≡ finding.Verdict v → IsProof f → ⊥
 no_proof f v is proof = subst IsProof is proof
 
 -- Where proofs that are found are proofs of the trace that was read.

@@ -112,7 +112,7 @@ holds_of_read air log_chunks cut (Some m) h =
     let shaped = true_if_accepted (has_shape (shape_of air) m) (checked air log_chunks m) BadInput bad_input_clash h in
     (m, refl, shaped.0, holds_if_accepted air log_chunks m cut shaped.1)
 
-same_verdict : (v w : Verdict) → finding.Verdict v ≡ finding.Verdict w → v ≡ w
+pub same_verdict : (v w : Verdict) → finding.Verdict v ≡ finding.Verdict w → v ≡ w
 same_verdict v w e = cc
 
 module _ (verified : SampleAir → List ℕ → Verdict → Type 0) (proved : SampleAir → List ℕ → Finding → Type 0) (accepts_none : (air : SampleAir) (input : List ℕ) → proved air input (finding.Verdict Accepted) → ⊥) where

@@ -1,8 +1,9 @@
 //! Opened values in JSON.
 ghost use Rattle.std.specs.Prelude.{◌≡◌, IfOk, option_map};
 ghost use Rattle.serde_json.specs.View.{view};
-ghost use Rattle.stark_proof.specs.ProofJson.{Decodes, openings_fault, openings_object, openings_read_back, openings_reading, openings_writing, preprocessed_rows};
+ghost use Rattle.stark_proof.specs.ProofJson.{Decodes, openings_fault, openings_object, openings_read_back, openings_reading, openings_writing, preprocessed_rows, value_or_null};
 ghost use Rattle.stark_proof.specs.ProofView.{openings_view, preprocessed_view};
+ghost use Rattle.stark_support.specs.JsonFacts.{list_written};
 
 use crate::error::OpeningsDecodeError;
 use crate::rows::{
@@ -91,6 +92,16 @@ impl<Challenge: JsonCodec + Drop> OpenedValues<Challenge> {
     }
 }
 
+/// The main columns' next row in JSON; null where there is none.
+fn trace_next_to_json<Challenge: JsonCodec>(
+    alloc: Global,
+    opened_values: &OpenedValues<Challenge>,
+) -> Result<Value, AllocError>
+    ensures { IfOk result (λ value. view value ≡ value_or_null (list_written Challenge.writing) (openings_view opened_values.now).trace_next) }
+{
+    row_or_null(alloc, elements_of(&opened_values.trace_next))
+}
+
 fn openings_object(
     alloc: Global,
     trace_local: Value,
@@ -121,7 +132,7 @@ impl<Challenge: JsonCodec> OpenedValues<Challenge> {
         ensures read_back { IfOk result (λ value. openings_reading Challenge.reading (view value) ≡ openings_read_back (openings_view self.now)) }
     {
         let trace_local = row_to_json(alloc, &self.trace_local)?;
-        let trace_next = row_or_null(alloc, elements_of(&self.trace_next))?;
+        let trace_next = trace_next_to_json(alloc, self)?;
         let preprocessed_local = row_or_null(alloc, self.preprocessed_local())?;
         let preprocessed_next = row_or_null(alloc, self.preprocessed_next())?;
         let quotient_chunks = rows_to_json(alloc, &self.quotient_chunks)?;

@@ -1,5 +1,6 @@
 //! Whole proofs in JSON.
 ghost use Rattle.std.specs.Prelude.{◌≡◌, IfOk, option_map};
+ghost use Rattle.serde_json.specs.Data.{number, unsigned};
 ghost use Rattle.serde_json.specs.View.{members_view, view};
 ghost use Rattle.stark_proof.specs.ProofJson.{Decodes, degree_bits_at, openings_reading, proof_fault, proof_members, proof_object, proof_read_back, proof_reading, proof_writing, within_openings};
 ghost use Rattle.stark_proof.specs.ProofView.{openings_view, proof_view};
@@ -21,6 +22,13 @@ fn degree_bits_from_json(value: &Value) -> Result<usize, ProofDecodeError>
             field: "degree_bits",
         }),
     }
+}
+
+/// The number of the degree bits.
+fn degree_bits_to_json(degree_bits: usize) -> Value
+    ensures { view result ≡ number (unsigned degree_bits) }
+{
+    Value::from(degree_bits)
 }
 
 /// The opened values of a proof; a fault of theirs is one of the proof's.
@@ -130,7 +138,7 @@ impl<
         let commitments = self.commitments.to_json(alloc)?;
         let opened_values = self.opened_values.to_json(alloc)?;
         let opening_proof = self.opening_proof.to_json(alloc)?;
-        let degree_bits = Value::from(self.degree_bits);
+        let degree_bits = degree_bits_to_json(self.degree_bits);
         let ood_pow_witness = self.ood_pow_witness.to_json(alloc)?;
         let alpha_pow_witness = nonzero_to_json(alloc, self.alpha_pow_witness)?;
         let value = proof_object(

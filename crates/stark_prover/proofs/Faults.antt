@@ -1,25 +1,25 @@
 -- From what the stages of a prover find to what it answers.
-use Rattle.std.proofs.Common.{◌≡◌, ◌⊎◌, inl, inr, refl, sym, subst, List, ℕ, Option, None, Some, Result, IfErr, IsErr, IsErrAnd}
+use Rattle.std.proofs.Common.{◌≡◌, ◌⊎◌, inl, inr, refl, sym, subst, List, ℕ, Option, None, Some, Result, Ok, IfOk}
+use Rattle.std.specs.Prelude.{IfSome}
 use Rattle.stark_support.specs.Claims.{IfRefused}
 use Rattle.stark_support.specs.declared.scheme.SchemeFault.{SchemeFault}
 use Rattle.stark_support.specs.declared.scheme.SchemeFault.TheVariants.{Refused, OutOfMemory}
 use Rattle.stark_support.specs.declared.periodic.PeriodicColumnShapeError.{PeriodicColumnShapeError}
-use Rattle.stark_protocol.proofs.Carried.{carried}
 use Rattle.stark_transcript.specs.Errors.{IsFaultIn}
 use Rattle.stark_transcript.specs.declared.error.InvalidProofShapeError.{InvalidProofShapeError}
 use Rattle.stark_transcript.specs.declared.error.ProvingError.{ProvingError}
 use Rattle.stark_prover.specs.SchemeFaults.{IsSchemeFault}
 use Rattle.stark_prover.specs.Sizes.{IsQuotientSizeFault, SizesFault, in_columns, in_quotient}
 
-pub columns_refused : {T Y : Type 0} (columns : ℕ → Option PeriodicColumnShapeError) (quotient : Option InvalidProofShapeError) (m n : ℕ) → m ≡ n → (r : Result T (ProvingError Y)) (fault : PeriodicColumnShapeError) → columns m ≡ Some fault
-    → IsErr r × IsErrAnd r (λ error. error ≡ ProvingError.PeriodicColumn fault) → IfErr r (λ error. (error ≡ ProvingError.OutOfMemory) ⊎ SizesFault (columns n) quotient error)
-columns_refused columns quotient m n same r fault found made =
-    carried (λ error. (error ≡ ProvingError.OutOfMemory) ⊎ SizesFault (columns n) quotient error) r _ made (inr (in_columns (subst (λ k. columns k ≡ Some fault) same found)))
+-- What is said of an answer is said of its value.
+pub of_ok : {T E : Type 0} (P : T → Type 0) {r : Result T E} {x : T} → r ≡ Ok x → IfOk r P → P x
+of_ok P is held = subst (λ r. IfOk r P) is held
 
-pub quotient_size_refused : {Y : Type 0} (columns : ℕ → Option PeriodicColumnShapeError) {quotient : Option InvalidProofShapeError} (m n : ℕ) → m ≡ n → (error : ProvingError Y) → columns m ≡ None
-    → (error ≡ ProvingError.OutOfMemory) ⊎ IsQuotientSizeFault quotient error → (error ≡ ProvingError.OutOfMemory) ⊎ SizesFault (columns n) quotient error
-quotient_size_refused columns m n same error fitting (inl memory) = inl memory
-quotient_size_refused columns m n same error fitting (inr fault) = inr (in_quotient (subst (λ k. columns k ≡ None) same fitting) fault)
+-- Where the columns have a fault, it is the error, and else it is that of the quotient's domain.
+pub sizes_at_fault : {Y : Type 0} (columns : Option PeriodicColumnShapeError) {quotient : Option InvalidProofShapeError} (error : ProvingError Y) → IfSome columns (λ fault. error ≡ ProvingError.PeriodicColumn fault)
+    → (columns ≡ None → (error ≡ ProvingError.OutOfMemory) ⊎ IsQuotientSizeFault quotient error) → (error ≡ ProvingError.OutOfMemory) ⊎ SizesFault columns quotient error
+sizes_at_fault None error of_columns of_quotient = elim (of_quotient refl) [ inl memory ↦ inl memory | inr fault ↦ inr (in_quotient refl fault) ]
+sizes_at_fault (Some fault) {quotient = quotient} error of_columns of_quotient = inr (subst (λ x. SizesFault (Some fault) quotient x) (sym of_columns) (in_columns refl))
 
 -- A scheme's fault in a phase is want of memory, or a reason that the scheme may have.
 pub scheme_fault : {Y : Type 0} (name : List ℕ) (MayRefuse : Y → Type 0) (fault : SchemeFault Y) (error : ProvingError Y) → IfRefused fault MayRefuse → IsFaultIn name fault error

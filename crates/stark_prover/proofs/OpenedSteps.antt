@@ -6,11 +6,12 @@ use Rattle.std.proofs.lemmas.Bool.{false≢true}
 use Rattle.std.proofs.lemmas.List.{length-map, map-append}
 use Rattle.stark_prover.specs.Rounds.{random_opened}
 
-head_or : {A : Type 0} → A → List A → A
+-- The first of a list, and what is behind it.
+unfoldable pub head_or : {A : Type 0} → A → List A → A
 head_or d [] = d
 head_or d (x ∷ xs) = x
 
-tail_of : {A : Type 0} → List A → List A
+unfoldable pub tail_of : {A : Type 0} → List A → List A
 tail_of [] = []
 tail_of (x ∷ xs) = xs
 

@@ -37,6 +37,11 @@ module _ {S F E C K T P X Y : Type 0} {ops : ProtocolOps S F E C K T P X Y} {i :
   randomization_of None there made = (None, without_masks (sym there))
   randomization_of (Some random) there made = (Some made.0, with_masks (sym there) made.1)
 
+  -- It is there exactly in zero knowledge.
+  pub random_where_masked : {degree_bits : ℕ} {random_data : Option T} {columns : Option (List (List F))} (random : Option (Committed K T)) → IsRandomization ops i degree_bits (option_map (λ made. made.commitment) random) random_data columns → is_some random ≡ ops.opening.is_zk
+  random_where_masked None (without_masks plain) = sym plain
+  random_where_masked (Some random) (with_masks masked stands) = sym masked
+
   pub bound_made : {degree_bits : ℕ} {coordinates : E → List F} {held : Option (PreprocessedProverData K T)} {height : ℕ} {trace : Trace F} {columns fixed : List (List F)} {commitment : K} {prover_data : T} {alpha : E} {alpha_witness : F} {state : C} {quotient : K} {quotient_data : T} {random : Option K} {random_data : Option T}
       → ((chunks : List (QuotientChunk F)) × HasQuotient ops i coordinates held height degree_bits trace columns fixed commitment prover_data alpha alpha_witness state chunks quotient quotient_data)
       → ((random_columns : Option (List (List F))) × IsRandomization ops i degree_bits random random_data random_columns) → IsBoundProof ops i coordinates held height degree_bits trace fixed commitment prover_data alpha alpha_witness state quotient quotient_data random random_data

@@ -1,7 +1,7 @@
 -- The quotient over matrices' rows is that over the columns whose values these are.
 use Rattle.std.specs.Prelude.{◌≡◌, ◌⊎◌, codes, ℕ, Bool, ◌+◌, ◌*◌, ◌/◌, ◌%◌, ◌^◌, ◌<◌, ◌≤◌, List, [], ◌∷◌, map, length}
 use Rattle.std.specs.List.{flat_map}
-use Rattle.std.proofs.Common.{sym, ◌∙◌, ap, arith, Some, length-append, suc-mul, Option, None, option_map, subst, inl, inr}
+use Rattle.std.proofs.Common.{sym, ◌∙◌, ap, arith, All, Some, length-append, suc-mul, Option, None, option_map, subst, inl, inr}
 use Rattle.std.proofs.Math.Pow.{pow_mono}
 use Rattle.std.proofs.lemmas.Nat.{pow-add}
 use Rattle.std.specs.Borrow.{Bor}
@@ -13,6 +13,8 @@ use Rattle.stark_support.specs.TwoAdic.{TwoAdicLaws}
 use Rattle.stark_support.specs.CosetFacts.{shifted_is_disjoint}
 use Rattle.stark_support.specs.Operations.{ring_operations}
 use Rattle.stark_support.specs.Coset.{AreDisjoint, IsTwoAdicCoset, TwoAdicCoset, coset_point, coset_size, subgroup_vanishing}
+use Rattle.stark_support.specs.Periodic.{ColumnFits, first_fault}
+use Rattle.stark_support.specs.PeriodicFacts.{all_fit}
 use Rattle.stark_support.specs.Scheme.{AreQuotientChunks, HasRows, QuotientChunk, SchemeOps, committed_chunk, matrix_row, zk_bits}
 use Rattle.stark_transcript.specs.declared.error.ProvingError.{ProvingError}
 use Rattle.stark_support.specs.Selectors.{first_row_selector, last_row_selector, transition_selector}
@@ -21,8 +23,12 @@ use Rattle.stark_air.specs.Rows.{environment_of}
 use Rattle.stark_air.specs.Value.{constraint_values}
 use Rattle.stark_parts.specs.Folded.{folded}
 use Rattle.stark_security.specs.ConstraintPolynomial.{AirInstance, group, height}
+use Rattle.stark_protocol.specs.Instance.{Instance, ProtocolOps, log_height, trace_coset}
+use Rattle.stark_protocol.specs.declared.preprocessed.PreprocessedProverData.{PreprocessedProverData}
 use Rattle.stark_quotient.specs.PointwiseQuotient.{ArePointwiseQuotients, RowsOnCoset, periodic_row, pointwise_quotient, rows_of_matrices}
 use Rattle.stark_prover.specs.CommittedColumns.{IsQuotientCommitment, IsQuotientRefusal, rows_of_columns}
+use Rattle.stark_prover.specs.ProofOfTrace.{air_of, quotient_domain, quotient_rows}
+use Rattle.stark_prover.specs.ProverFault.{IsReady, log_chunks_of}
 use Rattle.stark_prover.specs.SchemeFaults.{IsSchemeFault}
 use Rattle.stark_prover.specs.Sizes.{AreDomains}
 
@@ -118,3 +124,30 @@ module _ {S F E C K T P X Y : Type 0} (scheme : SchemeOps S F E C K T P X Y) (s 
 -- One column of elements, flattened.
 pub one_column : (width columns dimension : ℕ) → width ≡ columns * dimension → columns ≡ 1 → width ≡ dimension
 one_column width columns dimension is_width one = is_width ∙ ap (λ n. n * dimension) one ∙ (let once : 1 * dimension ≡ dimension = omega arith in once)
+
+-- Periodic columns without a fault fit the trace's domain.
+pub periodic_fit : {F : Type 0} (base : RingOps F) (is_zk : Bool) (degree_bits : ℕ) (columns : List (List F)) (domain : TwoAdicCoset F) → domain ≡ trace_coset base is_zk degree_bits
+    → first_fault (2 ^ log_height is_zk degree_bits) 0 (map (λ column. length column) columns) ≡ None → All (λ column. ColumnFits (coset_size domain) (length column)) columns
+periodic_fit base is_zk degree_bits columns domain natural fitting =
+    subst (λ (d : TwoAdicCoset _). All (λ column. ColumnFits (coset_size d) (length column)) columns) (sym natural) (all_fit (λ column. length column) _ 0 columns fitting)
+
+-- The quotient over the columns, with the domain's names of its sizes.
+module _ {S F E C K T P X Y : Type 0} {ops : ProtocolOps S F E C K T P X Y} {i : Instance S F C K} {coordinates : E → List F} {held : Option (PreprocessedProverData K T)} {log_rows degree_bits : ℕ} {trace : Trace F} {columns fixed : List (List F)} {commitment : K} {prover_data : T}
+    (ready : IsReady ops i coordinates held log_rows degree_bits trace columns fixed commitment prover_data) {alpha : E} {n l : ℕ} {coset : TwoAdicCoset F} (is_height : n ≡ log_rows) (is_coset : coset ≡ quotient_domain ops i degree_bits) (is_count : l ≡ log_chunks_of ops i degree_bits) where
+  pub quotient_at : {quotient : K} {quotient_data : T} → ((chunks : List (QuotientChunk F)) × IsQuotientCommitment ops.opening.scheme i.scheme (air_of ops i n) ops.opening.fields.root coordinates ops.opening.fields.dimension ops.opening.is_zk coset l
+      (rows_of_columns ops.opening.fields.base ops.opening.fields.root coset columns fixed i.public_values) alpha chunks quotient quotient_data)
+      → (chunks : List (QuotientChunk F)) × IsQuotientCommitment ops.opening.scheme i.scheme (air_of ops i log_rows) ops.opening.fields.root coordinates ops.opening.fields.dimension ops.opening.is_zk (quotient_domain ops i degree_bits) (log_chunks_of ops i degree_bits)
+      (quotient_rows ops i degree_bits columns fixed) alpha chunks quotient quotient_data
+  quotient_at {quotient = quotient} {quotient_data = quotient_data} made =
+      let holds = λ (m : ℕ) (c : TwoAdicCoset F) (k : ℕ). IsQuotientCommitment ops.opening.scheme i.scheme (air_of ops i m) ops.opening.fields.root coordinates ops.opening.fields.dimension ops.opening.is_zk c k
+      (rows_of_columns ops.opening.fields.base ops.opening.fields.root c columns fixed i.public_values) alpha made.0 quotient quotient_data in
+      (made.0, subst (λ m. holds m (quotient_domain ops i degree_bits) (log_chunks_of ops i degree_bits)) is_height (subst (λ c. holds n c (log_chunks_of ops i degree_bits)) is_coset (subst (λ k. holds n coset k) is_count made.1)))
+
+  pub refusal_at : {error : ProvingError Y} → (error ≡ ProvingError.OutOfMemory)
+      ⊎ IsQuotientRefusal ops.opening.scheme i.scheme (air_of ops i n) coordinates ops.opening.fields.dimension coset l (rows_of_columns ops.opening.fields.base ops.opening.fields.root coset columns fixed i.public_values) alpha error
+      → (error ≡ ProvingError.OutOfMemory)
+      ⊎ IsQuotientRefusal ops.opening.scheme i.scheme (air_of ops i log_rows) coordinates ops.opening.fields.dimension (quotient_domain ops i degree_bits) (log_chunks_of ops i degree_bits) (quotient_rows ops i degree_bits columns fixed) alpha error
+  refusal_at (inl memory) = inl memory
+  refusal_at {error = error} (inr refusal) =
+      let holds = λ (m : ℕ) (c : TwoAdicCoset F) (k : ℕ). IsQuotientRefusal ops.opening.scheme i.scheme (air_of ops i m) coordinates ops.opening.fields.dimension c k (rows_of_columns ops.opening.fields.base ops.opening.fields.root c columns fixed i.public_values) alpha error in
+      inr (subst (λ m. holds m (quotient_domain ops i degree_bits) (log_chunks_of ops i degree_bits)) is_height (subst (λ c. holds n c (log_chunks_of ops i degree_bits)) is_coset (subst (λ k. holds n coset k) is_count refusal)))

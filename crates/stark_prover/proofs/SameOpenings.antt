@@ -3,15 +3,8 @@ use Rattle.std.proofs.Common.{◌≡◌, ◌∙◌, ap, refl, sym, zero, suc, Li
 use Rattle.std.specs.Prelude.{is_some}
 use Rattle.std.proofs.lemmas.Bool.{false≢true}
 use Rattle.stark_proof.specs.ProofView.{OpeningsView, PreprocessedView}
+use Rattle.stark_prover.proofs.OpenedSteps.{head_or, tail_of}
 use Rattle.stark_prover.specs.Rounds.{opened_lists, preprocessed_opened, random_opened, rows_of}
-
-head_or : {A : Type 0} → A → List A → A
-head_or d [] = d
-head_or d (x ∷ xs) = x
-
-tail_of : {A : Type 0} → List A → List A
-tail_of [] = []
-tail_of (x ∷ xs) = xs
 
 first_or : {A : Type 0} → Option A → List A → Option A
 first_or d [] = d

@@ -5,6 +5,7 @@ pub mod Rounds
 pub mod ProofOfTrace
 pub mod ProverFault
 pub mod BoundProof
+pub mod Stages
 pub mod Work
 pub mod Acceptable
 pub mod SetUpFacts

@@ -1,5 +1,5 @@
 //! The commitments of a proof.
-ghost use Rattle.std.specs.Prelude.{◌≡◌, ◌⊎◌, ◌*◌, ◌^◌, ◌<◌, ◌≤◌, List, IfErr, IfOk, IfSome, codes, is_some, length, map};
+ghost use Rattle.std.specs.Prelude.{◌≡◌, ◌⊎◌, ◌*◌, ◌^◌, ◌<◌, ◌≤◌, List, IfErr, IfOk, IfSome, Ok, codes, is_some, length, map};
 ghost use Rattle.stark_support.specs.Coset.{coset_size};
 ghost use Rattle.stark_support.specs.Scheme.{AreQuotientChunks, QuotientChunk, committed_chunk, matrix_row, natural_coset, zk_bits};
 ghost use Rattle.stark_protocol.specs.Instance.{log_height};
@@ -18,6 +18,9 @@ pub(crate) struct Committed<K, T> {
     pub commitment: K,
     pub prover_data: T,
 }
+
+/// The quotient's commitment, and the random one, which is there in zero knowledge.
+pub(crate) type QuotientAndRandom<K, T> = (Committed<K, T>, Option<Committed<K, T>>);
 
 /// The commitment to the trace.
 pub(crate) fn commit_trace<SC: StarkGenericConfig>(
@@ -83,6 +86,28 @@ pub(crate) fn commit_random<SC: StarkGenericConfig>(
         Ok(None) => Ok(None),
         Err(fault) => Err(ProvingError::in_phase("randomization commitment", fault)),
     }
+}
+
+/// The quotient's commitment, and behind it the random one: both, or the first error.
+pub(crate) fn commit_random_behind<SC: StarkGenericConfig>(
+    alloc: Global,
+    config: &SC,
+    committed: Domain<SC>,
+    degree_bits: usize,
+    quotient: Result<Committed<Com<SC>, PcsProverData<SC>>, ProvingError<PcsProverError<SC>>>,
+) -> Result<QuotientAndRandom<Com<SC>, PcsProverData<SC>>, ProvingError<PcsProverError<SC>>>
+    requires within { degree_bits ≤ SC.Pcs.scheme.log_max_trace_height (SC.config.scheme config.now) }
+    requires domain { SC.Pcs.Domain.coset_of committed ≡ natural_coset SC.Pcs.Domain.Val.ring degree_bits }
+    ensures quotient { IfOk result (λ made. quotient ≡ Ok made.0) }
+    ensures there { IfOk result (λ made. is_some made.1 ≡ SC.Pcs.ZK) }
+    ensures random { IfOk result (λ made. IfSome made.1 (λ random. (columns : List (List SC.Pcs.Domain.Val)) × IsRandomCommitment SC.Pcs.scheme (SC.config.scheme config.now) SC.Pcs.Domain.Val.ring degree_bits SC.Challenge.DIMENSION columns random.commitment random.prover_data)) }
+    ensures first { IfErr result (λ error. IfErr quotient (λ fault. error ≡ fault)) }
+    ensures second { IfErr result (λ error. IfOk quotient (λ _. (error ≡ ProvingError.OutOfMemory)
+        ⊎ IsSchemeFault (codes "randomization commitment") (SC.Pcs.scheme.RefusesRandomization (SC.config.scheme config.now) (natural_coset SC.Pcs.Domain.Val.ring degree_bits)) error)) }
+{
+    let quotient = quotient?;
+    let random = commit_random(alloc, config, committed, degree_bits)?;
+    Ok((quotient, random))
 }
 
 /// The commitment to the chunks of a quotient's flattened values.

@@ -2,10 +2,10 @@
 #![tactic(auto)]
 
 mod bind;
-mod bound;
 mod commit;
 mod finish;
 mod height;
+mod instance;
 mod opened;
 mod opening;
 mod operations;
@@ -16,6 +16,7 @@ mod quotient;
 mod rounds;
 mod sized;
 mod sizes;
+mod stages;
 mod transcript;
 mod whole;
 

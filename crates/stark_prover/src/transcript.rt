@@ -9,9 +9,10 @@ ghost use Rattle.stark_protocol.specs.ShapeFaults.{width_in_force};
 ghost use Rattle.stark_prover.specs.ProofOfTrace.{key_of};
 ghost use Rattle.stark_prover.specs.Work.{IsExhausted};
 
+use crate::instance::ProverInstance;
 use stark_air::BaseAir;
-use stark_parts::{Com, StarkGenericConfig, Val};
-use stark_protocol::{PcsProverData, PreprocessedProverData, transcript_shape};
+use stark_parts::{StarkGenericConfig, Val};
+use stark_protocol::{PreprocessedProverData, transcript_shape};
 use stark_support::{
     CanObserve, CanSample, ExtensionField, Field, GrindingChallenger, PrimeField64,
     TranscriptSponge,
@@ -50,36 +51,36 @@ pub(crate) fn data_of<K, T>(held: Option<&PreprocessedProverData<K, T>>) -> Opti
 }
 
 /// The shape of the transcript.
-pub(crate) fn describe<SC, A>(
+pub(crate) fn describe<SC: StarkGenericConfig, A: BaseAir<Val<SC>>>(
     alloc: Global,
-    config: &SC,
-    air: &A,
+    instance: &ProverInstance<'_, SC, A>,
     degree_bits: usize,
     log_chunks: usize,
-    held: Option<&PreprocessedProverData<Com<SC>, PcsProverData<SC>>>,
 ) -> Result<StarkShape, AllocError>
-where
-    SC: StarkGenericConfig,
-    A: BaseAir<Val<SC>>,
     requires extended { zk_bits SC.Pcs.ZK ≤ degree_bits }
     requires few { log_chunks < 64 }
-    ensures { IfOk result (λ shape. shape ≡ shape_of (A.layout air.now) (A.main_next_row_columns air.now) (A.preprocessed_next_row_columns air.now) (width_in_force (option_map key_of (option_map (λ h. h.now) held.entry)) (A.layout air.now).preprocessed)
-        degree_bits (log_height SC.Pcs.ZK degree_bits) (2 ^ log_chunks) SC.Pcs.ZK (SC.config.ood_bits config.now) (SC.config.constraint_bits config.now)) }
+    ensures { IfOk result (λ shape. shape ≡ shape_of (A.layout instance.now.air.now) (A.main_next_row_columns instance.now.air.now) (A.preprocessed_next_row_columns instance.now.air.now)
+        (width_in_force (option_map key_of (option_map (λ h. h.now) instance.now.held)) (A.layout instance.now.air.now).preprocessed) degree_bits (log_height SC.Pcs.ZK degree_bits) (2 ^ log_chunks) SC.Pcs.ZK (SC.config.ood_bits instance.now.config.now) (SC.config.constraint_bits instance.now.config.now)) }
 {
-    let width = width_in_force(held, air.preprocessed_width());
-    transcript_shape(alloc, config, air, width, degree_bits, log_chunks)
+    let width = width_in_force(instance.held, instance.air.preprocessed_width());
+    transcript_shape(
+        alloc,
+        instance.config,
+        instance.air,
+        width,
+        degree_bits,
+        log_chunks,
+    )
 }
 
 /// Alpha, and the witness of the work before it, zero where none is asked for.
-pub(crate) fn draw_alpha<C, F, EF, K>(
+pub(crate) fn draw_alpha<C, F: PrimeField64, EF: ExtensionField<F>, K>(
     transcript: &mut StarkProverTranscript<'_, C, F, EF>,
     trace: &K,
     preprocessed: Option<&K>,
     public_values: &[F],
 ) -> Result<(EF, F), GrindExhausted>
 where
-    F: PrimeField64,
-    EF: ExtensionField<F>,
     C: CanObserve<F> + CanObserve<K> + CanSample<EF> + GrindingChallenger<Witness = F>,
     requires phase { transcript.old.phase ≡ Opened }
     requires count { length public_values.now ≡ transcript.old.shape.num_public_values }
@@ -101,14 +102,12 @@ where
 }
 
 /// Zeta, and the witness of the work before it, zero where none is asked for.
-pub(crate) fn draw_point<C, F, EF, K>(
+pub(crate) fn draw_point<C, F: PrimeField64, EF: ExtensionField<F>, K>(
     transcript: &mut StarkProverTranscript<'_, C, F, EF>,
     quotient: &K,
     random: Option<&K>,
 ) -> Result<(EF, F), GrindExhausted>
 where
-    F: PrimeField64,
-    EF: ExtensionField<F>,
     C: CanObserve<F> + CanObserve<K> + CanSample<EF> + GrindingChallenger<Witness = F>,
     requires phase { transcript.old.phase ≡ Bound }
     requires described { random_fault transcript.old.shape (is_some random) ≡ None }

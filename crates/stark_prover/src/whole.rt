@@ -4,6 +4,7 @@ ghost use Rattle.stark_support.specs.Scheme.{zk_bits};
 ghost use Rattle.stark_prover.specs.CommittedColumns.{IsPreprocessedCommitment};
 
 use crate::height::log_height_of;
+use crate::instance::ProverInstance;
 use crate::operations::StarkProving;
 use crate::sized::prove_sized;
 use stark_air::Air;
@@ -63,15 +64,13 @@ where
         ⊎ ⟦<SC as StarkProving<A>>⟧.fault config.now air.now public_values.now (option_map (λ h. h.now) preprocessed.entry) height (height + zk_bits SC.Pcs.ZK) (record { width = trace.width; values = trace.values.items }) error) }
 {
     let log_height = log_height_of(&trace);
-    prove_sized(
-        alloc,
+    let instance = ProverInstance {
         config,
         air,
-        log_height,
-        trace,
         public_values,
-        preprocessed,
-    )
+        held: preprocessed,
+    };
+    prove_sized(alloc, &instance, log_height, trace)
 }
 
 /// The same for an AIR without preprocessed columns.

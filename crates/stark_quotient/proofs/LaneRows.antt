@@ -6,14 +6,10 @@ use Rattle.std.proofs.Math.Nat.{mod-add-div, mul-div_cancel, mul-le-mul_right}
 use Rattle.std.proofs.lemmas.List.{length-drop, length-take-le, map-append}
 use Rattle.std.proofs.lemmas.Option.{get_or_from_slice_get, slice_get-get_or, slice_get-map, slice_get_past, slice_get_within}
 use Rattle.stark_support.specs.Scheme.{matrix_row}
-use Rattle.stark_support.proofs.CellSteps.{cell_within}
+use Rattle.stark_support.proofs.CellSteps.{whole_row}
 use Rattle.stark_air.specs.Declaration.{Trace}
-use Rattle.stark_parts.specs.Finalized.{lane_values}
+use Rattle.stark_prover_folder.specs.Finalized.{lane_values}
 use Rattle.stark_quotient.specs.PointwiseQuotient.{HasShape, matrix_or_empty, round_row}
-
-pub whole_row : (row width count : ℕ) → row < count / width → row * width + width ≤ count
-whole_row row zero count below = let last = cell_within row 0 0 count below in omega arith
-whole_row row (suc width) count below = let last = cell_within row (suc width) width count below (omega arith) in omega (arith, last)
 
 -- an element of a list that has some
 front : {F : Type 0} {n : ℕ} (values : List F) → n < length values → F

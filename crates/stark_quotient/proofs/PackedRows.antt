@@ -9,7 +9,7 @@ use Rattle.stark_air.specs.Tree.{Constraint}
 use Rattle.stark_air.specs.LaneValues.{lane_environment, lane_embedded}
 use Rattle.stark_air.specs.Layout.{Layout, Covers, LeavesWithin}
 use Rattle.stark_air.specs.Value.{constraint_values}
-use Rattle.stark_parts.specs.Finalized.{lane_values}
+use Rattle.stark_prover_folder.specs.Finalized.{lane_values}
 use Rattle.stark_parts.specs.Folded.{folded}
 use Rattle.stark_quotient.specs.FoldedPlaces.{embedded}
 use Rattle.stark_security.specs.SameLeaves.{AgreeWithin, same_constraints}

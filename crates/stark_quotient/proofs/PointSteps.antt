@@ -1,8 +1,9 @@
 -- Steps to the quotient at a point.
-use Rattle.std.proofs.Common.{◌≡◌, ◌∙◌, ◌<◌, ◌≤◌, ℕ, zero, suc, refl, min, ◌-◌, ◌^◌, take, slice_index_or, inl, inr, length-append, List, [], ◌∷◌, ◌++◌, ◌+◌, All, Some, map, length, ap, subst, sym, arith}
+use Rattle.std.proofs.Common.{◌≡◌, ◌∙◌, ◌<◌, ◌≤◌, ℕ, suc, refl, min, ◌-◌, ◌^◌, take, slice_index_or, inl, inr, length-append, List, [], ◌∷◌, ◌++◌, ◌+◌, All, Some, map, length, ap, subst, sym, arith}
 use Rattle.std.specs.List.{slice_get}
 use Rattle.std.proofs.lemmas.Option.{same_Some, slice_get-get_or, slice_get_within}
 use Rattle.std.proofs.lemmas.List.{length-take}
+use Rattle.stark_support.specs.ListFacts.{slice_get-append-add, slice_get-append_left, slice_get-take}
 use Rattle.stark_support.specs.LogarithmFacts.{at_most_or_above, exponent_below, two_power_at_most}
 use Rattle.std.proofs.lemmas.List.Elements.{All-cons}
 use Rattle.stark_support.specs.Ring.{RingOps, FieldLaws}
@@ -101,21 +102,6 @@ power_room width exponent is fits = let small = exponent_below exponent 64 (omeg
 pub some_power : (width exponent : ℕ) → width ≡ 2 ^ exponent → 0 < width
 some_power width exponent is = let least = two_power_at_most 0 exponent (omega arith) in omega (arith, is, least)
 
-front_at : {A : Type 0} (xs ys : List A) (k : ℕ) → k < length xs → slice_get (xs ++ ys) k ≡ slice_get xs k
-front_at [] ys k below = absurd (omega arith)
-front_at (x ∷ xs) ys zero below = refl
-front_at (x ∷ xs) ys (suc k) below = front_at xs ys k (omega arith)
-
-behind_at : {A : Type 0} (xs ys : List A) (k : ℕ) → slice_get (xs ++ ys) (length xs + k) ≡ slice_get ys k
-behind_at [] ys k = ap (slice_get ys) (let e : 0 + k ≡ k = omega arith in e)
-behind_at (x ∷ xs) ys k = ap (slice_get (x ∷ xs ++ ys)) (let e : suc (length xs) + k ≡ suc (length xs + k) = omega arith in e) ∙ behind_at xs ys k
-
-taken_at : {A : Type 0} (n : ℕ) (xs : List A) (k : ℕ) → k < n → slice_get (take n xs) k ≡ slice_get xs k
-taken_at zero xs k below = absurd (omega arith)
-taken_at (suc n) [] k below = refl
-taken_at (suc n) (x ∷ xs) zero below = refl
-taken_at (suc n) (x ∷ xs) (suc k) below = taken_at n xs k (omega arith)
-
 module _ {F E : Type 0} (i : AirInstance F E) (rows : RowsOnCoset F) (alpha : E) where
   pub no_quotients : (values : List E) → values ≡ [] → AreFirstQuotients i rows alpha 0 values
   no_quotients values none = record { number = ap length none; at_point = λ k below. absurd (omega arith) }
@@ -134,9 +120,9 @@ module _ {F E : Type 0} (i : AirInstance F E) (rows : RowsOnCoset F) (alpha : E)
               let j = k - start in
               let place : k ≡ length before + j = omega (arith, so_far) in
               let same : start + j ≡ k = omega arith in
-              ap (slice_get (before ++ take (rows.size - start) lanes)) place ∙ behind_at before (take (rows.size - start) lanes) j ∙ taken_at (rows.size - start) lanes j (omega (arith, below)) ∙
+              ap (slice_get (before ++ take (rows.size - start) lanes)) place ∙ slice_get-append-add before (take (rows.size - start) lanes) j ∙ slice_get-take lanes (rows.size - start) j (omega (arith, below)) ∙
               slice_get-get_or lanes j blank (omega (arith, below, wide)) ∙ ap Some (each j (omega (arith, below)) (omega (arith, below))) ∙ ap (λ n. Some (pointwise_quotient i rows alpha n)) same
-          | inr earlier ↦ front_at before (take (rows.size - start) lanes) k (omega (arith, so_far)) ∙ first.at_point k (omega arith)
+          | inr earlier ↦ slice_get-append_left before (take (rows.size - start) lanes) k (omega (arith, so_far)) ∙ first.at_point k (omega arith)
         ];
       }
 

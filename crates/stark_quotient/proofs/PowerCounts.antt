@@ -5,7 +5,7 @@ use Rattle.std.proofs.lemmas.List.{length-map}
 use Rattle.stark_support.specs.Ring.{RingOps}
 use Rattle.stark_support.specs.Powers.{power}
 use Rattle.stark_air.specs.Tree.{Tree, Constraint, base as over_base, extension as over_extension}
-use Rattle.stark_air.specs.Places.{base_places, extension_places, place_powers}
+use Rattle.stark_symbolic.specs.Places.{base_places, extension_places, place_powers}
 use Rattle.stark_support.specs.Operations.{Operations}
 use Rattle.stark_air.specs.Layout.{Layout}
 use Rattle.stark_air.specs.Value.{Environment, value}

@@ -1,7 +1,8 @@
 -- Why each lane of what the prover's folder answers is a folded sum.
-use Rattle.std.specs.Prelude.{◌≡◌, ◌<◌, ℕ, zero, suc, List, [], ◌∷◌, ◌++◌, map, length, slice_index_or, refl}
-use Rattle.std.proofs.Common.{sym, ◌∙◌, ap, subst, arith}
+use Rattle.std.specs.Prelude.{◌≡◌, ◌<◌, ℕ, List, [], ◌∷◌, ◌++◌, map, slice_index_or, refl}
+use Rattle.std.proofs.Common.{sym, ◌∙◌, ap, subst}
 use Rattle.std.proofs.lemmas.Simd.{map-map}
+use Rattle.stark_support.specs.ListFacts.{mapped_at}
 use Rattle.stark_support.specs.Ring.{RingOps, RingLaws}
 use Rattle.stark_support.specs.Operations.{Operations, ring_operations}
 use Rattle.stark_support.specs.Embedding.{IsEmbedding}
@@ -13,18 +14,13 @@ use Rattle.stark_air.specs.Value.{Environment, value, constraint_values}
 use Rattle.stark_air.specs.LaneValues.{lane_environment, lane_value}
 use Rattle.stark_air.specs.CollectingBoth.{CollectedBoth, of_base, of_extension}
 use Rattle.stark_parts.specs.Folded.{folded}
-use Rattle.stark_parts.specs.Finalized.{finalized, lane_values}
+use Rattle.stark_prover_folder.specs.Finalized.{finalized, lane_values}
 use Rattle.stark_quotient.specs.FoldedPlaces.{AreFoldingPowers, embedded, folded_places}
 
 -- In each lane below the width stands the folded sum of the constraints over that lane's row, embedded.
 abbrev pub AreFoldedLanes : {F E P : Type 0} → RingOps F → RingOps E → (F → E) → (P → List F) → ℕ → E → List (Constraint F) → Environment P → List E → Type 0
 AreFoldedLanes base ring embed lanes width a cs row sums =
     (i : ℕ) → i < width → slice_index_or sums i ring.zero ≡ folded ring a (constraint_values (ring_operations ring embed) (embedded embed (lane_environment lanes i base.zero row)) cs)
-
-embedded_at : {F E : Type 0} (embed : F → E) (xs : List F) (i : ℕ) (a : F) (b : E) → i < length xs → slice_index_or (map embed xs) i b ≡ embed (slice_index_or xs i a)
-embedded_at embed [] i a b h = absurd (omega arith)
-embedded_at embed (x ∷ xs) zero a b h = refl
-embedded_at embed (x ∷ xs) (suc i) a b h = embedded_at embed xs i a b (omega arith)
 
 module _ {F E P : Type 0} {base : RingOps F} {ring : RingOps E} {embed : F → E} (embeds : IsEmbedding base ring embed)
     {packed_base : RingOps F} {o : Operations F P} {width : ℕ} {lanes : P → List F} (same_base : packed_base ≡ base) (by_lane : IsLaneByLane packed_base o width lanes)
@@ -46,7 +42,7 @@ module _ {F E P : Type 0} {base : RingOps F} {ring : RingOps E} {embed : F → E
   extension_lane (over_base t ∷ cs) = extension_lane cs
   extension_lane (over_extension t ∷ cs) =
       let there = subst (λ n. i < n) (sym (by_lane.as_many (value o environment t))) within in
-      let lane = embedded_at embed (lanes (value o environment t)) i base.zero ring.zero there ∙ ap embed (in_lane t) in
+      let lane = mapped_at embed (lanes (value o environment t)) i base.zero ring.zero there ∙ ap embed (in_lane t) in
       ap (λ x. x ∷ map (λ l. slice_index_or l i ring.zero) (of_extension (λ c. map embed (lanes (value o environment c))) cs)) lane ∙
       ap (λ l. embed (value (ring_operations base (λ x. x)) (lane_environment lanes i base.zero environment) t) ∷ l) (extension_lane cs)
 

@@ -13,10 +13,10 @@ use Rattle.stark_support.specs.KeepsRing.{kept_sum, kept_product, kept_differenc
 use Rattle.stark_support.specs.Extension.{IsBasis, basis_sum}
 use Rattle.stark_air.specs.Tree.{Tree, Constraint, base as over_base, extension as over_extension, constant, main_current, main_next, preprocessed_current, preprocessed_next, public_value, periodic_value, first_row, last_row, transition, sum, difference as minus, product, negation}
 use Rattle.stark_air.specs.Value.{Environment, value, constraint_value, constraint_values}
-use Rattle.stark_air.specs.Places.{AreCoordinateRows, base_places, extension_places, place_powers}
+use Rattle.stark_symbolic.specs.Places.{AreCoordinateRows, base_places, extension_places, place_powers}
 use Rattle.stark_air.specs.CollectingBoth.{of_base, of_extension}
 use Rattle.stark_parts.specs.Folded.{folded}
-use Rattle.stark_parts.specs.Finalized.{finalized, sum_of_products}
+use Rattle.stark_prover_folder.specs.Finalized.{finalized, sum_of_products}
 
 -- Each leaf, embedded.
 abbrev pub embedded : {F E : Type 0} → (F → E) → Environment F → Environment E

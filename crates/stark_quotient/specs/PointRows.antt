@@ -6,7 +6,7 @@ use Rattle.stark_air.specs.Layout.{Layout}
 use Rattle.stark_air.specs.Rows.{environment_of, layout_of}
 use Rattle.stark_air.specs.Tree.{Constraint}
 use Rattle.stark_air.specs.Value.{Environment, constraint_values}
-use Rattle.stark_parts.specs.Finalized.{lane_values}
+use Rattle.stark_prover_folder.specs.Finalized.{lane_values}
 use Rattle.stark_parts.specs.Folded.{folded}
 
 -- The current and the next row of the main and the preprocessed columns, the public and the periodic columns' values, and the

@@ -1,17 +1,18 @@
 -- The pointwise quotient over rows that are the values of columns is the folded constraint of these columns over Z_H.
-use Rattle.std.specs.Prelude.{◌≡◌, ℕ, zero, suc, ◌+◌, ◌-◌, ◌*◌, ◌/◌, ◌%◌, ◌^◌, ◌<◌, ◌≤◌, List, [], ◌∷◌, map, slice_index_or, refl}
+use Rattle.std.specs.Prelude.{◌≡◌, ℕ, ◌+◌, ◌-◌, ◌*◌, ◌/◌, ◌%◌, ◌^◌, ◌<◌, ◌≤◌, List, [], ◌∷◌, map, slice_index_or, refl}
 use Rattle.std.proofs.Common.{sym, ◌∙◌, ap, arith}
-use Rattle.std.proofs.Math.Nat.{mod-add-div, mod-lt, mul-div_cancel_left, pow-suc}
+use Rattle.std.proofs.Math.Nat.{mod-add-div, mod-lt, mul-div_cancel_left}
 use Rattle.std.proofs.lemmas.Nat.{pow-add}
+use Rattle.stark_support.specs.ListFacts.{mapped_or_filler}
 use Rattle.stark_support.specs.Ring.{RingOps, FieldLaws}
 use Rattle.stark_support.specs.RingSolver.{solve, ◌⊗◌, v0, v1, v2}
 use Rattle.stark_support.specs.Powers.{power}
-use Rattle.stark_support.specs.PowerFacts.{suc-add, power-add, power-one, power-power}
+use Rattle.stark_support.specs.PowerFacts.{power-add, power-one, power-power}
 use Rattle.stark_support.specs.LogarithmFacts.{two_power_at_most}
 use Rattle.stark_support.specs.Embedding.{IsEmbedding}
 use Rattle.stark_support.specs.TwoAdic.{TwoAdicLaws}
 use Rattle.stark_support.specs.Coset.{TwoAdicCoset, coset_point, coset_size, subgroup_vanishing}
-use Rattle.stark_support.specs.CosetFacts.{even_power, root_has_order}
+use Rattle.stark_support.specs.CosetFacts.{root_has_order, root_powers}
 use Rattle.stark_support.specs.KeepsRing.{kept_value_over}
 use Rattle.stark_support.specs.Periodic.{periodic_value}
 use Rattle.stark_support.specs.Polynomial.{value}
@@ -29,14 +30,8 @@ pub record AreValuesOfColumns {F E : Type 0} (i : AirInstance F E) (rows : RowsO
   pub preprocessed : (k : ℕ) → k < rows.size → map i.embed (rows.preprocessed k) ≡ row_at i.ring (λ c. c) columns.preprocessed (point_above i rows k)
   pub publics : rows.publics ≡ columns.publics
 
--- a leaf of a row; past its end stands what the filler is sent to
-pub leaf_of_row : {A B : Type 0} (f : A → B) (xs : List A) (c : ℕ) (a : A) (b : B) → f a ≡ b → slice_index_or (map f xs) c b ≡ f (slice_index_or xs c a)
-leaf_of_row f [] c a b h = sym h
-leaf_of_row f (x ∷ xs) zero a b h = refl
-leaf_of_row f (x ∷ xs) (suc c) a b h = leaf_of_row f xs c a b h
-
 pub value_leaf : {E : Type 0} (ring : RingOps E) (row : List E) (polynomials : List (List E)) (x : E) → row ≡ row_at ring (λ c. c) polynomials x → (c : ℕ) → slice_index_or row c ring.zero ≡ value ring (slice_index_or polynomials c []) x
-value_leaf ring row polynomials x is c = ap (λ r. slice_index_or r c ring.zero) is ∙ leaf_of_row (λ p. value ring p x) polynomials c [] ring.zero refl
+value_leaf ring row polynomials x is c = ap (λ r. slice_index_or r c ring.zero) is ∙ mapped_or_filler (λ p. value ring p x) polynomials c [] ring.zero refl
 
 mapped_twice : {A B C D : Type 0} (f : B → D) (g : A → B) (h : A → C) (e : C → D) → ((x : A) → f (g x) ≡ e (h x)) → (xs : List A) → map f (map g xs) ≡ map e (map h xs)
 mapped_twice f g h e same [] = refl
@@ -50,13 +45,6 @@ quotient_of_powers m n h =
     ap (λ e. e / 2 ^ n) (ap (λ e. 2 ^ e) parts ∙ pow-add 2 n (m - n)) ∙ mul-div_cancel_left (2 ^ (m - n)) positive
 
 module _ {K : Type 0} {ring : RingOps K} {inverse : K → K} (laws : FieldLaws ring inverse) (adicity : ℕ) (root : ℕ → K) (generator : K) (two_adic : TwoAdicLaws ring adicity root generator) where
-  -- The root of order 2 ^ n is a power of those of greater orders.
-  smaller_root : (d n : ℕ) → d + n ≤ adicity → power ring (root (d + n)) (2 ^ d) ≡ root n
-  unfolding power
-  smaller_root zero n h = laws.of_ring.mul_one (root (0 + n)) ∙ (let none : 0 + n ≡ n = omega arith in ap root none)
-  smaller_root (suc d) n h =
-      ap (λ e. power ring (root e) (2 ^ suc d)) (suc-add d n) ∙ (let twice : 2 ^ suc d ≡ 2 * 2 ^ d = omega (arith, pow-suc 2 d) in ap (power ring (root (suc (d + n)))) twice) ∙ even_power laws adicity root generator two_adic (d + n) (2 ^ d) (omega arith) ∙ smaller_root d n (omega arith)
-
   power_round : (h : K) (p j : ℕ) → power ring h p ≡ ring.one → power ring h (j % p) ≡ power ring h j
   power_round h p j round = sym (
       ap (power ring h) (sym (mod-add-div j p)) ∙ power-add laws.of_ring h (j % p) (p * (j / p))
@@ -73,7 +61,7 @@ module _ {K : Type 0} {ring : RingOps K} {inverse : K → K} (laws : FieldLaws r
       let parts : m ≡ (m - n) + n = omega arith in
       ap (ring.mul coset.shift)
       (power_round w (2 ^ m) (k + 2 ^ m / 2 ^ n) whole.reaches ∙ ap (λ e. power ring w (k + e)) (quotient_of_powers m n smaller) ∙ power-add laws.of_ring w k (2 ^ (m - n)) ∙
-      ap (ring.mul (power ring w k)) (ap (λ e. power ring (root e) (2 ^ (m - n))) parts ∙ smaller_root (m - n) n (omega arith))) ∙
+      ap (ring.mul (power ring w k)) (ap (λ e. power ring (root e) (2 ^ (m - n))) parts ∙ root_powers laws adicity root generator two_adic (m - n) n (omega arith))) ∙
       solve laws.of_ring (coset.shift ∷ power ring w k ∷ root n ∷ []) (v0 ⊗ (v1 ⊗ v2)) (v2 ⊗ (v0 ⊗ v1)) refl
 
 module _ {F E : Type 0} (i : AirInstance F E) (laws : FieldLaws i.base i.base_inverse) (embeds : IsEmbedding i.base i.ring i.embed) (adicity : ℕ) (root : ℕ → F) (generator : F) (two_adic : TwoAdicLaws i.base adicity root generator)
@@ -103,7 +91,7 @@ module _ {F E : Type 0} (i : AirInstance F E) (laws : FieldLaws i.base i.base_in
       preprocessed_current = λ c _. value_leaf i.ring _ columns.preprocessed (point_above i rows k) (are.preprocessed k below) c;
       preprocessed_next = λ c _. next_leaf rows.preprocessed columns.preprocessed are.preprocessed c;
       public_value = λ n _. ap (λ publics. i.embed (slice_index_or publics n i.base.zero)) are.publics;
-      periodic_value = λ c _. leaf_of_row (λ column. periodic_value i.base i.base_inverse i.generator (height i) i.ring i.embed column (point_above i rows k)) i.periodic c [] i.ring.zero refl;
+      periodic_value = λ c _. mapped_or_filler (λ column. periodic_value i.base i.base_inverse i.generator (height i) i.ring i.embed column (point_above i rows k)) i.periodic c [] i.ring.zero refl;
       first_row = refl;
       last_row = refl;
       transition = refl;

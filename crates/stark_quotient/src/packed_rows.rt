@@ -3,7 +3,7 @@ ghost use Rattle.std.specs.Prelude.{◌≡◌, ◌≢◌, ◌<◌, ◌≤◌, �
 ghost use Rattle.std.specs.List.{slice_get};
 ghost use Rattle.stark_support.specs.PeriodicTable.{table_at};
 ghost use Rattle.stark_support.specs.Scheme.{matrix_row};
-ghost use Rattle.stark_parts.specs.Finalized.{lane_values};
+ghost use Rattle.stark_prover_folder.specs.Finalized.{lane_values};
 ghost use Rattle.stark_quotient.specs.PointwiseQuotient.{matrix_or_empty, round_row};
 
 use stark_support::{

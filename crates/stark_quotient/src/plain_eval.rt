@@ -7,7 +7,8 @@ ghost use Rattle.stark_quotient.specs.PointRows.{IsLaneRow, PointRow, folded_ove
 use crate::group_eval::GroupEval;
 use crate::row::folded_row;
 use stark_air::{Air, AirBuilder, RowWindow};
-use stark_parts::{PackedChallenge, PackedVal, ProverConstraintFolder, StarkGenericConfig, Val};
+use stark_parts::{PackedChallenge, PackedVal, StarkGenericConfig, Val};
+use stark_prover_folder::ProverConstraintFolder;
 use stark_support::{
     Algebra, ExtensionField, Field, LagrangeSelectors, PackedExtensionField, PackedField,
     PackedValue, RowMajorMatrixView,

@@ -10,7 +10,7 @@ ghost use Rattle.stark_air.specs.Layout.{Covers};
 ghost use Rattle.stark_air.specs.SymbolicLayout.{symbolic_layout};
 ghost use Rattle.stark_security.specs.ConstraintPolynomial.{AirInstance};
 ghost use Rattle.stark_quotient.specs.FoldedPlaces.{AreFoldingPowers};
-ghost use Rattle.stark_parts.specs.Finalized.{lane_values};
+ghost use Rattle.stark_prover_folder.specs.Finalized.{lane_values};
 ghost use Rattle.stark_quotient.specs.OnCoset.{ArePrepared};
 ghost use Rattle.stark_quotient.specs.PointwiseQuotient.{ArePointwiseQuotients, HasShape, RowsOnCoset, matrix_or_empty, pointwise_quotient, round_row, rows_of_matrices};
 
@@ -20,13 +20,14 @@ use crate::packed_rows::{
 };
 use crate::plain_eval::{AlphaPowers, PackedRows, PlainEval};
 use crate::vectorized_eval::{QUOTIENT_ILP, VectorizedEval};
-use stark_air::{Air, AirLayout, BaseAir, get_constraint_layout};
+use stark_air::{Air, AirLayout, BaseAir};
 use stark_parts::{Domain, StarkGenericConfig, Val};
 use stark_support::{
     DomainShape, ExtensionField, Field, LagrangeSelectors, PackedExtensionField, PackedField,
     PackedValue, Pcs, PeriodicColumns, PeriodicLdeTable, PolynomialSpace, RowMajorMatrix,
     TwoAdicField, UnivariateStarkPcs,
 };
+use stark_symbolic::get_constraint_layout;
 use std::alloc::{AllocError, Global};
 
 /// AIRs whose quotient values a prover computes: every AIR over the configuration's base field.

@@ -6,7 +6,8 @@ ghost use Rattle.stark_quotient.specs.FoldedPlaces.{AreFoldingPowers};
 ghost use Rattle.stark_quotient.specs.FoldedLanes.{AreFoldedLanes};
 
 use stark_air::{Air, AirBuilder};
-use stark_parts::{PackedChallenge, ProverConstraintFolder, StarkGenericConfig, Val};
+use stark_parts::{PackedChallenge, StarkGenericConfig, Val};
+use stark_prover_folder::ProverConstraintFolder;
 use stark_support::{ExtensionField, Field, PackedExtensionField, PackedField, PackedValue};
 use std::alloc::AllocError;
 

@@ -11,10 +11,8 @@ ghost use Rattle.stark_quotient.specs.PointRows.{IsLaneRow, PointRow, folded_ove
 use crate::group_eval::GroupEval;
 use crate::plain_eval::{AlphaPowers, KeptValues, PackedRows, emptied};
 use stark_air::{Air, AirBuilder, RowWindow};
-use stark_parts::{
-    PackedVal, StarkGenericConfig, Val, VectorizedChallenge, VectorizedConstraintFolder,
-    VectorizedVal,
-};
+use stark_parts::{PackedVal, StarkGenericConfig, Val};
+use stark_prover_folder::{VectorizedChallenge, VectorizedConstraintFolder, VectorizedVal};
 use stark_support::{
     Algebra, ExtensionField, Field, LagrangeSelectors, PackedExtensionField, PackedField,
     PackedValue, RowMajorMatrixView,

@@ -1,10 +1,10 @@
 -- The constraints of an AIR that expressions spell, each of which is a tree or was refused memory.
 use Rattle.std.specs.Prelude.{◌≡◌, List, [], ◌∷◌, map, Option, None, Some, Result, Ok, Err, IfOk, refl, unwrap_or}
 use Rattle.std.proofs.Common.{ap, sym, subst}
-use Rattle.stark_air.specs.Symbolic.{Stands, stands_itself}
+use Rattle.stark_symbolic.specs.Symbolic.{Stands, stands_itself}
 use Rattle.stark_air.specs.Tree.{Tree, Constraint, base, extension}
-use Rattle.stark_air.specs.declared.symbolic.builder.SymbolicConstraint.{SymbolicConstraint}
-use Rattle.stark_air.specs.declared.symbolic.builder.SymbolicConstraint.TheVariants as symbolic
+use Rattle.stark_symbolic.specs.declared.builder.SymbolicConstraint.{SymbolicConstraint}
+use Rattle.stark_symbolic.specs.declared.builder.SymbolicConstraint.TheVariants as symbolic
 use Rattle.stark_tree_air.specs.Nodes.{spelled}
 use Rattle.stark_tree_air.specs.Writing.{expressed}
 use Rattle.stark_tree_air.specs.declared.air.TreeAir.{TreeAir}

@@ -5,11 +5,7 @@ use crate::elements::above;
 use crate::kinds::Kind;
 use crate::rows::{apart, numbers_in, option_in};
 use crate::sized_airs::SizedAir;
-use stark_air::{
-    AirBuilder, AirLayout, BaseEntry, ExtensionBuilder, SymbolicAirBuilder, SymbolicExpression,
-    SymbolicNode, SymbolicVariable, get_all_symbolic_constraints, get_constraint_layout,
-    get_max_constraint_degree_extension, get_symbolic_constraints,
-};
+use stark_air::{AirBuilder, AirLayout, ExtensionBuilder};
 use stark_bench::{CircleShape, Coset};
 use stark_clear::{Asked, SmallAir};
 use stark_parts::{
@@ -17,6 +13,11 @@ use stark_parts::{
     get_log_quotient_degree_extension,
 };
 use stark_support::{Algebra, DomainShape, ExtensionField, Field, PrimeField64, TwoAdicField};
+use stark_symbolic::{
+    BaseEntry, SymbolicAirBuilder, SymbolicExpression, SymbolicNode, SymbolicVariable,
+    get_all_symbolic_constraints, get_constraint_layout, get_max_constraint_degree_extension,
+    get_symbolic_constraints,
+};
 use std::alloc::{AllocError, Global};
 use std::fmt::Debug;
 use std::test::Fail;

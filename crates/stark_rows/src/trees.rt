@@ -2,7 +2,7 @@
 //! the subgroup of two points with alpha 4, where the selectors are 4 for the first row, 2 for the last and 4 for the
 //! transition; their proofs stand beside those of the hand-written AIRs.
 ghost use Rattle.std.specs.Prelude.{◌≡◌, IfOk, Some};
-ghost use Rattle.stark_air.specs.SymbolicView.{variable_tree};
+ghost use Rattle.stark_symbolic.specs.SymbolicView.{variable_tree};
 ghost use Rattle.stark_air.specs.Tree.{main_current, main_next, public_value};
 ghost use Rattle.stark_clear.specs.Samples.{counter_constraints, fibonacci_constraints, mixed_constraints};
 ghost use Rattle.stark_protocol.specs.Preprocessing.{HasHeight};
@@ -13,9 +13,7 @@ use crate::proofs::value_of;
 use crate::provers::text_at;
 use crate::rows::{apart, numbers_in};
 use p3_uni_stark::PcsProof;
-use stark_air::{
-    Air, BaseAir, BaseEntry, SymbolicConstraint, SymbolicExpression, SymbolicVariable,
-};
+use stark_air::{Air, BaseAir};
 use stark_bench::{ClearCommitment, S12289};
 use stark_clear::{
     Asked, ClearPcs, CounterAir, CubicAir, FibonacciAir, PairAir, PeriodicAir, PreprocessedAir,
@@ -27,6 +25,7 @@ use stark_support::{
     GrindingChallenger, JsonCodec, NeverNull, PackedExtensionField, PackedField, PrimeField64,
     TwoAdicField,
 };
+use stark_symbolic::{BaseEntry, SymbolicConstraint, SymbolicExpression, SymbolicVariable};
 use stark_tree_air::{
     NamedConstraint, TreeAir, TreeAirError, TreeColumns, TreeConstraint, TreeDeclaration,
     TreeExpressionError, TreeList, TreeNode,

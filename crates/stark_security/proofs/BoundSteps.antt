@@ -5,10 +5,10 @@ use Rattle.std.proofs.lemmas.Nat.{pow-add}
 use Rattle.stark_support.specs.LogarithmFacts.{two_power_at_most}
 use Rattle.stark_support.specs.Ring.{RingOps, difference as ring_difference}
 use Rattle.stark_air.specs.Tree.{Tree, Constraint, base, extension, constant, main_current, main_next, preprocessed_current, preprocessed_next, public_value, periodic_value, first_row, last_row, transition, sum, difference, product, negation}
-use Rattle.stark_air.specs.ConstantFolding.{constant_in, both_constants, pair_or_constant, single_or_constant, folded_pair, folded_single, constants_folded}
-use Rattle.stark_air.specs.Symbolic.{ap_two}
-use Rattle.stark_air.specs.SymbolicTrees.{marked_tree}
-use Rattle.stark_air.specs.declared.symbolic.builder.SymbolicConstraint.{SymbolicConstraint}
+use Rattle.stark_symbolic.specs.ConstantFolding.{constant_in, both_constants, pair_or_constant, single_or_constant, folded_pair, folded_single, constants_folded}
+use Rattle.stark_symbolic.specs.Symbolic.{ap_two}
+use Rattle.stark_symbolic.specs.SymbolicTrees.{marked_tree}
+use Rattle.stark_symbolic.specs.declared.builder.SymbolicConstraint.{SymbolicConstraint}
 use Rattle.stark_parts.specs.ConstraintBound.{tree_bound, constraint_bound, greatest_bound}
 use Rattle.stark_security.specs.DegreeBound.{fitting, error_bound}
 use Rattle.stark_security.specs.ErrorBound.{marked_expression}

@@ -38,7 +38,7 @@ module _ {F E : Type 0} (i : AirInstance F E) (laws : FieldLaws i.ring i.inverse
         alphas zetas distinct_alphas distinct_zetas;
   }
 
-same_ceiling : (k l n : ℕ) → IsCeilingOfLog k n → IsCeilingOfLog l n → k ≡ l
+pub same_ceiling : (k l n : ℕ) → IsCeilingOfLog k n → IsCeilingOfLog l n → k ≡ l
 same_ceiling k l n first other = let up = first.least l other.covers in let down = other.least k first.covers in omega arith
 
 module _ {F : Type 0} (constraints : List (Constraint F)) (hint : Option ℕ) (degree_bits is_zk log : ℕ) (sized : IsCeilingOfLog log (quotient_multiple (constraint_degree 0 constraints hint) is_zk)) where

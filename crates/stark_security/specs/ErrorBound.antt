@@ -4,8 +4,8 @@ use Rattle.stark_support.specs.Logarithm.{IsCeilingOfLog}
 use Rattle.stark_support.specs.Polynomial.{IsWithoutRepeats, HoldsOfAtMost}
 use Rattle.stark_support.specs.RecompositionPolynomial.{ChunksFit}
 use Rattle.stark_air.specs.Tree.{Tree, Constraint}
-use Rattle.stark_air.specs.declared.symbolic.builder.SymbolicConstraint.{SymbolicConstraint}
-use Rattle.stark_air.specs.declared.symbolic.builder.SymbolicConstraint.TheVariants.{Base, Extension}
+use Rattle.stark_symbolic.specs.declared.builder.SymbolicConstraint.{SymbolicConstraint}
+use Rattle.stark_symbolic.specs.declared.builder.SymbolicConstraint.TheVariants.{Base, Extension}
 use Rattle.stark_parts.specs.Sizing.{constraint_degree, quotient_multiple}
 use Rattle.stark_security.specs.ConstraintPolynomial.{AirInstance, Columns}
 use Rattle.stark_security.specs.DegreeBound.{alpha_bound, zeta_bound, error_bound}

@@ -3,18 +3,17 @@ ghost use Rattle.std.specs.Prelude.{◌≡◌, ◌+◌, ◌-◌, ◌^◌, ◌≤
 ghost use Rattle.stark_support.specs.TwoAdic.{HasOrder};
 ghost use Rattle.stark_air.specs.Layout.{Covers};
 ghost use Rattle.stark_air.specs.SymbolicLayout.{symbolic_layout};
-ghost use Rattle.stark_air.specs.SymbolicTrees.{marked_tree};
-ghost use Rattle.stark_air.specs.SymbolicView.{tree_of};
+ghost use Rattle.stark_symbolic.specs.SymbolicTrees.{marked_tree};
+ghost use Rattle.stark_symbolic.specs.SymbolicView.{tree_of};
 ghost use Rattle.stark_air.specs.Tree.{Constraint};
 ghost use Rattle.stark_parts.specs.ConstraintBound.{tree_bound, greatest_bound};
 ghost use Rattle.stark_security.specs.DegreeBound.{fitting, zeta_bound};
 ghost use Rattle.stark_security.specs.ErrorBound.{IsChunkCount, IsErrorBound, FewBadDraws, marked_expression};
 
-use stark_air::{
-    Air, AirLayout, BaseEntry, SymbolicConstraint, SymbolicNode, symbolic_constraints,
-};
+use stark_air::{Air, AirLayout};
 use stark_parts::get_log_quotient_degree_extension;
 use stark_support::{ExtensionField, Field, checked_log_size_sum};
+use stark_symbolic::{BaseEntry, SymbolicConstraint, SymbolicNode, symbolic_constraints};
 use std::alloc::{AllocError, Global};
 
 /// The greater of two numbers, None where one of them is none.

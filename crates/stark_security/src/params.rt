@@ -1,7 +1,7 @@
 //! The numbers that a report on a STARK's security is computed from.
 ghost use Rattle.std.specs.Prelude.{◌≡◌, ◌+◌, ◌-◌, ◌^◌, ◌<◌, ◌≤◌, ◌||◌, ℕ, length, IfOk};
 ghost use Rattle.stark_support.specs.Scheme.{zk_bits};
-ghost use Rattle.stark_air.specs.Degree.{greatest_degree};
+ghost use Rattle.stark_symbolic.specs.Degree.{greatest_degree};
 ghost use Rattle.stark_air.specs.Layout.{Covers};
 ghost use Rattle.stark_air.specs.SymbolicLayout.{symbolic_layout};
 ghost use Rattle.stark_transcript.specs.Shape.{opens_next_row};
@@ -10,9 +10,10 @@ ghost use Rattle.stark_security.specs.ErrorBound.{IsChunkCount};
 ghost use Rattle.stark_security.specs.Openings.{hides, batched_openings};
 
 use crate::openings::{OpeningShape, num_batched_openings};
-use stark_air::{Air, AirLayout, get_max_constraint_degree_with_transition, symbolic_constraints};
+use stark_air::{Air, AirLayout};
 use stark_parts::get_log_num_quotient_chunks_for_domain;
 use stark_support::{DomainShape, ExtensionField, Field, FriRegime, GrindingSites};
+use stark_symbolic::{get_max_constraint_degree_with_transition, symbolic_constraints};
 use std::alloc::{AllocError, Global};
 
 /// The low-degree test's parameters, the AIR's shape and the hash's strength.

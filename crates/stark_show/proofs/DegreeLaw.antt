@@ -1,7 +1,7 @@
 -- The degrees of nodes are those of their trees.
 use Rattle.std.proofs.Common.{◌≡◌, ◌∙◌, ℕ, zero, suc, ◌+◌, ◌<◌, max, List, [], ◌∷◌, ◌++◌, length, map, refl, sym, ap, subst, arith}
 use Rattle.std.proofs.lemmas.List.{get_or-map}
-use Rattle.stark_air.specs.Degree.{degree, saturated}
+use Rattle.stark_symbolic.specs.Degree.{degree, saturated}
 use Rattle.stark_air.specs.Tree.{Tree, constant, first_row}
 use Rattle.stark_tree_air.specs.Nodes.{node_tree, nodes_trees, tree_at, trees_after}
 use Rattle.stark_tree_air.specs.declared.node.TreeNode.{TreeNode}

@@ -1,11 +1,11 @@
 -- One node after the other, and one constraint after the other.
 use Rattle.std.proofs.Common.{◌≡◌, ◌∙◌, ℕ, zero, suc, ◌+◌, ◌<◌, ◌≤◌, List, [], ◌∷◌, ◌++◌, length, drop, get_or, refl, sym, ap, subst, arith, append_assoc}
 use Rattle.std.proofs.lemmas.List.{append-nil, drop_all, drop_more}
+use Rattle.stark_tree_air.proofs.NeededSteps.{place_fits}
 use Rattle.stark_tree_air.specs.Needed.{NodesBelow, OperandsBelow, constraint_place}
-use Rattle.stark_tree_air.specs.Nodes.{ConstraintFits, ConstraintsFit}
+use Rattle.stark_tree_air.specs.Nodes.{ConstraintsFit}
 use Rattle.stark_tree_air.specs.declared.node.TreeNode.{TreeNode}
 use Rattle.stark_tree_air.specs.declared.node.TreeConstraint.{TreeConstraint}
-use Rattle.stark_tree_air.specs.declared.node.TreeConstraint.TheVariants.{Base, Extension}
 use Rattle.stark_show.specs.Expressions.{Written}
 use Rattle.stark_show.specs.Lines.{constraint_line, constraint_lines}
 use Rattle.stark_show.specs.NodeDegrees.{degree_at, degrees_after, node_degree}
@@ -100,10 +100,6 @@ module _ {F : Type 0} (number : F → ℕ) (ks : List F) (ns : List TreeNode) wh
     sym (append-nil lines) ∙ sym (ap (λ js. lines ++ lines_after number ks ws js) (drop_all i ns ended)) ∙ begun.long,
   )
 
-place_below : (count : ℕ) (c : TreeConstraint) → ConstraintFits count c → constraint_place c < count
-place_below count (Base i) f = f
-place_below count (Extension i) f = f
-
 module _ (cs : List TreeConstraint) (i : ℕ) (c : TreeConstraint) (within : i < length cs) (is : c ≡ get_or cs i c) where
   at_constraint : drop i cs ≡ c ∷ drop (i + 1) cs
   at_constraint = from_place cs i c within is
@@ -111,7 +107,7 @@ module _ (cs : List TreeConstraint) (i : ℕ) (c : TreeConstraint) (within : i <
   pub fits_here : (count : ℕ) → ConstraintsFit count (drop i cs) → (constraint_place c < count) × ConstraintsFit count (drop (i + 1) cs)
   fits_here count fit =
       let both : ConstraintsFit count (c ∷ drop (i + 1) cs) = subst (λ js. ConstraintsFit count js) at_constraint fit in
-      (place_below count c both.0, both.1)
+      (place_fits count c both.0, both.1)
 
   pub one_more_line : (ws : List Written) (ds : List ℕ) (degree : ℕ) (w : Written) (so_far line after all : List ℕ) → so_far ++ constraint_lines ws ds i (drop i cs) ≡ all → w ≡ written_at ws (constraint_place c) → degree ≡ degree_at ds (constraint_place c) → line ≡ constraint_line i c degree w.text → after ≡ so_far ++ line → after ++ constraint_lines ws ds (i + 1) (drop (i + 1) cs) ≡ all
   one_more_line ws ds degree w so_far line after all leads is_text is_degree is_line pushed =

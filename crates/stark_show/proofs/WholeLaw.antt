@@ -3,7 +3,7 @@ use Rattle.std.proofs.Common.{◌≡◌, ◌∙◌, ℕ, zero, suc, ◌+◌, ◌
 use Rattle.std.specs.Fmt.{decimal}
 use Rattle.std.proofs.lemmas.Bool.{le-ltb}
 use Rattle.std.proofs.lemmas.List.{length-append, get_or-map}
-use Rattle.stark_air.specs.Degree.{degree}
+use Rattle.stark_symbolic.specs.Degree.{degree}
 use Rattle.stark_air.specs.Tree.{Tree, constant, first_row}
 use Rattle.stark_tree_air.specs.Needed.{constraint_place}
 use Rattle.stark_tree_air.specs.Nodes.{ConstraintsFit, marked_tree, node_tree, nodes_trees, tree_at, trees_after}

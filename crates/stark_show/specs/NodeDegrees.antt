@@ -1,6 +1,6 @@
 -- The degrees of the nodes of a list.
 use Rattle.std.specs.Prelude.{ℕ, ◌+◌, max, List, [], ◌∷◌, ◌++◌, slice_index_or}
-use Rattle.stark_air.specs.Degree.{saturated}
+use Rattle.stark_symbolic.specs.Degree.{saturated}
 use Rattle.stark_tree_air.specs.declared.node.TreeNode.{TreeNode}
 use Rattle.stark_tree_air.specs.declared.node.TreeNode.TheVariants.{Constant, MainCurrent, MainNext, PreprocessedCurrent, PreprocessedNext, PublicValue, PeriodicValue, FirstRow, LastRow, Transition, Sum, Difference, Product, Negation}
 

@@ -2,7 +2,7 @@
 use Rattle.std.specs.Prelude.{◌≡◌, ℕ, List, ◌++◌, length, map, Option}
 use Rattle.std.specs.String.{string_bytes}
 use Rattle.stark_air.specs.Declaration.{trace_width}
-use Rattle.stark_air.specs.Degree.{degree}
+use Rattle.stark_symbolic.specs.Degree.{degree}
 use Rattle.stark_security.specs.ErrorBound.{IsChunkCount, IsErrorBound}
 use Rattle.stark_tree_air.specs.Nodes.{nodes_trees, spelled}
 use Rattle.stark_tree_air.specs.Traces.{declared_trace}

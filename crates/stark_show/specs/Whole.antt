@@ -1,7 +1,7 @@
 -- Constraints whose equations are short enough to stand as a whole.
 use Rattle.std.specs.Prelude.{ℕ, ◌+◌, ◌≤◌, List, [], ◌∷◌, ◌++◌, codes, length}
 use Rattle.std.specs.Fmt.{decimal}
-use Rattle.stark_air.specs.Degree.{degree}
+use Rattle.stark_symbolic.specs.Degree.{degree}
 use Rattle.stark_air.specs.Tree.{Tree, Constraint, base, extension}
 use Rattle.stark_show.specs.Expressions.{equation_text}
 

@@ -16,7 +16,7 @@ not_round r further height row is below = is ∙ sym (mod-eq_of_lt (let e : r % 
 pub once_round : (r further height row : ℕ) → height + row ≡ r % height + further % height → row < height → row ≡ (r + further) % height
 once_round r further height row is below = sym (mod-eq_of_lt below) ∙ sym (add-mod_left height row) ∙ ap (λ n. n % height) is ∙ both_reduced r further height
 
-full_rows : (row height width : ℕ) → row < height → row * width + width ≤ height * width
+pub full_rows : (row height width : ℕ) → row < height → row * width + width ≤ height * width
 full_rows zero (suc height) width h = omega arith
 full_rows (suc row) (suc height) width h = let before = full_rows row height width (omega arith) in omega arith
 full_rows row zero width h = absurd (omega arith)
@@ -27,6 +27,10 @@ cell_within row width column count a b =
     let whole = div-add-mod count width in
     let more = full_rows row (count / width) width a in
     omega arith
+
+pub whole_row : (row width count : ℕ) → row < count / width → row * width + width ≤ count
+whole_row row zero count below = let last = cell_within row 0 0 count below in omega arith
+whole_row row (suc width) count below = let last = cell_within row (suc width) width count below (omega arith) in omega (arith, last)
 
 pub reduced : (n height : ℕ) → 0 < height → n % height < height
 reduced n height some = mod-lt n some

@@ -1,11 +1,11 @@
 -- Rows of a table, one after the other, and rows that begin again.
-use Rattle.std.specs.Prelude.{◌≡◌, ℕ, zero, suc, ◌+◌, ◌*◌, ◌/◌, ◌%◌, ◌^◌, ◌<◌, List, [], ◌∷◌, ◌++◌, map, length, Some, option_map, slice_get, refl}
+use Rattle.std.specs.Prelude.{◌≡◌, ℕ, zero, suc, ◌+◌, ◌*◌, ◌/◌, ◌%◌, ◌^◌, ◌<◌, List, [], ◌++◌, map, length, Some, option_map, slice_get}
 use Rattle.std.proofs.Common.{inl, inr, sym, ap, ◌∙◌, arith}
 use Rattle.std.proofs.Math.Nat.{add-mul-mod_self_right, mod-add-div', mod-eq_of_lt}
 use Rattle.std.proofs.lemmas.List.{length-append, length-map}
 use Rattle.std.proofs.lemmas.Option.{slice_get-map, slice_get_within}
 use Rattle.stark_support.specs.Coset.{TwoAdicCoset, coset_point, coset_size}
-use Rattle.stark_support.specs.ListFacts.{last_or_below}
+use Rattle.stark_support.specs.ListFacts.{last_or_below, slice_get-append-add, slice_get-append_left}
 use Rattle.stark_support.specs.LogarithmFacts.{same_exponent}
 use Rattle.stark_support.specs.Periodic.{folded_column, periodic_value}
 use Rattle.stark_support.specs.PeriodicTable.{AreFoldedRows, HasPeriodicValues, folded_row, table_at}
@@ -26,21 +26,6 @@ pub own_exponent : (r n k : ℕ) → 2 ^ r ≡ n → n ≡ 2 ^ k → r ≡ k
 own_exponent r n k power size = same_exponent r k (power ∙ size)
 
 -- ---- one more row
-
-front_of_joined : {A : Type 0} (xs ys : List A) (i : ℕ) → i < length xs → slice_get (xs ++ ys) i ≡ slice_get xs i
-front_of_joined [] ys i h = absurd (omega arith)
-front_of_joined (x ∷ xs) ys zero h = refl
-front_of_joined (x ∷ xs) ys (suc i) h = front_of_joined xs ys i (omega arith)
-
-from_start : (c : ℕ) → 0 + c ≡ c
-from_start c = omega arith
-
-one_further : (n c : ℕ) → suc n + c ≡ suc (n + c)
-one_further n c = omega arith
-
-back_of_joined : {A : Type 0} (xs ys : List A) (c : ℕ) → slice_get (xs ++ ys) (length xs + c) ≡ slice_get ys c
-back_of_joined [] ys c = ap (slice_get ys) (from_start c)
-back_of_joined (x ∷ xs) ys c = ap (slice_get (x ∷ (xs ++ ys))) (one_further (length xs) c) ∙ back_of_joined xs ys c
 
 none_of : (w : ℕ) → 0 ≡ 0 * w
 none_of w = omega arith
@@ -68,8 +53,8 @@ module _ {F : Type 0} (field : RingOps F) (root : ℕ → F) (coset : TwoAdicCos
         let inside : c < length folded = omega (arith, slice_get_within (folded_row field (coset_point field root coset r) folded) c x there, row_width (coset_point field root coset r)) in
         ap (λ t. slice_get t (r * length folded + c)) pushed ∙ elim (last_or_below r n below) [
           | inl w ↦ ap (λ k. slice_get (before ++ folded_row field p folded) (k + c)) (ap (λ k. k * length folded) w ∙ sym so_far.number)
-              ∙ back_of_joined before (folded_row field p folded) c ∙ ap (λ y. slice_get (folded_row field y folded) c) (at ∙ ap (coset_point field root coset) (sym w)) ∙ there
-          | inr w ↦ front_of_joined before (folded_row field p folded) (r * length folded + c) (omega (arith, in_earlier_row r n (length folded) c w inside, so_far.number))
+              ∙ slice_get-append-add before (folded_row field p folded) c ∙ ap (λ y. slice_get (folded_row field y folded) c) (at ∙ ap (coset_point field root coset) (sym w)) ∙ there
+          | inr w ↦ slice_get-append_left before (folded_row field p folded) (r * length folded + c) (omega (arith, in_earlier_row r n (length folded) c w inside, so_far.number))
               ∙ so_far.value r c x w there
         ];
   }

@@ -162,7 +162,7 @@ module _ {K : Type 0} {ring : RingOps K} {inverse : K → K} (laws : FieldLaws r
       ∙ ap (λ t. squarings ring t c) (two_adic.root_square (c + k) (omega arith)) ∙ root_squarings c k (omega arith)
 
   -- root k to the 2^c is the root of order 2^(k - c)
-  root_powers : (c k : ℕ) → c + k ≤ adicity → power ring (root (c + k)) (2 ^ c) ≡ root k
+  pub root_powers : (c k : ℕ) → c + k ≤ adicity → power ring (root (c + k)) (2 ^ c) ≡ root k
   root_powers c k h = sym (squarings_is_power laws.of_ring (root (c + k)) c) ∙ root_squarings c k h
 
   -- row r of the coset is point r / 2^p of its part r % 2^p, where there are 2^p parts

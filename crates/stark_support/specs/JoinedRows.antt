@@ -1,17 +1,12 @@
 -- Rows that are joined to one list.
-use Rattle.std.specs.Prelude.{◌≡◌, ℕ, zero, suc, ◌+◌, ◌-◌, ◌*◌, ◌<◌, List, [], ◌∷◌, ◌++◌, length, take, Some}
+use Rattle.std.specs.Prelude.{◌≡◌, ℕ, zero, suc, ◌+◌, ◌-◌, ◌*◌, List, [], ◌∷◌, ◌++◌, length, take, Some}
 use Rattle.std.specs.List.{flat_map, slice_get}
 use Rattle.std.proofs.Common.{sym, ap, ◌∙◌, arith, drop}
 use Rattle.std.proofs.Math.Seq.{take-append_seam, drop-append-add}
 use Rattle.std.proofs.lemmas.List.Concat.{flat_map-cons}
-use Rattle.std.proofs.lemmas.Option.{slice_get_within, same_Some}
+use Rattle.std.proofs.lemmas.Option.{same_Some}
+use Rattle.stark_support.specs.ListFacts.{no_such}
 use Rattle.stark_support.specs.Scheme.{matrix_row}
-
-none_below : {r : ℕ} → r < 0 → ⊥
-none_below h = omega arith
-
-no_such : {A : Type 0} (r : ℕ) (x : A) → slice_get [] r ≡ Some x → ⊥
-no_such r x h = none_below (slice_get_within [] r x h)
 
 as_far_as : (r w : ℕ) → (r * w + w) - r * w ≡ w
 as_far_as r w = omega arith

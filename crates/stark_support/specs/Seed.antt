@@ -123,6 +123,18 @@ elements kind label len degree = record { hierarchy = Atomic; kind = kind; label
 abbrev pub marker : Hierarchy → List ℕ → Step
 marker hierarchy label = record { hierarchy = hierarchy; kind = Protocol; label = label; length = Nothing; degree = 0 }
 
+-- The steps from the draw of alpha on.
+abbrev pub steps_from_alpha : ℕ → ℕ → ShapeNumbers → List Step
+steps_from_alpha base extension n =
+    elements Challenge (codes "alpha") Scalar extension
+    ∷ message (codes "quotient_commitment")
+    ∷ step_if n.has_randomization (message (codes "random_commitment"))
+    (step_if (ltb 0 n.ood_pow_bits) (elements Pow (codes "ood_pow") (Fixed n.ood_pow_bits) base)
+    (elements Challenge (codes "zeta") Scalar extension
+    ∷ marker Begin (codes "opening_argument")
+    ∷ marker End (codes "opening_argument")
+    ∷ []))
+
 -- The steps over a base field and an extension of these degrees.
 abbrev pub shape_steps : ℕ → ℕ → ShapeNumbers → List Step
 shape_steps base extension n =
@@ -130,14 +142,7 @@ shape_steps base extension n =
     ∷ step_if (ltb 0 n.preprocessed_width) (message (codes "preprocessed_commitment"))
     (elements Public (codes "public_values") (Fixed n.num_public_values) base
     ∷ step_if (ltb 0 n.constraint_pow_bits) (elements Pow (codes "alpha_pow") (Fixed n.constraint_pow_bits) base)
-    (elements Challenge (codes "alpha") Scalar extension
-    ∷ message (codes "quotient_commitment")
-    ∷ step_if n.has_randomization (message (codes "random_commitment"))
-    (step_if (ltb 0 n.ood_pow_bits) (elements Pow (codes "ood_pow") (Fixed n.ood_pow_bits) base)
-    (elements Challenge (codes "zeta") Scalar extension
-    ∷ marker Begin (codes "opening_argument")
-    ∷ marker End (codes "opening_argument")
-    ∷ []))))
+    (steps_from_alpha base extension n))
 
 -- The numbers that the steps don't have.
 abbrev pub shape_items : ShapeNumbers → List ℕ
@@ -156,14 +161,7 @@ plain_steps base extension n =
     message (codes "trace_commitment")
     ∷ step_if (ltb 0 n.preprocessed_width) (message (codes "preprocessed_commitment"))
     (elements Public (codes "public_values") (Fixed n.num_public_values) base
-    ∷ elements Challenge (codes "alpha") Scalar extension
-    ∷ message (codes "quotient_commitment")
-    ∷ step_if n.has_randomization (message (codes "random_commitment"))
-    (step_if (ltb 0 n.ood_pow_bits) (elements Pow (codes "ood_pow") (Fixed n.ood_pow_bits) base)
-    (elements Challenge (codes "zeta") Scalar extension
-    ∷ marker Begin (codes "opening_argument")
-    ∷ marker End (codes "opening_argument")
-    ∷ [])))
+    ∷ steps_from_alpha base extension n)
 
 -- The seed as it is without a grind before alpha.
 unfoldable pub plain_seed : ℕ → ℕ → ShapeNumbers → List ℕ

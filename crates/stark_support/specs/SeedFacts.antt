@@ -10,7 +10,7 @@ use Rattle.stark_support.specs.declared.pattern.Kind.{Kind}
 use Rattle.stark_support.specs.declared.pattern.Kind.TheVariants.{Message, Public, Challenge, Pow, Protocol}
 use Rattle.stark_support.specs.declared.pattern.Length.{Length}
 use Rattle.stark_support.specs.declared.pattern.Length.TheVariants.{Scalar, Fixed, Nothing}
-use Rattle.stark_support.specs.Seed.{Step, number, hierarchy_byte, kind_byte, length_tag, length_number, message, elements, marker, step_bytes, steps_bytes, items_bytes, seed_of, ShapeNumbers, IsBounded, flag, step_if, shape_steps, shape_items, shape_seed, plain_steps, plain_seed}
+use Rattle.stark_support.specs.Seed.{Step, number, hierarchy_byte, kind_byte, length_tag, length_number, message, elements, marker, step_bytes, steps_bytes, items_bytes, seed_of, ShapeNumbers, IsBounded, flag, step_if, shape_steps, shape_items, shape_seed, steps_from_alpha, plain_steps, plain_seed}
 
 -- ---- numbers
 
@@ -480,12 +480,5 @@ seed_without_first_work base extension n none = ap (λ steps. seed_of (codes "p3
     ∷ step_if (ltb 0 n.preprocessed_width) (message (codes "preprocessed_commitment"))
     (elements Public (codes "public_values") (Fixed n.num_public_values) base
     ∷ step_if (ltb 0 bits) (elements Pow (codes "alpha_pow") (Fixed bits) base)
-    (elements Challenge (codes "alpha") Scalar extension
-    ∷ message (codes "quotient_commitment")
-    ∷ step_if n.has_randomization (message (codes "random_commitment"))
-    (step_if (ltb 0 n.ood_pow_bits) (elements Pow (codes "ood_pow") (Fixed n.ood_pow_bits) base)
-    (elements Challenge (codes "zeta") Scalar extension
-    ∷ marker Begin (codes "opening_argument")
-    ∷ marker End (codes "opening_argument")
-    ∷ [])))))
+    (steps_from_alpha base extension n)))
     none)

@@ -4,8 +4,9 @@ use Rattle.std.proofs.lemmas.List.{append-nil, drop_all, map-append}
 use Rattle.stark_support.proofs.Places.{from_place}
 use Rattle.stark_air.specs.Layout.{Layout, TreeWithin}
 use Rattle.stark_air.specs.Tree.{Tree, Constraint, base, extension, constant, main_current, main_next, preprocessed_current, preprocessed_next, public_value, periodic_value, first_row, last_row, transition, sum, difference, product, negation}
-use Rattle.stark_air.specs.declared.symbolic.builder.SymbolicConstraint.{SymbolicConstraint}
-use Rattle.stark_air.specs.declared.symbolic.builder.SymbolicConstraint.TheVariants as symbolic
+use Rattle.stark_symbolic.specs.declared.builder.SymbolicConstraint.{SymbolicConstraint}
+use Rattle.stark_symbolic.specs.declared.builder.SymbolicConstraint.TheVariants as symbolic
+use Rattle.stark_tree_air.proofs.WrittenTrees.{at_last, longer}
 use Rattle.stark_tree_air.specs.Nodes.{tree_at, marked_tree, ConstraintFits, ConstraintsFit}
 use Rattle.stark_tree_air.specs.Writing.{Holds, WritesTree, Writes, Spells, SpellsAll, OneMore, expressed, tree_within, constraint_within, all_within}
 use Rattle.stark_tree_air.specs.declared.list.TreeList.{TreeList}
@@ -55,14 +56,6 @@ one_more_fits : (n : ℕ) (cs : List TreeConstraint) (c : TreeConstraint) → Co
 one_more_fits n [] c f g = (g, tt)
 one_more_fits n (Base i ∷ cs) c f g = (f.0, one_more_fits n cs c f.1 g)
 one_more_fits n (Extension i ∷ cs) c f g = (f.0, one_more_fits n cs c f.1 g)
-
-at_last : {F : Type 0} (us : List (Tree F)) (t : Tree F) → tree_at (us ++ t ∷ []) (length us) ≡ t
-at_last [] t = refl
-at_last (u ∷ us) t = at_last us t
-
-longer : {A : Type 0} (xs : List A) (x : A) → suc (length xs) ≡ length (xs ++ x ∷ [])
-longer [] x = refl
-longer (y ∷ xs) x = ap suc (longer xs x)
 
 not_shorter : {A : Type 0} (xs ys : List A) → length xs ≤ length (xs ++ ys)
 not_shorter [] ys = omega arith

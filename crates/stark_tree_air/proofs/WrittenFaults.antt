@@ -4,14 +4,14 @@ use Rattle.std.specs.Option.{option_or}
 use Rattle.std.proofs.lemmas.Bool.{lt-ltb}
 use Rattle.std.proofs.lemmas.List.{length-map}
 use Rattle.stark_support.specs.Ring.{RingOps}
-use Rattle.stark_air.specs.ConstantFolding.{constants_folded, constant_in, both_constants, pair_or_constant, single_or_constant}
+use Rattle.stark_symbolic.specs.ConstantFolding.{constants_folded, constant_in, both_constants, pair_or_constant, single_or_constant}
 use Rattle.stark_air.specs.Declaration.{Trace, IsDeclared, trace_width}
 use Rattle.stark_air.specs.Layout.{Layout, Covers, TreeWithin, LeavesWithin}
 use Rattle.stark_air.specs.SymbolicLayout.{symbolic_layout}
-use Rattle.stark_air.specs.SymbolicTrees as trees
+use Rattle.stark_symbolic.specs.SymbolicTrees as trees
 use Rattle.stark_air.specs.Tree.{Tree, Constraint, base, extension, constant, main_current, main_next, preprocessed_current, preprocessed_next, public_value, periodic_value, first_row, last_row, transition, sum, difference, product, negation}
 use Rattle.stark_air.specs.declared.layout.AirLayout.{AirLayout}
-use Rattle.stark_air.specs.declared.symbolic.builder.SymbolicConstraint.{SymbolicConstraint}
+use Rattle.stark_symbolic.specs.declared.builder.SymbolicConstraint.{SymbolicConstraint}
 use Rattle.stark_tree_air.specs.Faults.{node_fault, operand_fault, first_node_fault, constraint_fault, first_constraint_fault, tree_air_fault, tree_layout, is_main_next, is_preprocessed_next, reads_main_next, reads_preprocessed_next}
 use Rattle.stark_tree_air.specs.Named.{columns_layout, first_outside}
 use Rattle.stark_tree_air.specs.Nodes.{marked_tree, spelled, NodeFits, NodesFit, ConstraintFits, ConstraintsFit}

@@ -2,11 +2,11 @@
 use Rattle.std.proofs.Common.{◌≡◌, ◌∙◌, ℕ, zero, suc, ◌+◌, ◌<◌, List, [], ◌∷◌, ◌++◌, Option, Some, None, Result, Ok, Err, IfOk, OnOk, length, map, refl, sym, ap, subst, arith, append_assoc}
 use Rattle.std.proofs.lemmas.List.{append-nil}
 use Rattle.stark_air.specs.Layout.{Layout, TreeWithin}
-use Rattle.stark_air.specs.Symbolic.{pair_node, single_node}
-use Rattle.stark_air.specs.SymbolicView.{variable_tree}
+use Rattle.stark_symbolic.specs.Symbolic.{pair_node, single_node}
+use Rattle.stark_symbolic.specs.SymbolicView.{variable_tree}
 use Rattle.stark_air.specs.Tree.{Tree, constant}
-use Rattle.stark_air.specs.declared.symbolic.variable.BaseEntry.{BaseEntry}
-use Rattle.stark_air.specs.declared.symbolic.variable.BaseEntry.TheVariants.{Main, Preprocessed, Public, Periodic}
+use Rattle.stark_symbolic.specs.declared.variable.BaseEntry.{BaseEntry}
+use Rattle.stark_symbolic.specs.declared.variable.BaseEntry.TheVariants.{Main, Preprocessed, Public, Periodic}
 use Rattle.stark_tree_air.specs.Nodes.{tree_at, node_tree, trees_after, NodeFits, NodesFit}
 use Rattle.stark_tree_air.specs.Writing.{Holds, Behind, WritesTree, Writes, variable_leaf}
 use Rattle.stark_tree_air.specs.declared.list.TreeList.{TreeList}
@@ -87,7 +87,7 @@ all_more_constants : (l : Layout) (m k : ℕ) (ns : List TreeNode) → NodesFit 
 all_more_constants l m k [] f = tt
 all_more_constants l m k (n ∷ ns) f = (more_constants l m k n f.0, all_more_constants l m (suc k) ns f.1)
 
-longer : {A : Type 0} (xs : List A) (x : A) → suc (length xs) ≡ length (xs ++ x ∷ [])
+pub longer : {A : Type 0} (xs : List A) (x : A) → suc (length xs) ≡ length (xs ++ x ∷ [])
 longer [] x = refl
 longer (y ∷ xs) x = ap suc (longer xs x)
 
@@ -168,7 +168,7 @@ at_end : {F : Type 0} (us : List (Tree F)) (t : Tree F) (vs : List (Tree F)) →
 at_end [] t vs = refl
 at_end (u ∷ us) t vs = at_end us t vs
 
-at_last : {F : Type 0} (us : List (Tree F)) (t : Tree F) → tree_at (us ++ t ∷ []) (length us) ≡ t
+pub at_last : {F : Type 0} (us : List (Tree F)) (t : Tree F) → tree_at (us ++ t ∷ []) (length us) ≡ t
 at_last [] t = refl
 at_last (u ∷ us) t = at_last us t
 

@@ -1,15 +1,15 @@
 -- Expressions written as nodes behind others.
 use Rattle.std.specs.Prelude.{◌≡◌, ℕ, zero, suc, nat_lt, ◌&&◌, Bool, true, List, [], ◌∷◌, ◌++◌, length, map, Option, None, Some}
 use Rattle.stark_support.specs.Ring.{RingOps}
-use Rattle.stark_air.specs.ConstantFolding.{constants_folded}
+use Rattle.stark_symbolic.specs.ConstantFolding.{constants_folded}
 use Rattle.stark_air.specs.Layout.{Layout, TreeWithin}
 use Rattle.stark_air.specs.Tree.{Tree, Constraint, base, extension, constant, main_current, main_next, preprocessed_current, preprocessed_next, public_value, periodic_value, first_row, last_row, transition, sum, difference, product, negation}
-use Rattle.stark_air.specs.declared.symbolic.builder.SymbolicConstraint.{SymbolicConstraint}
-use Rattle.stark_air.specs.declared.symbolic.builder.SymbolicConstraint.TheVariants as symbolic
+use Rattle.stark_symbolic.specs.declared.builder.SymbolicConstraint.{SymbolicConstraint}
+use Rattle.stark_symbolic.specs.declared.builder.SymbolicConstraint.TheVariants as symbolic
 use Rattle.stark_tree_air.specs.Nodes.{nodes_trees, NodesFit, ConstraintsFit, marked_tree}
 use Rattle.stark_tree_air.specs.declared.list.TreeList.{TreeList}
-use Rattle.stark_air.specs.declared.symbolic.variable.BaseEntry.{BaseEntry}
-use Rattle.stark_air.specs.declared.symbolic.variable.BaseEntry.TheVariants.{Main, Preprocessed, Public, Periodic}
+use Rattle.stark_symbolic.specs.declared.variable.BaseEntry.{BaseEntry}
+use Rattle.stark_symbolic.specs.declared.variable.BaseEntry.TheVariants.{Main, Preprocessed, Public, Periodic}
 use Rattle.stark_tree_air.specs.declared.node.TreeNode.{TreeNode}
 use Rattle.stark_tree_air.specs.declared.node.TreeNode.TheVariants.{MainCurrent, MainNext, PreprocessedCurrent, PreprocessedNext, PublicValue, PeriodicValue}
 

@@ -10,8 +10,9 @@ use crate::columns::{TreeDeclaration, columns_layout};
 use crate::error::TreeExpressionError;
 use crate::list::TreeList;
 use crate::writing::{constraint_within, write_constraint};
-use stark_air::{Air, AirLayout, SymbolicConstraint};
+use stark_air::{Air, AirLayout};
 use stark_support::Field;
+use stark_symbolic::SymbolicConstraint;
 use std::alloc::{AllocError, Global};
 
 /// A constraint, and what its author calls it.

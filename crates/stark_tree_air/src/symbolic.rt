@@ -8,8 +8,9 @@ use crate::air::TreeAir;
 use crate::columns::{TreeColumns, TreeDeclaration};
 use crate::list::TreeList;
 use crate::writing::write_constraint;
-use stark_air::{Air, AirLayout, BaseAir, SymbolicConstraint, symbolic_constraints};
+use stark_air::{Air, AirLayout, BaseAir};
 use stark_support::Field;
+use stark_symbolic::{SymbolicConstraint, symbolic_constraints};
 use std::alloc::{AllocError, Global};
 
 /// The list that spells the constraints, with a node for each node of their expressions. Err only where memory was refused,

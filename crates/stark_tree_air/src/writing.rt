@@ -1,15 +1,16 @@
 //! Symbolic expressions as nodes of a list.
 ghost use Rattle.std.specs.Prelude.{◌≡◌, IfOk, IfSome};
 ghost use Rattle.stark_air.specs.SymbolicLayout.{symbolic_layout};
-ghost use Rattle.stark_air.specs.SymbolicView.{tree_of, variable_tree};
+ghost use Rattle.stark_symbolic.specs.SymbolicView.{tree_of, variable_tree};
 ghost use Rattle.stark_tree_air.specs.Writing.{OneMore, Writes, constraint_within, expression_within, tree_within, variable_leaf};
 
 use crate::list::TreeList;
 use crate::node::TreeNode;
-use stark_air::{
-    AirLayout, BaseEntry, SymbolicConstraint, SymbolicExpression, SymbolicNode, SymbolicVariable,
-};
+use stark_air::AirLayout;
 use stark_support::Field;
+use stark_symbolic::{
+    BaseEntry, SymbolicConstraint, SymbolicExpression, SymbolicNode, SymbolicVariable,
+};
 use std::alloc::AllocError;
 
 /// The leaf that a variable is.

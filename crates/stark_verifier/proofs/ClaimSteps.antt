@@ -1,16 +1,22 @@
 -- Rounds that are pushed behind others.
-use Rattle.std.proofs.Common.{◌≡◌, ◌∙◌, ap, List, [], ◌∷◌, ◌++◌, map}
+use Rattle.std.proofs.Common.{◌≡◌, ◌∙◌, ap, sym, List, [], ◌∷◌, ◌++◌, map}
 use Rattle.std.proofs.lemmas.List.{map-append, append_assoc}
 
-module _ {V R : Type 0} (view : V → R) (front one two : List V) (x y : V) (rounds : List R) (a b : R) (first : one ≡ front ++ x ∷ []) (second : two ≡ one ++ y ∷ [])
-    (seen : map view front ≡ rounds) (as_a : view x ≡ a) (as_b : view y ≡ b) where
-  pub two_pushed : map view two ≡ rounds ++ a ∷ b ∷ []
-  two_pushed =
-      ap (map view) (second ∙ ap (λ xs. xs ++ y ∷ []) first) ∙ map-append view (front ++ x ∷ []) (y ∷ []) ∙
-      ap (λ rs. rs ++ view y ∷ []) (map-append view front (x ∷ [])) ∙ append_assoc (map view front) (view x ∷ []) (view y ∷ []) ∙
-      ap (λ rs. rs ++ view x ∷ view y ∷ []) seen ∙ ap (λ r. rounds ++ r ∷ view y ∷ []) as_a ∙ ap (λ r. rounds ++ a ∷ r ∷ []) as_b
+module _ {V R : Type 0} (view : V → R) where
+  pub pushed : (front all : List V) (x : V) (rounds : List R) (r : R) → all ≡ front ++ x ∷ [] → map view front ≡ rounds → view x ≡ r → map view all ≡ rounds ++ r ∷ []
+  pushed front all x rounds r is seen as_r =
+      ap (map view) is ∙ map-append view front (x ∷ []) ∙ ap (λ rs. rs ++ view x ∷ []) seen ∙ ap (λ y. rounds ++ y ∷ []) as_r
 
-  pub three_pushed : (three : List V) (z : V) (c : R) → three ≡ two ++ z ∷ [] → view z ≡ c → map view three ≡ rounds ++ a ∷ b ∷ c ∷ []
-  three_pushed three z c third as_c =
-      ap (map view) third ∙ map-append view two (z ∷ []) ∙ ap (λ rs. rs ++ view z ∷ []) two_pushed ∙ append_assoc rounds (a ∷ b ∷ []) (view z ∷ []) ∙
-      ap (λ r. rounds ++ a ∷ b ∷ r ∷ []) as_c
+  pub two_pushed : (front one two : List V) (x y : V) (rounds : List R) (a b : R) → one ≡ front ++ x ∷ [] → two ≡ one ++ y ∷ [] → map view front ≡ rounds → view x ≡ a → view y ≡ b
+      → map view two ≡ rounds ++ a ∷ b ∷ []
+  two_pushed front one two x y rounds a b first second seen as_a as_b =
+      pushed one two y (rounds ++ a ∷ []) b second (pushed front one x rounds a first seen as_a) as_b ∙ append_assoc rounds (a ∷ []) (b ∷ [])
+
+  -- Two rounds and no more, or one more.
+  pub none_behind : (claims : List V) (rounds : List R) (a b : R) (found : List R) → map view claims ≡ rounds ++ a ∷ b ∷ [] → found ≡ [] → map view claims ≡ rounds ++ a ∷ b ∷ found
+  none_behind claims rounds a b found seen none = seen ∙ ap (λ rest. rounds ++ a ∷ b ∷ rest) (sym none)
+
+  pub one_behind : (claims all : List V) (x : V) (rounds : List R) (a b r : R) (found : List R) → all ≡ claims ++ x ∷ [] → map view claims ≡ rounds ++ a ∷ b ∷ [] → view x ≡ r → found ≡ r ∷ []
+      → map view all ≡ rounds ++ a ∷ b ∷ found
+  one_behind claims all x rounds a b r found is seen as_r one =
+      pushed claims all x (rounds ++ a ∷ b ∷ []) r is seen as_r ∙ append_assoc rounds (a ∷ b ∷ []) (r ∷ []) ∙ ap (λ rest. rounds ++ a ∷ b ∷ rest) (sym one)

@@ -1,5 +1,5 @@
 -- From what the verifier computes of the constraints to its verdict.
-use Rattle.std.proofs.Common.{◌≡◌, ◌≢◌, ◌∙◌, ap, sym, List, length, None, subst, Bool, true, false}
+use Rattle.std.proofs.Common.{◌≡◌, ◌≢◌, ◌∙◌, ap, sym, List, length, None, subst}
 use Rattle.stark_support.specs.Ring.{RingOps}
 use Rattle.stark_support.specs.Operations.{ring_operations}
 use Rattle.stark_support.specs.Coset.{subgroup_vanishing}
@@ -11,12 +11,6 @@ use Rattle.stark_parts.specs.Folded.{folded}
 use Rattle.stark_transcript.specs.declared.error.VerificationError.TheVariants.{InvalidProofShape, OodEvaluationMismatch}
 use Rattle.stark_transcript.specs.declared.error.InvalidProofShapeError.TheVariants.{PreprocessedTraceWidthMismatch}
 use Rattle.stark_protocol.specs.Equation.{OpenedRows, ConstraintsHold, ConstraintsFault, folded_constraints, two_widths, unbalanced}
-
--- Where the test of equality answers false, the two differ.
-pub differ_if_untrue : {E : Type 0} (eq : E → E → Bool) (x y : E) (answer : Bool) → eq x x ≡ true → answer ≡ eq x y → answer ≡ false → x ≢ y
-differ_if_untrue eq x y answer reflexive is untrue e = untrue_clash (sym untrue ∙ is ∙ ap (eq x) (sym e) ∙ reflexive) where
-  untrue_clash : false ≡ true → ⊥
-  untrue_clash h = cc
 
 module _ {F E : Type 0} (base : RingOps F) (ring : RingOps E) (embed : F → E) (subgroup : Subgroup E) (constraints : List (Constraint F)) (rows : OpenedRows F E) (zeta alpha quotient : E)
     (local : List E) (next : List E) (same_local : local ≡ rows.preprocessed_local) (same_next : next ≡ rows.preprocessed_next) where

@@ -1,5 +1,5 @@
 -- The points of a subgroup are where its vanishing polynomial is zero.
-use Rattle.std.proofs.Common.{◌≡◌, ◌∙◌, sym, ap, refl, ℕ, List, [], ◌∷◌, map, length, Option}
+use Rattle.std.proofs.Common.{◌≡◌, ◌∙◌, sym, ap, refl, ℕ, List, [], ◌∷◌, map, length, Option, Some}
 use Rattle.std.proofs.lemmas.Simd.{map-map}
 use Rattle.stark_support.specs.Ring.{RingOps, FieldLaws}
 use Rattle.stark_support.specs.Powers.{power}
@@ -11,6 +11,8 @@ use Rattle.stark_support.specs.Subgroup.{embedded_coset}
 use Rattle.stark_support.specs.Periodic.{first_fault}
 use Rattle.stark_support.specs.declared.periodic.PeriodicColumnShapeError.{PeriodicColumnShapeError}
 use Rattle.stark_support.specs.SubgroupFacts.{embedded_valid}
+use Rattle.stark_transcript.specs.declared.error.VerificationError.{VerificationError}
+use Rattle.stark_protocol.specs.FirstFault.{PointFault, in_columns, in_domain}
 
 module _ {F E : Type 0} {base : RingOps F} {ring : RingOps E} {inverse : E → E} {embed : F → E} (laws : FieldLaws ring inverse) (embeds : IsEmbedding base ring embed)
     (adicity : ℕ) (root : ℕ → F) (generator : F) (two_adic : TwoAdicLaws base adicity root generator)
@@ -47,3 +49,9 @@ module _ {V A : Type 0} (items : V → List A) (count : V → ℕ) (counted : (v
   -- What is computed of each column is computed of the lists.
   pub same_values : {B : Type 0} (f : List A → B) (others : List V) (values : List B) → others ≡ columns → values ≡ map (λ v. f (items v)) others → values ≡ map f lists
   same_values f others values same computed = computed ∙ ap (map (λ v. f (items v))) same ∙ sym (map-map f items columns) ∙ ap (map f) listed
+
+-- The first fault of a point, by another name of either test.
+pub point_fault : {X Told Inside : Type 0} {found fault : Option PeriodicColumnShapeError} {error : VerificationError X} → (Told → Inside) → (Inside → Told) → ((e : PeriodicColumnShapeError) → found ≡ Some e → fault ≡ Some e)
+    → PointFault Told found error → PointFault Inside fault error
+point_fault into out same (in_domain told) = in_domain (into told)
+point_fault into out same (in_columns outside is) = in_columns (λ inside. outside (out inside)) (same _ is)

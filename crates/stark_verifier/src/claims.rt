@@ -1,5 +1,5 @@
 //! What a proof claims of its commitments, for the scheme to verify.
-ghost use Rattle.std.specs.Prelude.{◌≡◌, IfOk, [], ◌∷◌, map, option_map};
+ghost use Rattle.std.specs.Prelude.{◌≡◌, IfOk, [], ◌∷◌, ◌++◌, map, option_map};
 ghost use Rattle.stark_support.specs.Claims.{claim_view, point_view};
 ghost use Rattle.stark_protocol.specs.OpenedClaims.{chunks_round, claims_of, one_matrix, preprocessed_place, preprocessed_rounds, random_rounds, row_points};
 ghost use Rattle.stark_proof.specs.ProofView.{openings_view, preprocessed_view};
@@ -112,6 +112,30 @@ fn preprocessed_round<'p, EF: Copy, K, D: PolynomialSpace>(
     Ok(claim)
 }
 
+/// The rounds of random commitment, trace and quotient, in this order.
+fn opened_rounds<'p, EF: Copy, K, D: PolynomialSpace>(
+    alloc: Global,
+    domain: D,
+    zeta: EF,
+    next_zeta: EF,
+    commitments: &'p Commitments<K>,
+    opened: &'p OpenedValues<EF>,
+) -> Result<Vec<OpeningClaim<'p, EF, K, D>>, AllocError>
+    ensures { IfOk result (λ claims. map (claim_view D.coset_of) claims.items ≡ random_rounds (D.coset_of domain) zeta commitments.now.random (openings_view opened.now).random
+        ++ (one_matrix commitments.now.trace (D.coset_of domain) (row_points zeta next_zeta (openings_view opened.now).trace_local (openings_view opened.now).trace_next)
+        ∷ chunks_round commitments.now.quotient_chunks (D.coset_of domain) zeta (openings_view opened.now).quotient_chunks ∷ [])) }
+{
+    let mut claims = random_rounds(alloc, domain, zeta, &commitments.random, &opened.random)?;
+    let local = opened.trace_local.as_slice();
+    let points = row_points(alloc, zeta, next_zeta, local, &opened.trace_next)?;
+    let trace = one_matrix(alloc, &commitments.trace, domain, points)?;
+    claims.push(trace)?;
+    let chunks = opened.quotient_chunks.as_slice();
+    let quotient = quotient_round(alloc, &commitments.quotient_chunks, domain, zeta, chunks)?;
+    claims.push(quotient)?;
+    Ok(claims)
+}
+
 /// All claims of a proof, on the committed trace's domain: random commitment, trace, quotient, preprocessed columns.
 pub fn claims_of<'p, EF: Copy, K, D: PolynomialSpace>(
     alloc: Global,
@@ -124,14 +148,7 @@ pub fn claims_of<'p, EF: Copy, K, D: PolynomialSpace>(
 ) -> Result<Vec<OpeningClaim<'p, EF, K, D>>, AllocError>
     ensures { IfOk result (λ claims. map (claim_view D.coset_of) claims.items ≡ claims_of (D.coset_of domain) zeta next_zeta (option_map (λ k. k.now) key.entry) commitments.now.trace commitments.now.quotient_chunks commitments.now.random (openings_view opened.now)) }
 {
-    let mut claims = random_rounds(alloc, domain, zeta, &commitments.random, &opened.random)?;
-    let local = opened.trace_local.as_slice();
-    let points = row_points(alloc, zeta, next_zeta, local, &opened.trace_next)?;
-    let trace = one_matrix(alloc, &commitments.trace, domain, points)?;
-    claims.push(trace)?;
-    let chunks = opened.quotient_chunks.as_slice();
-    let quotient = quotient_round(alloc, &commitments.quotient_chunks, domain, zeta, chunks)?;
-    claims.push(quotient)?;
+    let mut claims = opened_rounds(alloc, domain, zeta, next_zeta, commitments, opened)?;
     match key {
         Some(key) => match &opened.preprocessed {
             Some(rows) => {

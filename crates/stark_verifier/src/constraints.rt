@@ -1,5 +1,5 @@
 //! The test of an AIR's constraints at the point out of the domain.
-ghost use Rattle.std.specs.Prelude.{◌≡◌, ◌≢◌, ◌⊎◌, length, IfOk, IfErr};
+ghost use Rattle.std.specs.Prelude.{◌≡◌, ◌≢◌, ◌⊎◌, ◌↔◌, length, IfOk, IfErr, IsTrue};
 ghost use Rattle.stark_support.specs.Coset.{coset_size, coset_vanishing};
 ghost use Rattle.stark_support.specs.Subgroup.{subgroup_of};
 ghost use Rattle.stark_air.specs.Layout.{Covers};
@@ -7,7 +7,7 @@ ghost use Rattle.stark_protocol.specs.Equation.{ConstraintsFault, ConstraintsHol
 
 use stark_air::Air;
 use stark_parts::{Domain, StarkGenericConfig, Val, fold_constraints};
-use stark_support::PolynomialSpace;
+use stark_support::{Field, PolynomialSpace};
 use stark_transcript::{InvalidProofShapeError, VerificationError};
 
 /// An opened row; one that isn't opened has no value.
@@ -18,6 +18,13 @@ fn row_or_empty<'a, EF>(row: Option<&'a [EF]>) -> &'a [EF]
         Some(values) => values,
         None => &[],
     }
+}
+
+/// Whether the folded constraints are the vanishing value times the quotient.
+fn is_balanced<EF: Field>(folded: EF, vanishing: EF, quotient: EF) -> bool
+    ensures { IsTrue result ↔ (folded ≡ EF.ring.mul vanishing quotient) }
+{
+    folded == vanishing * quotient
 }
 
 /// Tests that the constraints, folded by alpha over the opened values, are the vanishing value at `zeta` times the
@@ -81,7 +88,7 @@ pub fn verify_constraints<SC: StarkGenericConfig, A: Air<Val<SC>>, PcsErr>(
         selectors,
         alpha,
     )?;
-    if folded == trace_domain.vanishing_poly_at_point(zeta) * quotient {
+    if is_balanced(folded, trace_domain.vanishing_poly_at_point(zeta), quotient) {
         Ok(())
     } else {
         Err(VerificationError::OodEvaluationMismatch { index: None })

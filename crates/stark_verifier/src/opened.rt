@@ -1,7 +1,9 @@
 //! Tests of what else a proof opens, of its public values and of its witnesses.
 ghost use Rattle.std.specs.Prelude.{◌≡◌, ◌==◌, IfErr, IfOk, None, Some, length, map, option_map};
 ghost use Rattle.std.specs.List.{list_all};
+ghost use Rattle.std.specs.Option.{option_or};
 ghost use Rattle.stark_proof.specs.ProofView.{openings_view};
+ghost use Rattle.stark_transcript.specs.declared.error.InvalidProofShapeError.TheVariants.{NonCanonicalAlphaPowWitness, NonCanonicalOodPowWitness};
 ghost use Rattle.stark_protocol.specs.ShapeFaults.{dimensions_fault, opened_fault, publics_fault, random_fits, randomization_fault, trace_next_fault, witness_fault};
 
 use stark_proof::OpenedValues;
@@ -105,6 +107,22 @@ fn check_witness(
     Ok(())
 }
 
+/// The witness before alpha, and then that before zeta.
+fn check_witnesses(
+    alpha_bits: usize,
+    alpha_is_zero: bool,
+    bits: usize,
+    is_zero: bool,
+) -> Result<(), InvalidProofShapeError>
+    ensures clear { IfOk result (λ _. option_or (witness_fault NonCanonicalAlphaPowWitness alpha_bits alpha_is_zero) (witness_fault NonCanonicalOodPowWitness bits is_zero) ≡ None) }
+    ensures fault { IfErr result (λ error. option_or (witness_fault NonCanonicalAlphaPowWitness alpha_bits alpha_is_zero) (witness_fault NonCanonicalOodPowWitness bits is_zero) ≡ Some error) }
+{
+    let of_alpha = InvalidProofShapeError::NonCanonicalAlphaPowWitness;
+    check_witness(alpha_bits, alpha_is_zero, of_alpha)?;
+    let of_zeta = InvalidProofShapeError::NonCanonicalOodPowWitness;
+    check_witness(bits, is_zero, of_zeta)
+}
+
 /// The number of public values, the next row, the other rows' lengths, the witness before alpha and that before zeta, in this
 /// order.
 pub fn check_opened<EF>(
@@ -126,8 +144,5 @@ pub fn check_opened<EF>(
     check_publics(expected_publics, publics)?;
     check_trace_next(reads_next, width, &opened.trace_next)?;
     check_dimensions(width, chunks, dimension, opened)?;
-    let of_alpha = InvalidProofShapeError::NonCanonicalAlphaPowWitness;
-    check_witness(alpha_bits, alpha_is_zero, of_alpha)?;
-    let of_zeta = InvalidProofShapeError::NonCanonicalOodPowWitness;
-    check_witness(bits, is_zero, of_zeta)
+    check_witnesses(alpha_bits, alpha_is_zero, bits, is_zero)
 }

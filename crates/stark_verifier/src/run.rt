@@ -20,7 +20,7 @@ use crate::preprocessed::width_in_force;
 use crate::steps::ProofDomains;
 use stark_air::{Air, BaseAir};
 use stark_parts::{Com, Domain, PcsError, StarkGenericConfig, Val};
-use stark_proof::Commitments;
+use stark_proof::{Commitments, Proof};
 use stark_protocol::{
     PreprocessedVerifierKey, StarkOperations, StarkProof, StarkRun, transcript_shape,
 };
@@ -73,6 +73,13 @@ where
     let random = commitments.random.as_ref();
     let zeta = transcript.ood_phase::<K>(&commitments.quotient_chunks, random, witness)?;
     Ok((alpha, zeta))
+}
+
+/// The witnesses of a proof's work: that before alpha, and that before zeta.
+fn witnesses_of<K, EF, P, F: Copy>(proof: &Proof<K, EF, P, F>) -> (F, F)
+    ensures { result ≡ (proof.now.alpha_pow_witness, proof.now.ood_pow_witness) }
+{
+    (proof.alpha_pow_witness, proof.ood_pow_witness)
 }
 
 /// A key's commitment.
@@ -130,8 +137,7 @@ where
 {
     let commitments = &proof.commitments;
     let preprocessed = commitment_of(key);
-    let alpha_witness = proof.alpha_pow_witness;
-    let witness = proof.ood_pow_witness;
+    let (alpha_witness, witness) = witnesses_of(proof);
     draw_challenges(
         transcript,
         preprocessed,
@@ -162,9 +168,8 @@ where
     ensures fault { IfErr result (λ error. (error ≡ OutOfMemory) ⊎ PointFault (IsPointOfH ⟦<SC as StarkOperations>⟧.operations.opening.fields (log_height SC.Pcs.ZK degree_bits) zeta)
         (first_fault (2 ^ log_height SC.Pcs.ZK degree_bits) 0 (map (λ column. length column) (A.periodic_columns air.now))) error) }
 {
-    let trace = &domains.trace;
     let values = check_point::<Domain<SC>, SC::Challenge, A, PcsError<SC>>(
-        alloc, air, trace, zeta,
+        alloc, air, &domains, zeta,
     )?;
     Ok(values)
 }

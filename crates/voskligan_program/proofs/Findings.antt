@@ -10,6 +10,7 @@ use Rattle.stark_input.specs.declared.verdict.Verdict.{Verdict}
 use Rattle.stark_input.specs.declared.verdict.Verdict.TheVariants as verdict
 use Rattle.stark_input.specs.declared.verdict.Refusal.TheVariants as refusal
 use Rattle.stark_tree_judge.specs.Found.{IsCheckedInput}
+use Rattle.stark_program.proofs.Findings.{no_proof}
 use Rattle.voskligan_program.specs.Run.{AcceptsInput, IsFinding, IsFindingOrLacksMemory, ProvesTrace, WritesProof}
 use Rattle.voskligan_program.specs.declared.words.Verb.{Verb}
 use Rattle.voskligan_program.specs.declared.words.Verb.TheVariants.{Check, Prove, Verify}
@@ -35,9 +36,6 @@ module _ (verified : List ℕ → Verdict → Type 0) (proved : List ℕ → Fin
   prove_judged verb input f is (inr found) = subst (λ k. IsFindingOrLacksMemory verified proved (Some k) input f) (sym is) (inl found)
 
 -- A verdict is no proof.
-no_proof : (f : Finding) (v : Verdict) → f ≡ finding.Verdict v → IsProof f → ⊥
-no_proof f v is proof = subst IsProof is proof
-
 -- Where proofs that are found are proofs of the trace that was read.
 module _ (verified : List ℕ → Verdict → Type 0) (proved : List ℕ → Finding → Type 0) (proof_line : List ℕ → List ℕ → Type 0)
     (finds_proofs : (input : List ℕ) (f : Finding) → proved input f → IsProof f → proof_line input (finding_line f)) where

@@ -8,7 +8,7 @@ use Rattle.stark_input.specs.declared.finding.Finding.TheVariants as finding
 use Rattle.stark_input.specs.declared.verdict.Verdict.{Verdict}
 use Rattle.stark_input.specs.declared.verdict.Verdict.TheVariants as verdict
 use Rattle.stark_judge.proofs.Sizes.{cut_of}
-use Rattle.stark_program.proofs.Meaning.{holds_of_read}
+use Rattle.stark_program.proofs.Meaning.{holds_of_read, same_verdict}
 use Rattle.stark_tree_judge.specs.Found.{HoldsOfRead, IsCheckedAir, IsFoundForRead, log_chunks_for}
 use Rattle.stark_tree_judge.specs.Spelled.{air_in, declared_of}
 use Rattle.voskligan_program.specs.Run.{ChecksOut, HoldsOf, IsFinding}
@@ -17,9 +17,6 @@ use Rattle.voskligan_program.specs.declared.words.Verb.TheVariants.{Check, Prove
 
 bad_input_clash : verdict.Accepted ≡ verdict.BadInput → ⊥
 bad_input_clash h = cc
-
-same_verdict : (v w : Verdict) → finding.Verdict v ≡ finding.Verdict w → v ≡ w
-same_verdict v w e = cc
 
 -- The check of an AIR holds of what it accepts.
 checks_out : (input : List ℕ) (air : CheckedAir) → IsCheckedAir input air verdict.Accepted → ChecksOut input air

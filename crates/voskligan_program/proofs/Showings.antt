@@ -1,7 +1,8 @@
 -- What is shown of an input.
-use Rattle.std.proofs.Common.{◌≡◌, ◌⊎◌, inl, inr, ℕ, List, [], Option, None, Some, IfOk, IfSome, Result, Ok, Err, refl, sym, subst}
-use Rattle.std.specs.Io.KnownBytes.{Appends, Keeps}
+use Rattle.std.proofs.Common.{◌≡◌, ◌⊎◌, inl, inr, ℕ, List, Option, None, Some, IfOk, IfSome, Result, Ok, Err, refl, sym, subst}
+use Rattle.std.specs.Io.KnownBytes.{Keeps}
 use Rattle.stark_tree_air.specs.TreeJson.{TreeFault}
+use Rattle.stark_input.proofs.Findings.{is_some_input, some_input}
 use Rattle.stark_input.specs.Input.{Base}
 use Rattle.stark_input.specs.Running.{IsInput}
 use Rattle.stark_input.specs.Verdict.{end_of}
@@ -11,8 +12,8 @@ use Rattle.stark_input.specs.declared.verdict.Verdict.{Verdict}
 use Rattle.stark_input.specs.declared.verdict.Verdict.TheVariants as verdict
 use Rattle.stark_input.specs.declared.verdict.Refusal.TheVariants as refusal
 use Rattle.stark_tree_judge.specs.Spelled.{air_in, verdict_without_air}
-use Rattle.voskligan_program.specs.Showing.{SaysShowing, showing_end}
-use Rattle.voskligan_program.specs.Shown.{FoundShowing, IsShowing, IsUnshown, SaysShown, ShowsInput, WritesText}
+use Rattle.voskligan_program.specs.Showing.{SaysShowing}
+use Rattle.voskligan_program.specs.Shown.{FoundShowing, IsShowing, IsUnshown, SaysShown, WritesText}
 use Rattle.voskligan_program.specs.declared.showing.Showing.{Showing}
 use Rattle.voskligan_program.specs.declared.showing.Showing.TheVariants.{Text, Unshown}
 
@@ -20,15 +21,6 @@ use Rattle.voskligan_program.specs.declared.showing.Showing.TheVariants.{Text, U
 pub unread_air : (input : List ℕ) (fault : Option TreeFault) (v : Verdict) → IfSome fault (λ f. air_in input ≡ Err f) → v ≡ verdict_without_air fault → IsUnshown input v
 unread_air input None v unread is = inl is
 unread_air input (Some fault) v unread is = inr (inl (fault, unread), is)
-
--- an input that is the reader's
-abbrev some_input : Option (List ℕ) → List ℕ
-some_input None = []
-some_input (Some bytes) = bytes
-
-is_some_input : (known : Option (List ℕ)) → IsInput known (some_input known)
-is_some_input None = tt
-is_some_input (Some bytes) = refl
 
 abbrev no_memory : Showing
 no_memory = Unshown (verdict.Refused refusal.OutOfMemory)

@@ -2,7 +2,7 @@ use Rattle.std.proofs.Common.{◌≡◌, ◌⊎◌, subst, ℕ}
 use Rattle.stark_judge.specs.Check.{checked}
 use Rattle.stark_input.specs.Numbers.{numbers}
 use Rattle.stark_input.specs.Airs.{checked_air}
-use Rattle.stark_judge.proofs.Parts.{same_ceiling}
+use Rattle.stark_security.proofs.ErrorBoundSteps.{same_ceiling}
 use Rattle.stark_input.specs.declared.verdict.Verdict.TheVariants.{Refused}
 use Rattle.stark_input.specs.declared.verdict.Refusal.TheVariants.{OutOfMemory}
 use Rattle.stark_judge.proofs.check.check.Goals as goal

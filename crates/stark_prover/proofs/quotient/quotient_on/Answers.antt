@@ -18,7 +18,7 @@ returns g c = λ columns fixed commitment stands fixed_stands.
     let root = g.SC.Pcs.Domain.Val.TwoAdicField.root in
     let coset = g.SC.Pcs.Domain.PolynomialSpace.coset_of c.args.domains.quotient in
     let seen = ap matrix_or_empty (behind_references as_trace c.as_ref.result c.in_ok-fixed.fixed c.as_ref.ensures.value) in
-    over_columns _ ring root coset (as_trace c.in_ok-main.main) _ columns fixed c.args.public_values.now c.args.alpha
+    over_columns _ ring root coset (as_trace c.in_ok-main.main) _ columns fixed c.args.instance.now.public_values.now c.args.alpha
     (c.in_ok-main.ensures c.args.domains.degree_bits columns commitment stands)
     (subst (λ (t : Trace g.row.SC-Pcs-Domain-Val.Denot). HasRows ring root coset fixed t.values t.width) (sym seen) (c.in_ok-fixed.ensures fixed fixed_stands)) _ c.in_ok-values.ensures
 

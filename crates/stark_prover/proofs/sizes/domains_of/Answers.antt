@@ -6,17 +6,7 @@ natural_domain-trace-requires-clause-fits g c =
     let greatest = g.met.SC.Pcs.UnivariateStarkPcs.scheme_laws.greatest_height (g.SC.StarkGenericConfig.config.scheme c.args.config.now) in
     omega (arith, greatest, c.requires)
 
-pub overflow_add-degree_bits : goal.overflow_add-degree_bits
-overflow_add-degree_bits g c =
-    let greatest = g.met.SC.Pcs.UnivariateStarkPcs.scheme_laws.greatest_height (g.SC.StarkGenericConfig.config.scheme c.args.config.now) in
-    record { fits = omega (arith, greatest, c.requires, c.is_zk-is_zk.ensures) }
-
-pub natural_domain-committed-requires-clause-fits : goal.natural_domain-committed-requires-clause-fits
-natural_domain-committed-requires-clause-fits g c =
-    let greatest = g.met.SC.Pcs.UnivariateStarkPcs.scheme_laws.greatest_height (g.SC.StarkGenericConfig.config.scheme c.args.config.now) in
-    omega (arith, greatest, c.requires, c.is_zk-is_zk.ensures)
-
 pub quotient_domain_of-requires-clause-fits : goal.quotient_domain_of-requires-clause-fits
 quotient_domain_of-requires-clause-fits g c =
     let greatest = g.met.SC.Pcs.UnivariateStarkPcs.scheme_laws.greatest_height (g.SC.StarkGenericConfig.config.scheme c.args.config.now) in
-    omega (arith, greatest, c.requires, c.is_zk-is_zk.ensures)
+    omega (arith, greatest, c.requires, c.is_zk-is_zk.ensures, c.committed_domain-degree_bits.ensures.bits)

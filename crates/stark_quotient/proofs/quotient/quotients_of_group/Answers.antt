@@ -5,7 +5,7 @@ use Rattle.stark_support.specs.Coset.{coset_size}
 use Rattle.stark_support.specs.PeriodicTable.{table_at}
 use Rattle.stark_support.specs.Scheme.{matrix_row}
 use Rattle.stark_air.specs.Declaration.{Trace}
-use Rattle.stark_parts.specs.Finalized.{lane_values}
+use Rattle.stark_prover_folder.specs.Finalized.{lane_values}
 use Rattle.stark_quotient.specs.PointRows.{IsLaneRow, PointRow}
 use Rattle.stark_quotient.specs.PointwiseQuotient.{matrix_or_empty}
 use Rattle.stark_quotient.proofs.LaneRows.{lane_read, row_number, rows_there, table_in_lane, two_round}

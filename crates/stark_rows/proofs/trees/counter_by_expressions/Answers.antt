@@ -1,5 +1,5 @@
 use Rattle.std.proofs.Common.{◌∙◌, Some, ap, sym}
-use Rattle.stark_air.specs.Symbolic.{pair_stands}
+use Rattle.stark_symbolic.specs.Symbolic.{pair_stands}
 use Rattle.stark_air.specs.Tree.{constant, difference, product}
 use Rattle.stark_rows.proofs.Spelled.{has_these, leaf_stands}
 use Rattle.stark_rows.proofs.trees.counter_by_expressions.Goals as goal

@@ -1,5 +1,5 @@
 use Rattle.std.proofs.Common.{◌≡◌, List, map, take}
-use Rattle.stark_air.specs.SymbolicTrees.{marked_tree}
+use Rattle.stark_symbolic.specs.SymbolicTrees.{marked_tree}
 use Rattle.stark_air.specs.Tree.{Constraint}
 use Rattle.stark_parts.specs.ConstraintBound.{greatest_bound}
 use Rattle.stark_security.specs.DegreeBound.{fitting}

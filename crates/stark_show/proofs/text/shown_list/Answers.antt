@@ -1,6 +1,6 @@
 use Rattle.std.proofs.Common.{◌≡◌, ◌∙◌, [], ap, arith, length, map, sym, subst}
 use Rattle.std.proofs.lemmas.List.{length-map}
-use Rattle.stark_air.specs.Degree.{degree}
+use Rattle.stark_symbolic.specs.Degree.{degree}
 use Rattle.stark_tree_air.specs.Needed.{NodesBelow}
 use Rattle.stark_tree_air.specs.Nodes.{nodes_trees}
 use Rattle.stark_show.specs.Expressions.{phrase_view}

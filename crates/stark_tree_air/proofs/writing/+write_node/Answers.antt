@@ -1,6 +1,6 @@
 use Rattle.std.proofs.Common.{◌≡◌, ◌∙◌, ap, refl, rules, sym}
-use Rattle.stark_air.specs.Symbolic.{ap_two, pair_node, single_node}
-use Rattle.stark_air.specs.SymbolicView.{tree_of, variable_tree}
+use Rattle.stark_symbolic.specs.Symbolic.{ap_two, pair_node, single_node}
+use Rattle.stark_symbolic.specs.SymbolicView.{tree_of, variable_tree}
 use Rattle.stark_air.specs.Tree.{first_row, last_row, transition, sum, difference, product, negation}
 use Rattle.stark_tree_air.specs.Writing.{variable_leaf}
 use Rattle.stark_tree_air.specs.declared.node.TreeNode.TheVariants.{FirstRow, LastRow, Transition, Sum, Difference, Product, Negation}

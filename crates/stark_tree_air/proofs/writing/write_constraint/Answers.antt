@@ -1,6 +1,6 @@
 use Rattle.std.proofs.Common.{◌≡◌}
-use Rattle.stark_air.specs.SymbolicView.{tree_of}
-use Rattle.stark_air.specs.declared.symbolic.builder.SymbolicConstraint.TheVariants.{Base, Extension}
+use Rattle.stark_symbolic.specs.SymbolicView.{tree_of}
+use Rattle.stark_symbolic.specs.declared.builder.SymbolicConstraint.TheVariants.{Base, Extension}
 use Rattle.stark_tree_air.proofs.WrittenConstraints.{base_result, extension_result}
 use Rattle.stark_tree_air.proofs.writing.write_constraint.Goals as goal
 

@@ -9,6 +9,3 @@ returns-in_err-check_dimensions g c = search rules
 
 pub returns-in_err-check_trace_next : goal.returns-in_err-check_trace_next
 returns-in_err-check_trace_next g c = search rules
-
-pub returns-in_err-check_witness : goal.returns-in_err-check_witness
-returns-in_err-check_witness g c = search rules

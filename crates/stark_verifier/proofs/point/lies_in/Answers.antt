@@ -2,25 +2,23 @@ use Rattle.std.proofs.Common.{◌≡◌, ◌∙◌, sym, ap}
 use Rattle.stark_verifier.proofs.PointSteps.{point_where_zero, zero_at_point}
 use Rattle.stark_verifier.proofs.point.lies_in.Goals as goal
 
-pub returns-clause-vanishing : goal.returns-clause-vanishing
-returns-clause-vanishing g c =
+pub returns : goal.returns
+returns g c =
     let field = g.met.EF.Field in
-    let found = c.vanishing_poly_at_point.ensures in
-    let value = c.vanishing_poly_at_point.result in
-    let zero : c.ZERO.result ≡ g.EF.Field.ring.zero = c.ZERO.ensures ∙ field.zero_is in (
-      (λ told. sym found ∙ field.eq_same _ _ (sym c.eq.ensures ∙ told) ∙ zero),
-      (λ e. c.eq.ensures ∙ ap (g.EF.PartialEq.eq value) (sym (found ∙ e ∙ sym zero)) ∙ g.met.EF.Eq.laws.refl value),
-    )
-
-pub returns-clause-point : goal.returns-clause-point
-returns-clause-point g c =
-    let field = g.met.EF.Field in
+    let coset = g.D.PolynomialSpace.coset_of c.args.domains.now.trace in
+    let lawful = g.met.D.PolynomialSpace.lawful c.args.domains.now.trace in
     let found = c.vanishing_poly_at_point.ensures in
     let value = c.vanishing_poly_at_point.result in
     let zero : c.ZERO.result ≡ g.EF.Field.ring.zero = c.ZERO.ensures ∙ field.zero_is in
-    let coset = g.D.PolynomialSpace.coset_of c.args.subgroup.now in (
-      (λ told. point_where_zero field.field_laws g.met.EF.ExtensionField.embeds g.D.Val.TwoAdicField.TWO_ADICITY g.D.Val.TwoAdicField.root g.D.Val.Field.GENERATOR g.met.D.Val.TwoAdicField.two_adic
-          coset (g.met.D.PolynomialSpace.lawful c.args.subgroup.now) c.requires.subgroup c.args.zeta (sym found ∙ field.eq_same _ _ (sym c.eq.ensures ∙ told) ∙ zero)),
-      (λ point. c.eq.ensures ∙ ap (g.EF.PartialEq.eq value) (sym (found ∙ zero_at_point field.field_laws g.met.EF.ExtensionField.embeds g.D.Val.TwoAdicField.TWO_ADICITY g.D.Val.TwoAdicField.root g.D.Val.Field.GENERATOR g.met.D.Val.TwoAdicField.two_adic
-          coset (g.met.D.PolynomialSpace.lawful c.args.subgroup.now) c.requires.subgroup c.args.zeta point ∙ sym zero)) ∙ g.met.EF.Eq.laws.refl value),
-    )
+    record {
+      vanishing = (
+        (λ told. sym found ∙ field.eq_same _ _ (sym c.eq.ensures ∙ told) ∙ zero),
+        (λ e. c.eq.ensures ∙ ap (g.EF.PartialEq.eq value) (sym (found ∙ e ∙ sym zero)) ∙ g.met.EF.Eq.laws.refl value),
+      );
+      point = (
+        (λ told. point_where_zero field.field_laws g.met.EF.ExtensionField.embeds g.D.Val.TwoAdicField.TWO_ADICITY g.D.Val.TwoAdicField.root g.D.Val.Field.GENERATOR g.met.D.Val.TwoAdicField.two_adic
+            coset lawful c.requires.subgroup c.args.zeta (sym found ∙ field.eq_same _ _ (sym c.eq.ensures ∙ told) ∙ zero)),
+        (λ point. c.eq.ensures ∙ ap (g.EF.PartialEq.eq value) (sym (found ∙ zero_at_point field.field_laws g.met.EF.ExtensionField.embeds g.D.Val.TwoAdicField.TWO_ADICITY g.D.Val.TwoAdicField.root g.D.Val.Field.GENERATOR g.met.D.Val.TwoAdicField.two_adic
+            coset lawful c.requires.subgroup c.args.zeta point ∙ sym zero)) ∙ g.met.EF.Eq.laws.refl value),
+      );
+    }

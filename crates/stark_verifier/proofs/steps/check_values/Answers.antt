@@ -2,7 +2,7 @@ use Rattle.std.proofs.Common.{rules}
 use Rattle.stark_verifier.proofs.steps.check_values.Goals as goal
 
 pub returns : goal.returns
-returns c = search rules
+returns g c = search rules
 
 pub returns-in_err-check_opened : goal.returns-in_err-check_opened
 returns-in_err-check_opened g c = search rules

@@ -1,5 +1,5 @@
 use Rattle.std.proofs.Common.{◌≡◌, ◌∙◌, ap, map, true}
-use Rattle.stark_air.specs.SymbolicTrees as trees
+use Rattle.stark_symbolic.specs.SymbolicTrees as trees
 use Rattle.stark_tree_air.specs.Named.{columns_layout}
 use Rattle.stark_tree_air.specs.Writing.{all_within}
 use Rattle.stark_tree_air.proofs.WrittenFaults.{air_within, copied_cover, no_fault, spelled_folded}

@@ -1,5 +1,0 @@
-use Rattle.std.proofs.Common.{rules}
-use Rattle.stark_air.proofs.symbolic.builder.SymbolicAirBuilder.new.Goals as goal
-
-pub returns : goal.returns
-returns c = search rules

@@ -1,8 +1,0 @@
-use Rattle.std.proofs.Common.{rules}
-use Rattle.stark_air.proofs.symbolic.constraints.get_symbolic_constraints.Goals as goal
-
-pub returns : goal.returns
-returns g c = search rules
-
-pub returns-in_err-base : goal.returns-in_err-base
-returns-in_err-base g c = search rules

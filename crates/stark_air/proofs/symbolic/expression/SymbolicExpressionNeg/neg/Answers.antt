@@ -1,5 +1,0 @@
-use Rattle.std.proofs.Common.{rules}
-use Rattle.stark_air.proofs.symbolic.expression.SymbolicExpressionNeg.neg.Goals as goal
-
-pub returns : goal.returns
-returns g c = search rules

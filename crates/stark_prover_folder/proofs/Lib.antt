@@ -1,0 +1,2 @@
+pub mod FinalizedSteps
+pub mod PairSteps

@@ -1,0 +1,8 @@
+//! The prover's folders: they keep the values of an AIR's constraints at packed rows, and sum them up with powers of alpha.
+#![tactic(auto)]
+
+mod prover_folder;
+mod vectorized_folder;
+
+pub use prover_folder::ProverConstraintFolder;
+pub use vectorized_folder::{VectorizedChallenge, VectorizedConstraintFolder, VectorizedVal};

@@ -1,0 +1,10 @@
+pub mod ConstantFolding
+pub mod Symbolic
+pub mod Degree
+pub mod TreeCode
+pub mod SymbolicView
+pub mod SymbolicRow
+pub mod SymbolicTrees
+pub mod GreatestDegree
+pub mod Places
+pub mod SymbolicBuilder

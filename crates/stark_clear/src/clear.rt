@@ -11,4 +11,5 @@ mod pcs;
 pub use call::ClearCall;
 pub use check::ClearError;
 pub use commit::{chunks_of, columns_of, committed, committed_alone};
+pub(crate) use pcs::Committed;
 pub use pcs::{ClearPcs, ClearProof, ClearProverError};

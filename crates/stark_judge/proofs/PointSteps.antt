@@ -1,5 +1,5 @@
 -- From what is found of one point to the function of the numbers.
-use Rattle.std.proofs.Common.{◌≡◌, ◌≢◌, ◌⊎◌, inl, inr, refl, sym, subst, ◌∙◌, ap, arith, ℕ, ◌+◌, ◌-◌, ◌*◌, ◌%◌, ◌<◌, ◌≤◌, ◌^◌, ◌==◌, Bool, true, false, if◌then◌else◌, All, get_or, List, [], ◌∷◌, length, map, Option, Some, None}
+use Rattle.std.proofs.Common.{◌≡◌, ◌≢◌, ◌⊎◌, inl, inr, refl, sym, subst, ◌∙◌, ap, arith, ℕ, ◌+◌, ◌-◌, ◌*◌, ◌%◌, ◌<◌, ◌≤◌, ◌^◌, ◌==◌, Bool, true, false, if◌then◌else◌, All, get_or, List, length, map, Option, Some, None}
 use Rattle.std.specs.List.{list_all}
 use Rattle.std.proofs.lemmas.Bool.{and_parts, eqb-true, eq-eqb, ne_eqb, le-leb, lt-leb, cases_lt, true≢false}
 use Rattle.std.proofs.Math.Nat.{mod-eq_of_lt}
@@ -17,7 +17,7 @@ use Rattle.stark_support.specs.Subgroup.{subgroup_of}
 use Rattle.stark_support.specs.SubgroupFacts.{vanishing_of_subgroup}
 use Rattle.stark_support.specs.declared.periodic.PeriodicColumnShapeError.{PeriodicColumnShapeError}
 use Rattle.stark_air.specs.Layout.{Layout, Covers}
-use Rattle.stark_air.specs.Declaration.{Trace, IsDeclared, next_width}
+use Rattle.stark_air.specs.Declaration.{Trace, IsDeclared}
 use Rattle.stark_bench.specs.Residues.{residue, residue_ring, residue_inverse, residue_laws}
 use Rattle.stark_bench.specs.Roots.{root, two_adic_laws}
 use Rattle.stark_bench.specs.Ext4Field.{basis_of, embedded_is_embedding}
@@ -26,6 +26,7 @@ use Rattle.stark_input.specs.Airs.{CheckedAir, shape_of}
 use Rattle.stark_judge.specs.Check.{IsBalanced, checked, element_of, found_at_point, folded, inverse_of, if_none, judged, laws_of_elements, opened_rows, periodic_fault, periodic_values, quotient, trace_coset, vanishing}
 use Rattle.stark_input.specs.Input.{CheckNumbers, Base, Extension, elements, has_shape, numbers_in, zeros}
 use Rattle.stark_protocol.specs.Sizes.{chunk_shifts, quotient_coset}
+use Rattle.stark_protocol.specs.AcceptanceFacts.{next_at_most}
 use Rattle.stark_judge.specs.Point.{EquationVerdict, IsOutsideCoset, PointVerdict, TellsEquation}
 use Rattle.stark_input.specs.declared.input.CheckShape.{CheckShape}
 use Rattle.stark_input.specs.declared.verdict.Verdict.{Verdict}
@@ -108,10 +109,6 @@ module _ (air : CheckedAir) (log_chunks : ℕ) (m : CheckNumbers) where
       subst (λ t. at (trace_coset m.log_height) (opened_rows air m) t) eq
       (subst (λ o. at (trace_coset m.log_height) o q) same
       (subst (λ c. at c (rows local next fixed_local fixed_next periodic publics) q) ec h))
-
-next_at_most : (columns : List ℕ) (width : ℕ) → next_width columns width ≤ width
-next_at_most [] width = omega arith
-next_at_most (column ∷ columns) width = omega arith
 
 -- Rows of an AIR's widths and counts have what it reads.
 pub rows_cover : (layout : Layout) (fixed : Option (Trace Base)) (columns : List (List Base)) (main_next fixed_next : List ℕ) (rows : OpenedRows Base Extension)

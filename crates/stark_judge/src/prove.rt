@@ -18,7 +18,7 @@ ghost use Rattle.stark_input.specs.declared.verdict.Verdict.{Verdict};
 ghost use Rattle.stark_judge.specs.ProveFacts.{proved_accepts_none, proved_line, proved_opens};
 ghost use Rattle.stark_judge.specs.Prove.{AnswersWithHeld, IsProofOfRead, IsProved, IsProvedBy, IsProvedRead, IsTraceFor, TellsAnswer, program_writing};
 
-use crate::config::{ClearConfig, clear_config};
+use crate::config::{ClearConfig, ProgramChallenger, clear_config};
 use crate::verify::ProgramConfig;
 use p3_uni_stark::{
     Proof, ProvingError, StarkInstance, StarkOperations, StarkProof, setup_preprocessed,
@@ -130,11 +130,7 @@ fn prove_over<F, EF, C, A>(
 where
     F: PrimeField64 + TwoAdicField + PackedField,
     EF: PackedExtensionField<F>,
-    C: FieldChallenger<F>
-        + GrindingChallenger<Witness = F>
-        + CanObserve<ClearCommitment<F>>
-        + ExtensionChallenger<F, EF>
-        + Clone,
+    C: ProgramChallenger<F, EF>,
     A: Air<F>,
     requires fitting { IsTraceFor (A.layout air.now) log_rows (record { width = trace.width; values = trace.values.items }) (length publics.now) 0 F.TWO_ADICITY }
     requires height { HasHeight log_rows (A.preprocessed_trace air.now) }

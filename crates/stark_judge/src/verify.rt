@@ -12,7 +12,7 @@ ghost use Rattle.stark_judge.specs.SoundRun.{IsSoundlyRead};
 ghost use Rattle.stark_judge.specs.Verify.{IsJudged, IsJudgedBy, IsVerified, JudgesWithKey};
 ghost use Rattle.stark_input.specs.declared.verdict.Verdict.{Verdict};
 
-use crate::config::{ClearConfig, clear_config};
+use crate::config::{ClearConfig, ProgramChallenger, clear_config};
 use p3_uni_stark::{
     Proof, ProvingError, StarkInstance, StarkOperations, StarkProof, setup_preprocessed, verify,
     verify_with_preprocessed,
@@ -28,8 +28,7 @@ use stark_input::{
 };
 use stark_parts::{StarkGenericConfig, Val};
 use stark_support::{
-    CanObserve, ExtensionChallenger, ExtensionField, FieldChallenger, GrindingChallenger,
-    JsonCodec, JsonFault, PrimeField64, TwoAdicField,
+    ExtensionField, GrindingChallenger, JsonCodec, JsonFault, PrimeField64, TwoAdicField,
 };
 use std::alloc::Global;
 
@@ -104,11 +103,7 @@ fn judge_over<F, EF, C, A>(
 where
     F: PrimeField64 + TwoAdicField,
     EF: ExtensionField<F>,
-    C: FieldChallenger<F>
-        + GrindingChallenger<Witness = F>
-        + CanObserve<ClearCommitment<F>>
-        + ExtensionChallenger<F, EF>
-        + Clone,
+    C: ProgramChallenger<F, EF>,
     A: Air<F>,
     requires height { HasHeight log_rows (A.preprocessed_trace air.now) }
     requires within { log_rows ≤ F.TWO_ADICITY }
@@ -131,11 +126,7 @@ fn judge_proof<C, A>(
     alpha_bits: usize,
 ) -> Verdict
 where
-    C: FieldChallenger<F12289>
-        + GrindingChallenger<Witness = F12289>
-        + CanObserve<ClearCommitment<F12289>>
-        + ExtensionChallenger<F12289, Extension>
-        + Clone,
+    C: ProgramChallenger<F12289, Extension>,
     A: Air<F12289>,
     requires height { HasHeight log_rows (A.preprocessed_trace air.now) }
     requires within { log_rows ≤ 12 }

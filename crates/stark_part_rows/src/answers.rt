@@ -1,14 +1,12 @@
 //! The answers to rows over each field.
+use crate::challengers::RowChallenger;
 use crate::elements::elements_in;
 use crate::{challengers, clear_scheme, fields, lanes, numbers, polynomials, seeds, transcripts};
 use stark_bench::{
     ClearCommitment, Ext4, F12289, Lockstep, P12289, Packed, Residue, S12289, Scalar,
     ScriptChallenger, Sha256Challenger,
 };
-use stark_support::{
-    CanObserve, ExtensionChallenger, FieldChallenger, GrindingChallenger, NeverNull,
-    PackedExtensionField, PackedField, PrimeField64, TwoAdicField,
-};
+use stark_support::{NeverNull, PackedExtensionField, PackedField, PrimeField64, TwoAdicField};
 use std::alloc::Global;
 use std::fmt::Debug;
 use std::test::Fail;
@@ -18,11 +16,7 @@ fn answer<F, EF, C>(alloc: Global, challenger: C, subject: &str, row: &str) -> R
 where
     F: PrimeField64 + TwoAdicField + PackedField + NeverNull + Debug,
     EF: PackedExtensionField<F> + TwoAdicField + NeverNull + Debug,
-    C: FieldChallenger<F>
-        + CanObserve<ClearCommitment<F>>
-        + ExtensionChallenger<F, EF>
-        + GrindingChallenger<Witness = F>
-        + Clone,
+    C: RowChallenger<F, EF, ClearCommitment<F>>,
 {
     match subject {
         "challengers" => challengers::answer::<F, EF, C>(alloc, challenger, row),

@@ -1,6 +1,6 @@
 //! The challengers. The draws after SHA-256 were computed by another implementation of it.
 use crate::elements::element;
-use crate::rows::{apart, numbers_in};
+use crate::rows::{apart, numbers_in, shown};
 use stark_bench::ClearCommitment;
 use stark_support::{
     CanObserve, CanSample, CanSampleBits, ExtensionChallenger, ExtensionField, FieldChallenger,
@@ -39,15 +39,30 @@ script 4 3 | grind 0; grind 1; grind 13; grind 14; grind 64; draw => Some(0) Som
 script 4 3 | check 0 5; check 3 7; check 3 8; check 64 0; draw => true true false false 4
 "#;
 
+/// What rows ask of a challenger that takes commitments of a type.
+pub trait RowChallenger<F: PrimeField64, EF: ExtensionField<F>, K>: FieldChallenger<F>
+    + CanObserve<K>
+    + ExtensionChallenger<F, EF>
+    + GrindingChallenger<Witness = F>
+    + Clone {}
+
+impl<F, EF, K, C> RowChallenger<F, EF, K> for C
+where
+    F: PrimeField64,
+    EF: ExtensionField<F>,
+    C: FieldChallenger<F>
+        + CanObserve<K>
+        + ExtensionChallenger<F, EF>
+        + GrindingChallenger<Witness = F>
+        + Clone,
+{}
+
 /// The answers to a row's steps.
 pub fn answer<F, EF, C>(alloc: Global, mut challenger: C, row: &str) -> Result<String, Fail>
 where
     F: PrimeField64 + JsonCodec + Debug,
     EF: ExtensionField<F> + Debug,
-    C: FieldChallenger<F>
-        + CanObserve<ClearCommitment<F>>
-        + ExtensionChallenger<F, EF>
-        + GrindingChallenger<Witness = F>,
+    C: RowChallenger<F, EF, ClearCommitment<F>>,
 {
     let (_challenger, text) = apart(row)?;
     let mut answers = String::new(alloc);
@@ -66,10 +81,7 @@ fn step<F, EF, C>(alloc: Global, challenger: &mut C, text: &str) -> Result<Strin
 where
     F: PrimeField64 + JsonCodec + Debug,
     EF: ExtensionField<F> + Debug,
-    C: FieldChallenger<F>
-        + CanObserve<ClearCommitment<F>>
-        + ExtensionChallenger<F, EF>
-        + GrindingChallenger<Witness = F>,
+    C: RowChallenger<F, EF, ClearCommitment<F>>,
 {
     let (name, given) = text.split_once(' ').unwrap_or((text, ""));
     match name {
@@ -91,7 +103,7 @@ fn draw<T: Debug + Drop, C: CanSample<T>>(
     challenger: &mut C,
 ) -> Result<String, Fail> {
     let found = challenger.sample();
-    Ok(format!(in alloc; "{found:?}")?)
+    shown(alloc, &found)
 }
 
 fn observe<F: PrimeField64, C: CanObserve<F>>(
@@ -140,7 +152,7 @@ fn grind<F: Debug + Drop, C: GrindingChallenger<Witness = F>>(
 ) -> Result<String, Fail> {
     let [number] = numbers_in::<1>(text)?;
     let found = challenger.grind(number as usize);
-    Ok(format!(in alloc; "{found:?}")?)
+    shown(alloc, &found)
 }
 
 /// Whether any challenger lets a witness pass.
@@ -161,5 +173,5 @@ fn copy<F: Debug + Drop, C: FieldChallenger<F>>(
 ) -> Result<String, Fail> {
     let mut copy = challenger.duplicate(alloc)?;
     let found = (challenger.sample(), copy.sample());
-    Ok(format!(in alloc; "{found:?}")?)
+    shown(alloc, &found)
 }

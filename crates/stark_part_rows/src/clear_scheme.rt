@@ -5,7 +5,7 @@ ghost use Rattle.stark_support.specs.Claims.{IfRefused, claim_view};
 ghost use Rattle.stark_support.specs.Scheme.{matrix_row};
 
 use crate::elements::{above, all_above_in, elements_in};
-use crate::rows::{apart, numbers_in};
+use crate::rows::{apart, numbers_in, shown};
 use stark_bench::{ClearCommitment, Coset};
 use stark_clear::{ClearError, ClearPcs, ClearProof};
 use stark_parts::{StarkConfig, StarkGenericConfig, Val};
@@ -161,7 +161,7 @@ where
     let (column, points) = apart(text)?;
     let data = listed::<F>(alloc, column)?;
     let opened = opened::<F, EF>(alloc, &data, all_above_in::<F, EF>(alloc, points)?)?;
-    Ok(format!(in alloc; "{opened:?}")?)
+    shown(alloc, &opened)
 }
 
 /// What verifying says of claims: none where it accepts them.
@@ -242,7 +242,7 @@ where
         values.push(above::<F, EF>(number))?;
     }
     let answer = refusal(alloc, &first, &second, &values)?;
-    Ok(format!(in alloc; "{answer:?}")?)
+    shown(alloc, &answer)
 }
 
 /// What is read of a text, as it is written, or the fault.
@@ -255,7 +255,7 @@ fn json_text<T: JsonCodec + Debug + Drop>(alloc: Global, text: &str) -> Result<S
             let written = read.to_json(alloc)?.to_string(alloc)?;
             Ok(format!(in alloc; "{written} is {read:?}")?)
         }
-        Err(fault) => Ok(format!(in alloc; "{fault:?}")?),
+        Err(fault) => shown(alloc, &fault),
     }
 }
 
@@ -344,7 +344,7 @@ where
     EF: ExtensionField<F> + Debug,
 {
     let found = rows_beside::<F, EF>(alloc, &listed::<F>(alloc, text)?)?;
-    Ok(format!(in alloc; "{found:?}")?)
+    shown(alloc, &found)
 }
 
 fn quotient_text<F, EF>(alloc: Global, text: &str) -> Result<String, Fail>
@@ -353,7 +353,7 @@ where
     EF: ExtensionField<F> + Debug,
 {
     let found = committed_quotient::<F, EF>(alloc, elements_in::<F>(alloc, text)?);
-    Ok(format!(in alloc; "{found:?}")?)
+    shown(alloc, &found)
 }
 
 /// Claims that any scheme's relation accepts are never refused.
@@ -413,7 +413,7 @@ where
     EF: ExtensionField<F> + Debug,
 {
     let found = rows_again::<F, EF>(alloc, elements_in::<F>(alloc, text)?);
-    Ok(format!(in alloc; "{found:?}")?)
+    shown(alloc, &found)
 }
 
 /// The rows of a table of two columns.
@@ -447,7 +447,7 @@ where
         Some(table) => Some(rows_of(alloc, &table)?),
         None => None,
     };
-    Ok(format!(in alloc; "{rows:?}")?)
+    shown(alloc, &rows)
 }
 
 /// The least and the greatest height, and is_zk, of any configuration, with the first draws of two of its challengers.

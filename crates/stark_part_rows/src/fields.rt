@@ -1,6 +1,6 @@
 //! A field and its extension of degree four.
 use crate::elements::{above_in, all_above_in, element, elements_in};
-use crate::rows::{apart, numbers_in};
+use crate::rows::{apart, both_shown, numbers_in, shown};
 use stark_support::{
     ExtensionField, Field, JsonFault, NeverNull, PackedExtensionField, PackedField, PackedValue,
     PrimeField64, TwoAdicField, batch_multiplicative_inverse, packed_from_fn, power_of,
@@ -127,7 +127,7 @@ fn base_operation<F: PrimeField64 + Debug>(alloc: Global, text: &str) -> Result<
     let (name, numbers) = apart(text)?;
     let [x, y] = numbers_in::<2>(numbers)?;
     let found = computed::<F>(name, element(x), element(y));
-    Ok(format!(in alloc; "{found:?}")?)
+    shown(alloc, &found)
 }
 
 fn operation_above<F: PrimeField64, EF: ExtensionField<F> + Debug>(
@@ -141,7 +141,7 @@ fn operation_above<F: PrimeField64, EF: ExtensionField<F> + Debug>(
         above_in::<F, EF>(alloc, x)?,
         above_in::<F, EF>(alloc, y)?,
     );
-    Ok(format!(in alloc; "{found:?}")?)
+    shown(alloc, &found)
 }
 
 /// The inverses of elements; none where one of them is zero.
@@ -154,7 +154,7 @@ fn inverses_of<F: Field>(alloc: Global, elements: &[F]) -> Result<Option<Vec<F>>
 
 fn inverses<F: PrimeField64 + Debug>(alloc: Global, text: &str) -> Result<String, Fail> {
     let found = inverses_of(alloc, &elements_in::<F>(alloc, text)?)?;
-    Ok(format!(in alloc; "{found:?}")?)
+    shown(alloc, &found)
 }
 
 /// The generator of the group of `2 ^ bits` elements; zero where there is no such group.
@@ -175,14 +175,14 @@ fn generators<F: TwoAdicField + Debug, EF: TwoAdicField + Debug>(
         generator::<F>(bits as usize),
         generator::<EF>(bits as usize),
     );
-    Ok(format!(in alloc; "{base:?} {above:?}")?)
+    both_shown(alloc, &base, &above)
 }
 
 fn powers<F: Field + Debug>(alloc: Global, text: &str) -> Result<String, Fail> {
     let [power, bits] = numbers_in::<2>(text)?;
     let found = power_of(F::GENERATOR, power as u64);
     let squared = squared_times(F::GENERATOR, bits as usize);
-    Ok(format!(in alloc; "{found:?} {squared:?}")?)
+    both_shown(alloc, &found, &squared)
 }
 
 /// An element of the basis; none past its end.
@@ -200,7 +200,7 @@ fn basis<F: Field, EF: ExtensionField<F> + Debug>(
 ) -> Result<String, Fail> {
     let [index] = numbers_in::<1>(text)?;
     let found = basis_element::<F, EF>(index as usize);
-    Ok(format!(in alloc; "{found:?}")?)
+    shown(alloc, &found)
 }
 
 fn sums_of_basis<F: PrimeField64, EF: ExtensionField<F> + Debug>(
@@ -211,7 +211,7 @@ fn sums_of_basis<F: PrimeField64, EF: ExtensionField<F> + Debug>(
     let base = EF::from_basis_coefficients_slice(&elements_in::<F>(alloc, base)?);
     let above = all_above_in::<F, EF>(alloc, above)?;
     let above = <EF as ExtensionField<F>>::from_ext_basis_coefficients(&above);
-    Ok(format!(in alloc; "{base:?} {above:?}")?)
+    both_shown(alloc, &base, &above)
 }
 
 /// The coordinate of an element; none past the last one.
@@ -273,7 +273,7 @@ where
     let (base, above) = apart(text)?;
     let base = packed::<F::Packing>(&elements_in::<F>(alloc, base)?);
     let above = packed::<EF::ExtensionPacking>(&all_above_in::<F, EF>(alloc, above)?);
-    Ok(format!(in alloc; "{base:?} {above:?}")?)
+    both_shown(alloc, &base, &above)
 }
 
 /// The values in the first lane and in the last one.
@@ -294,5 +294,5 @@ where
     let (first, other): (F, F) = (element(x), element(y));
     let pack: F::Packing = packed_from_fn(|lane| if lane == 0 { first } else { other });
     let above = EF::from_packed_base(F::Packing::from(first));
-    Ok(format!(in alloc; "{:?} {:?}", ends(pack), ends(above))?)
+    both_shown(alloc, &ends(pack), &ends(above))
 }

@@ -1,6 +1,6 @@
 //! Logarithms, powers of two, sums of products, matrices and row views.
 use crate::elements::{all_above_in, elements_in};
-use crate::rows::{apart, numbers_in};
+use crate::rows::{apart, numbers_in, shown};
 use stark_support::{
     Algebra, ExtensionField, Field, PackedExtensionField, PackedField, PackedValue, PrimeField64,
     RowMajorMatrix, RowMajorMatrixView, VerticalPair, ViewPair, batched_linear_combination,
@@ -72,7 +72,7 @@ fn sums<F: PrimeField64 + PackedField + Debug>(alloc: Global, text: &str) -> Res
         Some(pack) => first_lane(pack),
         None => None,
     };
-    Ok(format!(in alloc; "{found:?}")?)
+    shown(alloc, &found)
 }
 
 fn sums_above<F: PrimeField64, EF: ExtensionField<F> + Debug>(
@@ -82,7 +82,7 @@ fn sums_above<F: PrimeField64, EF: ExtensionField<F> + Debug>(
     let (elements, coefficients) = apart(text)?;
     let elements = all_above_in::<F, EF>(alloc, elements)?;
     let found = combined::<F, EF>(&elements, &elements_in::<F>(alloc, coefficients)?);
-    Ok(format!(in alloc; "{found:?}")?)
+    shown(alloc, &found)
 }
 
 /// A column of elements, as rows of their coordinates.
@@ -144,7 +144,7 @@ fn packed_rows<F: PrimeField64 + PackedField + Debug>(
     match packed_row::<F::Packing>(alloc, &matrix, first as usize, lent)? {
         Some([made, lent]) => {
             let found = [first_lanes(alloc, &made)?, first_lanes(alloc, &lent)?];
-            Ok(format!(in alloc; "{found:?}")?)
+            shown(alloc, &found)
         }
         None => Err(Fail::new("no row")),
     }

@@ -1,6 +1,6 @@
 //! Polynomials: values, interpolation, and the laws on roots at a field.
 use crate::elements::{above_in, element, elements_in};
-use crate::rows::{apart, numbers_in};
+use crate::rows::{apart, numbers_in, shown};
 use stark_bench::{Coset, S12289};
 use stark_support::{
     ExtensionField, Field, PolynomialSpace, PrimeField64, TwoAdicField, all_roots_are_few,
@@ -46,7 +46,7 @@ fn value<F: PrimeField64 + Debug>(alloc: Global, text: &str) -> Result<String, F
     let (coefficients, point) = apart(text)?;
     let [point] = numbers_in::<1>(point)?;
     let found = polynomial_value(&elements_in::<F>(alloc, coefficients)?, element(point));
-    Ok(format!(in alloc; "{found:?}")?)
+    shown(alloc, &found)
 }
 
 fn value_above<F: PrimeField64, EF: ExtensionField<F> + Debug>(
@@ -56,7 +56,7 @@ fn value_above<F: PrimeField64, EF: ExtensionField<F> + Debug>(
     let (coefficients, point) = apart(text)?;
     let point: EF = above_in::<F, EF>(alloc, point)?;
     let found = polynomial_value_in(&elements_in::<F>(alloc, coefficients)?, point);
-    Ok(format!(in alloc; "{found:?}")?)
+    shown(alloc, &found)
 }
 
 /// The line through two points, where these differ.
@@ -76,7 +76,7 @@ fn line<F: PrimeField64 + Debug>(alloc: Global, text: &str) -> Result<String, Fa
     let points = elements_in::<F>(alloc, points)?;
     let values = elements_in::<F>(alloc, values)?;
     let found = interpolated(alloc, &points, &values)?.ok_or("the points are the same")?;
-    Ok(format!(in alloc; "{found:?}")?)
+    shown(alloc, &found)
 }
 
 /// Calls the laws of a subgroup and of a coset beside it, if that has as many points.

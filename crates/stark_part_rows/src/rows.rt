@@ -1,6 +1,7 @@
 //! Worked rows as text: a row a line, what is given before ` => ` and the answer behind it. Lines that begin with `#` say what
 //! the rows behind them are.
 use std::alloc::Global;
+use std::fmt::Debug;
 use std::process::Abort;
 use std::test::Fail;
 
@@ -50,4 +51,18 @@ pub fn list_in(alloc: Global, text: &str) -> Result<Vec<u32>, Fail> {
 /// The text before the first bar and the one behind it.
 pub fn apart(text: &str) -> Result<(&str, &str), Fail> {
     Ok(text.split_once(" | ").ok_or("no bar")?)
+}
+
+/// A value in words.
+pub fn shown<T: Debug>(alloc: Global, value: &T) -> Result<String, Fail> {
+    Ok(format!(in alloc; "{value:?}")?)
+}
+
+/// Two values in words.
+pub fn both_shown<T: Debug, U: Debug>(
+    alloc: Global,
+    first: &T,
+    second: &U,
+) -> Result<String, Fail> {
+    Ok(format!(in alloc; "{first:?} {second:?}")?)
 }

@@ -53,20 +53,20 @@ fn shape_in(text: &str) -> Result<StarkShape, Fail> {
         randomization,
         ood_pow_bits,
         constraint_pow_bits,
-    ] = numbers_in::<12>(text)?.map(|number| number as usize);
+    ] = numbers_in::<12>(text)?;
     Ok(StarkShape {
-        log_ext_degree,
-        log_degree,
-        main_width,
-        preprocessed_width,
-        num_public_values,
-        num_periodic_columns,
-        num_quotient_chunks,
+        log_ext_degree: log_ext_degree as usize,
+        log_degree: log_degree as usize,
+        main_width: main_width as usize,
+        preprocessed_width: preprocessed_width as usize,
+        num_public_values: num_public_values as usize,
+        num_periodic_columns: num_periodic_columns as usize,
+        num_quotient_chunks: num_quotient_chunks as usize,
         opens_main_next_row: opens_main == 1,
         opens_preprocessed_next_row: opens_preprocessed == 1,
         has_randomization: randomization == 1,
-        ood_pow_bits,
-        constraint_pow_bits,
+        ood_pow_bits: ood_pow_bits as usize,
+        constraint_pow_bits: constraint_pow_bits as usize,
     })
 }
 

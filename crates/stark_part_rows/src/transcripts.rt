@@ -1,19 +1,16 @@
 //! Transcripts of both sides, over any challenger.
 ghost use Rattle.std.specs.Prelude.{◌≡◌, IfOk, length};
 
+use crate::challengers::RowChallenger;
 use crate::elements::element;
-use crate::rows::{apart, numbers_in};
+use crate::rows::{apart, numbers_in, shown};
 use stark_bench::ClearCommitment;
-use stark_support::{
-    CanObserve, CanSample, ExtensionChallenger, ExtensionField, FieldChallenger,
-    GrindingChallenger, PrimeField64,
-};
+use stark_support::{ExtensionField, Field, PrimeField64};
 use stark_transcript::{
     StarkProverTranscript, StarkShape, StarkTranscriptFailure, StarkVerifierTranscript,
     alpha_without_work,
 };
 use std::alloc::{AllocError, Global};
-use std::fmt::Debug;
 use std::test::Fail;
 
 // The challenger | a table's name | what is given.
@@ -46,32 +43,119 @@ sha256 | changed | 1 2 7 3 4 | 1 2 7 8 4 => true false
 sha256 | changed | 1 2 7 3 4 | 1 2 7 3 8 => true false
 "#;
 
-/// The answer to a row of these tables.
-pub fn answer<F, EF, C>(alloc: Global, challenger: C, row: &str) -> Result<String, Fail>
-where
-    F: PrimeField64 + Debug,
-    EF: ExtensionField<F> + Debug,
-    C: FieldChallenger<F>
-        + CanObserve<ClearCommitment<F>>
-        + ExtensionChallenger<F, EF>
-        + GrindingChallenger<Witness = F>,
-{
+/// A verifier's run whose failure is asked for: the shape, whether zeta is drawn behind alpha, and which commitments are given
+/// beside the trace and the quotient.
+#[derive(Clone, Copy)]
+struct Asked {
+    preprocessed_width: usize,
+    has_randomization: bool,
+    ood_pow_bits: usize,
+    constraint_pow_bits: usize,
+    draws_zeta: bool,
+    is_preprocessed_given: bool,
+    is_random_given: bool,
+}
+
+/// What a row asks for: a failure, or runs by the numbers of the trace, the preprocessed columns, a public value, the quotient and
+/// the random commitment.
+enum Question {
+    Failure(Asked),
+    Sides([u32; 5]),
+    Changed([u32; 5], [u32; 5]),
+}
+
+fn question_in(row: &str) -> Result<Question, Fail> {
     let (_challenger, row) = apart(row)?;
     let (table, text) = apart(row)?;
     match table {
-        "first" => first_phase::<F, EF, C>(alloc, challenger, text),
-        "second" => second_phase::<F, EF, C>(alloc, challenger, text),
-        "sides" => both_sides::<F, EF, C>(alloc, challenger, text),
-        "changed" => changed::<F, EF, C>(alloc, challenger, text),
+        "first" => Ok(Question::Failure(first_phase(numbers_in::<3>(text)?))),
+        "second" => Ok(Question::Failure(second_phase(numbers_in::<3>(text)?))),
+        "sides" => Ok(Question::Sides(numbers_in::<5>(text)?)),
+        "changed" => {
+            let (honest, other) = apart(text)?;
+            let honest = numbers_in::<5>(honest)?;
+            Ok(Question::Changed(honest, numbers_in::<5>(other)?))
+        }
         _ => Err(Fail::new("no such table")),
     }
 }
 
-fn commitment<F: PrimeField64>(alloc: Global, x: F) -> Result<ClearCommitment<F>, AllocError> {
+/// A run that is given up behind alpha.
+fn first_phase(numbers: [u32; 3]) -> Asked {
+    let [width, bits, is_given] = numbers;
+    Asked {
+        preprocessed_width: width as usize,
+        has_randomization: false,
+        ood_pow_bits: 0,
+        constraint_pow_bits: bits as usize,
+        draws_zeta: false,
+        is_preprocessed_given: is_given == 1,
+        is_random_given: false,
+    }
+}
+
+/// A run whose first phase nothing can fail, and that is given up behind zeta.
+fn second_phase(numbers: [u32; 3]) -> Asked {
+    let [is_random, bits, is_given] = numbers;
+    Asked {
+        preprocessed_width: 0,
+        has_randomization: is_random == 1,
+        ood_pow_bits: bits as usize,
+        constraint_pow_bits: 0,
+        draws_zeta: true,
+        is_preprocessed_given: false,
+        is_random_given: is_given == 1,
+    }
+}
+
+/// The answer to a row of these tables.
+pub fn answer<F, EF, C>(alloc: Global, mut challenger: C, row: &str) -> Result<String, Fail>
+where
+    F: PrimeField64,
+    EF: ExtensionField<F>,
+    C: RowChallenger<F, EF, ClearCommitment<F>>,
+{
+    match question_in(row)? {
+        Question::Failure(asked) => {
+            shown(alloc, &failure::<F, EF, C>(alloc, &mut challenger, asked)?)
+        }
+        Question::Sides(numbers) => both_sides::<F, EF, C>(alloc, &challenger, &numbers),
+        Question::Changed(honest, other) => {
+            changed::<F, EF, C>(alloc, &challenger, &honest, &other)
+        }
+    }
+}
+
+fn commitment<F: PrimeField64>(
+    alloc: Global,
+    number: u32,
+) -> Result<ClearCommitment<F>, AllocError> {
     let mut column = Vec::new(alloc);
-    column.push(x)?;
+    column.push(element(number))?;
     let matrix = vec![in alloc; column]?;
     Ok(ClearCommitment::new(vec![in alloc; matrix]?))
+}
+
+/// The commitments to the trace, the preprocessed columns, the quotient and a random polynomial.
+fn commitments<F: PrimeField64>(
+    alloc: Global,
+    numbers: &[u32; 5],
+) -> Result<Vec<ClearCommitment<F>>, AllocError> {
+    let [trace, preprocessed, _public, quotient, random] = *numbers;
+    let mut list = Vec::new(alloc);
+    for number in [trace, preprocessed, quotient, random] {
+        list.push(commitment(alloc, number)?)?;
+    }
+    Ok(list)
+}
+
+/// The list of one public value.
+fn one<F: Drop>(alloc: Global, x: F) -> Result<Vec<F>, AllocError>
+    ensures { IfOk result (λ v. length v.items ≡ 1) }
+{
+    let mut publics = Vec::new(alloc);
+    publics.push(x)?;
+    Ok(publics)
 }
 
 fn shape(
@@ -100,326 +184,326 @@ fn shape(
     }
 }
 
-/// The first phase of a verifier, over any challenger; its failure.
-fn first_failure<F, EF, C>(
-    alloc: Global,
-    challenger: &mut C,
-    x: F,
-    publics: &[F],
-    preprocessed_width: usize,
-    bits: usize,
-    preprocessed: Option<&ClearCommitment<F>>,
-) -> Result<Option<StarkTranscriptFailure>, AllocError>
-where
-    F: PrimeField64,
-    EF: ExtensionField<F>,
-    C: CanObserve<F>
-        + CanObserve<ClearCommitment<F>>
-        + CanSample<EF>
-        + GrindingChallenger<Witness = F>,
-    requires { length publics.now ≡ 1 }
-{
-    let trace = commitment(alloc, x)?;
-    let shape = shape(preprocessed_width, false, 0, bits);
-    let mut transcript = StarkVerifierTranscript::<C, F, EF>::new(alloc, challenger, shape)?;
-    let answer = transcript.constraint_phase::<ClearCommitment<F>>(
-        &trace,
-        preprocessed,
-        publics,
-        F::ZERO,
-    );
-    transcript.abort();
-    Ok(answer.err())
-}
-
-fn first_phase<F, EF, C>(alloc: Global, mut challenger: C, text: &str) -> Result<String, Fail>
-where
-    F: PrimeField64,
-    EF: ExtensionField<F>,
-    C: CanObserve<F>
-        + CanObserve<ClearCommitment<F>>
-        + CanSample<EF>
-        + GrindingChallenger<Witness = F>
-        + Drop,
-{
-    let [width, bits, is_given] = numbers_in::<3>(text)?;
-    let other = commitment(alloc, F::from_u8(2))?;
-    let given = if is_given == 1 { Some(&other) } else { None };
-    let publics = one(alloc, F::from_u8(5))?;
-    let failure = first_failure::<F, EF, C>(
-        alloc,
-        &mut challenger,
-        F::from_u8(5),
-        &publics,
-        width as usize,
-        bits as usize,
-        given,
-    )?;
-    Ok(format!(in alloc; "{failure:?}")?)
-}
-
-/// The failure of a verifier's second phase.
-fn second_failure<'r, F, EF, C>(
-    alloc: Global,
-    challenger: &mut C,
-    x: F,
-    publics: &[F],
-    has_randomization: bool,
-    bits: usize,
-    random: Option<&'r ClearCommitment<F>>,
-) -> Result<Option<StarkTranscriptFailure>, AllocError>
-where
-    F: PrimeField64,
-    EF: ExtensionField<F>,
-    C: CanObserve<F>
-        + CanObserve<ClearCommitment<F>>
-        + CanSample<EF>
-        + GrindingChallenger<Witness = F>,
-    requires { length publics.now ≡ 1 }
-{
-    let trace = commitment(alloc, x)?;
-    let shape = shape(0, has_randomization, bits, 0);
-    let mut transcript = StarkVerifierTranscript::<C, F, EF>::new(alloc, challenger, shape)?;
-    let absent: Option<&'r ClearCommitment<F>> = None;
-    let first = transcript.constraint_phase::<ClearCommitment<F>>(&trace, absent, publics, F::ZERO);
-    if let Err(failure) = first {
-        transcript.abort();
-        return Ok(Some(failure));
-    }
-    let second = transcript.ood_phase::<ClearCommitment<F>>(&trace, random, F::ZERO);
-    transcript.abort();
-    Ok(second.err())
-}
-
-fn second_phase<F, EF, C>(alloc: Global, mut challenger: C, text: &str) -> Result<String, Fail>
-where
-    F: PrimeField64,
-    EF: ExtensionField<F>,
-    C: CanObserve<F>
-        + CanObserve<ClearCommitment<F>>
-        + CanSample<EF>
-        + GrindingChallenger<Witness = F>
-        + Drop,
-{
-    let [is_random, bits, is_given] = numbers_in::<3>(text)?;
-    let other = commitment(alloc, F::from_u8(2))?;
-    let given = if is_given == 1 { Some(&other) } else { None };
-    let publics = one(alloc, F::from_u8(5))?;
-    let failure = second_failure::<F, EF, C>(
-        alloc,
-        &mut challenger,
-        F::from_u8(5),
-        &publics,
-        is_random == 1,
-        bits as usize,
-        given,
-    )?;
-    Ok(format!(in alloc; "{failure:?}")?)
-}
-
-/// What is committed to and handed over in a run.
+/// What a verifier is handed in a run, and how far it goes.
 #[derive(Drop)]
-struct Inputs<F> {
-    trace: ClearCommitment<F>,
-    preprocessed: ClearCommitment<F>,
-    public: F,
-    quotient: ClearCommitment<F>,
-    random: ClearCommitment<F>,
+struct Handed<'a, F, K> {
+    trace: &'a K,
+    preprocessed: Option<&'a K>,
+    publics: &'a [F],
+    quotient: &'a K,
+    random: Option<&'a K>,
+    first: F,
+    second: F,
+    draws_zeta: bool,
+    delegates: bool,
 }
 
-/// The inputs by their numbers, in that order.
-fn inputs_in<F: PrimeField64>(alloc: Global, text: &str) -> Result<Inputs<F>, Fail> {
-    let [trace, preprocessed, public, quotient, random] = numbers_in::<5>(text)?;
-    Ok(Inputs {
-        trace: commitment(alloc, element(trace))?,
-        preprocessed: commitment(alloc, element(preprocessed))?,
-        public: element(public),
-        quotient: commitment(alloc, element(quotient))?,
-        random: commitment(alloc, element(random))?,
-    })
+/// How a verifier's run ends: with both draws, or given up, for a failure or for none.
+#[derive(Drop)]
+enum Ended<EF> {
+    Drawn { alpha: EF, zeta: EF },
+    GivenUp(Option<StarkTranscriptFailure>),
 }
 
-/// The list of one public value.
-fn one<F: Drop>(alloc: Global, x: F) -> Result<Vec<F>, AllocError>
-    ensures { IfOk result (λ v. length v.items ≡ 1) }
-{
-    let mut publics = Vec::new(alloc);
-    publics.push(x)?;
-    Ok(publics)
+/// What is drawn in a run, and the witnesses of the work before it.
+#[derive(Clone, Copy)]
+struct Drawn<F, EF> {
+    alpha: EF,
+    zeta: EF,
+    first: F,
+    second: F,
 }
 
-/// A prover's run up to the end, or aborted after zeta: alpha, zeta and the witnesses before them.
-fn proved<F, EF, C>(
+/// What is drawn in a run and behind it.
+#[derive(Clone, Copy)]
+struct Played<F, EF> {
+    drawn: Drawn<F, EF>,
+    next: F,
+}
+
+/// A verifier's run: it is given up where a phase fails, and behind the last phase that it is to play.
+fn verified<F, EF, K, C>(
     alloc: Global,
     challenger: &mut C,
-    inputs: &Inputs<F>,
+    shape: StarkShape,
+    handed: &Handed<'_, F, K>,
+) -> Result<Ended<EF>, AllocError>
+where
+    F: PrimeField64,
+    EF: ExtensionField<F>,
+    C: RowChallenger<F, EF, K>,
+    requires shape { shape.num_public_values ≡ 1 }
+    requires publics { length handed.now.publics.now ≡ 1 }
+{
+    let mut transcript = StarkVerifierTranscript::<C, F, EF>::new(alloc, challenger, shape)?;
+    let bound = transcript.constraint_phase::<K>(
+        handed.trace,
+        handed.preprocessed,
+        handed.publics,
+        handed.first,
+    );
+    let alpha = match bound {
+        Ok(alpha) => alpha,
+        Err(failure) => {
+            transcript.abort();
+            return Ok(Ended::GivenUp(Some(failure)));
+        }
+    };
+    if !handed.draws_zeta {
+        transcript.abort();
+        return Ok(Ended::GivenUp(None));
+    }
+    let drawn = transcript.ood_phase::<K>(handed.quotient, handed.random, handed.second);
+    let zeta = match drawn {
+        Ok(zeta) => zeta,
+        Err(failure) => {
+            transcript.abort();
+            return Ok(Ended::GivenUp(Some(failure)));
+        }
+    };
+    if !handed.delegates {
+        transcript.abort();
+        return Ok(Ended::GivenUp(None));
+    }
+    transcript.delegate(leave::<C>);
+    transcript.finish();
+    Ok(Ended::Drawn { alpha, zeta })
+}
+
+/// A prover's run up to the end, or aborted after zeta; none where there is no witness of one bit. The commitments are to the trace,
+/// the preprocessed columns, the quotient and a random polynomial.
+fn proved<F, EF, K, C>(
+    alloc: Global,
+    challenger: &mut C,
+    commitments: &[K],
     publics: &[F],
     delegates: bool,
-) -> Result<Option<(EF, EF, (F, F))>, AllocError>
+) -> Result<Option<Drawn<F, EF>>, AllocError>
 where
     F: PrimeField64,
     EF: ExtensionField<F>,
-    C: CanObserve<F>
-        + CanObserve<ClearCommitment<F>>
-        + CanSample<EF>
-        + GrindingChallenger<Witness = F>,
+    C: RowChallenger<F, EF, K>,
     requires { length publics.now ≡ 1 }
 {
+    let [trace, preprocessed, quotient, random] = commitments else {
+        return Ok(None);
+    };
     let shape = shape(3, true, 1, 1);
     let mut transcript = StarkProverTranscript::<C, F, EF>::new(alloc, challenger, shape)?;
-    let Ok((alpha, first)) = transcript.constraint_phase::<ClearCommitment<F>>(
-        &inputs.trace,
-        Some(&inputs.preprocessed),
-        publics,
-    ) else {
+    let Ok((alpha, first)) = transcript.constraint_phase::<K>(trace, Some(preprocessed), publics)
+    else {
         transcript.abort();
         return Ok(None);
     };
-    let Ok((zeta, second)) = transcript.ood_phase::<ClearCommitment<F>>(
-        &inputs.quotient,
-        Some(&inputs.random),
-    ) else {
+    let Ok((zeta, second)) = transcript.ood_phase::<K>(quotient, Some(random)) else {
         transcript.abort();
         return Ok(None);
     };
     if delegates {
-        transcript.delegate(|_lent: &mut C| {});
+        transcript.delegate(leave::<C>);
         transcript.finish();
     } else {
         transcript.abort();
     }
-    match (first, second) {
-        (Some(first), Some(second)) => Ok(Some((alpha, zeta, (first, second)))),
-        _ => Ok(None),
-    }
+    Ok(both_found(alpha, zeta, first, second))
 }
 
-/// A verifier's run with these witnesses: alpha and zeta.
-fn verified<F, EF, C>(
+/// Leaves a lent challenger as it is.
+fn leave<C>(_lent: &mut C) {}
+
+/// What was drawn, where both witnesses were found.
+fn both_found<F, EF>(
+    alpha: EF,
+    zeta: EF,
+    first: Option<F>,
+    second: Option<F>,
+) -> Option<Drawn<F, EF>>
+where
+    F: Copy,
+    EF: Copy,
+{
+    Some(Drawn {
+        alpha,
+        zeta,
+        first: first?,
+        second: second?,
+    })
+}
+
+/// The failure of a verifier, where the witnesses are zero.
+fn failure<F, EF, C>(
     alloc: Global,
     challenger: &mut C,
-    inputs: &Inputs<F>,
-    publics: &[F],
-    witnesses: (F, F),
-) -> Result<Option<(EF, EF)>, AllocError>
+    asked: Asked,
+) -> Result<Option<StarkTranscriptFailure>, AllocError>
 where
     F: PrimeField64,
     EF: ExtensionField<F>,
-    C: CanObserve<F>
-        + CanObserve<ClearCommitment<F>>
-        + CanSample<EF>
-        + GrindingChallenger<Witness = F>,
-    requires { length publics.now ≡ 1 }
+    C: RowChallenger<F, EF, ClearCommitment<F>>,
 {
-    let shape = shape(3, true, 1, 1);
-    let mut transcript = StarkVerifierTranscript::<C, F, EF>::new(alloc, challenger, shape)?;
-    let (first, second) = witnesses;
-    let Ok(alpha) = transcript.constraint_phase::<ClearCommitment<F>>(
-        &inputs.trace,
-        Some(&inputs.preprocessed),
-        publics,
-        first,
-    ) else {
-        transcript.abort();
-        return Ok(None);
+    let own = commitment::<F>(alloc, 5)?;
+    let other = commitment::<F>(alloc, 2)?;
+    let publics = one(alloc, F::from_u8(5))?;
+    let handed = Handed {
+        trace: &own,
+        preprocessed: given(asked.is_preprocessed_given, &other),
+        publics: &publics,
+        quotient: &own,
+        random: given(asked.is_random_given, &other),
+        first: F::ZERO,
+        second: F::ZERO,
+        draws_zeta: asked.draws_zeta,
+        delegates: false,
     };
-    let Ok(zeta) = transcript.ood_phase::<ClearCommitment<F>>(
-        &inputs.quotient,
-        Some(&inputs.random),
-        second,
-    ) else {
-        transcript.abort();
-        return Ok(None);
-    };
-    transcript.delegate(|_lent: &mut C| {});
-    transcript.finish();
-    Ok(Some((alpha, zeta)))
+    let shape = shape(
+        asked.preprocessed_width,
+        asked.has_randomization,
+        asked.ood_pow_bits,
+        asked.constraint_pow_bits,
+    );
+    Ok(cause(verified::<F, EF, ClearCommitment<F>, C>(alloc, challenger, shape, &handed)?))
 }
 
-/// Alpha, zeta, the witnesses and the next draw of a prover that has this challenger first; none where there is no witness of one bit.
+fn given<K>(is_given: bool, x: &K) -> Option<&K> {
+    if is_given { Some(x) } else { None }
+}
+
+/// The failure for which a run was given up.
+fn cause<EF: Copy>(ended: Ended<EF>) -> Option<StarkTranscriptFailure> {
+    match ended {
+        Ended::GivenUp(failure) => failure,
+        Ended::Drawn { .. } => None,
+    }
+}
+
+/// A prover's run with this challenger first, and the next draw behind it.
 fn run<F, EF, C>(
     alloc: Global,
     fresh: &C,
-    inputs: &Inputs<F>,
+    numbers: &[u32; 5],
     delegates: bool,
-) -> Result<Option<(EF, EF, (F, F), F)>, AllocError>
+) -> Result<Played<F, EF>, Fail>
 where
-    F: PrimeField64 + Debug,
-    EF: ExtensionField<F> + Debug,
-    C: FieldChallenger<F>
-        + CanObserve<ClearCommitment<F>>
-        + ExtensionChallenger<F, EF>
-        + GrindingChallenger<Witness = F>,
+    F: PrimeField64,
+    EF: ExtensionField<F>,
+    C: RowChallenger<F, EF, ClearCommitment<F>>,
 {
+    let commitments = commitments::<F>(alloc, numbers)?;
+    let publics = one(alloc, element(numbers[2]))?;
     let mut challenger = fresh.duplicate(alloc)?;
-    let publics = one(alloc, inputs.public)?;
-    let played = proved::<F, EF, C>(alloc, &mut challenger, inputs, &publics, delegates)?;
+    let drawn = proved(alloc, &mut challenger, &commitments, &publics, delegates)?;
     let next: F = challenger.sample();
-    match played {
-        Some((alpha, zeta, witnesses)) => Ok(Some((alpha, zeta, witnesses, next))),
-        None => Ok(None),
-    }
+    let drawn = drawn.ok_or("no witness of one bit")?;
+    Ok(Played { drawn, next })
 }
 
-/// What a verifier that has this challenger first draws in the run with these witnesses.
+/// A verifier's run with this challenger first and a prover's witnesses, and the next draw behind it; none where it is given up.
 fn check<F, EF, C>(
     alloc: Global,
     fresh: &C,
-    inputs: &Inputs<F>,
-    witnesses: (F, F),
-) -> Result<Option<(EF, EF, (F, F), F)>, AllocError>
+    numbers: &[u32; 5],
+    proved: &Drawn<F, EF>,
+) -> Result<Option<Played<F, EF>>, AllocError>
 where
-    F: PrimeField64 + Debug,
-    EF: ExtensionField<F> + Debug,
-    C: FieldChallenger<F>
-        + CanObserve<ClearCommitment<F>>
-        + ExtensionChallenger<F, EF>
-        + GrindingChallenger<Witness = F>,
+    F: PrimeField64,
+    EF: ExtensionField<F>,
+    C: RowChallenger<F, EF, ClearCommitment<F>>,
 {
+    let commitments = commitments::<F>(alloc, numbers)?;
+    let [trace, preprocessed, quotient, random] = commitments.as_slice() else {
+        return Ok(None);
+    };
+    let publics = one(alloc, element(numbers[2]))?;
+    let handed = Handed {
+        trace,
+        preprocessed: Some(preprocessed),
+        publics: &publics,
+        quotient,
+        random: Some(random),
+        first: proved.first,
+        second: proved.second,
+        draws_zeta: true,
+        delegates: true,
+    };
     let mut challenger = fresh.duplicate(alloc)?;
-    let publics = one(alloc, inputs.public)?;
-    let drawn = verified::<F, EF, C>(alloc, &mut challenger, inputs, &publics, witnesses)?;
+    let ended = verified(alloc, &mut challenger, shape(3, true, 1, 1), &handed)?;
     let next: F = challenger.sample();
-    match drawn {
-        Some((alpha, zeta)) => Ok(Some((alpha, zeta, witnesses, next))),
-        None => Ok(None),
+    Ok(checked(ended, proved, next))
+}
+
+/// A verifier's run with these witnesses, where it was not given up.
+fn checked<F: Copy, EF: Copy>(
+    ended: Ended<EF>,
+    proved: &Drawn<F, EF>,
+    next: F,
+) -> Option<Played<F, EF>> {
+    match ended {
+        Ended::Drawn { alpha, zeta } => Some(Played {
+            drawn: Drawn {
+                alpha,
+                zeta,
+                first: proved.first,
+                second: proved.second,
+            },
+            next,
+        }),
+        Ended::GivenUp(_) => None,
     }
 }
 
-fn both_sides<F, EF, C>(alloc: Global, challenger: C, text: &str) -> Result<String, Fail>
+/// Whether two runs are the same in what is drawn in them and behind them, and in the witnesses.
+fn same<F: Field, EF: Field>(one: &Played<F, EF>, other: &Played<F, EF>) -> bool {
+    one.next == other.next
+        && one.drawn.alpha == other.drawn.alpha
+        && one.drawn.zeta == other.drawn.zeta
+        && one.drawn.first == other.drawn.first
+        && one.drawn.second == other.drawn.second
+}
+
+fn both_sides<F, EF, C>(alloc: Global, fresh: &C, numbers: &[u32; 5]) -> Result<String, Fail>
 where
-    F: PrimeField64 + Debug,
-    EF: ExtensionField<F> + Debug,
-    C: FieldChallenger<F>
-        + CanObserve<ClearCommitment<F>>
-        + ExtensionChallenger<F, EF>
-        + GrindingChallenger<Witness = F>,
+    F: PrimeField64,
+    EF: ExtensionField<F>,
+    C: RowChallenger<F, EF, ClearCommitment<F>>,
 {
     alpha_without_work::<C, F, EF, ClearCommitment<F>>();
-    let inputs = inputs_in::<F>(alloc, text)?;
-    let played = run::<F, EF, C>(alloc, &challenger, &inputs, true)?;
-    let (_, _, witnesses, _) = played.ok_or("no witness of one bit")?;
-    let checked = check::<F, EF, C>(alloc, &challenger, &inputs, witnesses)?;
-    let aborted = run::<F, EF, C>(alloc, &challenger, &inputs, false)?;
-    if checked != played || aborted != played {
-        return Ok(format!(in alloc; "{played:?} {checked:?} {aborted:?}")?);
-    }
-    Ok(String::from_str(alloc, "the same")?)
+    let proved = run::<F, EF, C>(alloc, fresh, numbers, true)?;
+    let checked = check::<F, EF, C>(alloc, fresh, numbers, &proved.drawn)?;
+    let checked = checked.ok_or("the verifier fails")?;
+    let aborted = run::<F, EF, C>(alloc, fresh, numbers, false)?;
+    agreement(alloc, same(&checked, &proved), same(&aborted, &proved))
 }
 
-fn changed<F, EF, C>(alloc: Global, challenger: C, text: &str) -> Result<String, Fail>
+fn agreement(alloc: Global, verifier: bool, aborted: bool) -> Result<String, Fail> {
+    let text = match (verifier, aborted) {
+        (true, true) => "the same",
+        (false, _) => "the verifier draws otherwise",
+        (true, false) => "the prover that stops draws otherwise",
+    };
+    Ok(String::from_str(alloc, text)?)
+}
+
+fn changed<F, EF, C>(
+    alloc: Global,
+    fresh: &C,
+    honest: &[u32; 5],
+    other: &[u32; 5],
+) -> Result<String, Fail>
 where
-    F: PrimeField64 + Debug,
-    EF: ExtensionField<F> + Debug,
-    C: FieldChallenger<F>
-        + CanObserve<ClearCommitment<F>>
-        + ExtensionChallenger<F, EF>
-        + GrindingChallenger<Witness = F>,
+    F: PrimeField64,
+    EF: ExtensionField<F>,
+    C: RowChallenger<F, EF, ClearCommitment<F>>,
 {
-    let (honest, other) = apart(text)?;
-    let honest = run::<F, EF, C>(alloc, &challenger, &inputs_in::<F>(alloc, honest)?, true)?;
-    let (alpha, _, _, next) = honest.ok_or("no witness of one bit")?;
-    let other = run::<F, EF, C>(alloc, &challenger, &inputs_in::<F>(alloc, other)?, true)?;
-    let (other_alpha, _, _, other_next) = other.ok_or("no witness of one bit")?;
-    Ok(format!(in alloc; "{} {}", other_next != next, other_alpha != alpha)?)
+    let honest = run::<F, EF, C>(alloc, fresh, honest, true)?;
+    let other = run::<F, EF, C>(alloc, fresh, other, true)?;
+    let is_next_other = other.next != honest.next;
+    two_words(
+        alloc,
+        is_next_other,
+        other.drawn.alpha != honest.drawn.alpha,
+    )
+}
+
+fn two_words(alloc: Global, one: bool, other: bool) -> Result<String, Fail> {
+    Ok(format!(in alloc; "{one} {other}")?)
 }

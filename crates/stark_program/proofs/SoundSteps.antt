@@ -28,7 +28,8 @@ use Rattle.stark_protocol.specs.ShapeFaults.{fault_if, key_degree_fault, key_wid
 use Rattle.stark_verifier.specs.SoundAcceptance.{proved_air}
 use Rattle.stark_verifier.specs.TakenValues.{embedded_polynomials}
 use Rattle.stark_protocol.specs.declared.preprocessed.PreprocessedVerifierKey.{PreprocessedVerifierKey}
-use Rattle.stark_verifier.proofs.ShapeSteps.{met, not_found}
+use Rattle.stark_protocol.specs.AcceptanceFacts.{not_found}
+use Rattle.stark_verifier.proofs.ShapeSteps.{met}
 use Rattle.stark_verifier.proofs.SoundAcceptanceSteps.{accepted_is_sound, shape_clear}
 use Rattle.stark_verifier.proofs.TakenValueSteps.{embedded_fit}
 use Rattle.stark_security.proofs.BadValueSteps.{first_broken}

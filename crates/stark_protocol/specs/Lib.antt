@@ -8,3 +8,4 @@ pub mod Equation
 pub mod ShapeFaults
 pub mod Preprocessing
 pub mod QuotientFacts
+pub mod AcceptanceFacts

@@ -16,6 +16,7 @@ use Rattle.stark_protocol.specs.Instance.{Instance, OpeningOps, ProtocolOps, log
 use Rattle.stark_protocol.specs.Preprocessing.{has_columns}
 use Rattle.stark_protocol.specs.declared.preprocessed.PreprocessedProverData.{PreprocessedProverData}
 use Rattle.stark_protocol.specs.declared.preprocessed.PreprocessedVerifierKey.{PreprocessedVerifierKey}
+use Rattle.stark_protocol.specs.AcceptanceFacts.{same_drawn}
 use Rattle.stark_parts.specs.SizingLaw.{HasSmallBound}
 use Rattle.stark_quotient.specs.PointwiseQuotient.{matrix_or_empty}
 use Rattle.stark_prover.specs.Acceptable.{IsAcceptable}
@@ -24,7 +25,7 @@ use Rattle.stark_prover.specs.Honest.{AreSetUp, HasSizedDegrees, IsAcceptedIfHon
 use Rattle.stark_prover.specs.ProofOfTrace.{IsProofOfTrace, key_of}
 use Rattle.stark_prover.specs.ProverFault.{ProverFault}
 use Rattle.stark_prover.specs.SetUpFacts.{key_of_set_up, stands_for_set_up}
-use Rattle.stark_prover.proofs.HonestSteps.{accepted_of_balanced, proof_of_trace_is_balanced, same_challenges, satisfied_in_each_row}
+use Rattle.stark_prover.proofs.HonestSteps.{accepted_of_balanced, proof_of_trace_is_balanced, satisfied_in_each_row}
 
 -- No columns take the rows of a trace without columns.
 no_columns : {F : Type 0} (base : RingOps F) (root : ℕ → F) (coset : TwoAdicCoset F) (values : List F) (width : ℕ) → width ≡ 0 → TakesRows base root coset width (matrix_row values width) []
@@ -65,7 +66,7 @@ module _ {S F E C K T P X Y : Type 0} (ops : ProtocolOps S F E C K T P X Y) (i :
   with_own_key : {p : ProofView K E P F} (fixed : List (List F)) → TakesRows ops.opening.fields.base ops.opening.fields.root (natural_coset ops.opening.fields.base log_height) (matrix_or_empty declared).width (declared_row declared) fixed
       → IsProofOfTrace ops own coordinates held log_height trace fixed p → IsAcceptable ops own p → IsSatisfied ops own log_height declared trace → HasSizedDegrees ops own log_height → IsAcceptedOutside ops own p
   with_own_key {p = p} fixed takes made acceptable satisfied sized = λ alpha zeta drawn outside.
-      let zeta_is = (same_challenges _ made.alpha made.zeta alpha zeta made.drawn drawn).1 in
+      let zeta_is = (same_drawn _ made.alpha made.zeta alpha zeta made.drawn drawn).1 in
       accepted_of_balanced ops own coordinates held log_height trace fixed p made acceptable (subst (λ z. IsPointOfH ops.opening.fields (committed_from ops.opening.is_zk p.degree_bits) z → ⊥) (sym zeta_is) outside)
       (proof_of_trace_is_balanced ops own coordinates held log_height trace fixed p made lawful laws leaves declared is_declared (subst (λ n. IfSome held (λ h. h.degree_bits ≡ n)) (sym made.degree_bits) (held_degree log_height refl))
       (satisfied_in_each_row ops own coordinates held log_height trace fixed p made lawful leaves (matrix_or_empty declared).width (declared_row declared) takes satisfied)

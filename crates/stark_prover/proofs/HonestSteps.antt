@@ -1,5 +1,5 @@
 -- A proof of a satisfying trace is balanced.
-use Rattle.std.proofs.Common.{◌≡◌, ◌∙◌, ap, sym, refl, arith, subst, ℕ, ◌+◌, ◌^◌, ◌≤◌, Bool, true, false, List, [], ◌∷◌, map, length, All, Option, None, Some, option_map, IfSome, Result, Ok, Err, nat_le, nat_lt}
+use Rattle.std.proofs.Common.{◌≡◌, ◌∙◌, ap, sym, refl, arith, subst, ℕ, ◌+◌, ◌^◌, ◌≤◌, List, [], ◌∷◌, map, length, All, Option, None, Some, option_map, IfSome, nat_le, nat_lt}
 use Rattle.std.specs.List.{AllByRecursion}
 use Rattle.std.proofs.lemmas.List.Elements.{recursion_from_All}
 use Rattle.std.proofs.lemmas.Bool.{ltb-false}
@@ -19,6 +19,7 @@ use Rattle.stark_protocol.specs.ShapeFaults.{fault_if, quotient_fault}
 use Rattle.stark_protocol.specs.OpenedClaims.{next_point}
 use Rattle.stark_protocol.specs.declared.preprocessed.PreprocessedProverData.{PreprocessedProverData}
 use Rattle.stark_protocol.specs.declared.preprocessed.PreprocessedVerifierKey.{PreprocessedVerifierKey}
+use Rattle.stark_protocol.specs.AcceptanceFacts.{not_found, same_drawn}
 use Rattle.stark_security.specs.BadValues.{Satisfies}
 use Rattle.stark_honest.specs.HonestQuotient.{AreLawful}
 use Rattle.stark_honest.specs.RowSatisfaction.{HoldsInEachRow, TraceRows}
@@ -56,23 +57,12 @@ made_of_key : {A B : Type 0} (f : A → B) (key : Option A) (rows : B) → optio
 made_of_key f None rows e = absurd (cc)
 made_of_key f (Some k) rows e = (k, sym (same_Some (f k) rows e))
 
-no_fault : {X : Type 0} (b : Bool) (error : X) → fault_if b error ≡ None → b ≡ false
-no_fault true error e = absurd (cc)
-no_fault false error e = refl
-
 -- The quotient's domain has no fault of size: the field has its roots of one.
 in_group : (log_parts is_zk degree_bits adicity greatest : ℕ) → quotient_fault log_parts is_zk degree_bits adicity greatest ≡ None → degree_bits + log_parts ≤ adicity
 in_group log_parts is_zk degree_bits adicity greatest clear =
     let past = later_none (fault_if (nat_le 64 (log_parts + is_zk)) _) _ clear in
     let last = later_none (fault_if (nat_le 64 (degree_bits + log_parts)) _) _ past in
-    ltb-false adicity (degree_bits + log_parts) (no_fault (nat_lt adicity (degree_bits + log_parts)) _ last)
-
-abbrev drawn_or : {D X : Type 0} → D → Result D X → D
-drawn_or d (Ok drawn) = drawn
-drawn_or d (Err error) = d
-
-pub same_challenges : {E X : Type 0} (answer : Result (E × E) X) (a z alpha zeta : E) → answer ≡ Ok (a, z) → answer ≡ Ok (alpha, zeta) → (a ≡ alpha) × (z ≡ zeta)
-same_challenges {E} {X} answer a z alpha zeta h k = (ap (λ (r : Result (E × E) X). (drawn_or (a, z) r).0) (sym h ∙ k), ap (λ (r : Result (E × E) X). (drawn_or (a, z) r).1) (sym h ∙ k))
+    ltb-false adicity (degree_bits + log_parts) (not_found (nat_lt adicity (degree_bits + log_parts)) _ last)
 
 module _ {S F E C K T P X Y : Type 0} (ops : ProtocolOps S F E C K T P X Y) (i : Instance S F C K) (coordinates : E → List F) (held : Option (PreprocessedProverData K T)) (height : ℕ) (trace : Trace F) (fixed : List (List F)) (p : ProofView K E P F)
     (made : IsProofOfTrace ops i coordinates held height trace fixed p) where
@@ -131,6 +121,6 @@ module _ {S F E C K T P X Y : Type 0} (ops : ProtocolOps S F E C K T P X Y) (i :
   -- It is accepted where the rest of acceptance holds, and zeta lies outside H.
   pub accepted_of_balanced : (acceptable : IsAcceptable ops i p) → (IsPointOfH ops.opening.fields (log_height ops.opening.is_zk p.degree_bits) made.zeta → ⊥) → IsBalanced ops i p made.alpha made.zeta → Accepted ops i p
   accepted_of_balanced acceptable outside balanced =
-      let same = same_challenges (challenges ops i p).answer made.alpha made.zeta acceptable.alpha acceptable.zeta made.drawn acceptable.drawn in
+      let same = same_drawn (challenges ops i p).answer made.alpha made.zeta acceptable.alpha acceptable.zeta made.drawn acceptable.drawn in
       accepted_outside ops i p acceptable (subst (λ z. IsPointOfH ops.opening.fields (log_height ops.opening.is_zk p.degree_bits) z → ⊥) same.1 outside)
       (subst (λ a. IsBalanced ops i p a acceptable.zeta) same.0 (subst (λ z. IsBalanced ops i p made.alpha z) same.1 balanced))

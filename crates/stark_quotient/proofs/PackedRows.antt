@@ -13,7 +13,7 @@ use Rattle.stark_prover_folder.specs.Finalized.{lane_values}
 use Rattle.stark_parts.specs.Folded.{folded}
 use Rattle.stark_quotient.specs.FoldedPlaces.{embedded}
 use Rattle.stark_security.specs.SameLeaves.{AgreeWithin, same_constraints}
-use Rattle.stark_quotient.specs.PointRows.{IsLaneRow, PointRow, folded_over, packed_environment, packed_layout, row_environment}
+use Rattle.stark_quotient.specs.PointRows.{FitLayout, IsLaneRow, PointRow, folded_over, packed_environment, packed_layout, row_environment}
 
 module _ {F P : Type 0} (lanes : P → List F) (i : ℕ) (blank : F) where
   first_part : (xs ys : List F) (packed : List P) (width : ℕ) → lane_values lanes i blank packed ≡ xs ++ ys → length xs ≡ width → lane_values lanes i blank (take width packed) ≡ xs
@@ -23,20 +23,20 @@ module _ {F P : Type 0} (lanes : P → List F) (i : ℕ) (blank : F) where
   second_part xs ys packed width is number = sym (drop-map (λ v. slice_index_or (lanes v) i blank) width packed) ∙ ap (drop width) is ∙ ap (λ n. drop n (xs ++ ys)) (sym number) ∙ drop-append_seam xs ys
 
 -- Two rows of the widths that a layout has cover it.
-pub halves_cover : {F P : Type 0} (l : Layout) (columns fixed_columns : ℕ) (main preprocessed periodic : List P) (publics : List F) → length main ≡ 2 * columns → columns ≡ l.main → length preprocessed ≡ 2 * fixed_columns → fixed_columns ≡ l.preprocessed
-    → length publics ≡ l.publics → length periodic ≡ l.periodics → l.main_next ≤ l.main → l.preprocessed_next ≤ l.preprocessed → Covers (packed_layout columns fixed_columns main preprocessed periodic publics) l
-halves_cover l columns fixed_columns main preprocessed periodic publics is_main is_columns is_fixed is_fixed_columns is_publics is_periodic next fixed_next =
-    let first = length-take-le columns main (omega arith) in
+pub halves_cover : {F P : Type 0} (l : Layout) (columns fixed_columns : ℕ) (main preprocessed periodic : List P) (publics : List F) → FitLayout l columns fixed_columns main preprocessed periodic publics
+    → l.main_next ≤ l.main → l.preprocessed_next ≤ l.preprocessed → Covers (packed_layout columns fixed_columns main preprocessed periodic publics) l
+halves_cover l columns fixed_columns main preprocessed periodic publics fit next fixed_next =
+    let first = length-take-le columns main (omega (arith, fit.main)) in
     let second = length-drop columns main in
-    let fixed_first = length-take-le fixed_columns preprocessed (omega arith) in
+    let fixed_first = length-take-le fixed_columns preprocessed (omega (arith, fit.preprocessed)) in
     let fixed_second = length-drop fixed_columns preprocessed in
     record {
-      main = omega (arith, first);
-      main_next = omega (arith, second);
-      preprocessed = omega (arith, fixed_first);
-      preprocessed_next = omega (arith, fixed_second);
-      publics = omega arith;
-      periodics = omega arith;
+      main = omega (arith, first, fit.main_width);
+      main_next = omega (arith, second, fit.main, fit.main_width, next);
+      preprocessed = omega (arith, fixed_first, fit.preprocessed_width);
+      preprocessed_next = omega (arith, fixed_second, fit.preprocessed, fit.preprocessed_width, fixed_next);
+      publics = omega (arith, fit.publics);
+      periodics = omega (arith, fit.periodics);
     }
 
 module _ {F E P : Type 0} (base : RingOps F) (ring : RingOps E) (embed : F → E) {packed_base : RingOps F} {o : Operations F P} {width : ℕ} {lanes : P → List F} (by_lane : IsLaneByLane packed_base o width lanes) (i : ℕ) (within : i < width) where

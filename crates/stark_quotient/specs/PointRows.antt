@@ -1,5 +1,5 @@
 -- What constraints read at one point, in the base field, and where packed rows have it in a lane.
-use Rattle.std.specs.Prelude.{◌≡◌, ℕ, List, ◌++◌, map, slice_index_or, take, drop}
+use Rattle.std.specs.Prelude.{◌≡◌, ◌<◌, ◌*◌, ℕ, List, ◌++◌, length, map, slice_index_or, take, drop}
 use Rattle.stark_support.specs.Ring.{RingOps}
 use Rattle.stark_support.specs.Operations.{Operations, ring_operations}
 use Rattle.stark_air.specs.Layout.{Layout}
@@ -44,6 +44,16 @@ pub record IsLaneRow {F P : Type 0} (lanes : P → List F) (blank : F) (main pre
   pub last_row : slice_index_or (lanes last) i blank ≡ row.last_row
   pub transition : slice_index_or (lanes change) i blank ≡ row.transition
 
+-- Packed rows, two one after the other of `width` and two of `fixed_width` columns, with the periodic columns' and the public
+-- values, have the lengths that a layout declares.
+pub record FitLayout {F P : Type 0} (l : Layout) (width fixed_width : ℕ) (rows fixed_rows periodic : List P) (public_values : List F) : Type 0 where
+  pub main : length rows ≡ 2 * width
+  pub main_width : width ≡ l.main
+  pub preprocessed : length fixed_rows ≡ 2 * fixed_width
+  pub preprocessed_width : fixed_width ≡ l.preprocessed
+  pub publics : length public_values ≡ l.publics
+  pub periodics : length periodic ≡ l.periodics
+
 -- Packed rows in a folder: of `width` and of `fixed_width` columns.
 module _ {F P : Type 0} (width fixed_width : ℕ) (main preprocessed periodic : List P) (publics : List F) where
   abbrev pub packed_environment : Operations F P → F → P → P → P → Environment P
@@ -52,3 +62,11 @@ module _ {F P : Type 0} (width fixed_width : ℕ) (main preprocessed periodic : 
 
   abbrev pub packed_layout : Layout
   packed_layout = layout_of (take width main) (drop width main) (take fixed_width preprocessed) (drop fixed_width preprocessed) publics periodic
+
+-- In each of `number` lanes `packed` is the folded sum of the constraints over the row that packed rows have there.
+abbrev pub AreFoldedRows : {F E P Q : Type 0} (base : RingOps F) (ring : RingOps E) (embed : F → E) (lanes : P → List F) (lanes_above : Q → List E) (number width fixed_width : ℕ)
+    (main preprocessed periodic : List P) (publics : List F) (first last change : P) (alpha : E) (cs : List (Constraint F)) (packed : Q) → Type 0
+AreFoldedRows {F} base ring embed lanes lanes_above number width fixed_width main preprocessed periodic publics first last change alpha cs packed =
+    (i : ℕ) → i < number → (row : PointRow F) → IsLaneRow lanes base.zero main preprocessed periodic first last change i row
+    → length row.main_current ≡ width → length row.preprocessed_current ≡ fixed_width → row.publics ≡ publics
+    → slice_index_or (lanes_above packed) i ring.zero ≡ folded_over base ring embed row alpha cs

@@ -1,13 +1,13 @@
 //! How an AIR's constraints are evaluated at a group of points.
-ghost use Rattle.std.specs.Prelude.{◌≡◌, ◌<◌, ℕ, ◌*◌, IfOk, map, length, slice_index_or};
+ghost use Rattle.std.specs.Prelude.{◌≡◌, IfOk, map};
 ghost use Rattle.std.specs.Vec.{vec_items};
 ghost use Rattle.stark_quotient.specs.FoldedPlaces.{AreFoldingPowers};
-ghost use Rattle.stark_quotient.specs.PointRows.{IsLaneRow, PointRow, folded_over};
+ghost use Rattle.stark_quotient.specs.PointRows.{AreFoldedRows, FitLayout};
 
-use crate::plain_eval::{AlphaPowers, PackedRows};
+use crate::plain_eval::PackedGroup;
 use stark_air::Air;
 use stark_parts::{StarkGenericConfig, Val};
-use stark_support::{ExtensionField, Field, LagrangeSelectors, PackedValue};
+use stark_support::{ExtensionField, Field, PackedValue};
 use std::alloc::{AllocError, Global};
 
 /// Evaluates an AIR's constraints at one group of points after the other, a point a lane, with one set of buffers.
@@ -27,22 +27,12 @@ pub(crate) trait GroupEval<SC: StarkGenericConfig, A: Air<Val<SC>>>: Drop {
         &mut self,
         alloc: Global,
         air: &A,
-        rows: &PackedRows<Self::Packed>,
-        selectors: &LagrangeSelectors<Self::Packed>,
-        public_values: &[Val<SC>],
-        powers: &AlphaPowers<SC>,
+        group: &PackedGroup<'_, SC, Self::Packed>,
     ) -> Result<Self::PackedAbove, AllocError>
-        requires main { length rows.now.main.items ≡ 2 * rows.now.main_width }
-        requires main_width { rows.now.main_width ≡ (A.layout air.now).main }
-        requires preprocessed { length rows.now.preprocessed.items ≡ 2 * rows.now.preprocessed_width }
-        requires preprocessed_width { rows.now.preprocessed_width ≡ (A.layout air.now).preprocessed }
-        requires publics { length public_values.now ≡ (A.layout air.now).publics }
-        requires periodic { length rows.now.periodic_values.items ≡ (A.layout air.now).periodics }
-        requires powers { AreFoldingPowers SC.Challenge.ring SC.Challenge.coordinates SC.Challenge.DIMENSION powers.now.alpha (A.constraints air.now) (map vec_items powers.now.base.items) powers.now.ext.items }
-        ensures { IfOk result (λ packed. (i : ℕ) → i < Self.PackedAbove.WIDTH → (row : PointRow SC.Pcs.Domain.Val)
-            → IsLaneRow Self.Packed.lanes SC.Pcs.Domain.Val.ring.zero rows.now.main.items rows.now.preprocessed.items rows.now.periodic_values.items selectors.now.is_first_row selectors.now.is_last_row selectors.now.is_transition i row
-            → length row.main_current ≡ rows.now.main_width → length row.preprocessed_current ≡ rows.now.preprocessed_width → row.publics ≡ public_values.now
-            → slice_index_or (Self.PackedAbove.lanes packed) i SC.Challenge.ring.zero ≡ folded_over SC.Pcs.Domain.Val.ring SC.Challenge.ring SC.Challenge.embed row powers.now.alpha (A.constraints air.now)) };
+        requires rows { FitLayout (A.layout air.now) group.now.rows.now.main_width group.now.rows.now.preprocessed_width group.now.rows.now.main.items group.now.rows.now.preprocessed.items group.now.rows.now.periodic_values.items group.now.public_values.now }
+        requires powers { AreFoldingPowers SC.Challenge.ring SC.Challenge.coordinates SC.Challenge.DIMENSION group.now.powers.now.alpha (A.constraints air.now) (map vec_items group.now.powers.now.base.items) group.now.powers.now.ext.items }
+        ensures { IfOk result (λ packed. AreFoldedRows SC.Pcs.Domain.Val.ring SC.Challenge.ring SC.Challenge.embed Self.Packed.lanes Self.PackedAbove.lanes Self.PackedAbove.WIDTH group.now.rows.now.main_width group.now.rows.now.preprocessed_width group.now.rows.now.main.items group.now.rows.now.preprocessed.items group.now.rows.now.periodic_values.items group.now.public_values.now
+            group.now.selectors.now.is_first_row group.now.selectors.now.is_last_row group.now.selectors.now.is_transition group.now.powers.now.alpha (A.constraints air.now) packed) };
 
     /// Packed values of the base field that are turned into some of the extension are each embedded.
     ghost from_packed_is: { (x : Self.Packed) (y : Self.PackedAbove) → ⟦<Self::PackedAbove as From<Self::Packed>>⟧.from_gives x y → Self.PackedAbove.lanes y ≡ map SC.Challenge.embed (Self.Packed.lanes x) };

@@ -1,8 +1,8 @@
 //! An AIR's constraints at a group of points, by packed values that have a point in each lane.
-ghost use Rattle.std.specs.Prelude.{◌≡◌, ◌<◌, ℕ, ◌+◌, ◌*◌, [], IfOk, map, length, slice_index_or};
+ghost use Rattle.std.specs.Prelude.{◌≡◌, ◌*◌, [], IfOk, map, length};
 ghost use Rattle.std.specs.Vec.{vec_items};
 ghost use Rattle.stark_quotient.specs.FoldedPlaces.{AreFoldingPowers};
-ghost use Rattle.stark_quotient.specs.PointRows.{IsLaneRow, PointRow, folded_over, packed_environment, packed_layout};
+ghost use Rattle.stark_quotient.specs.PointRows.{AreFoldedRows, FitLayout, packed_environment, packed_layout};
 
 use crate::group_eval::GroupEval;
 use crate::row::folded_row;
@@ -57,6 +57,32 @@ impl<P> PackedRows<P> {
     }
 }
 
+/// A group of points, a point a lane: the rows there, and what else an AIR's constraints read and are folded with.
+#[derive(Drop)]
+pub(crate) struct PackedGroup<'a, SC: StarkGenericConfig, P> {
+    pub rows: &'a PackedRows<P>,
+    pub selectors: &'a LagrangeSelectors<P>,
+    pub public_values: &'a [Val<SC>],
+    pub powers: &'a AlphaPowers<SC>,
+}
+
+/// The main and the preprocessed rows in the buffers, two of each.
+pub(crate) fn views_of<P>(
+    rows: &PackedRows<P>,
+) -> (RowMajorMatrixView<'_, P>, RowMajorMatrixView<'_, P>)
+    requires main { length rows.now.main.items ≡ 2 * rows.now.main_width }
+    requires preprocessed { length rows.now.preprocessed.items ≡ 2 * rows.now.preprocessed_width }
+    ensures main_width { result.0.width ≡ rows.now.main_width }
+    ensures main { result.0.values.now ≡ rows.now.main.items }
+    ensures preprocessed_width { result.1.width ≡ rows.now.preprocessed_width }
+    ensures preprocessed { result.1.values.now ≡ rows.now.preprocessed.items }
+{
+    (
+        RowMajorMatrixView::new(rows.main.as_slice(), rows.main_width),
+        RowMajorMatrixView::new(rows.preprocessed.as_slice(), rows.preprocessed_width),
+    )
+}
+
 /// The buffers in which a folder keeps the constraints' values.
 #[derive(Drop)]
 pub(crate) struct KeptValues<P, C> {
@@ -83,47 +109,40 @@ pub(crate) fn emptied<T: Drop>(alloc: Global, buffer: &mut Vec<T>) -> Vec<T>
     values
 }
 
-/// The prover's folder over rows in the buffers, which keeps nothing yet.
+/// The prover's folder over a group's rows, which keeps nothing yet.
 fn folder_on<'a, SC: StarkGenericConfig>(
     alloc: Global,
-    rows: &'a PackedRows<PackedVal<SC>>,
-    selectors: &LagrangeSelectors<PackedVal<SC>>,
-    public_values: &'a [Val<SC>],
-    powers: &'a AlphaPowers<SC>,
+    group: &PackedGroup<'a, SC, PackedVal<SC>>,
     kept: &mut KeptValues<PackedVal<SC>, PackedChallenge<SC>>,
 ) -> ProverConstraintFolder<'a, SC>
 where
     Val<SC>: PackedField,
     SC::Challenge: PackedExtensionField<Val<SC>>,
-    requires main { length rows.now.main.items ≡ 2 * rows.now.main_width }
-    requires preprocessed { length rows.now.preprocessed.items ≡ 2 * rows.now.preprocessed_width }
-    ensures environment { ⟦<ProverConstraintFolder<'a, SC> as AirBuilder>⟧.environment result ≡ packed_environment rows.now.main_width rows.now.preprocessed_width rows.now.main.items rows.now.preprocessed.items rows.now.periodic_values.items public_values.now SC.Pcs.Domain.Val.Packing.operations SC.Pcs.Domain.Val.ring.zero selectors.now.is_first_row selectors.now.is_last_row selectors.now.is_transition }
-    ensures layout { ⟦<ProverConstraintFolder<'a, SC> as AirBuilder>⟧.layout result ≡ packed_layout rows.now.main_width rows.now.preprocessed_width rows.now.main.items rows.now.preprocessed.items rows.now.periodic_values.items public_values.now }
+    requires main { length group.now.rows.now.main.items ≡ 2 * group.now.rows.now.main_width }
+    requires preprocessed { length group.now.rows.now.preprocessed.items ≡ 2 * group.now.rows.now.preprocessed_width }
+    ensures environment { ⟦<ProverConstraintFolder<'a, SC> as AirBuilder>⟧.environment result ≡ packed_environment group.now.rows.now.main_width group.now.rows.now.preprocessed_width group.now.rows.now.main.items group.now.rows.now.preprocessed.items group.now.rows.now.periodic_values.items group.now.public_values.now SC.Pcs.Domain.Val.Packing.operations SC.Pcs.Domain.Val.ring.zero group.now.selectors.now.is_first_row group.now.selectors.now.is_last_row group.now.selectors.now.is_transition }
+    ensures layout { ⟦<ProverConstraintFolder<'a, SC> as AirBuilder>⟧.layout result ≡ packed_layout group.now.rows.now.main_width group.now.rows.now.preprocessed_width group.now.rows.now.main.items group.now.rows.now.preprocessed.items group.now.rows.now.periodic_values.items group.now.public_values.now }
     ensures nothing_kept { result.base_constraints.items ≡ [] }
     ensures nothing_kept_above { result.ext_constraints.items ≡ [] }
-    ensures base_powers { result.base_alpha_powers.now ≡ powers.now.base.items }
-    ensures ext_powers { result.ext_alpha_powers.now ≡ powers.now.ext.items }
+    ensures base_powers { result.base_alpha_powers.now ≡ group.now.powers.now.base.items }
+    ensures ext_powers { result.ext_alpha_powers.now ≡ group.now.powers.now.ext.items }
 {
-    let main = RowMajorMatrixView::new(rows.main.as_slice(), rows.main_width);
-    let preprocessed = RowMajorMatrixView::new(
-        rows.preprocessed.as_slice(),
-        rows.preprocessed_width,
-    );
+    let (main, preprocessed) = views_of(group.rows);
     ProverConstraintFolder {
         main,
         preprocessed,
         preprocessed_window: RowWindow::from_view(&preprocessed),
-        periodic_values: rows.periodic_values.as_slice(),
-        public_values,
-        is_first_row: selectors.is_first_row,
-        is_last_row: selectors.is_last_row,
-        is_transition: selectors.is_transition,
-        base_alpha_powers: powers.base.as_slice(),
-        ext_alpha_powers: powers.ext.as_slice(),
+        periodic_values: group.rows.periodic_values.as_slice(),
+        public_values: group.public_values,
+        is_first_row: group.selectors.is_first_row,
+        is_last_row: group.selectors.is_last_row,
+        is_transition: group.selectors.is_transition,
+        base_alpha_powers: group.powers.base.as_slice(),
+        ext_alpha_powers: group.powers.ext.as_slice(),
         base_constraints: emptied(alloc, &mut kept.base),
         ext_constraints: emptied(alloc, &mut kept.ext),
         constraint_index: 0,
-        constraint_count: powers.count,
+        constraint_count: group.powers.count,
     }
 }
 
@@ -132,28 +151,18 @@ where
 fn fold_group<SC: StarkGenericConfig, A: Air<Val<SC>>>(
     alloc: Global,
     air: &A,
-    rows: &PackedRows<PackedVal<SC>>,
-    selectors: &LagrangeSelectors<PackedVal<SC>>,
-    public_values: &[Val<SC>],
-    powers: &AlphaPowers<SC>,
+    group: &PackedGroup<'_, SC, PackedVal<SC>>,
     kept: &mut KeptValues<PackedVal<SC>, PackedChallenge<SC>>,
 ) -> Result<PackedChallenge<SC>, AllocError>
 where
     Val<SC>: PackedField,
     SC::Challenge: PackedExtensionField<Val<SC>>,
-    requires main { length rows.now.main.items ≡ 2 * rows.now.main_width }
-    requires main_width { rows.now.main_width ≡ (A.layout air.now).main }
-    requires preprocessed { length rows.now.preprocessed.items ≡ 2 * rows.now.preprocessed_width }
-    requires preprocessed_width { rows.now.preprocessed_width ≡ (A.layout air.now).preprocessed }
-    requires publics { length public_values.now ≡ (A.layout air.now).publics }
-    requires periodic { length rows.now.periodic_values.items ≡ (A.layout air.now).periodics }
-    requires powers { AreFoldingPowers SC.Challenge.ring SC.Challenge.coordinates SC.Challenge.DIMENSION powers.now.alpha (A.constraints air.now) (map vec_items powers.now.base.items) powers.now.ext.items }
-    ensures { IfOk result (λ packed. (i : ℕ) → i < SC.Challenge.ExtensionPacking.WIDTH → (row : PointRow SC.Pcs.Domain.Val)
-        → IsLaneRow SC.Pcs.Domain.Val.Packing.lanes SC.Pcs.Domain.Val.ring.zero rows.now.main.items rows.now.preprocessed.items rows.now.periodic_values.items selectors.now.is_first_row selectors.now.is_last_row selectors.now.is_transition i row
-        → length row.main_current ≡ rows.now.main_width → length row.preprocessed_current ≡ rows.now.preprocessed_width → row.publics ≡ public_values.now
-        → slice_index_or (SC.Challenge.ExtensionPacking.lanes packed) i SC.Challenge.ring.zero ≡ folded_over SC.Pcs.Domain.Val.ring SC.Challenge.ring SC.Challenge.embed row powers.now.alpha (A.constraints air.now)) }
+    requires rows { FitLayout (A.layout air.now) group.now.rows.now.main_width group.now.rows.now.preprocessed_width group.now.rows.now.main.items group.now.rows.now.preprocessed.items group.now.rows.now.periodic_values.items group.now.public_values.now }
+    requires powers { AreFoldingPowers SC.Challenge.ring SC.Challenge.coordinates SC.Challenge.DIMENSION group.now.powers.now.alpha (A.constraints air.now) (map vec_items group.now.powers.now.base.items) group.now.powers.now.ext.items }
+    ensures { IfOk result (λ packed. AreFoldedRows SC.Pcs.Domain.Val.ring SC.Challenge.ring SC.Challenge.embed SC.Pcs.Domain.Val.Packing.lanes SC.Challenge.ExtensionPacking.lanes SC.Challenge.ExtensionPacking.WIDTH group.now.rows.now.main_width group.now.rows.now.preprocessed_width group.now.rows.now.main.items group.now.rows.now.preprocessed.items group.now.rows.now.periodic_values.items group.now.public_values.now
+        group.now.selectors.now.is_first_row group.now.selectors.now.is_last_row group.now.selectors.now.is_transition group.now.powers.now.alpha (A.constraints air.now) packed) }
 {
-    let mut folder = folder_on::<SC>(alloc, rows, selectors, public_values, powers, kept);
+    let mut folder = folder_on::<SC>(alloc, group, kept);
     let packed = folded_row::<SC, A>(air, &mut folder)?;
     kept.base = folder.base_constraints;
     kept.ext = folder.ext_constraints;
@@ -182,20 +191,9 @@ where
         &mut self,
         alloc: Global,
         air: &A,
-        rows: &PackedRows<PackedVal<SC>>,
-        selectors: &LagrangeSelectors<PackedVal<SC>>,
-        public_values: &[Val<SC>],
-        powers: &AlphaPowers<SC>,
+        group: &PackedGroup<'_, SC, PackedVal<SC>>,
     ) -> Result<PackedChallenge<SC>, AllocError> {
-        fold_group::<SC, A>(
-            alloc,
-            air,
-            rows,
-            selectors,
-            public_values,
-            powers,
-            &mut self.kept,
-        )
+        fold_group::<SC, A>(alloc, air, group, &mut self.kept)
     }
 
     ghost from_packed_is = { SC.Challenge.from_packed_is };

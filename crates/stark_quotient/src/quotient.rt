@@ -18,7 +18,7 @@ use crate::group_eval::GroupEval;
 use crate::packed_rows::{
     packed_pair_or_none, packed_selectors, packed_table_row, push_lanes, row_in_period,
 };
-use crate::plain_eval::{AlphaPowers, PackedRows, PlainEval};
+use crate::plain_eval::{AlphaPowers, PackedGroup, PackedRows, PlainEval};
 use crate::vectorized_eval::{QUOTIENT_ILP, VectorizedEval};
 use stark_air::{Air, AirLayout, BaseAir};
 use stark_parts::{Domain, StarkGenericConfig, Val};
@@ -193,7 +193,13 @@ fn quotients_of_group<SC: StarkGenericConfig, A: Air<Val<SC>>, G: GroupEval<SC, 
 {
     fill_rows::<SC, G::Packed>(on, start, rows)?;
     let selectors = packed_selectors(&on.selectors, start);
-    let sums = eval.fold(alloc, air, rows, &selectors, on.public_values, &on.powers)?;
+    let group = PackedGroup {
+        rows,
+        selectors: &selectors,
+        public_values: on.public_values,
+        powers: &on.powers,
+    };
+    let sums = eval.fold(alloc, air, &group)?;
     Ok(over_vanishing::<SC, A, G>(sums, selectors.inv_vanishing))
 }
 

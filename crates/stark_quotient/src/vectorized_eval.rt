@@ -1,15 +1,15 @@
 //! An AIR's constraints at a group of points, two packed values at a time.
-ghost use Rattle.std.specs.Prelude.{◌≡◌, ◌<◌, ℕ, ◌+◌, ◌*◌, [], IfOk, map, length, slice_index_or};
+ghost use Rattle.std.specs.Prelude.{◌≡◌, ◌*◌, [], IfOk, map, length};
 ghost use Rattle.std.specs.Vec.{vec_items};
 ghost use Rattle.std.proofs.Common.{ap};
 ghost use Rattle.stark_support.specs.Pairs.{both_lanes, both_operations};
 ghost use Rattle.stark_air.specs.Layout.{Covers};
 ghost use Rattle.stark_quotient.specs.FoldedPlaces.{AreFoldingPowers};
 ghost use Rattle.stark_quotient.specs.FoldedLanes.{AreFoldedLanes};
-ghost use Rattle.stark_quotient.specs.PointRows.{IsLaneRow, PointRow, folded_over, packed_environment, packed_layout};
+ghost use Rattle.stark_quotient.specs.PointRows.{AreFoldedRows, FitLayout, packed_environment, packed_layout};
 
 use crate::group_eval::GroupEval;
-use crate::plain_eval::{AlphaPowers, KeptValues, PackedRows, emptied};
+use crate::plain_eval::{KeptValues, PackedGroup, emptied, views_of};
 use stark_air::{Air, AirBuilder, RowWindow};
 use stark_parts::{PackedVal, StarkGenericConfig, Val};
 use stark_prover_folder::{VectorizedChallenge, VectorizedConstraintFolder, VectorizedVal};
@@ -33,47 +33,40 @@ where
     scratch: Vec<PackedVal<SC>>,
 }
 
-/// The lockstep folder over rows in the buffers, which keeps nothing yet.
+/// The lockstep folder over a group's rows, which keeps nothing yet.
 fn pairs_folder_on<'a, SC: StarkGenericConfig>(
     alloc: Global,
-    rows: &'a PackedRows<VectorizedVal<SC, 2>>,
-    selectors: &LagrangeSelectors<VectorizedVal<SC, 2>>,
-    public_values: &'a [Val<SC>],
-    powers: &'a AlphaPowers<SC>,
+    group: &PackedGroup<'a, SC, VectorizedVal<SC, 2>>,
     kept: &mut KeptValues<VectorizedVal<SC, 2>, VectorizedChallenge<SC, 2>>,
 ) -> VectorizedConstraintFolder<'a, SC, 2>
 where
     Val<SC>: PackedField,
     SC::Challenge: PackedExtensionField<Val<SC>>,
-    requires main { length rows.now.main.items ≡ 2 * rows.now.main_width }
-    requires preprocessed { length rows.now.preprocessed.items ≡ 2 * rows.now.preprocessed_width }
-    ensures environment { ⟦<VectorizedConstraintFolder<'a, SC, 2> as AirBuilder>⟧.environment result ≡ packed_environment rows.now.main_width rows.now.preprocessed_width rows.now.main.items rows.now.preprocessed.items rows.now.periodic_values.items public_values.now (both_operations SC.Pcs.Domain.Val.Packing.operations) SC.Pcs.Domain.Val.ring.zero selectors.now.is_first_row selectors.now.is_last_row selectors.now.is_transition }
-    ensures layout { ⟦<VectorizedConstraintFolder<'a, SC, 2> as AirBuilder>⟧.layout result ≡ packed_layout rows.now.main_width rows.now.preprocessed_width rows.now.main.items rows.now.preprocessed.items rows.now.periodic_values.items public_values.now }
+    requires main { length group.now.rows.now.main.items ≡ 2 * group.now.rows.now.main_width }
+    requires preprocessed { length group.now.rows.now.preprocessed.items ≡ 2 * group.now.rows.now.preprocessed_width }
+    ensures environment { ⟦<VectorizedConstraintFolder<'a, SC, 2> as AirBuilder>⟧.environment result ≡ packed_environment group.now.rows.now.main_width group.now.rows.now.preprocessed_width group.now.rows.now.main.items group.now.rows.now.preprocessed.items group.now.rows.now.periodic_values.items group.now.public_values.now (both_operations SC.Pcs.Domain.Val.Packing.operations) SC.Pcs.Domain.Val.ring.zero group.now.selectors.now.is_first_row group.now.selectors.now.is_last_row group.now.selectors.now.is_transition }
+    ensures layout { ⟦<VectorizedConstraintFolder<'a, SC, 2> as AirBuilder>⟧.layout result ≡ packed_layout group.now.rows.now.main_width group.now.rows.now.preprocessed_width group.now.rows.now.main.items group.now.rows.now.preprocessed.items group.now.rows.now.periodic_values.items group.now.public_values.now }
     ensures nothing_kept { result.base_constraints.items ≡ [] }
     ensures nothing_kept_above { result.ext_constraints.items ≡ [] }
-    ensures base_powers { result.base_alpha_powers.now ≡ powers.now.base.items }
-    ensures ext_powers { result.ext_alpha_powers.now ≡ powers.now.ext.items }
+    ensures base_powers { result.base_alpha_powers.now ≡ group.now.powers.now.base.items }
+    ensures ext_powers { result.ext_alpha_powers.now ≡ group.now.powers.now.ext.items }
 {
-    let main = RowMajorMatrixView::new(rows.main.as_slice(), rows.main_width);
-    let preprocessed = RowMajorMatrixView::new(
-        rows.preprocessed.as_slice(),
-        rows.preprocessed_width,
-    );
+    let (main, preprocessed) = views_of(group.rows);
     VectorizedConstraintFolder {
         main,
         preprocessed,
         preprocessed_window: RowWindow::from_view(&preprocessed),
-        periodic_values: rows.periodic_values.as_slice(),
-        public_values,
-        is_first_row: selectors.is_first_row,
-        is_last_row: selectors.is_last_row,
-        is_transition: selectors.is_transition,
-        base_alpha_powers: powers.base.as_slice(),
-        ext_alpha_powers: powers.ext.as_slice(),
+        periodic_values: group.rows.periodic_values.as_slice(),
+        public_values: group.public_values,
+        is_first_row: group.selectors.is_first_row,
+        is_last_row: group.selectors.is_last_row,
+        is_transition: group.selectors.is_transition,
+        base_alpha_powers: group.powers.base.as_slice(),
+        ext_alpha_powers: group.powers.ext.as_slice(),
         base_constraints: emptied(alloc, &mut kept.base),
         ext_constraints: emptied(alloc, &mut kept.ext),
         constraint_index: 0,
-        constraint_count: powers.count,
+        constraint_count: group.powers.count,
     }
 }
 
@@ -109,29 +102,19 @@ where
 fn fold_pairs<SC: StarkGenericConfig, A: Air<Val<SC>>>(
     alloc: Global,
     air: &A,
-    rows: &PackedRows<VectorizedVal<SC, 2>>,
-    selectors: &LagrangeSelectors<VectorizedVal<SC, 2>>,
-    public_values: &[Val<SC>],
-    powers: &AlphaPowers<SC>,
+    group: &PackedGroup<'_, SC, VectorizedVal<SC, 2>>,
     kept: &mut KeptValues<VectorizedVal<SC, 2>, VectorizedChallenge<SC, 2>>,
     scratch: &mut Vec<PackedVal<SC>>,
 ) -> Result<VectorizedChallenge<SC, 2>, AllocError>
 where
     Val<SC>: PackedField,
     SC::Challenge: PackedExtensionField<Val<SC>>,
-    requires main { length rows.now.main.items ≡ 2 * rows.now.main_width }
-    requires main_width { rows.now.main_width ≡ (A.layout air.now).main }
-    requires preprocessed { length rows.now.preprocessed.items ≡ 2 * rows.now.preprocessed_width }
-    requires preprocessed_width { rows.now.preprocessed_width ≡ (A.layout air.now).preprocessed }
-    requires publics { length public_values.now ≡ (A.layout air.now).publics }
-    requires periodic { length rows.now.periodic_values.items ≡ (A.layout air.now).periodics }
-    requires powers { AreFoldingPowers SC.Challenge.ring SC.Challenge.coordinates SC.Challenge.DIMENSION powers.now.alpha (A.constraints air.now) (map vec_items powers.now.base.items) powers.now.ext.items }
-    ensures { IfOk result (λ packed. (i : ℕ) → i < 2 * SC.Challenge.ExtensionPacking.WIDTH → (row : PointRow SC.Pcs.Domain.Val)
-        → IsLaneRow (both_lanes SC.Pcs.Domain.Val.Packing.lanes) SC.Pcs.Domain.Val.ring.zero rows.now.main.items rows.now.preprocessed.items rows.now.periodic_values.items selectors.now.is_first_row selectors.now.is_last_row selectors.now.is_transition i row
-        → length row.main_current ≡ rows.now.main_width → length row.preprocessed_current ≡ rows.now.preprocessed_width → row.publics ≡ public_values.now
-        → slice_index_or (both_lanes SC.Challenge.ExtensionPacking.lanes packed) i SC.Challenge.ring.zero ≡ folded_over SC.Pcs.Domain.Val.ring SC.Challenge.ring SC.Challenge.embed row powers.now.alpha (A.constraints air.now)) }
+    requires rows { FitLayout (A.layout air.now) group.now.rows.now.main_width group.now.rows.now.preprocessed_width group.now.rows.now.main.items group.now.rows.now.preprocessed.items group.now.rows.now.periodic_values.items group.now.public_values.now }
+    requires powers { AreFoldingPowers SC.Challenge.ring SC.Challenge.coordinates SC.Challenge.DIMENSION group.now.powers.now.alpha (A.constraints air.now) (map vec_items group.now.powers.now.base.items) group.now.powers.now.ext.items }
+    ensures { IfOk result (λ packed. AreFoldedRows SC.Pcs.Domain.Val.ring SC.Challenge.ring SC.Challenge.embed (both_lanes SC.Pcs.Domain.Val.Packing.lanes) (both_lanes SC.Challenge.ExtensionPacking.lanes) (2 * SC.Challenge.ExtensionPacking.WIDTH) group.now.rows.now.main_width group.now.rows.now.preprocessed_width group.now.rows.now.main.items group.now.rows.now.preprocessed.items group.now.rows.now.periodic_values.items group.now.public_values.now
+        group.now.selectors.now.is_first_row group.now.selectors.now.is_last_row group.now.selectors.now.is_transition group.now.powers.now.alpha (A.constraints air.now) packed) }
 {
-    let mut folder = pairs_folder_on::<SC>(alloc, rows, selectors, public_values, powers, kept);
+    let mut folder = pairs_folder_on::<SC>(alloc, group, kept);
     let packed = folded_pairs::<SC, A>(air, &mut folder, scratch)?;
     kept.base = folder.base_constraints;
     kept.ext = folder.ext_constraints;
@@ -161,21 +144,9 @@ where
         &mut self,
         alloc: Global,
         air: &A,
-        rows: &PackedRows<VectorizedVal<SC, 2>>,
-        selectors: &LagrangeSelectors<VectorizedVal<SC, 2>>,
-        public_values: &[Val<SC>],
-        powers: &AlphaPowers<SC>,
+        group: &PackedGroup<'_, SC, VectorizedVal<SC, 2>>,
     ) -> Result<VectorizedChallenge<SC, 2>, AllocError> {
-        fold_pairs::<SC, A>(
-            alloc,
-            air,
-            rows,
-            selectors,
-            public_values,
-            powers,
-            &mut self.kept,
-            &mut self.scratch,
-        )
+        fold_pairs::<SC, A>(alloc, air, group, &mut self.kept, &mut self.scratch)
     }
 
     ghost from_packed_is = { λ _ _ h. h };

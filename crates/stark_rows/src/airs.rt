@@ -7,7 +7,7 @@ ghost use Rattle.stark_air.specs.Rows.{layout_of};
 
 use crate::calls::{self, reads_of_a_part, selectors_at};
 use crate::elements::{above, elements_in};
-use crate::rows::{apart, list_in, numbers_in};
+use crate::rows::{apart, list_in, numbers_in, shown};
 use stark_air::{Air, BaseAir, every_column};
 use stark_bench::{ClearCommitment, S12289};
 use stark_clear::{
@@ -172,7 +172,7 @@ where
     let periodic = row_in::<F, EF>(alloc, periodic)?;
     let publics = elements_in::<F>(alloc, publics)?;
     let sum = folded_of::<F, EF, C, A>(alloc, air, &local, &next, &fixed, &periodic, &publics)?;
-    Ok(format!(in alloc; "{sum:?}")?)
+    shown(alloc, &sum)
 }
 
 fn folded_of<F, EF, C, A>(
@@ -282,7 +282,7 @@ where
     let next = row_in::<F, EF>(alloc, next)?;
     let none = elements_in::<F>(alloc, "empty")?;
     let reads = reads_of_a_part::<F, EF, C>(start as usize, &local, &next, &none)?;
-    Ok(format!(in alloc; "{reads:?}")?)
+    shown(alloc, &reads)
 }
 
 #[test]

@@ -1,4 +1,5 @@
 //! The answers to rows over each field.
+use crate::challengers::RowChallenger;
 use crate::elements::elements_in;
 use crate::{
     airs, constraints, domains, hostile_inputs, preprocessing, proofs, provers, quotients,
@@ -9,8 +10,7 @@ use stark_bench::{
     ScriptChallenger, Sha256Challenger,
 };
 use stark_support::{
-    CanObserve, ExtensionChallenger, FieldChallenger, GrindingChallenger, NeverNull,
-    PackedExtensionField, PackedField, PrimeField64, QuarticBase, TwoAdicField,
+    NeverNull, PackedExtensionField, PackedField, PrimeField64, QuarticBase, TwoAdicField,
 };
 use std::alloc::Global;
 use std::fmt::Debug;
@@ -21,11 +21,7 @@ fn answer<F, EF, C>(alloc: Global, challenger: C, subject: &str, row: &str) -> R
 where
     F: PrimeField64 + TwoAdicField + QuarticBase + PackedField + NeverNull + Debug,
     EF: PackedExtensionField<F> + NeverNull + Debug,
-    C: FieldChallenger<F>
-        + CanObserve<ClearCommitment<F>>
-        + ExtensionChallenger<F, EF>
-        + GrindingChallenger<Witness = F>
-        + Clone,
+    C: RowChallenger<F, EF, ClearCommitment<F>>,
 {
     match subject {
         "airs" => airs::answer::<F, EF, C>(alloc, row),

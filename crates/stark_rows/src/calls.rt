@@ -5,6 +5,7 @@ ghost use Rattle.stark_air.specs.Rows.{layout_of};
 ghost use Rattle.stark_support.specs.Coset.{coset_size, coset_vanishing};
 ghost use Rattle.stark_protocol.specs.Preprocessing.{HasHeight, IsCommittedWithin};
 
+use crate::challengers::RowChallenger;
 use p3_uni_stark::{
     PreprocessedProverData, PreprocessedVerifierKey, Proof, StarkProof,
     recompose_quotient_from_chunks, setup_preprocessed, verify, verify_constraints,
@@ -315,11 +316,7 @@ pub fn answer<F, EF, C, A>(
 where
     F: TwoAdicField + PrimeField64,
     EF: ExtensionField<F>,
-    C: FieldChallenger<F>
-        + CanObserve<ClearCommitment<F>>
-        + ExtensionChallenger<F, EF>
-        + GrindingChallenger<Witness = F>
-        + Clone,
+    C: RowChallenger<F, EF, ClearCommitment<F>>,
     A: Air<F>,
 {
     verified::<ClearConfig<F, EF, C>, A>(alloc, config, air, proof, publics, key)

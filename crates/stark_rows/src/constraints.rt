@@ -2,7 +2,7 @@
 use crate::airs::row_in;
 use crate::calls::equation;
 use crate::elements::{above, elements_in};
-use crate::rows::{apart, numbers_in};
+use crate::rows::{apart, numbers_in, shown};
 use stark_bench::ClearCommitment;
 use stark_clear::CounterAir;
 use stark_support::{
@@ -57,7 +57,7 @@ where
         above::<F, EF>(4),
         above::<F, EF>(quotient),
     );
-    Ok(format!(in alloc; "{answer:?}")?)
+    shown(alloc, &answer)
 }
 
 /// The answer to a row of this table.

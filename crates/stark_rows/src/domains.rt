@@ -1,7 +1,7 @@
 //! Cosets, their parts and selectors, and the recomposition of a quotient.
 use crate::calls::{recomposed_on_parts, selectors_at};
 use crate::elements::{above, element, elements_in};
-use crate::rows::{apart, list_in, numbers_in};
+use crate::rows::{apart, list_in, numbers_in, shown};
 use stark_bench::{CircleShape, ClearCommitment, Coset, S12289};
 use stark_protocol::power_of_two;
 use stark_support::{
@@ -107,7 +107,7 @@ where
         Some(domain) => Some(domain.vanishing_poly_at_point(above::<F, EF>(point))),
         None => None,
     };
-    Ok(format!(in alloc; "{found:?}")?)
+    shown(alloc, &found)
 }
 
 fn selectors<F, EF>(alloc: Global, text: &str) -> Result<String, Fail>
@@ -190,7 +190,7 @@ fn disjoint<F: TwoAdicField + Debug>(alloc: Global, text: &str) -> Result<String
         Some(other) => Some((other.shift, other.log_size)),
         None => None,
     };
-    Ok(format!(in alloc; "{found:?}")?)
+    shown(alloc, &found)
 }
 
 fn next<F, EF>(alloc: Global, text: &str) -> Result<String, Fail>
@@ -201,7 +201,7 @@ where
     let [log_size, point] = numbers_in::<2>(text)?;
     let domain = subgroup::<F>(log_size as usize).ok_or("no such group")?;
     let found: Option<EF> = domain.next_point(above::<F, EF>(point));
-    Ok(format!(in alloc; "{found:?}")?)
+    shown(alloc, &found)
 }
 
 /// Whether columns fit a trace of four rows, or what is wrong.
@@ -222,7 +222,7 @@ fn fitting<F: Field>(alloc: Global, text: &str) -> Result<String, Fail> {
         columns.push(column)?;
     }
     let found = fits(&columns);
-    Ok(format!(in alloc; "{found:?}")?)
+    shown(alloc, &found)
 }
 
 /// The values at a point of columns beside the subgroup of `2^log_size` points.
@@ -255,7 +255,7 @@ where
     }
     let point = above::<F, EF>(point);
     let found = periodic_values::<F, EF>(alloc, log_size as usize, &columns, point)?;
-    Ok(format!(in alloc; "{found:?}")?)
+    shown(alloc, &found)
 }
 
 /// The value at 3 that is recomposed from chunks on the parts of the coset with shift 11; none where it has fewer parts.
@@ -304,7 +304,7 @@ where
         chunks.push(values)?;
     }
     let found = recomposed_at::<F, EF, C>(alloc, log_size as usize, log_chunks as usize, &chunks)?;
-    Ok(format!(in alloc; "{found:?}")?)
+    shown(alloc, &found)
 }
 
 #[test]

@@ -2,20 +2,21 @@
 //! numbers and the bits of work before zeta and before alpha, the public values, the opened preprocessed rows and the proof, whose
 //! JSON has none of those rows, since JSON can't spell all of them.
 use crate::calls::ClearConfig;
+use crate::challengers::RowChallenger;
 use crate::declaring_air::DeclaringAir;
 use crate::proofs::value_of;
 use crate::proving::{MaskedConfig, masked};
-use crate::rows::apart;
+use crate::rows::{apart, shown};
 use p3_uni_stark::{
     PcsProof, PreprocessedOpenedValues, PreprocessedVerifierKey, Proof, verify_with_preprocessed,
 };
 use serde_json::Value;
 use stark_bench::ClearCommitment;
-use stark_clear::ClearPcs;
+use stark_clear::{ClearPcs, ClearProof};
 use stark_parts::{Com, PcsError, StarkConfig, StarkGenericConfig, Val};
 use stark_support::{
-    CanObserve, ExtensionChallenger, ExtensionField, Field, FieldChallenger, GrindingChallenger,
-    JsonCodec, NeverNull, PrimeField64, TwoAdicField, list_from_json, lists_from_json,
+    ExtensionField, Field, GrindingChallenger, JsonCodec, NeverNull, PrimeField64, TwoAdicField,
+    list_from_json, lists_from_json,
 };
 use std::alloc::Global;
 use std::fmt::Debug;
@@ -92,23 +93,49 @@ fn proof_of<K: NeverNull + Drop, EF: JsonCodec + Drop, P: JsonCodec + Drop, F: F
     Ok(proof)
 }
 
+/// What a verifier is given.
+#[derive(Drop)]
+struct Input<K, EF, P, F> {
+    air: DeclaringAir<F>,
+    key: Option<PreprocessedVerifierKey<K>>,
+    proof: Proof<K, EF, P, F>,
+    publics: Vec<F>,
+}
+
+fn input_of<K: NeverNull + Drop, EF: JsonCodec + Drop, P: JsonCodec + Drop, F: Field + NeverNull>(
+    alloc: Global,
+    value: &Value,
+) -> Result<Input<K, EF, P, F>, Fail> {
+    Ok(Input {
+        air: air_of(alloc, value)?,
+        key: key_of(alloc, value)?,
+        proof: proof_of(alloc, value)?,
+        publics: list_at(alloc, value, "publics")?,
+    })
+}
+
 /// What any verifier answers, in words.
-fn answered<SC>(alloc: Global, config: &SC, value: &Value) -> Result<String, Fail>
+fn answered<SC>(
+    alloc: Global,
+    config: &SC,
+    input: &Input<Com<SC>, SC::Challenge, PcsProof<SC>, Val<SC>>,
+) -> Result<String, Fail>
 where
     SC: StarkGenericConfig,
     SC::Challenger: GrindingChallenger<Witness = Val<SC>>,
-    SC::Challenge: JsonCodec,
-    Val<SC>: NeverNull,
-    Com<SC>: NeverNull,
-    PcsProof<SC>: JsonCodec,
     PcsError<SC>: Debug,
 {
-    let air = air_of::<Val<SC>>(alloc, value)?;
-    let key = key_of::<Com<SC>>(alloc, value)?;
-    let proof = proof_of::<Com<SC>, SC::Challenge, PcsProof<SC>, Val<SC>>(alloc, value)?;
-    let publics = list_at::<Val<SC>>(alloc, value, "publics")?;
-    let answer = verify_with_preprocessed(alloc, config, &air, &proof, &publics, key.as_ref());
-    Ok(format!(in alloc; "{answer:?}")?)
+    let (air, proof, key) = (&input.air, &input.proof, input.key.as_ref());
+    let answer = verify_with_preprocessed(alloc, config, air, proof, &input.publics, key);
+    shown(alloc, &answer)
+}
+
+/// The bits of work before zeta and before alpha.
+fn bits_of(value: &Value) -> Result<[usize; 2], Fail> {
+    Ok([
+        number_at(value, "work").ok_or("no bits of work")?,
+        number_at(value, "alpha_work").ok_or("no bits of work before alpha")?,
+    ])
 }
 
 /// What the verifier answers of an input: the challenger | the scheme | the input. No mask is read by it.
@@ -116,26 +143,22 @@ pub fn answer<F, EF, C>(alloc: Global, challenger: C, row: &str) -> Result<Strin
 where
     F: TwoAdicField + PrimeField64 + NeverNull,
     EF: ExtensionField<F> + JsonCodec,
-    C: FieldChallenger<F>
-        + CanObserve<ClearCommitment<F>>
-        + ExtensionChallenger<F, EF>
-        + GrindingChallenger<Witness = F>
-        + Clone,
+    C: RowChallenger<F, EF, ClearCommitment<F>>,
 {
     let (_challenger, row) = apart(row)?;
     let (scheme, text) = apart(row)?;
     let value = value_of(alloc, text)?;
-    let ood_bits = number_at(&value, "work").ok_or("no bits of work")?;
-    let alpha_bits = number_at(&value, "alpha_work").ok_or("no bits of work before alpha")?;
+    let [ood_bits, alpha_bits] = bits_of(&value)?;
+    let input = input_of::<ClearCommitment<F>, EF, ClearProof, F>(alloc, &value)?;
     if scheme == "masked" {
         let config = masked::<F, EF, C>(alloc, challenger, "1")?;
         let config = config.with_ood_proof_of_work_bits(ood_bits);
         let config = config.with_constraint_proof_of_work_bits(alpha_bits);
-        return answered::<MaskedConfig<F, EF, C>>(alloc, &config, &value);
+        return answered::<MaskedConfig<F, EF, C>>(alloc, &config, &input);
     }
     let config = StarkConfig::new(ClearPcs::new(), challenger).with_ood_proof_of_work_bits(
         ood_bits,
     );
     let config = config.with_constraint_proof_of_work_bits(alpha_bits);
-    answered::<ClearConfig<F, EF, C>>(alloc, &config, &value)
+    answered::<ClearConfig<F, EF, C>>(alloc, &config, &input)
 }

@@ -5,7 +5,7 @@ ghost use Rattle.stark_protocol.specs.Preprocessing.{HasHeight, IsCommittedWithi
 use crate::calls::{ClearConfig, set_up};
 use crate::empty_trace::EmptyTraceAir;
 use crate::proving::{MaskedConfig, masked};
-use crate::rows::{apart, numbers_in};
+use crate::rows::{apart, numbers_in, shown};
 use p3_uni_stark::setup_preprocessed;
 use stark_air::BaseAir;
 use stark_bench::ClearCommitment;
@@ -51,7 +51,7 @@ where
     if name == "masked" {
         let config = masked::<F, EF, C>(alloc, challenger, "1")?;
         let sizes = masked_sizes(alloc, &config, &PreprocessedAir, 2);
-        return Ok(format!(in alloc; "{sizes:?}")?);
+        return shown(alloc, &sizes);
     }
     let config: ClearConfig<F, EF, C> = StarkConfig::new(ClearPcs::new(), challenger);
     match name {

@@ -1,5 +1,5 @@
 //! Proofs and their parts in JSON, and the test of a proof's height.
-use crate::rows::{apart, numbers_in, option_in};
+use crate::rows::{apart, numbers_in, option_in, shown};
 use p3_uni_stark::{Commitments, OpenedValues, Proof, validate_degree_bits};
 use serde_json::Value;
 use stark_support::{Field, JsonCodec, NeverNull};
@@ -124,7 +124,7 @@ fn openings<F: JsonCodec + Drop>(alloc: Global, text: &str) -> Result<String, Fa
     let value = value_of(alloc, text)?;
     match OpenedValues::<F>::from_json(alloc, &value) {
         Ok(openings) => Ok(openings.to_json(alloc)?.to_string(alloc)?),
-        Err(error) => Ok(format!(in alloc; "{error:?}")?),
+        Err(error) => shown(alloc, &error),
     }
 }
 
@@ -132,7 +132,7 @@ fn commitments<F: NeverNull + Drop>(alloc: Global, text: &str) -> Result<String,
     let value = value_of(alloc, text)?;
     match Commitments::<F>::from_json(alloc, &value) {
         Ok(commitments) => Ok(commitments.to_json(alloc)?.to_string(alloc)?),
-        Err(error) => Ok(format!(in alloc; "{error:?}")?),
+        Err(error) => shown(alloc, &error),
     }
 }
 
@@ -144,7 +144,7 @@ where
     let value = value_of(alloc, text)?;
     match Proof::<F, EF, F, F>::from_json(alloc, &value) {
         Ok(proof) => Ok(proof.to_json(alloc)?.to_string(alloc)?),
-        Err(error) => Ok(format!(in alloc; "{error:?}")?),
+        Err(error) => shown(alloc, &error),
     }
 }
 
@@ -165,13 +165,17 @@ fn opened<F: JsonCodec + Debug + Drop>(alloc: Global, text: &str) -> Result<Stri
 
 fn height(alloc: Global, text: &str) -> Result<String, Fail> {
     let (air, numbers) = apart(text)?;
-    let [degree_bits, is_zk, least, greatest] = numbers_in::<4>(numbers)?.map(
-        |number| number as usize,
-    );
+    let [degree_bits, is_zk, least, greatest] = numbers_in::<4>(numbers)?;
     let air = option_in(air)?;
     if is_zk > 1 || least > 1 {
         return Err(Fail::new("too great"));
     }
-    let answer = validate_degree_bits(air, degree_bits, is_zk, least, greatest);
-    Ok(format!(in alloc; "{answer:?}")?)
+    let answer = validate_degree_bits(
+        air,
+        degree_bits as usize,
+        is_zk as usize,
+        least as usize,
+        greatest as usize,
+    );
+    shown(alloc, &answer)
 }

@@ -6,24 +6,23 @@ ghost use Rattle.stark_protocol.specs.Preprocessing.{HasHeight};
 
 use crate::airs::small_air;
 use crate::calls::ClearConfig;
+use crate::challengers::RowChallenger;
+use crate::declaring_air::DeclaringAir;
 use crate::elements::elements_in;
-use crate::proving::{MaskedConfig, masked, masked_reread, proved_by};
+use crate::proving::{MaskedConfig, TraceProver, masked, masked_reread};
 use crate::rows::{apart, numbers_in, option_in};
-use crate::sized_airs::BoundedAir;
-use p3_uni_stark::PcsProof;
 use stark_air::Air;
 use stark_bench::ClearCommitment;
 use stark_clear::{
     ClearCall, ClearPcs, CounterAir, CubicAir, FibonacciAir, MaskedClearPcs, PairAir, PeriodicAir,
-    PreprocessedAir,
+    PreprocessedAir, SmallAir,
 };
-use stark_parts::{Com, PcsError, PcsProverError, StarkConfig, StarkGenericConfig, Val};
+use stark_parts::StarkConfig;
 use stark_support::{
-    CanObserve, ExtensionChallenger, FieldChallenger, GrindingChallenger, JsonCodec, NeverNull,
-    PackedExtensionField, PackedField, PrimeField64, RowMajorMatrix, TwoAdicField,
+    JsonCodec, NeverNull, PackedExtensionField, PackedField, PrimeField64, RowMajorMatrix,
+    TwoAdicField,
 };
 use std::alloc::Global;
-use std::fmt::Debug;
 use std::test::Fail;
 
 pub const WORKED: &str = r#"
@@ -129,17 +128,13 @@ pub fn answer<F, EF, C>(alloc: Global, challenger: C, row: &str) -> Result<Strin
 where
     F: PrimeField64 + TwoAdicField + PackedField + NeverNull,
     EF: PackedExtensionField<F> + JsonCodec,
-    C: FieldChallenger<F>
-        + CanObserve<ClearCommitment<F>>
-        + ExtensionChallenger<F, EF>
-        + GrindingChallenger<Witness = F>
-        + Clone,
+    C: RowChallenger<F, EF, ClearCommitment<F>>,
 {
     let (_challenger, row) = apart(row)?;
     let (table, text) = apart(row)?;
     match table {
         "made" => made::<F, EF, C>(alloc, challenger, text),
-        "stopped" => stopped::<F, EF, C>(alloc, challenger, text),
+        "stopped" => without_proof(alloc, made::<F, EF, C>(alloc, challenger, text)?),
         "not made" => not_made::<F, EF, C>(alloc, challenger, text),
         "changed" => changed::<F, EF, C>(alloc, challenger, text),
         _ => Err(Fail::new("no such table")),
@@ -160,79 +155,75 @@ fn matrix<F: PrimeField64>(
 }
 
 /// The text of the proof of an AIR's trace of so many rows, and the verifier's answer: the trace | the public values.
-pub fn text_at<SC, A>(
+pub fn text_at<F, P, A>(
     alloc: Global,
-    config: &SC,
+    prover: &P,
     air: &A,
     log_height: usize,
     text: &str,
 ) -> Result<String, Fail>
 where
-    SC: StarkGenericConfig,
-    SC::Challenge: PackedExtensionField<Val<SC>> + JsonCodec,
-    SC::Challenger: GrindingChallenger<Witness = Val<SC>>,
-    Val<SC>: PackedField + NeverNull,
-    Com<SC>: NeverNull,
-    PcsProof<SC>: JsonCodec,
-    PcsError<SC>: Debug,
-    PcsProverError<SC>: Debug,
-    A: Air<Val<SC>>,
+    F: PrimeField64,
+    P: TraceProver<F>,
+    A: Air<F>,
     requires set_up { HasHeight log_height (A.preprocessed_trace air.now) }
 {
     let (trace, publics) = apart(text)?;
-    let trace = matrix::<Val<SC>>(alloc, trace, air.width())?.ok_or("rows that aren't whole")?;
-    let publics = elements_in::<Val<SC>>(alloc, publics)?;
-    let text = proved_by(alloc, config, air, log_height, trace, &publics)?;
+    let trace = matrix::<F>(alloc, trace, air.width())?.ok_or("rows that aren't whole")?;
+    let publics = elements_in::<F>(alloc, publics)?;
+    let text = prover.proved_text(alloc, air, log_height, trace, &publics)?;
     Ok(text.ok_or("a trace that doesn't fit")?)
 }
 
 /// The same with the logarithm of the height before it.
-fn text_on<SC, A>(alloc: Global, config: &SC, air: &A, text: &str) -> Result<String, Fail>
+fn text_on<F, P, A>(alloc: Global, prover: &P, air: &A, text: &str) -> Result<String, Fail>
 where
-    SC: StarkGenericConfig,
-    SC::Challenge: PackedExtensionField<Val<SC>> + JsonCodec,
-    SC::Challenger: GrindingChallenger<Witness = Val<SC>>,
-    Val<SC>: PackedField + NeverNull,
-    Com<SC>: NeverNull,
-    PcsProof<SC>: JsonCodec,
-    PcsError<SC>: Debug,
-    PcsProverError<SC>: Debug,
-    A: Air<Val<SC>>,
+    F: PrimeField64,
+    P: TraceProver<F>,
+    A: Air<F>,
     requires set_up { (height : ℕ) → HasHeight height (A.preprocessed_trace air.now) }
 {
     let (number, rest) = apart(text)?;
     let [log_height] = numbers_in::<1>(number)?;
-    text_at(alloc, config, air, log_height as usize, rest)
+    text_at::<F, P, A>(alloc, prover, air, log_height as usize, rest)
 }
 
 /// The same of a named AIR's trace; a number is the author's bound of a counter. The preprocessed column has four rows, so that no
 /// height is read for it.
-fn text_by_name<SC>(alloc: Global, config: &SC, text: &str) -> Result<String, Fail>
+fn text_by_name<F, P>(alloc: Global, prover: &P, text: &str) -> Result<String, Fail>
 where
-    SC: StarkGenericConfig,
-    SC::Challenge: PackedExtensionField<Val<SC>> + JsonCodec,
-    SC::Challenger: GrindingChallenger<Witness = Val<SC>>,
-    Val<SC>: PackedField + NeverNull,
-    Com<SC>: NeverNull,
-    PcsProof<SC>: JsonCodec,
-    PcsError<SC>: Debug,
-    PcsProverError<SC>: Debug,
+    F: PrimeField64,
+    P: TraceProver<F>,
 {
     let (name, rest) = apart(text)?;
     match name {
-        "counter" => text_on(alloc, config, &CounterAir, rest),
-        "cubic" => text_on(alloc, config, &CubicAir, rest),
-        "fibonacci" => text_on(alloc, config, &FibonacciAir, rest),
-        "pair" => text_on(alloc, config, &PairAir, rest),
-        "preprocessed" => text_at(alloc, config, &PreprocessedAir, 2, rest),
-        "periodic" => text_on(alloc, config, &PeriodicAir::new(alloc)?, rest),
-        "first row" => text_on(alloc, config, &small_air(name), rest),
+        "counter" => text_on::<F, P, CounterAir>(alloc, prover, &CounterAir, rest),
+        "cubic" => text_on::<F, P, CubicAir>(alloc, prover, &CubicAir, rest),
+        "fibonacci" => text_on::<F, P, FibonacciAir>(alloc, prover, &FibonacciAir, rest),
+        "pair" => text_on::<F, P, PairAir>(alloc, prover, &PairAir, rest),
+        "preprocessed" => text_at::<F, P, PreprocessedAir>(
+            alloc,
+            prover,
+            &PreprocessedAir,
+            2,
+            rest,
+        ),
+        "periodic" => text_on::<F, P, PeriodicAir<F>>(
+            alloc,
+            prover,
+            &PeriodicAir::new(alloc)?,
+            rest,
+        ),
+        "first row" => text_on::<F, P, SmallAir>(alloc, prover, &small_air(name), rest),
         _ => {
-            let air = BoundedAir {
-                air: CounterAir,
+            let air = DeclaringAir {
                 hint: option_in(name)?,
+                reads_next: true,
+                has_fixed: false,
+                reads_fixed_next: false,
+                periodic: Vec::new(alloc),
             };
-            text_on(alloc, config, &air, rest)
+            text_on::<F, P, DeclaringAir<F>>(alloc, prover, &air, rest)
         }
     }
 }
@@ -249,6 +240,28 @@ fn call_in(name: &str) -> Result<ClearCall, Fail> {
     }
 }
 
+/// A scheme, with its masks where it has some, the call at which it stops, the bits of work before zeta and before alpha, and the rest
+/// of a row: an AIR and its trace.
+#[derive(Clone, Copy)]
+struct Wanted<'a> {
+    masks: Option<&'a str>,
+    call: Option<ClearCall>,
+    bits: [usize; 2],
+    trace: &'a str,
+}
+
+fn wanted_in(text: &str) -> Result<Wanted<'_>, Fail> {
+    let (scheme, rest) = apart(text)?;
+    let (bits, trace) = apart(rest)?;
+    let (scheme, call) = scheme_in(scheme)?;
+    Ok(Wanted {
+        masks: scheme.strip_prefix("masked by "),
+        call,
+        bits: bits_in(bits)?,
+        trace,
+    })
+}
+
 /// The scheme without the call at which it stops, and that call.
 fn scheme_in(text: &str) -> Result<(&str, Option<ClearCall>), Fail> {
     match text.split_once(" stopping at ") {
@@ -260,69 +273,40 @@ fn scheme_in(text: &str) -> Result<(&str, Option<ClearCall>), Fail> {
 /// The bits of work before zeta and before alpha; none are asked for before alpha where there is one number.
 fn bits_in(text: &str) -> Result<[usize; 2], Fail> {
     if text.split_once(' ').is_some() {
-        return Ok(numbers_in::<2>(text)?.map(|number| number as usize));
+        let [ood_bits, alpha_bits] = numbers_in::<2>(text)?;
+        return Ok([ood_bits as usize, alpha_bits as usize]);
     }
     let [bits] = numbers_in::<1>(text)?;
     Ok([bits as usize, 0])
 }
 
-/// The text of a named AIR's proof and the verifier's answer, with the scheme in the clear: the bits of work | the AIR and its trace.
-fn clear_text<F, EF, C>(
-    alloc: Global,
-    challenger: C,
-    call: Option<ClearCall>,
-    text: &str,
-) -> Result<String, Fail>
-where
-    F: PrimeField64 + TwoAdicField + PackedField + NeverNull,
-    EF: PackedExtensionField<F> + JsonCodec,
-    C: FieldChallenger<F>
-        + CanObserve<ClearCommitment<F>>
-        + ExtensionChallenger<F, EF>
-        + GrindingChallenger<Witness = F>
-        + Clone,
-{
-    let (bits, rest) = apart(text)?;
-    let [ood_bits, alpha_bits] = bits_in(bits)?;
-    let scheme = match call {
-        Some(call) => ClearPcs::stopping_at(call),
-        None => ClearPcs::new(),
-    };
+/// The configuration with a scheme that asks for work.
+fn configured<S, EF, C>(scheme: S, challenger: C, bits: [usize; 2]) -> StarkConfig<S, EF, C> {
+    let [ood_bits, alpha_bits] = bits;
     let config = StarkConfig::new(scheme, challenger).with_ood_proof_of_work_bits(ood_bits);
-    let config = config.with_constraint_proof_of_work_bits(alpha_bits);
-    text_by_name::<ClearConfig<F, EF, C>>(alloc, &config, rest)
+    config.with_constraint_proof_of_work_bits(alpha_bits)
 }
 
-/// The same with masks.
-fn masked_text<F, EF, C>(
+fn clear_scheme<F>(call: Option<ClearCall>) -> ClearPcs<F> {
+    match call {
+        Some(call) => ClearPcs::stopping_at(call),
+        None => ClearPcs::new(),
+    }
+}
+
+fn masked_scheme<F: PrimeField64>(
     alloc: Global,
-    challenger: C,
     masks: &str,
     call: Option<ClearCall>,
-    text: &str,
-) -> Result<String, Fail>
-where
-    F: PrimeField64 + TwoAdicField + PackedField + NeverNull,
-    EF: PackedExtensionField<F> + JsonCodec,
-    C: FieldChallenger<F>
-        + CanObserve<ClearCommitment<F>>
-        + ExtensionChallenger<F, EF>
-        + GrindingChallenger<Witness = F>
-        + Clone,
-{
-    let (bits, rest) = apart(text)?;
-    let [ood_bits, alpha_bits] = bits_in(bits)?;
+) -> Result<MaskedClearPcs<F>, Fail> {
     let masks = elements_in::<F>(alloc, masks)?;
     if masks.is_empty() {
         return Err(Fail::new("no masks"));
     }
-    let scheme = match call {
-        Some(call) => MaskedClearPcs::stopping_at(masks, call),
-        None => MaskedClearPcs::new(masks),
-    };
-    let config = StarkConfig::new(scheme, challenger).with_ood_proof_of_work_bits(ood_bits);
-    let config = config.with_constraint_proof_of_work_bits(alpha_bits);
-    text_by_name::<MaskedConfig<F, EF, C>>(alloc, &config, rest)
+    match call {
+        Some(call) => Ok(MaskedClearPcs::stopping_at(masks, call)),
+        None => Ok(MaskedClearPcs::new(masks)),
+    }
 }
 
 /// The text of a named AIR's proof and the verifier's answer, or the prover's error: the scheme | the rest of a row.
@@ -330,59 +314,63 @@ fn made<F, EF, C>(alloc: Global, challenger: C, text: &str) -> Result<String, Fa
 where
     F: PrimeField64 + TwoAdicField + PackedField + NeverNull,
     EF: PackedExtensionField<F> + JsonCodec,
-    C: FieldChallenger<F>
-        + CanObserve<ClearCommitment<F>>
-        + ExtensionChallenger<F, EF>
-        + GrindingChallenger<Witness = F>
-        + Clone,
+    C: RowChallenger<F, EF, ClearCommitment<F>>,
 {
-    let (scheme, rest) = apart(text)?;
-    let (scheme, call) = scheme_in(scheme)?;
-    match scheme.strip_prefix("masked by ") {
-        Some(masks) => masked_text::<F, EF, C>(alloc, challenger, masks, call, rest),
-        None => clear_text::<F, EF, C>(alloc, challenger, call, rest),
+    let wanted = wanted_in(text)?;
+    match wanted.masks {
+        Some(masks) => {
+            let scheme = masked_scheme::<F>(alloc, masks, wanted.call)?;
+            let config = configured(scheme, challenger, wanted.bits);
+            text_by_name::<F, MaskedConfig<F, EF, C>>(alloc, &config, wanted.trace)
+        }
+        None => {
+            let config = configured(clear_scheme::<F>(wanted.call), challenger, wanted.bits);
+            text_by_name::<F, ClearConfig<F, EF, C>>(alloc, &config, wanted.trace)
+        }
     }
 }
 
 /// The prover's error, or of a proof the verifier's answer alone, which stands behind the JSON.
-fn stopped<F, EF, C>(alloc: Global, challenger: C, text: &str) -> Result<String, Fail>
-where
-    F: PrimeField64 + TwoAdicField + PackedField + NeverNull,
-    EF: PackedExtensionField<F> + JsonCodec,
-    C: FieldChallenger<F>
-        + CanObserve<ClearCommitment<F>>
-        + ExtensionChallenger<F, EF>
-        + GrindingChallenger<Witness = F>
-        + Clone,
-{
-    let text = made::<F, EF, C>(alloc, challenger, text)?;
+fn without_proof(alloc: Global, text: String) -> Result<String, Fail> {
     match text.split_once("} ") {
         Some((_proof, verdict)) => Ok(String::from_str(alloc, verdict)?),
         None => Ok(text),
     }
 }
 
-/// Whether the whole text is that of the scheme which stops nowhere: the scheme | the call at which it stops | the rest of a row.
+/// Of the scheme | the call at which it stops | the rest of a row, the row without that call and the one with it.
+fn without_and_with_call(alloc: Global, text: &str) -> Result<[String; 2], Fail> {
+    let (scheme, rest) = apart(text)?;
+    let (call, rest) = apart(rest)?;
+    Ok([
+        format!(in alloc; "{scheme} | {rest}")?,
+        format!(in alloc; "{scheme} {call} | {rest}")?,
+    ])
+}
+
+/// That both are the same, or the second.
+fn compared(alloc: Global, whole: &str, stopping: String) -> Result<String, Fail> {
+    if whole != stopping.as_str() {
+        return Ok(stopping);
+    }
+    Ok(String::from_str(alloc, "the same")?)
+}
+
+/// Whether the whole text is that of the scheme which stops nowhere.
 fn not_made<F, EF, C>(alloc: Global, challenger: C, text: &str) -> Result<String, Fail>
 where
     F: PrimeField64 + TwoAdicField + PackedField + NeverNull,
     EF: PackedExtensionField<F> + JsonCodec,
-    C: FieldChallenger<F>
-        + CanObserve<ClearCommitment<F>>
-        + ExtensionChallenger<F, EF>
-        + GrindingChallenger<Witness = F>
-        + Clone,
+    C: RowChallenger<F, EF, ClearCommitment<F>>,
 {
-    let (scheme, rest) = apart(text)?;
-    let (call, rest) = apart(rest)?;
-    let whole = format!(in alloc; "{scheme} | {rest}")?;
-    let whole = made::<F, EF, C>(alloc, challenger.duplicate(alloc)?, &whole)?;
-    let stopping = format!(in alloc; "{scheme} {call} | {rest}")?;
-    let stopping = made::<F, EF, C>(alloc, challenger, &stopping)?;
-    if whole != stopping {
-        return Ok(stopping);
-    }
-    Ok(String::from_str(alloc, "the same")?)
+    let again = challenger.duplicate(alloc)?;
+    let [whole, stopping] = without_and_with_call(alloc, text)?;
+    let whole = made::<F, EF, C>(alloc, again, &whole)?;
+    compared(
+        alloc,
+        &whole,
+        made::<F, EF, C>(alloc, challenger, &stopping)?,
+    )
 }
 
 /// What the verifier answers of the masked counter's proof with a part of it changed.
@@ -390,11 +378,7 @@ fn changed<F, EF, C>(alloc: Global, challenger: C, text: &str) -> Result<String,
 where
     F: PrimeField64 + TwoAdicField + PackedField + NeverNull,
     EF: PackedExtensionField<F> + JsonCodec,
-    C: FieldChallenger<F>
-        + CanObserve<ClearCommitment<F>>
-        + ExtensionChallenger<F, EF>
-        + GrindingChallenger<Witness = F>
-        + Clone,
+    C: RowChallenger<F, EF, ClearCommitment<F>>,
 {
     let (from, to) = apart(text)?;
     let changed = MASKED_PROOF.replacen(alloc, from, to, 1)?;

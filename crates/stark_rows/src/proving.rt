@@ -4,6 +4,7 @@ ghost use Rattle.std.specs.Prelude.{◌≡◌, ◌+◌, ◌*◌, ◌^◌, ◌≤
 ghost use Rattle.stark_support.specs.Scheme.{zk_bits};
 ghost use Rattle.stark_protocol.specs.Preprocessing.{HasHeight};
 
+use crate::challengers::RowChallenger;
 use crate::elements::elements_in;
 use p3_uni_stark::{
     PcsProof, PreprocessedProverData, PreprocessedVerifierKey, Proof, VerifiedProof,
@@ -15,9 +16,8 @@ use stark_clear::MaskedClearPcs;
 use stark_parts::{Com, PcsError, PcsProverError, StarkConfig, StarkGenericConfig, Val};
 use stark_protocol::{PcsProverData, power_of_two};
 use stark_support::{
-    CanObserve, ExtensionChallenger, ExtensionField, Field, FieldChallenger, GrindingChallenger,
-    JsonCodec, NeverNull, PackedExtensionField, PackedField, PrimeField64, RowMajorMatrix,
-    TwoAdicField, UnivariateStarkPcs, value_from_bytes,
+    ExtensionField, Field, GrindingChallenger, JsonCodec, NeverNull, PackedExtensionField,
+    PackedField, PrimeField64, RowMajorMatrix, TwoAdicField, UnivariateStarkPcs, value_from_bytes,
 };
 use stark_transcript::ProvingError;
 use std::alloc::{AllocError, Global};
@@ -110,7 +110,7 @@ where
 }
 
 /// The text of a proof of a trace and the verifier's verdict on it, or the prover's error; none where the trace doesn't fit.
-pub fn proved_by<SC, A>(
+fn proved_by<SC, A>(
     alloc: Global,
     config: &SC,
     air: &A,
@@ -138,6 +138,46 @@ where
         Err(error) => format!(in alloc; "{error:?}"),
     };
     Ok(Some(text?))
+}
+
+/// Proves traces, and tells the proof and the verdict on it in words, as a configuration does. What asks it for no more needs none of a
+/// configuration's laws.
+pub trait TraceProver<F: Field> {
+    /// The text of a proof of a trace and the verifier's verdict on it, or the prover's error; none where the trace doesn't fit.
+    fn proved_text<A: Air<F>>(
+        &self,
+        alloc: Global,
+        air: &A,
+        log_height: usize,
+        trace: RowMajorMatrix<F>,
+        publics: &[F],
+    ) -> Result<Option<String>, AllocError>
+        requires set_up { HasHeight log_height (A.preprocessed_trace air.now) };
+}
+
+impl<SC> TraceProver<Val<SC>> for SC
+where
+    SC: StarkGenericConfig,
+    SC::Challenge: PackedExtensionField<Val<SC>> + JsonCodec,
+    SC::Challenger: GrindingChallenger<Witness = Val<SC>>,
+    Val<SC>: PackedField + NeverNull,
+    Com<SC>: NeverNull,
+    PcsProof<SC>: JsonCodec,
+    PcsError<SC>: Debug,
+    PcsProverError<SC>: Debug,
+{
+    fn proved_text<A: Air<Val<SC>>>(
+        &self,
+        alloc: Global,
+        air: &A,
+        log_height: usize,
+        trace: RowMajorMatrix<Val<SC>>,
+        publics: &[Val<SC>],
+    ) -> Result<Option<String>, AllocError>
+        requires set_up { HasHeight log_height (A.preprocessed_trace air.now) }
+    {
+        proved_by(alloc, self, air, log_height, trace, publics)
+    }
 }
 
 /// The configuration with the masked scheme.
@@ -207,11 +247,7 @@ pub fn masked_reread<F, EF, C, A>(
 where
     F: TwoAdicField + PrimeField64 + NeverNull,
     EF: ExtensionField<F> + JsonCodec,
-    C: FieldChallenger<F>
-        + CanObserve<ClearCommitment<F>>
-        + ExtensionChallenger<F, EF>
-        + GrindingChallenger<Witness = F>
-        + Clone,
+    C: RowChallenger<F, EF, ClearCommitment<F>>,
     A: Air<F>,
 {
     reread_by::<MaskedConfig<F, EF, C>, A>(alloc, config, air, text, publics)

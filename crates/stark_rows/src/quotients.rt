@@ -4,7 +4,7 @@ ghost use Rattle.stark_quotient.specs.PointwiseQuotient.{HasShape};
 
 use crate::calls::ClearConfig;
 use crate::elements::{above, elements_in};
-use crate::rows::{apart, numbers_in};
+use crate::rows::{apart, numbers_in, shown};
 use p3_uni_stark::quotient_values;
 use stark_air::{Air, AirLayout, BaseAir};
 use stark_bench::ClearCommitment;
@@ -89,43 +89,61 @@ where
     Ok(Some(values))
 }
 
-fn values_text<SC, A>(alloc: Global, config: &SC, air: &A, text: &str) -> Result<String, Fail>
-where
-    SC: StarkGenericConfig,
-    SC::Challenge: PackedExtensionField<Val<SC>> + Debug,
-    Val<SC>: PackedField,
-    A: Air<Val<SC>>,
-{
-    let (log_height, rest) = apart(text)?;
-    let (column, publics) = apart(rest)?;
-    let [log_height] = numbers_in::<1>(log_height)?;
-    let column = elements_in::<Val<SC>>(alloc, column)?;
-    let publics = elements_in::<Val<SC>>(alloc, publics)?;
-    let alpha = above::<Val<SC>, SC::Challenge>(4);
-    let found = values_beside::<SC, A>(
-        alloc,
-        config,
-        air,
-        log_height as usize,
-        column,
-        &publics,
-        alpha,
-    )?;
-    Ok(format!(in alloc; "{found:?}")?)
+/// A row: whether the AIR is the counter or the mixed one, the logarithm of the height, the column and the public values.
+#[derive(Drop)]
+struct Given<F> {
+    is_counter: bool,
+    log_height: usize,
+    column: Vec<F>,
+    publics: Vec<F>,
 }
 
-fn values_by_name<SC>(alloc: Global, config: &SC, text: &str) -> Result<String, Fail>
-where
-    SC: StarkGenericConfig,
-    SC::Challenge: PackedExtensionField<Val<SC>> + Debug,
-    Val<SC>: PackedField,
-{
-    let (name, rest) = apart(text)?;
-    match name {
-        "counter" => values_text(alloc, config, &CounterAir, rest),
-        "mixed" => values_text(alloc, config, &SmallAir::new(Asked::Mixed), rest),
-        _ => Err(Fail::new("no such AIR")),
+fn given_in<F: PrimeField64>(alloc: Global, row: &str) -> Result<Given<F>, Fail> {
+    let (name, rest) = apart(row)?;
+    if name != "counter" && name != "mixed" {
+        return Err(Fail::new("no such AIR"));
     }
+    let (log_height, rest) = apart(rest)?;
+    let (column, publics) = apart(rest)?;
+    let [log_height] = numbers_in::<1>(log_height)?;
+    Ok(Given {
+        is_counter: name == "counter",
+        log_height: log_height as usize,
+        column: elements_in(alloc, column)?,
+        publics: elements_in(alloc, publics)?,
+    })
+}
+
+/// The values for the AIR of a row, with alpha 4.
+fn values_of_row<SC: StarkGenericConfig>(
+    alloc: Global,
+    config: &SC,
+    given: Given<Val<SC>>,
+) -> Result<Option<Vec<SC::Challenge>>, AllocError>
+where
+    Val<SC>: PackedField,
+    SC::Challenge: PackedExtensionField<Val<SC>>,
+{
+    let Given {
+        is_counter,
+        log_height,
+        column,
+        publics,
+    } = given;
+    let alpha = above::<Val<SC>, SC::Challenge>(4);
+    if is_counter {
+        return values_beside(
+            alloc,
+            config,
+            &CounterAir,
+            log_height,
+            column,
+            &publics,
+            alpha,
+        );
+    }
+    let mixed = SmallAir::new(Asked::Mixed);
+    values_beside(alloc, config, &mixed, log_height, column, &publics, alpha)
 }
 
 /// The answer to a row of this table.
@@ -135,6 +153,10 @@ where
     EF: PackedExtensionField<F> + Debug,
     C: FieldChallenger<F> + CanObserve<ClearCommitment<F>> + ExtensionChallenger<F, EF> + Clone,
 {
+    let given = given_in::<F>(alloc, row)?;
     let config = StarkConfig::new(ClearPcs::new(), challenger);
-    values_by_name::<ClearConfig<F, EF, C>>(alloc, &config, row)
+    shown(
+        alloc,
+        &values_of_row::<ClearConfig<F, EF, C>>(alloc, &config, given)?,
+    )
 }

@@ -6,7 +6,7 @@ use crate::airs::small_air;
 use crate::calls::{folded, recomposed_of_one};
 use crate::elements::{above, element};
 use crate::kinds::Kind;
-use crate::rows::{apart, numbers_in, option_in};
+use crate::rows::{apart, numbers_in, option_in, shown};
 use crate::sized_airs::SizedAir;
 use crate::sizing::kind_in;
 use p3_uni_stark::{OpeningShape, StarkSecurityParams, num_batched_openings, ood_error_bound};
@@ -92,7 +92,7 @@ fn bound_text<F: Field, EF: ExtensionField<F>, A: Air<F>>(
 ) -> Result<String, Fail> {
     let [degree_bits, is_zk] = numbers_in::<2>(text)?;
     let found = bound::<F, EF, A>(alloc, air, degree_bits as usize, is_zk as usize)?;
-    Ok(format!(in alloc; "{found:?}")?)
+    shown(alloc, &found)
 }
 
 fn bound_by_name<F: PrimeField64, EF: ExtensionField<F>>(
@@ -322,5 +322,5 @@ where
             found.push(n)?;
         }
     }
-    Ok(format!(in alloc; "{found:?}")?)
+    shown(alloc, &found)
 }

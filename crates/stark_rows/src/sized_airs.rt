@@ -1,11 +1,16 @@
 //! AIRs whose quotients are sized, and by which security parameters are shown.
-ghost use Rattle.std.specs.Prelude.{◌≡◌, ◌<◌, ◌≤◌, [], ◌∷◌, Bool, true, IfOk, OnErr};
+ghost use Rattle.std.specs.Prelude.{◌≡◌, ◌<◌, ◌≤◌, [], ◌∷◌, Bool, true, false, IfOk, OnErr};
+ghost use Rattle.std.proofs.Common.{rules};
 ghost use Rattle.stark_air.specs.Emission.{Asserted};
 ghost use Rattle.stark_air.specs.Tree.{base, main_current};
+ghost use Rattle.stark_clear.specs.Samples.{cubic_constraints};
 ghost use Rattle.stark_rows.specs.SizedAirs.{constraints_of, entry, kind_declared, kind_within, layout_of_kind, next_columns_of, square_times, three_columns};
 
 use crate::kinds::Kind;
-use stark_air::{Air, AirBuilder, BaseAir, ExtensionBuilder, WindowAccess, every_column};
+use stark_air::{
+    Air, AirBuilder, BaseAir, ExtensionBuilder, MainTraceAir, WindowAccess, every_column,
+};
+use stark_clear::CubicAir;
 use stark_support::{Field, RowMajorMatrix};
 use std::alloc::{AllocError, Global};
 
@@ -159,81 +164,38 @@ fn assert_square<AB: AirBuilder>(builder: &mut AB, stepped: bool) -> Result<(), 
     }
 }
 
-/// Another AIR, with a bound of its own on the degree multiple.
+/// The cubic, with a bound of its own on the degree multiple.
 #[derive(Drop)]
-pub struct BoundedAir<A> {
-    pub air: A,
+pub struct BoundedCubic {
     pub hint: Option<usize>,
 }
 
-impl<F, A: BaseAir<F>> BaseAir<F> for BoundedAir<A> {
-    ghost layout = { λ bounded. A.layout bounded.air };
+impl MainTraceAir for BoundedCubic {
+    ghost WIDTH = { 1 };
 
-    ghost preprocessed_trace = { λ bounded. A.preprocessed_trace bounded.air };
+    ghost NUM_PUBLIC_VALUES = { 0 };
 
-    ghost periodic_columns = { λ bounded. A.periodic_columns bounded.air };
+    ghost READS_NEXT_ROW = { false };
 
-    ghost main_next_row_columns = { λ bounded. A.main_next_row_columns bounded.air };
+    ghost degree_bound = { λ bounded. bounded.hint };
 
-    ghost preprocessed_next_row_columns = { λ bounded. A.preprocessed_next_row_columns bounded.air };
+    const WIDTH: usize = 1;
 
-    ghost degree_hint = { λ bounded. bounded.hint };
+    const NUM_PUBLIC_VALUES: usize = 0;
 
-    ghost num_constraints = { λ bounded. A.num_constraints bounded.air };
+    const READS_NEXT_ROW: bool = false;
 
-    ghost public_boundary_io = { λ bounded. A.public_boundary_io bounded.air };
-
-    ghost as_declared = { λ bounded. A.as_declared bounded.air };
-
-    fn width(&self) -> usize {
-        self.air.width()
-    }
-
-    fn preprocessed_width(&self) -> usize {
-        self.air.preprocessed_width()
-    }
-
-    fn preprocessed_trace(&self, alloc: Global) -> Result<Option<RowMajorMatrix<F>>, AllocError> {
-        self.air.preprocessed_trace(alloc)
-    }
-
-    fn num_public_values(&self) -> usize {
-        self.air.num_public_values()
-    }
-
-    fn periodic_columns(&self) -> &[Vec<F>] {
-        self.air.periodic_columns()
-    }
-
-    fn main_next_row_columns(&self, alloc: Global) -> Result<Vec<usize>, AllocError> {
-        self.air.main_next_row_columns(alloc)
-    }
-
-    fn preprocessed_next_row_columns(&self, alloc: Global) -> Result<Vec<usize>, AllocError> {
-        self.air.preprocessed_next_row_columns(alloc)
-    }
-
-    fn max_constraint_degree(&self) -> Option<usize> {
+    fn degree_bound(&self) -> Option<usize> {
         self.hint
-    }
-
-    fn num_constraints(&self) -> Option<usize> {
-        self.air.num_constraints()
-    }
-
-    fn public_boundary_io(&self) -> &[usize] {
-        self.air.public_boundary_io()
     }
 }
 
-impl<F: Field, A: Air<F>> Air<F> for BoundedAir<A> {
-    ghost constraints = { λ bounded. A.constraints bounded.air };
+impl<F: Field> Air<F> for BoundedCubic {
+    ghost constraints = { λ _. cubic_constraints };
 
-    ghost takes_memory = { λ bounded. A.takes_memory bounded.air };
-
-    ghost leaves_within = { λ bounded. A.leaves_within bounded.air };
+    ghost leaves_within = { Prim.search rules };
 
     fn eval<AB: ExtensionBuilder<F = F>>(&self, builder: &mut AB) -> Result<(), AllocError> {
-        self.air.eval(builder)
+        CubicAir.eval(builder)
     }
 }

@@ -3,7 +3,7 @@ ghost use Rattle.std.specs.Prelude.{◌≤◌};
 
 use crate::elements::above;
 use crate::kinds::Kind;
-use crate::rows::{apart, numbers_in, option_in};
+use crate::rows::{apart, numbers_in, option_in, shown};
 use crate::sized_airs::SizedAir;
 use stark_air::{AirBuilder, AirLayout, ExtensionBuilder};
 use stark_bench::{CircleShape, Coset};
@@ -143,23 +143,54 @@ fn log_chunks<F: TwoAdicField>(
     Ok(Some((on_coset, on_circle)))
 }
 
+/// A row: the AIR, whether there is zero knowledge, and the trace's length.
+#[derive(Drop)]
+struct Row {
+    air: SizedAir,
+    is_zk: bool,
+    trace_len: usize,
+}
+
+fn row_of(text: &str) -> Result<Row, Fail> {
+    let (kind, rest) = apart(text)?;
+    let (hint, numbers) = apart(rest)?;
+    let [is_zk, trace_len] = numbers_in::<2>(numbers)?;
+    Ok(Row {
+        air: SizedAir {
+            kind: kind_in(kind),
+            hint: option_in(hint)?,
+        },
+        is_zk: is_zk == 1,
+        trace_len: trace_len as usize,
+    })
+}
+
+/// The main and the preprocessed columns, the degree with the logarithms over the field and its extension, and those on domains.
+fn words_of(
+    alloc: Global,
+    columns: [usize; 2],
+    sizes: (usize, usize, usize),
+    on_domains: Option<(usize, usize)>,
+) -> Result<String, Fail> {
+    let (on_coset, on_circle) = on_domains.ok_or("no domain")?;
+    Ok(format!(in alloc; "{columns:?} {sizes:?} {on_coset} {on_circle}")?)
+}
+
 fn sizes_text<F: TwoAdicField, EF: ExtensionField<F>>(
     alloc: Global,
     text: &str,
 ) -> Result<String, Fail> {
-    let (kind, rest) = apart(text)?;
-    let (hint, numbers) = apart(rest)?;
-    let [is_zk, trace_len] = numbers_in::<2>(numbers)?;
-    let is_zk = if is_zk == 1 { 1 } else { 0 };
-    let air = SizedAir {
-        kind: kind_in(kind),
-        hint: option_in(hint)?,
-    };
-    let layout = AirLayout::from_air::<F, SizedAir>(&air);
+    let row = row_of(text)?;
+    let is_zk = if row.is_zk { 1 } else { 0 };
+    let layout = AirLayout::from_air::<F, SizedAir>(&row.air);
     let columns = [layout.main_width, layout.preprocessed_width];
-    let sizes = sizes::<F, EF>(alloc, &air, is_zk, trace_len as usize)?;
-    let (on_coset, on_circle) = log_chunks::<F>(alloc, &air, is_zk)?.ok_or("no domain")?;
-    Ok(format!(in alloc; "{columns:?} {sizes:?} {on_coset} {on_circle}")?)
+    let sizes = sizes::<F, EF>(alloc, &row.air, is_zk, row.trace_len)?;
+    words_of(
+        alloc,
+        columns,
+        sizes,
+        log_chunks::<F>(alloc, &row.air, is_zk)?,
+    )
 }
 
 fn places<F: PrimeField64 + Debug, EF: ExtensionField<F> + Debug>(
@@ -237,5 +268,5 @@ fn refusals<F: PrimeField64>(alloc: Global) -> Result<([bool; 3], usize, usize),
 
 fn refused<F: PrimeField64>(alloc: Global) -> Result<String, Fail> {
     let found = refusals::<F>(alloc)?;
-    Ok(format!(in alloc; "{found:?}")?)
+    shown(alloc, &found)
 }

@@ -9,21 +9,21 @@ ghost use Rattle.stark_protocol.specs.Preprocessing.{HasHeight};
 
 use crate::airs::folded;
 use crate::calls::ClearConfig;
+use crate::challengers::RowChallenger;
 use crate::proofs::value_of;
 use crate::provers::text_at;
+use crate::proving::TraceProver;
 use crate::rows::{apart, numbers_in};
-use p3_uni_stark::PcsProof;
 use stark_air::{Air, BaseAir};
 use stark_bench::{ClearCommitment, S12289};
 use stark_clear::{
     Asked, ClearPcs, CounterAir, CubicAir, FibonacciAir, PairAir, PeriodicAir, PreprocessedAir,
     SmallAir,
 };
-use stark_parts::{Com, PcsError, PcsProverError, StarkConfig, StarkGenericConfig, Val};
+use stark_parts::StarkConfig;
 use stark_support::{
-    CanObserve, Element, ExtensionChallenger, ExtensionField, Field, FieldChallenger,
-    GrindingChallenger, JsonCodec, NeverNull, PackedExtensionField, PackedField, PrimeField64,
-    TwoAdicField,
+    CanObserve, Element, ExtensionChallenger, ExtensionField, Field, FieldChallenger, JsonCodec,
+    NeverNull, PackedExtensionField, PackedField, PrimeField64, TwoAdicField,
 };
 use stark_symbolic::{BaseEntry, SymbolicConstraint, SymbolicExpression, SymbolicVariable};
 use stark_tree_air::{
@@ -124,11 +124,7 @@ pub fn answer<F, EF, C>(alloc: Global, challenger: C, row: &str) -> Result<Strin
 where
     F: PrimeField64 + TwoAdicField + PackedField + NeverNull,
     EF: PackedExtensionField<F> + JsonCodec + Debug,
-    C: FieldChallenger<F>
-        + CanObserve<ClearCommitment<F>>
-        + ExtensionChallenger<F, EF>
-        + GrindingChallenger<Witness = F>
-        + Clone,
+    C: RowChallenger<F, EF, ClearCommitment<F>>,
 {
     let (table, text) = apart(row)?;
     match table {
@@ -137,7 +133,7 @@ where
         "next" => next_columns::<F>(alloc, text),
         "same" => {
             let config = StarkConfig::new(ClearPcs::new(), challenger);
-            same_by_name::<ClearConfig<F, EF, C>>(alloc, &config, text)
+            same_by_name::<F, ClearConfig<F, EF, C>>(alloc, &config, text)
         }
         _ => Err(Fail::new("no such table")),
     }
@@ -394,61 +390,49 @@ pub fn json_by_name(alloc: Global, _subject: &str, name: &str) -> Result<String,
 }
 
 /// The text of the proof of an AIR as data: of the JSON, or of the AIR itself where the JSON is null.
-fn text_as_data<SC, A>(
+fn text_as_data<F, P, A>(
     alloc: Global,
-    config: &SC,
+    prover: &P,
     air: &A,
     log_height: usize,
     values: &str,
     json: &str,
 ) -> Result<String, Fail>
 where
-    SC: StarkGenericConfig,
-    SC::Challenge: PackedExtensionField<Val<SC>> + JsonCodec,
-    SC::Challenger: GrindingChallenger<Witness = Val<SC>>,
-    Val<SC>: PackedField + NeverNull,
-    Com<SC>: NeverNull,
-    PcsProof<SC>: JsonCodec,
-    PcsError<SC>: Debug,
-    PcsProverError<SC>: Debug,
-    A: Air<Val<SC>>,
+    F: PrimeField64 + JsonCodec,
+    P: TraceProver<F>,
+    A: Air<F>,
     requires set_up { HasHeight log_height (A.preprocessed_trace air.now) }
 {
     if json == "null" {
         let tree = TreeAir::from_air(alloc, air)?;
-        return text_at::<SC, TreeAir<Val<SC>>>(alloc, config, &tree, log_height, values);
+        return text_at::<F, P, TreeAir<F>>(alloc, prover, &tree, log_height, values);
     }
-    let tree: TreeAir<Val<SC>> = tree_of(alloc, json)?;
+    let tree: TreeAir<F> = tree_of(alloc, json)?;
     if tree.declaration.columns.preprocessed_trace.is_some() {
         return Err(Fail::new("a preprocessed trace"));
     }
-    text_at::<SC, TreeAir<Val<SC>>>(alloc, config, &tree, log_height, values)
+    text_at::<F, P, TreeAir<F>>(alloc, prover, &tree, log_height, values)
 }
 
 /// `accepted` where the AIR as data and the hand-written one have the same proof, and it is accepted; else the proof of the data:
 /// the logarithm of the height | the JSON | the trace | the public values.
-fn same_proof<SC, A>(
+fn same_proof<F, P, A>(
     alloc: Global,
-    config: &SC,
+    prover: &P,
     air: &A,
     log_height: usize,
     text: &str,
 ) -> Result<String, Fail>
 where
-    SC: StarkGenericConfig,
-    SC::Challenge: PackedExtensionField<Val<SC>> + JsonCodec,
-    SC::Challenger: GrindingChallenger<Witness = Val<SC>>,
-    Val<SC>: PackedField + NeverNull,
-    Com<SC>: NeverNull,
-    PcsProof<SC>: JsonCodec,
-    PcsError<SC>: Debug,
-    PcsProverError<SC>: Debug,
-    A: Air<Val<SC>>,
+    F: PrimeField64 + JsonCodec,
+    P: TraceProver<F>,
+    A: Air<F>,
     requires set_up { HasHeight log_height (A.preprocessed_trace air.now) }
 {
     let (json, values) = apart(text)?;
-    let written = text_at::<SC, A>(alloc, config, air, log_height, values)?;
-    let as_data = text_as_data::<SC, A>(alloc, config, air, log_height, values, json)?;
+    let written = text_at::<F, P, A>(alloc, prover, air, log_height, values)?;
+    let as_data = text_as_data::<F, P, A>(alloc, prover, air, log_height, values, json)?;
     if as_data != written {
         return Ok(as_data);
     }
@@ -459,27 +443,33 @@ where
 }
 
 /// The same for a named AIR. The preprocessed column has four rows.
-fn same_by_name<SC>(alloc: Global, config: &SC, text: &str) -> Result<String, Fail>
+fn same_by_name<F, P>(alloc: Global, prover: &P, text: &str) -> Result<String, Fail>
 where
-    SC: StarkGenericConfig,
-    SC::Challenge: PackedExtensionField<Val<SC>> + JsonCodec,
-    SC::Challenger: GrindingChallenger<Witness = Val<SC>>,
-    Val<SC>: PackedField + NeverNull,
-    Com<SC>: NeverNull,
-    PcsProof<SC>: JsonCodec,
-    PcsError<SC>: Debug,
-    PcsProverError<SC>: Debug,
+    F: PrimeField64 + JsonCodec,
+    P: TraceProver<F>,
 {
     let (name, rest) = apart(text)?;
     let (number, rest) = apart(rest)?;
     let [log_height] = numbers_in::<1>(number)?;
     let height = log_height as usize;
     match name {
-        "counter" => same_proof(alloc, config, &CounterAir, height, rest),
-        "cubic" => same_proof(alloc, config, &CubicAir, height, rest),
-        "fibonacci" => same_proof(alloc, config, &FibonacciAir, height, rest),
-        "pair" => same_proof(alloc, config, &PairAir, height, rest),
-        "preprocessed" => same_proof(alloc, config, &PreprocessedAir, 2, rest),
-        _ => same_proof(alloc, config, &PeriodicAir::new(alloc)?, height, rest),
+        "counter" => same_proof::<F, P, CounterAir>(alloc, prover, &CounterAir, height, rest),
+        "cubic" => same_proof::<F, P, CubicAir>(alloc, prover, &CubicAir, height, rest),
+        "fibonacci" => same_proof::<F, P, FibonacciAir>(alloc, prover, &FibonacciAir, height, rest),
+        "pair" => same_proof::<F, P, PairAir>(alloc, prover, &PairAir, height, rest),
+        "preprocessed" => same_proof::<F, P, PreprocessedAir>(
+            alloc,
+            prover,
+            &PreprocessedAir,
+            2,
+            rest,
+        ),
+        _ => same_proof::<F, P, PeriodicAir<F>>(
+            alloc,
+            prover,
+            &PeriodicAir::new(alloc)?,
+            height,
+            rest,
+        ),
     }
 }

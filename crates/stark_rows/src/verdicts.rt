@@ -3,10 +3,11 @@
 //! | the column's coefficients | the trace's value at the next point | the public values | the key's width and height | the
 //! preprocessed row | the next one.
 use crate::airs::{row_in, small_air};
-use crate::calls::{self, ClearShown};
+use crate::calls::{self, ClearConfig, ClearShown};
+use crate::challengers::RowChallenger;
 use crate::elements::{above, element, elements_in};
 use crate::rows::{apart, numbers_in};
-use crate::sized_airs::BoundedAir;
+use crate::sized_airs::BoundedCubic;
 use p3_uni_stark::{
     Commitments, OpenedValues, PreprocessedOpenedValues, PreprocessedVerifierKey, Proof,
 };
@@ -14,11 +15,8 @@ use stark_air::Air;
 use stark_bench::ClearCommitment;
 use stark_clear::{ClearPcs, ClearProof, CounterAir, CubicAir, PreprocessedAir, SmallAir};
 use stark_parts::StarkConfig;
-use stark_support::{
-    CanObserve, ExtensionChallenger, ExtensionField, FieldChallenger, GrindingChallenger,
-    PrimeField64, TwoAdicField,
-};
-use std::alloc::Global;
+use stark_support::{ExtensionField, PrimeField64, TwoAdicField};
+use std::alloc::{AllocError, Global};
 use std::test::Fail;
 
 pub const ROWS: &str = r#"
@@ -93,31 +91,51 @@ pub fn answer<F, EF, C>(alloc: Global, challenger: C, row: &str) -> Result<Strin
 where
     F: PrimeField64 + TwoAdicField,
     EF: ExtensionField<F>,
-    C: FieldChallenger<F>
-        + CanObserve<ClearCommitment<F>>
-        + ExtensionChallenger<F, EF>
-        + GrindingChallenger<Witness = F>
-        + Clone,
+    C: RowChallenger<F, EF, ClearCommitment<F>>,
 {
     let (_challenger, row) = apart(row)?;
     let (name, text) = apart(row)?;
+    let shown = shown_in::<F, EF>(alloc, text)?;
+    let config = StarkConfig::new(ClearPcs::new(), challenger).with_ood_proof_of_work_bits(
+        shown.bits,
+    );
+    Ok(verdict_by_name::<F, EF, C>(alloc, &config, name, &shown)?)
+}
+
+/// What a verifier is shown of a proof, and the bits of work that it asks for.
+#[derive(Drop)]
+struct Shown<F, EF> {
+    proof: ClearShown<F, EF>,
+    publics: Vec<F>,
+    key: Option<PreprocessedVerifierKey<ClearCommitment<F>>>,
+    bits: usize,
+}
+
+/// What the verifier of a named AIR answers.
+fn verdict_by_name<F, EF, C>(
+    alloc: Global,
+    config: &ClearConfig<F, EF, C>,
+    name: &str,
+    shown: &Shown<F, EF>,
+) -> Result<String, AllocError>
+where
+    F: PrimeField64 + TwoAdicField,
+    EF: ExtensionField<F>,
+    C: RowChallenger<F, EF, ClearCommitment<F>>,
+{
     match name {
-        "counter" => verdict::<F, EF, C, CounterAir>(alloc, challenger, &CounterAir, text),
-        "cubic" => verdict::<F, EF, C, CubicAir>(alloc, challenger, &CubicAir, text),
-        "preprocessed" => verdict::<F, EF, C, PreprocessedAir>(
-            alloc,
-            challenger,
-            &PreprocessedAir,
-            text,
-        ),
+        "counter" => verdict::<F, EF, C, CounterAir>(alloc, config, &CounterAir, shown),
+        "cubic" => verdict::<F, EF, C, CubicAir>(alloc, config, &CubicAir, shown),
+        "preprocessed" => {
+            verdict::<F, EF, C, PreprocessedAir>(alloc, config, &PreprocessedAir, shown)
+        }
         "bounded cubic" => {
-            let air = BoundedAir {
-                air: CubicAir,
+            let air = BoundedCubic {
                 hint: Some(usize::MAX),
             };
-            verdict::<F, EF, C, BoundedAir<CubicAir>>(alloc, challenger, &air, text)
+            verdict::<F, EF, C, BoundedCubic>(alloc, config, &air, shown)
         }
-        _ => verdict::<F, EF, C, SmallAir>(alloc, challenger, &small_air(name), text),
+        _ => verdict::<F, EF, C, SmallAir>(alloc, config, &small_air(name), shown),
     }
 }
 
@@ -239,36 +257,75 @@ fn openings_of<F: PrimeField64, EF: ExtensionField<F>>(
     })
 }
 
-/// What the verifier of an AIR answers of a proof.
-fn verdict<F, EF, C, A>(alloc: Global, challenger: C, air: &A, text: &str) -> Result<String, Fail>
+/// What the verifier of an AIR answers.
+fn verdict<F, EF, C, A>(
+    alloc: Global,
+    config: &ClearConfig<F, EF, C>,
+    air: &A,
+    shown: &Shown<F, EF>,
+) -> Result<String, AllocError>
 where
     F: PrimeField64 + TwoAdicField,
     EF: ExtensionField<F>,
-    C: FieldChallenger<F>
-        + CanObserve<ClearCommitment<F>>
-        + ExtensionChallenger<F, EF>
-        + GrindingChallenger<Witness = F>
-        + Clone,
+    C: RowChallenger<F, EF, ClearCommitment<F>>,
     A: Air<F>,
 {
+    let (proof, key) = (&shown.proof, shown.key.as_ref());
+    calls::answer::<F, EF, C, A>(alloc, config, air, proof, &shown.publics, key)
+}
+
+/// The parts of a row: the numbers of a proof | the column | the next value | the public values | the key | the preprocessed rows.
+#[derive(Clone, Copy)]
+struct Parts<'a> {
+    numbers: [u32; 5],
+    column: &'a str,
+    next: &'a str,
+    publics: &'a str,
+    key: &'a str,
+    rows: &'a str,
+}
+
+fn parts_in(text: &str) -> Result<Parts<'_>, Fail> {
     let (numbers, rest) = apart(text)?;
     let (column, rest) = apart(rest)?;
     let (next, rest) = apart(rest)?;
     let (publics, rest) = apart(rest)?;
     let (key, rows) = apart(rest)?;
-    let [local, chunk, degree_bits, witness, bits] = numbers_in::<5>(numbers)?;
-    let proof: ClearShown<F, EF> = Proof {
-        commitments: commitments_of::<F>(alloc, column, chunk)?,
-        opened_values: openings_of::<F, EF>(alloc, local, chunk, next, rows)?,
+    Ok(Parts {
+        numbers: numbers_in::<5>(numbers)?,
+        column,
+        next,
+        publics,
+        key,
+        rows,
+    })
+}
+
+fn shown_in<F: PrimeField64, EF: ExtensionField<F>>(
+    alloc: Global,
+    text: &str,
+) -> Result<Shown<F, EF>, Fail> {
+    let parts = parts_in(text)?;
+    let [_local, _chunk, _degree_bits, _witness, bits] = parts.numbers;
+    Ok(Shown {
+        proof: proof_of::<F, EF>(alloc, &parts)?,
+        publics: elements_in::<F>(alloc, parts.publics)?,
+        key: key_in::<F>(alloc, parts.key)?,
+        bits: bits as usize,
+    })
+}
+
+fn proof_of<F: PrimeField64, EF: ExtensionField<F>>(
+    alloc: Global,
+    parts: &Parts<'_>,
+) -> Result<ClearShown<F, EF>, Fail> {
+    let [local, chunk, degree_bits, witness, _bits] = parts.numbers;
+    Ok(Proof {
+        commitments: commitments_of::<F>(alloc, parts.column, chunk)?,
+        opened_values: openings_of::<F, EF>(alloc, local, chunk, parts.next, parts.rows)?,
         opening_proof: ClearProof,
         degree_bits: degree_bits as usize,
         ood_pow_witness: element(witness),
         alpha_pow_witness: element(0),
-    };
-    let publics = elements_in::<F>(alloc, publics)?;
-    let key = key_in::<F>(alloc, key)?;
-    let config = StarkConfig::new(ClearPcs::new(), challenger).with_ood_proof_of_work_bits(
-        bits as usize,
-    );
-    Ok(calls::answer::<F, EF, C, A>(alloc, &config, air, &proof, &publics, key.as_ref())?)
+    })
 }

@@ -1,8 +1,8 @@
 //! Fields, and the algebras over them, with their laws.
-ghost use Rattle.std.specs.Prelude.{◌≡◌, ◌≢◌, ◌<◌, ◌≤◌, ℕ, true, Bool, List, map, Option, Some, None, length, slice_index_or};
+ghost use Rattle.std.specs.Prelude.{◌≡◌, ◌≢◌, ◌<◌, ◌≤◌, ℕ, true, Bool, List, map, Option, Some, None, length, refl, slice_index_or};
 ghost use Rattle.std.specs.List.{slice_get};
 ghost use Rattle.stark_support.specs.Ring.{RingOps, FieldLaws, IsQuarticConstant, difference};
-ghost use Rattle.stark_support.specs.Operations.{Operations, ring_operations};
+ghost use Rattle.stark_support.specs.Operations.{AreExact, Operations, exact_binary, exact_unary, ring_operations};
 ghost use Rattle.stark_support.specs.Combination.{linear_combination};
 ghost use Rattle.stark_support.specs.Embedding.{IsEmbedding};
 ghost use Rattle.stark_support.specs.Extension.{IsBasis, basis_sum};
@@ -56,6 +56,57 @@ pub trait Algebra<F>: From<F>
     ghost times_stands: { (x y z v w : Self) → Self.mul_gives x y z → stands v x → stands w y → stands (operations.times v w) z };
 
     ghost negated_stands: { (x z v : Self) → Self.neg_gives x z → stands v x → stands (operations.negated v) z };
+}
+
+/// An algebra each of whose values stands for itself alone, as those of a field and packed values do. It is an
+/// `Algebra` over its scalars.
+pub trait ExactAlgebra: Copy
+    + Drop
+    + From<Self::Scalar>
+    + Add<Self, Output = Self>
+    + Sub<Self, Output = Self>
+    + Mul<Self, Output = Self>
+    + Neg<Output = Self> {
+    type Scalar;
+
+    /// The operations, as functions of the values.
+    ghost algebra_ring: { RingOps Self };
+
+    /// A scalar, as a value.
+    ghost embedding: { Self.Scalar → Self };
+
+    /// The operators and the conversion compute that, whatever they are handed.
+    ghost is_exact: { AreExact algebra_ring embedding Self.from_gives Self.can_add Self.can_sub Self.can_mul Self.can_neg Self.add_gives Self.sub_gives Self.mul_gives Self.neg_gives };
+}
+
+impl<A: ExactAlgebra> Algebra<A::Scalar> for A {
+    ghost operations = { ring_operations A.algebra_ring A.embedding };
+
+    ghost stands = { λ v x. x ≡ v };
+
+    fn dup(&self) -> A {
+        *self
+    }
+
+    ghost may_add = { A.is_exact.may_add };
+
+    ghost may_sub = { A.is_exact.may_sub };
+
+    ghost may_mul = { A.is_exact.may_mul };
+
+    ghost may_neg = { A.is_exact.may_neg };
+
+    ghost stands_itself = { λ _. refl };
+
+    ghost embed_stands = { A.is_exact.from_is };
+
+    ghost plus_stands = { λ x y z v w given. exact_binary A.algebra_ring.add x y z v w (A.is_exact.add_is x y z given) };
+
+    ghost minus_stands = { λ x y z v w given. exact_binary (difference A.algebra_ring) x y z v w (A.is_exact.sub_is x y z given) };
+
+    ghost times_stands = { λ x y z v w given. exact_binary A.algebra_ring.mul x y z v w (A.is_exact.mul_is x y z given) };
+
+    ghost negated_stands = { λ x z v given. exact_unary A.algebra_ring.neg x z v (A.is_exact.neg_is x z given) };
 }
 
 /// A field. It is not an `Algebra<Self>`: that would bring `From<Self>` as a bound, which a generic function would keep

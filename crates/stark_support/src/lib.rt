@@ -30,8 +30,8 @@ pub use domain::{
     DomainShape, LagrangeSelectors, PolynomialSpace, points_differ, vanishing_is_constant,
 };
 pub use field::{
-    Algebra, Element, ExtensionField, Field, PackedExtensionField, PackedField, PrimeField64,
-    QuarticBase, TwoAdicField, is_zero,
+    Algebra, Element, ExactAlgebra, ExtensionField, Field, PackedExtensionField, PackedField,
+    PrimeField64, QuarticBase, TwoAdicField, is_zero,
 };
 pub use interpolation::interpolate;
 pub use json::{

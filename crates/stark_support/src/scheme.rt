@@ -168,7 +168,7 @@ where
             × (length columns ≡ EF.DIMENSION))) }
         ensures refused { IfErr result (λ fault. IfRefused fault (Self.scheme.RefusesRandomization self.now (Self.Domain.coset_of domain))) };
 
-    /// As `get_evaluations_on_domain`, of what `commit_preprocessing` made.
+    /// As `get_evaluations_on_domain`, of what `commit_preprocessing` made; the same call where a scheme doesn't say otherwise.
     fn get_evaluations_on_domain_no_random(
         &self,
         alloc: Global,
@@ -178,7 +178,10 @@ where
     ) -> Result<RowMajorMatrix<DomainVal<Self::Domain>>, AllocError>
         ensures { IfOk result (λ rows. (commitment : Self.Commitment) (matrices : List (CommittedMatrix Self.Domain.Val)) (matrix : CommittedMatrix Self.Domain.Val)
             → Self.scheme.Stands self.now commitment prover_data.now matrices → slice_get matrices index ≡ Some matrix
-            → HasRows Self.Domain.Val.ring Self.Domain.Val.root (Self.Domain.coset_of domain) matrix.columns rows.values.items rows.width) };
+            → HasRows Self.Domain.Val.ring Self.Domain.Val.root (Self.Domain.coset_of domain) matrix.columns rows.values.items rows.width) }
+    {
+        self.get_evaluations_on_domain(alloc, prover_data, index, domain)
+    }
 
     /// The values of periodic columns at each point of a domain, beside a trace on another.
     fn build_periodic_lde_table(

@@ -3,6 +3,7 @@ pub mod ClaimSteps
 pub mod Verdicts
 pub mod EquationVerdict
 pub mod ShapeSteps
+pub mod CheckSteps
 pub mod Balance
 pub mod Excluded
 pub mod EquationSteps

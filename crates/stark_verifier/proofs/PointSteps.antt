@@ -1,6 +1,7 @@
 -- The points of a subgroup are where its vanishing polynomial is zero.
-use Rattle.std.proofs.Common.{◌≡◌, ◌∙◌, sym, ap, refl, ℕ, List, [], ◌∷◌, map, length, Option, Some}
+use Rattle.std.proofs.Common.{◌≡◌, ◌∙◌, sym, ap, ℕ, List, map, length, Option, Some}
 use Rattle.std.proofs.lemmas.Simd.{map-map}
+use Rattle.stark_support.specs.ListFacts.{same_maps}
 use Rattle.stark_support.specs.Ring.{RingOps, FieldLaws}
 use Rattle.stark_support.specs.Powers.{power}
 use Rattle.stark_support.specs.Embedding.{IsEmbedding, embedded_two_adic}
@@ -33,10 +34,6 @@ module _ {F E : Type 0} {base : RingOps F} {ring : RingOps E} {inverse : E → E
       let found = only_on_points laws adicity (λ k. embed (root k)) (embed generator) (embedded_two_adic embeds adicity root generator two_adic) (embedded_coset embed coset)
       (embedded_valid laws embeds adicity root generator two_adic coset valid) x zero in
       (found.0, found.2 ∙ point_is_power found.0)
-
-same_maps : {V W : Type 0} (f g : V → W) → ((v : V) → f v ≡ g v) → (vs : List V) → map f vs ≡ map g vs
-same_maps f g same [] = refl
-same_maps f g same (v ∷ vs) = ap (λ w. w ∷ map f vs) (same v) ∙ ap (λ ws. g v ∷ ws) (same_maps f g same vs)
 
 -- The lengths of columns, as they lie in memory.
 module _ {V A : Type 0} (items : V → List A) (count : V → ℕ) (counted : (v : V) → count v ≡ length (items v)) (columns : List V) (lists : List (List A)) (listed : map items columns ≡ lists) where

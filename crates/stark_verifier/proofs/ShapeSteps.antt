@@ -1,5 +1,5 @@
 -- What a proof without a fault of shape has.
-use Rattle.std.proofs.Common.{◌≡◌, ◌∙◌, ◌≤◌, ◌==◌, ◌&&◌, arith, sym, refl, ℕ, All, Bool, true, false, not, List, [], ◌∷◌, length, replicate, unwrap_or, Option, None, Some, nat_lt}
+use Rattle.std.proofs.Common.{◌≡◌, ◌∙◌, ◌≤◌, ◌==◌, ◌&&◌, arith, sym, refl, ℕ, All, Bool, true, false, not, List, length, replicate, unwrap_or, Option, None, Some, nat_lt}
 use Rattle.std.specs.List.{list_all}
 use Rattle.std.proofs.lemmas.Bool.{and_parts, eqb-true, ltb-false}
 use Rattle.std.proofs.lemmas.List.{length-replicate}
@@ -7,7 +7,7 @@ use Rattle.std.proofs.lemmas.List.Sums.{AllPass-from_list_all}
 use Rattle.std.specs.Option.{option_or}
 use Rattle.stark_support.specs.OptionFacts.{both_none}
 use Rattle.stark_air.specs.Layout.{Layout, Covers}
-use Rattle.stark_air.specs.Declaration.{Trace, IsDeclared, next_width}
+use Rattle.stark_air.specs.Declaration.{Trace, IsDeclared}
 use Rattle.stark_transcript.specs.Shape.{opens_next_row}
 use Rattle.stark_transcript.specs.declared.error.InvalidProofShapeError.TheVariants.{NonCanonicalAlphaPowWitness, NonCanonicalOodPowWitness, OpenedValuesDimensionMismatch, PreprocessedVerifierKeyInconsistency, PublicValuesLengthMismatch, TraceNextMismatch}
 use Rattle.stark_protocol.specs.declared.preprocessed.PreprocessedVerifierKey.{PreprocessedVerifierKey}
@@ -15,12 +15,7 @@ use Rattle.stark_protocol.specs.Equation.{opened_layout}
 use Rattle.stark_proof.specs.ProofView.{OpeningsView, PreprocessedView}
 use Rattle.stark_protocol.specs.Acceptance.{preprocessed_local, preprocessed_next, rows_of}
 use Rattle.stark_protocol.specs.ShapeFaults.{dimensions_fault, expected_next, fault_if, key_degree_fault, key_width_fault, opened_fault, preprocessed_fault, preprocessed_rows_fault, publics_fault, random_fits, trace_next_fault, unread_next_fault, width_in_force, width_of, witness_fault}
-
--- ---- a test that finds no fault
-
-pub not_found : {X : Type 0} (b : Bool) (error : X) → fault_if b error ≡ None → b ≡ false
-not_found true error e = absurd (cc)
-not_found false error e = refl
+use Rattle.stark_protocol.specs.AcceptanceFacts.{next_at_most, not_found}
 
 -- the test that an error denies
 pub met : {X : Type 0} (b : Bool) (error : X) → fault_if (not b) error ≡ None → b ≡ true
@@ -55,10 +50,6 @@ trace_next_width zero true width None e = absurd (cc)
 trace_next_width zero true width (Some row) e = eqb-true (length row) width (met (length row == width) (TraceNextMismatch None) e)
 trace_next_width zero false width None e = length-replicate width zero
 trace_next_width zero false width (Some row) e = absurd (cc)
-
-next_at_most : (columns : List ℕ) (width : ℕ) → next_width columns width ≤ width
-next_at_most [] width = omega arith
-next_at_most (column ∷ columns) width = omega arith
 
 -- as many public values as the AIR reads
 pub publics_are : {E : Type 0} (expected publics : ℕ) (reads_next : Bool) (width count dimension : ℕ) (opened : OpeningsView E) (alpha_bits : ℕ) (alpha_is_zero : Bool) (bits : ℕ) (is_zero : Bool)

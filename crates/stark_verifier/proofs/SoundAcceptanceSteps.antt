@@ -1,5 +1,5 @@
 -- The opened values of an accepted proof stand for polynomials' values, at least where a constraint reads them.
-use Rattle.std.proofs.Common.{◌≡◌, ◌∙◌, ◌≤◌, ◌==◌, ◌&&◌, ap, arith, sym, refl, subst, ℕ, Bool, not, List, [], ◌∷◌, length, replicate, unwrap_or, Option, None, Some, Result, Ok, Err}
+use Rattle.std.proofs.Common.{◌≡◌, ◌∙◌, ◌≤◌, ◌==◌, ◌&&◌, ap, arith, sym, refl, subst, ℕ, Bool, not, List, [], ◌∷◌, length, replicate, unwrap_or, Option, None, Some}
 use Rattle.std.proofs.lemmas.Bool.{and_parts, eqb-true}
 use Rattle.std.proofs.lemmas.List.{length-map}
 use Rattle.stark_support.specs.OptionFacts.{first_none, later_none}
@@ -14,6 +14,7 @@ use Rattle.stark_proof.specs.ProofView.{OpeningsView, PreprocessedView, ProofVie
 use Rattle.stark_protocol.specs.Instance.{Instance, ProtocolOps, log_height}
 use Rattle.stark_protocol.specs.Acceptance.{preprocessed_local, preprocessed_next, rows_of, of_shape, periodic_values, quotient_value, log_parts, challenges, shape_fault, height_fault, key_fault, domain_fault, values_fault, IsBalanced, RunHolds, Accepted}
 use Rattle.stark_protocol.specs.ShapeFaults.{fault_if, key_degree_fault, opened_fault, preprocessed_fault, preprocessed_rows_fault, publics_fault, randomization_fault, trace_next_fault, width_in_force, width_of}
+use Rattle.stark_protocol.specs.AcceptanceFacts.{same_drawn}
 use Rattle.stark_verifier.specs.SoundAcceptance.{proved_air, proved_shifts, BreakingNeedsBadChallenges}
 use Rattle.stark_verifier.proofs.ShapeSteps.{in_force, met, rows_cover}
 use Rattle.stark_verifier.proofs.TakenValueSteps.{StandFor, accepted_needs_bad_draws}
@@ -70,14 +71,6 @@ module _ {F E K : Type 0} (zero : E) (key : Option (PreprocessedVerifierKey K)) 
         (subst (λ rows. preprocessed_rows_fault (width_in_force key layout.preprocessed) (opens_next_row fixed_next) rows ≡ None) e fixed_clear) none;
     neither = λ e. at_most_none layout.preprocessed_next _ covers.preprocessed_next (ap (λ rows. length (preprocessed_next (replicate layout.preprocessed zero) rows)) e);
   }
-
-abbrev drawn_or : {D X : Type 0} → D → Result D X → D
-drawn_or d (Ok drawn) = drawn
-drawn_or d (Err error) = d
-
-same_drawn : {E X : Type 0} (answer : Result (E × E) X) (a z alpha zeta : E) → answer ≡ Ok (a, z) → answer ≡ Ok (alpha, zeta) → (a ≡ alpha) × (z ≡ zeta)
-same_drawn {E} {X} answer a z alpha zeta h k =
-    (ap (λ (r : Result (E × E) X). (drawn_or (a, z) r).0) (sym h ∙ k), ap (λ (r : Result (E × E) X). (drawn_or (a, z) r).1) (sym h ∙ k))
 
 module _ {S F E C K T P X Y : Type 0} (ops : ProtocolOps S F E C K T P X Y) (i : Instance S F C K) (p : ProofView K E P F) where
   -- An accepted proof of a broken trace has a bad alpha or a bad zeta.

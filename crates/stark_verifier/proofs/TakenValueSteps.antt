@@ -1,7 +1,8 @@
 -- The equation over opened values is the equation of the polynomials that take them.
-use Rattle.std.proofs.Common.{◌≡◌, ◌∙◌, ap, sym, refl, arith, ℕ, zero, suc, ◌<◌, List, [], ◌∷◌, map, Option, None, Some, IfSome, slice_index_or}
+use Rattle.std.proofs.Common.{◌≡◌, ◌∙◌, ap, sym, refl, arith, ℕ, ◌<◌, List, [], ◌∷◌, map, Option, None, Some, IfSome, slice_index_or}
 use Rattle.std.specs.List.{AllByRecursion}
 use Rattle.std.proofs.lemmas.List.{length-map}
+use Rattle.stark_support.specs.ListFacts.{mapped_or_filler}
 use Rattle.stark_support.specs.Ring.{RingOps, FieldLaws}
 use Rattle.stark_support.specs.Coset.{subgroup_vanishing}
 use Rattle.stark_support.specs.Periodic.{periodic_value}
@@ -18,11 +19,6 @@ use Rattle.stark_security.specs.SameLeaves.{AgreeWithin, same_constraints}
 use Rattle.stark_verifier.specs.TakenValues.{values_at, embedded_polynomials, TakeOpenedValues, BreakingNeedsBadDraws}
 use Rattle.stark_security.proofs.BadValueSteps.{alpha_or_zeta_is_bad}
 use Rattle.stark_security.proofs.ConstraintDegrees.{value_of_embedded}
-
-mapped_leaf : {A B : Type 0} (g : A → B) (xs : List A) (c : ℕ) (d : A) (e : B) → g d ≡ e → slice_index_or (map g xs) c e ≡ g (slice_index_or xs c d)
-mapped_leaf g [] c d e h = sym h
-mapped_leaf g (x ∷ xs) zero d e h = refl
-mapped_leaf g (x ∷ xs) (suc c) d e h = mapped_leaf g xs c d e h
 
 -- The rows that stand for opened values in the equation, of an AIR that reads no more than the layout.
 pub record StandFor {F E : Type 0} (l : Layout) (rows : OpenedRows F E) (opened : OpeningsView E) : Type 0 where
@@ -42,7 +38,7 @@ module _ {F E : Type 0} (i : AirInstance F E) (columns : Columns F E) (zeta : E)
   -- a leaf of a row that is the polynomials' values at x
   value_leaf : (row : List E) (polynomials : List (List E)) (x : E) → row ≡ values_at i.ring polynomials x → (c : ℕ)
       → slice_index_or row c i.ring.zero ≡ polynomial_value i.ring (slice_index_or polynomials c []) x
-  value_leaf row polynomials x is c = ap (λ r. slice_index_or r c i.ring.zero) is ∙ mapped_leaf (λ p. polynomial_value i.ring p x) polynomials c [] i.ring.zero refl
+  value_leaf row polynomials x is c = ap (λ r. slice_index_or r c i.ring.zero) is ∙ mapped_or_filler (λ p. polynomial_value i.ring p x) polynomials c [] i.ring.zero refl
 
   -- the same of a row that may be absent, where no leaf lies within it
   optional_leaf : (n : ℕ) (opened : Option (List E)) (row : List E) (polynomials : List (List E)) (x : E) → IfSome opened (λ r. r ≡ values_at i.ring polynomials x)
@@ -66,7 +62,7 @@ module _ {F E : Type 0} (i : AirInstance F E) (columns : Columns F E) (zeta : E)
   periodic_leaf : (values : List E) → values ≡ map (λ column. periodic_value i.base i.base_inverse i.generator (height i) i.ring i.embed column zeta) i.periodic → (c : ℕ)
       → slice_index_or values c i.ring.zero ≡ periodic_value i.base i.base_inverse i.generator (height i) i.ring i.embed (slice_index_or i.periodic c []) zeta
   periodic_leaf values are c =
-      ap (λ r. slice_index_or r c i.ring.zero) are ∙ mapped_leaf (λ column. periodic_value i.base i.base_inverse i.generator (height i) i.ring i.embed column zeta) i.periodic c [] i.ring.zero refl
+      ap (λ r. slice_index_or r c i.ring.zero) are ∙ mapped_or_filler (λ column. periodic_value i.base i.base_inverse i.generator (height i) i.ring i.embed column zeta) i.periodic c [] i.ring.zero refl
 
   module _ (l : Layout) (opened : OpeningsView E) (rows : OpenedRows F E) (stand : StandFor l rows opened) (chunks : List (List (List E))) (taken : TakeOpenedValues i columns chunks zeta opened)
       (same_publics : columns.publics ≡ rows.publics) (periodic_is : rows.periodic ≡ map (λ column. periodic_value i.base i.base_inverse i.generator (height i) i.ring i.embed column zeta) i.periodic) where

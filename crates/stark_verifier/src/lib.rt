@@ -2,10 +2,12 @@
 #![tactic(auto)]
 
 mod argument;
+mod checks;
 mod claims;
 mod constraints;
 mod equation;
 mod findings;
+mod instance;
 mod opened;
 mod point;
 mod preprocessed;

@@ -3,7 +3,7 @@ ghost use Rattle.std.specs.Option.{option_copied};
 ghost use Rattle.std.specs.Prelude.{◌≡◌, ◌≢◌, ◌⊎◌, ◌^◌, ◌≤◌, ◌<◌, ◌+◌, IfErr, IfOk, None, length, map, option_map};
 ghost use Rattle.stark_support.specs.Coset.{coset_size, coset_vanishing};
 ghost use Rattle.stark_support.specs.Periodic.{first_fault};
-ghost use Rattle.stark_support.specs.Scheme.{natural_coset, zk_bits};
+ghost use Rattle.stark_support.specs.Scheme.{zk_bits};
 ghost use Rattle.stark_transcript.specs.Shape.{shape_of};
 ghost use Rattle.stark_transcript.specs.declared.error.VerificationError.TheVariants.{OutOfMemory};
 ghost use Rattle.stark_transcript.specs.declared.shape.TranscriptPhase.TheVariants.{Delegated, Drawn, Opened};
@@ -12,18 +12,18 @@ ghost use Rattle.stark_protocol.specs.Challenges.{challenges_outcome};
 ghost use Rattle.stark_protocol.specs.FirstFault.{IsOutOfMemoryOr, PointFault};
 ghost use Rattle.stark_protocol.specs.Instance.{log_height, trace_coset};
 ghost use Rattle.stark_protocol.specs.ShapeFaults.{width_in_force};
-ghost use Rattle.stark_protocol.specs.Sizes.{log_parts_of};
+ghost use Rattle.stark_verifier.specs.Checks.{AreTraceDomains};
 
 use crate::argument::delegate_openings;
+use crate::checks::StarkChecks;
+use crate::instance::VerifierInstance;
 use crate::point::check_point;
 use crate::preprocessed::width_in_force;
 use crate::steps::ProofDomains;
 use stark_air::{Air, BaseAir};
-use stark_parts::{Com, Domain, PcsError, StarkGenericConfig, Val};
+use stark_parts::{Domain, PcsError, StarkGenericConfig, Val};
 use stark_proof::{Commitments, Proof};
-use stark_protocol::{
-    PreprocessedVerifierKey, StarkOperations, StarkProof, StarkRun, transcript_shape,
-};
+use stark_protocol::{PreprocessedVerifierKey, StarkOperations, StarkRun, transcript_shape};
 use stark_support::{
     CanObserve, CanSample, ExtensionField, GrindingChallenger, PrimeField64, TranscriptSponge,
 };
@@ -95,54 +95,45 @@ fn commitment_of<K>(key: Option<&PreprocessedVerifierKey<K>>) -> Option<&K>
 /// The shape of a proof's transcript.
 fn describe<SC, A>(
     alloc: Global,
-    config: &SC,
-    air: &A,
-    degree_bits: usize,
-    key: Option<&PreprocessedVerifierKey<Com<SC>>>,
+    on: &VerifierInstance<'_, SC, A>,
     log_chunks: usize,
 ) -> Result<StarkShape, AllocError>
 where
     SC: StarkGenericConfig,
     A: BaseAir<Val<SC>>,
-    requires extended { zk_bits SC.Pcs.ZK ≤ degree_bits }
+    requires extended { zk_bits SC.Pcs.ZK ≤ on.now.proof.now.degree_bits }
     requires few { log_chunks < 64 }
-    ensures { IfOk result (λ shape. shape ≡ shape_of (A.layout air.now) (A.main_next_row_columns air.now) (A.preprocessed_next_row_columns air.now) (width_in_force (option_map (λ k. k.now) key.entry) (A.layout air.now).preprocessed)
-        degree_bits (log_height SC.Pcs.ZK degree_bits) (2 ^ log_chunks) SC.Pcs.ZK (SC.config.ood_bits config.now) (SC.config.constraint_bits config.now)) }
+    ensures { IfOk result (λ shape. shape ≡ shape_of (A.layout on.now.air.now) (A.main_next_row_columns on.now.air.now) (A.preprocessed_next_row_columns on.now.air.now) (width_in_force (option_map (λ k. k.now) on.now.key) (A.layout on.now.air.now).preprocessed)
+        on.now.proof.now.degree_bits (log_height SC.Pcs.ZK on.now.proof.now.degree_bits) (2 ^ log_chunks) SC.Pcs.ZK (SC.config.ood_bits on.now.config.now) (SC.config.constraint_bits on.now.config.now)) }
 {
-    let width = width_in_force(key, air.preprocessed_width());
-    transcript_shape(alloc, config, air, width, degree_bits, log_chunks)
+    let width = width_in_force(on.key, on.air.preprocessed_width());
+    let degree_bits = on.proof.degree_bits;
+    transcript_shape(alloc, on.config, on.air, width, degree_bits, log_chunks)
 }
 
 /// The challenges of a proof.
 fn replay_proof<SC, A>(
-    config: &SC,
-    air: &A,
-    proof: &StarkProof<SC>,
-    public_values: &[Val<SC>],
-    key: Option<&PreprocessedVerifierKey<Com<SC>>>,
+    on: &VerifierInstance<'_, SC, A>,
     transcript: &mut StarkVerifierTranscript<'_, SC::Challenger, Val<SC>, SC::Challenge>,
 ) -> Result<(SC::Challenge, SC::Challenge), StarkTranscriptFailure>
 where
     SC: StarkGenericConfig,
     SC::Challenger: GrindingChallenger<Witness = Val<SC>>,
     A: Air<Val<SC>>,
-    requires counted { length public_values.now ≡ (A.layout air.now).publics }
-    requires opened { transcript.old.phase ≡ Opened }
-    requires described { transcript.old.shape ≡ ⟦<SC as StarkRun<A>>⟧.described config.now air.now proof.now public_values.now (option_copied key) }
-    requires seeded { transcript.old.challenger.now ≡ ⟦<SC as StarkRun<A>>⟧.seeded config.now air.now proof.now public_values.now (option_copied key) }
+    requires opened { ⟦<SC as StarkChecks<A>>⟧.is_opened on.now.config.now on.now.air.now on.now.proof.now on.now.public_values.now (option_copied on.now.key) transcript.old.phase transcript.old.shape transcript.old.challenger.now }
     ensures same_reference { transcript.new.challenger.ghost_name ≡ transcript.old.challenger.ghost_name }
     ensures drawn { IfOk result (λ _. transcript.new.phase ≡ Drawn) }
-    ensures answer { result ≡ (⟦<SC as StarkRun<A>>⟧.challenges config.now air.now proof.now public_values.now (option_copied key.entry)).answer }
-    ensures state { transcript.new.challenger.now ≡ (⟦<SC as StarkRun<A>>⟧.challenges config.now air.now proof.now public_values.now (option_copied key.entry)).state }
+    ensures answer { result ≡ (⟦<SC as StarkRun<A>>⟧.challenges on.now.config.now on.now.air.now on.now.proof.now on.now.public_values.now (option_copied on.now.key)).answer }
+    ensures state { transcript.new.challenger.now ≡ (⟦<SC as StarkRun<A>>⟧.challenges on.now.config.now on.now.air.now on.now.proof.now on.now.public_values.now (option_copied on.now.key)).state }
 {
-    let commitments = &proof.commitments;
-    let preprocessed = commitment_of(key);
-    let (alpha_witness, witness) = witnesses_of(proof);
+    let commitments = &on.proof.commitments;
+    let preprocessed = commitment_of(on.key);
+    let (alpha_witness, witness) = witnesses_of(on.proof);
     draw_challenges(
         transcript,
         preprocessed,
         commitments,
-        public_values,
+        on.public_values,
         alpha_witness,
         witness,
     )
@@ -177,11 +168,7 @@ where
 /// The transcript up to the end of its opening argument.
 fn play<SC, A>(
     alloc: Global,
-    config: &SC,
-    air: &A,
-    proof: &StarkProof<SC>,
-    public_values: &[Val<SC>],
-    key: Option<&PreprocessedVerifierKey<Com<SC>>>,
+    on: &VerifierInstance<'_, SC, A>,
     domains: ProofDomains<Domain<SC>>,
     transcript: &mut StarkVerifierTranscript<'_, SC::Challenger, Val<SC>, SC::Challenge>,
 ) -> Result<SampledPoint<SC::Challenge>, VerificationError<PcsError<SC>>>
@@ -189,22 +176,18 @@ where
     SC: StarkGenericConfig,
     SC::Challenger: GrindingChallenger<Witness = Val<SC>>,
     A: Air<Val<SC>>,
-    requires trace { SC.Pcs.Domain.coset_of domains.trace ≡ trace_coset SC.Pcs.Domain.Val.ring SC.Pcs.ZK proof.now.degree_bits }
-    requires committed { SC.Pcs.Domain.coset_of domains.committed ≡ natural_coset SC.Pcs.Domain.Val.ring proof.now.degree_bits }
-    requires counted { length public_values.now ≡ (A.layout air.now).publics }
-    requires opened { transcript.old.phase ≡ Opened }
-    requires described { transcript.old.shape ≡ ⟦<SC as StarkRun<A>>⟧.described config.now air.now proof.now public_values.now (option_copied key) }
-    requires seeded { transcript.old.challenger.now ≡ ⟦<SC as StarkRun<A>>⟧.seeded config.now air.now proof.now public_values.now (option_copied key) }
+    requires domains { AreTraceDomains SC.Pcs.Domain.Val.ring SC.Pcs.ZK on.now.proof.now.degree_bits (SC.Pcs.Domain.coset_of domains.trace) (SC.Pcs.Domain.coset_of domains.committed) }
+    requires opened { ⟦<SC as StarkChecks<A>>⟧.is_opened on.now.config.now on.now.air.now on.now.proof.now on.now.public_values.now (option_copied on.now.key) transcript.old.phase transcript.old.shape transcript.old.challenger.now }
     ensures same_reference { transcript.new.challenger.ghost_name ≡ transcript.old.challenger.ghost_name }
     ensures delegated { IfOk result (λ _. transcript.new.phase ≡ Delegated) }
-    ensures holds { IfOk result (λ point. ⟦<SC as StarkRun<A>>⟧.run_holds config.now air.now proof.now public_values.now (option_copied key.entry) point.alpha point.zeta) }
-    ensures nonzero { IfOk result (λ point. coset_vanishing SC.Challenge.ring (λ c. c) SC.Challenge.inverse_of (coset_size (SC.Pcs.Domain.coset_of domains.trace)) (SC.Challenge.embed (SC.Pcs.Domain.coset_of domains.trace).shift) point.zeta ≢ SC.Challenge.ring.zero) }
-    ensures values { IfOk result (λ point. point.periodic_values.items ≡ periodic_values ⟦<SC as StarkOperations>⟧.operations.opening.fields (A.periodic_columns air.now) (log_height SC.Pcs.ZK proof.now.degree_bits) point.zeta) }
-    ensures fault { IfErr result (IsOutOfMemoryOr (⟦<SC as StarkRun<A>>⟧.run_fault config.now air.now proof.now public_values.now (option_copied key.entry))) }
+    ensures holds { IfOk result (λ point. ⟦<SC as StarkRun<A>>⟧.run_holds on.now.config.now on.now.air.now on.now.proof.now on.now.public_values.now (option_copied on.now.key) point.alpha point.zeta) }
+    ensures sampled { IfOk result (λ point. ⟦<SC as StarkChecks<A>>⟧.is_sampled on.now.config.now on.now.air.now on.now.proof.now on.now.public_values.now (option_copied on.now.key) (SC.Pcs.Domain.coset_of domains.trace) point.zeta point.periodic_values.items) }
+    ensures fault { IfErr result (IsOutOfMemoryOr (⟦<SC as StarkRun<A>>⟧.run_fault on.now.config.now on.now.air.now on.now.proof.now on.now.public_values.now (option_copied on.now.key))) }
 {
-    let (alpha, zeta) = replay_proof(config, air, proof, public_values, key, transcript)?;
-    let periodic_values = test_point::<SC, A>(alloc, air, proof.degree_bits, domains, zeta)?;
-    delegate_openings(alloc, config, proof, key, domains, zeta, transcript)?;
+    let (alpha, zeta) = replay_proof(on, transcript)?;
+    let degree_bits = on.proof.degree_bits;
+    let periodic_values = test_point::<SC, A>(alloc, on.air, degree_bits, domains, zeta)?;
+    delegate_openings(alloc, on, domains, zeta, transcript)?;
     Ok(SampledPoint {
         alpha,
         zeta,
@@ -213,54 +196,28 @@ where
 }
 
 /// The run of the transcript from the configuration's first state: the challenges, the tests at zeta, the opening argument.
-pub fn check_run<SC, A>(
+pub(crate) fn check_run<SC, A>(
     alloc: Global,
-    config: &SC,
-    air: &A,
-    proof: &StarkProof<SC>,
-    public_values: &[Val<SC>],
-    key: Option<&PreprocessedVerifierKey<Com<SC>>>,
+    on: &VerifierInstance<'_, SC, A>,
     domains: ProofDomains<Domain<SC>>,
 ) -> Result<SampledPoint<SC::Challenge>, VerificationError<PcsError<SC>>>
 where
     SC: StarkGenericConfig,
     SC::Challenger: GrindingChallenger<Witness = Val<SC>>,
     A: Air<Val<SC>>,
-    requires trace { SC.Pcs.Domain.coset_of domains.trace ≡ trace_coset SC.Pcs.Domain.Val.ring SC.Pcs.ZK proof.now.degree_bits }
-    requires committed { SC.Pcs.Domain.coset_of domains.committed ≡ natural_coset SC.Pcs.Domain.Val.ring proof.now.degree_bits }
-    requires chunks { domains.log_chunks ≡ log_parts_of (A.constraints air.now) (A.degree_hint air.now) (zk_bits SC.Pcs.ZK) + zk_bits SC.Pcs.ZK }
-    requires extended { zk_bits SC.Pcs.ZK ≤ proof.now.degree_bits }
-    requires few { domains.log_chunks < 64 }
-    requires counted { length public_values.now ≡ (A.layout air.now).publics }
-    ensures holds { IfOk result (λ point. ⟦<SC as StarkRun<A>>⟧.run_holds config.now air.now proof.now public_values.now (option_copied key.entry) point.alpha point.zeta) }
-    ensures nonzero { IfOk result (λ point. coset_vanishing SC.Challenge.ring (λ c. c) SC.Challenge.inverse_of (coset_size (SC.Pcs.Domain.coset_of domains.trace)) (SC.Challenge.embed (SC.Pcs.Domain.coset_of domains.trace).shift) point.zeta ≢ SC.Challenge.ring.zero) }
-    ensures values { IfOk result (λ point. point.periodic_values.items ≡ periodic_values ⟦<SC as StarkOperations>⟧.operations.opening.fields (A.periodic_columns air.now) (log_height SC.Pcs.ZK proof.now.degree_bits) point.zeta) }
-    ensures fault { IfErr result (IsOutOfMemoryOr (⟦<SC as StarkRun<A>>⟧.run_fault config.now air.now proof.now public_values.now (option_copied key.entry))) }
+    requires shaped { ⟦<SC as StarkChecks<A>>⟧.is_shaped on.now.config.now on.now.air.now on.now.proof.now on.now.public_values.now (option_copied on.now.key) domains.log_chunks (SC.Pcs.Domain.coset_of domains.trace) (SC.Pcs.Domain.coset_of domains.committed) (SC.Pcs.Domain.coset_of domains.quotient) }
+    ensures holds { IfOk result (λ point. ⟦<SC as StarkRun<A>>⟧.run_holds on.now.config.now on.now.air.now on.now.proof.now on.now.public_values.now (option_copied on.now.key) point.alpha point.zeta) }
+    ensures sampled { IfOk result (λ point. ⟦<SC as StarkChecks<A>>⟧.is_sampled on.now.config.now on.now.air.now on.now.proof.now on.now.public_values.now (option_copied on.now.key) (SC.Pcs.Domain.coset_of domains.trace) point.zeta point.periodic_values.items) }
+    ensures fault { IfErr result (IsOutOfMemoryOr (⟦<SC as StarkRun<A>>⟧.run_fault on.now.config.now on.now.air.now on.now.proof.now on.now.public_values.now (option_copied on.now.key))) }
 {
-    let mut challenger = config.initialise_challenger(alloc)?;
-    let shape = describe::<SC, A>(
-        alloc,
-        config,
-        air,
-        proof.degree_bits,
-        key,
-        domains.log_chunks,
-    )?;
+    let mut challenger = on.config.initialise_challenger(alloc)?;
+    let shape = describe(alloc, on, domains.log_chunks)?;
     let mut transcript = StarkVerifierTranscript::<SC::Challenger, Val<SC>, SC::Challenge>::new(
         alloc,
         &mut challenger,
         shape,
     )?;
-    match play(
-        alloc,
-        config,
-        air,
-        proof,
-        public_values,
-        key,
-        domains,
-        &mut transcript,
-    ) {
+    match play(alloc, on, domains, &mut transcript) {
         Ok(point) => {
             transcript.finish();
             Ok(point)

@@ -1,24 +1,26 @@
 //! The tests of a proof's shape, in their order.
-ghost use Rattle.std.specs.Prelude.{◌≡◌, ◌+◌, ◌-◌, ◌^◌, ◌<◌, ◌≤◌, ◌⊎◌, IfErr, IfOk, None, Some, length, option_map};
+ghost use Rattle.std.specs.Prelude.{◌≡◌, ◌+◌, ◌-◌, ◌^◌, ◌<◌, ◌≤◌, ◌⊎◌, IfErr, IfOk, None, Some, option_map};
 ghost use Rattle.std.specs.Option.{option_copied, option_or};
-ghost use Rattle.stark_support.specs.Scheme.{natural_coset, zk_bits};
+ghost use Rattle.stark_support.specs.Scheme.{zk_bits};
 ghost use Rattle.stark_transcript.specs.Shape.{opens_next_row};
 ghost use Rattle.stark_proof.specs.ProofView.{openings_view, preprocessed_view};
 ghost use Rattle.stark_protocol.specs.ShapeFaults.{degree_fault, opened_fault, preprocessed_fault, quotient_fault, randomization_fault};
 ghost use Rattle.stark_protocol.specs.Sizes.{log_parts_of, quotient_coset};
 ghost use Rattle.stark_protocol.specs.FirstFault.{IsOutOfMemoryOr};
-ghost use Rattle.stark_protocol.specs.Instance.{log_height, trace_coset};
+ghost use Rattle.stark_protocol.specs.Instance.{log_height};
 ghost use Rattle.stark_protocol.specs.Acceptance.{of_shape};
 ghost use Rattle.stark_transcript.specs.declared.error.VerificationError.TheVariants.{OutOfMemory};
 
+use crate::checks::StarkChecks;
+use crate::instance::VerifierInstance;
 use crate::opened::{check_opened, check_randomization};
 use crate::preprocessed::check_preprocessed;
 use crate::shape::validate_degree_bits;
 use stark_air::{Air, BaseAir};
-use stark_parts::{Com, Domain, PcsError, StarkGenericConfig, Val};
+use stark_parts::{Domain, PcsError, StarkGenericConfig, Val};
 use stark_proof::{PreprocessedOpenedValues, Proof};
 use stark_protocol::{
-    PreprocessedVerifierKey, StarkProof, StarkRun, log_parts_of, natural_domain, power_of_two,
+    PreprocessedVerifierKey, StarkRun, log_parts_of, natural_domain, power_of_two,
     quotient_domain_of,
 };
 use stark_support::{
@@ -203,40 +205,29 @@ fn parameters_of<SC: StarkGenericConfig>(config: &SC) -> ShapeParameters
 }
 
 /// The tests of the proof's shape, in their order; the answer is the proof's domains.
-pub fn check_shape<SC, A>(
+pub(crate) fn check_shape<SC, A>(
     alloc: Global,
-    config: &SC,
-    air: &A,
-    proof: &StarkProof<SC>,
-    public_values: &[Val<SC>],
-    key: Option<&PreprocessedVerifierKey<Com<SC>>>,
+    on: &VerifierInstance<'_, SC, A>,
 ) -> Result<ProofDomains<Domain<SC>>, VerificationError<PcsError<SC>>>
 where
     SC: StarkGenericConfig,
     SC::Challenger: GrindingChallenger<Witness = Val<SC>>,
     A: Air<Val<SC>>,
-    ensures clear { IfOk result (λ _. ⟦<SC as StarkRun<A>>⟧.shape_fault config.now air.now proof.now public_values.now (option_copied key.entry) ≡ None) }
-    ensures rows { IfOk result (λ _. preprocessed_fault (option_map (λ k. k.now) key.entry) (A.layout air.now).preprocessed (opens_next_row (A.preprocessed_next_row_columns air.now)) proof.now.degree_bits (openings_view proof.now.opened_values).preprocessed ≡ None) }
-    ensures opened { IfOk result (λ domains. opened_fault (A.layout air.now).publics (length public_values.now) (opens_next_row (A.main_next_row_columns air.now)) (A.layout air.now).main (2 ^ domains.log_chunks) SC.Challenge.DIMENSION (openings_view proof.now.opened_values)
-        (SC.config.constraint_bits config.now) (SC.Pcs.Domain.Val.eq proof.now.alpha_pow_witness SC.Pcs.Domain.Val.ring.zero) (SC.config.ood_bits config.now) (SC.Pcs.Domain.Val.eq proof.now.ood_pow_witness SC.Pcs.Domain.Val.ring.zero) ≡ None) }
-    ensures trace { IfOk result (λ domains. SC.Pcs.Domain.coset_of domains.trace ≡ trace_coset SC.Pcs.Domain.Val.ring SC.Pcs.ZK proof.now.degree_bits) }
-    ensures committed { IfOk result (λ domains. SC.Pcs.Domain.coset_of domains.committed ≡ natural_coset SC.Pcs.Domain.Val.ring proof.now.degree_bits) }
-    ensures quotient { IfOk result (λ domains. SC.Pcs.Domain.coset_of domains.quotient ≡ quotient_coset SC.Pcs.Domain.Val.ring SC.Pcs.Domain.Val.GENERATOR (natural_coset SC.Pcs.Domain.Val.ring proof.now.degree_bits) (log_parts_of (A.constraints air.now) (A.degree_hint air.now) (zk_bits SC.Pcs.ZK))) }
-    ensures chunks { IfOk result (λ domains. domains.log_chunks ≡ log_parts_of (A.constraints air.now) (A.degree_hint air.now) (zk_bits SC.Pcs.ZK) + zk_bits SC.Pcs.ZK) }
-    ensures extended { IfOk result (λ _. zk_bits SC.Pcs.ZK ≤ proof.now.degree_bits) }
-    ensures few { IfOk result (λ domains. domains.log_chunks < 64) }
-    ensures fault { IfErr result (IsOutOfMemoryOr (λ error. ⟦<SC as StarkRun<A>>⟧.shape_fault config.now air.now proof.now public_values.now (option_copied key.entry) ≡ Some error)) }
+    ensures clear { IfOk result (λ _. ⟦<SC as StarkRun<A>>⟧.shape_fault on.now.config.now on.now.air.now on.now.proof.now on.now.public_values.now (option_copied on.now.key) ≡ None) }
+    ensures shaped { IfOk result (λ domains. ⟦<SC as StarkChecks<A>>⟧.is_shaped on.now.config.now on.now.air.now on.now.proof.now on.now.public_values.now (option_copied on.now.key) domains.log_chunks (SC.Pcs.Domain.coset_of domains.trace) (SC.Pcs.Domain.coset_of domains.committed) (SC.Pcs.Domain.coset_of domains.quotient)) }
+    ensures fault { IfErr result (IsOutOfMemoryOr (λ error. ⟦<SC as StarkRun<A>>⟧.shape_fault on.now.config.now on.now.air.now on.now.proof.now on.now.public_values.now (option_copied on.now.key) ≡ Some error)) }
 {
+    let (config, proof) = (on.config, on.proof);
     let log_height = check_height(config, proof.degree_bits)?;
     let trace = natural_domain(config, log_height);
     let committed = natural_domain(config, proof.degree_bits);
     let parameters = parameters_of(config);
     let (quotient, log_chunks) = check_past_height(
         alloc,
-        air,
+        on.air,
         proof,
-        public_values.len(),
-        key,
+        on.public_values.len(),
+        on.key,
         &parameters,
         &trace,
         &committed,

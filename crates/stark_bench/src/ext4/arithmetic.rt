@@ -4,7 +4,7 @@ ghost use Rattle.std.proofs.Common.{lit<};
 ghost use Rattle.stark_support.specs.Extension.{basis_sum};
 ghost use Rattle.stark_support.specs.Ring.{difference};
 ghost use Rattle.stark_support.specs.Lanes.{one_lane, alone_is_lane_by_lane};
-ghost use Rattle.stark_support.specs.Operations.{ring_operations, exact_binary, exact_unary};
+ghost use Rattle.stark_support.specs.Operations.{exact, exact_binary, exact_unary, ring_operations};
 ghost use Rattle.stark_support.specs.Embedding.{embedded_two_adic};
 ghost use Rattle.stark_bench.specs.Quartic.{quartic_norm, quartic_cofactor};
 ghost use Rattle.stark_bench.specs.Ext4Field.{coordinates_of, of_coordinates, ext4, ext4_ring, ext4_inverse, ext4_laws, embedded, embedded_is_embedding, basis_of, coordinate_list, ext4_basis, generator_x, eq_gives_same};
@@ -12,8 +12,8 @@ ghost use Rattle.stark_bench.specs.Ext4Field.{coordinates_of, of_coordinates, ex
 use crate::ext4::Ext4;
 use crate::residue::Residue;
 use stark_support::{
-    Algebra, Element, ExtensionField, Field, PackedField, PackedValue, PairedValue, QuarticBase,
-    TwoAdicField, packed_linear_combination,
+    Algebra, Element, ExactAlgebra, ExtensionField, Field, PackedField, PackedValue, PairedValue,
+    QuarticBase, TwoAdicField, packed_linear_combination,
 };
 use std::ops::{Add, Mul, Neg, Sub};
 
@@ -133,34 +133,14 @@ impl<F: QuarticBase> Algebra<Ext4<F>> for Ext4<F> {
     ghost negated_stands = { exact_unary (ext4_ring F.ring F.QUARTIC_CONSTANT).neg };
 }
 
-impl<F: QuarticBase> Algebra<F> for Ext4<F> {
-    ghost operations = { ring_operations (ext4_ring F.ring F.QUARTIC_CONSTANT) (embedded F.ring) };
+impl<F: QuarticBase> ExactAlgebra for Ext4<F> {
+    type Scalar = F;
 
-    ghost stands = { λ v x. x ≡ v };
+    ghost algebra_ring = { ext4_ring F.ring F.QUARTIC_CONSTANT };
 
-    fn dup(&self) -> Ext4<F> {
-        *self
-    }
+    ghost embedding = { embedded F.ring };
 
-    ghost may_add = { λ _ _. tt };
-
-    ghost may_sub = { λ _ _. tt };
-
-    ghost may_mul = { λ _ _. tt };
-
-    ghost may_neg = { λ _. tt };
-
-    ghost stands_itself = { λ _. refl };
-
-    ghost embed_stands = { λ _ _ h. h };
-
-    ghost plus_stands = { exact_binary (ext4_ring F.ring F.QUARTIC_CONSTANT).add };
-
-    ghost minus_stands = { exact_binary (difference (ext4_ring F.ring F.QUARTIC_CONSTANT)) };
-
-    ghost times_stands = { exact_binary (ext4_ring F.ring F.QUARTIC_CONSTANT).mul };
-
-    ghost negated_stands = { exact_unary (ext4_ring F.ring F.QUARTIC_CONSTANT).neg };
+    ghost is_exact = { exact (ext4_ring F.ring F.QUARTIC_CONSTANT) (embedded F.ring) };
 }
 
 /// The product of the four conjugates.

@@ -3,7 +3,7 @@ ghost use Rattle.std.specs.Prelude.{[], ◌≡◌, ◌∷◌, ◌<◌, ℕ, Some
 ghost use Rattle.std.specs.List.{slice_get};
 ghost use Rattle.std.proofs.Common.{lit<};
 ghost use Rattle.stark_support.specs.Ring.{difference};
-ghost use Rattle.stark_support.specs.Operations.{ring_operations, exact_binary, exact_unary};
+ghost use Rattle.stark_support.specs.Operations.{exact};
 ghost use Rattle.stark_bench.specs.Residues.{residue, residue_ring};
 ghost use Rattle.stark_bench.specs.Ext4Field.{basis_of, embedded, ext4_ring};
 ghost use Rattle.stark_bench.specs.ResidueLanes.{in_each_lane, lane};
@@ -13,7 +13,7 @@ use crate::ext4::Ext4;
 use crate::extension_lanes::ExtensionLanes;
 use crate::lanes::{Lanes, four_products, three_products, two_products};
 use crate::residue::Residue;
-use stark_support::{Algebra, Field, PackedValue, PairedValue, QuarticBase};
+use stark_support::{ExactAlgebra, Field, PackedValue, PairedValue, QuarticBase};
 use std::ops::{Add, Mul, Neg, Sub};
 
 /// What X^4 is, in each lane.
@@ -153,34 +153,14 @@ impl<Kind> Mul for ExtensionLanes<Kind> {
     }
 }
 
-impl<Kind> Algebra<Ext4<Residue<Kind>>> for ExtensionLanes<Kind> {
-    ghost operations = { ring_operations extension_lanes_ring element_in_each_lane };
+impl<Kind> ExactAlgebra for ExtensionLanes<Kind> {
+    type Scalar = Ext4<Residue<Kind>>;
 
-    ghost stands = { λ v x. x ≡ v };
+    ghost algebra_ring = { extension_lanes_ring };
 
-    fn dup(&self) -> ExtensionLanes<Kind> {
-        *self
-    }
+    ghost embedding = { element_in_each_lane };
 
-    ghost may_add = { λ _ _. tt };
-
-    ghost may_sub = { λ _ _. tt };
-
-    ghost may_mul = { λ _ _. tt };
-
-    ghost may_neg = { λ _. tt };
-
-    ghost stands_itself = { λ _. refl };
-
-    ghost embed_stands = { λ _ _ h. h };
-
-    ghost plus_stands = { exact_binary extension_lanes_ring.add };
-
-    ghost minus_stands = { exact_binary (difference extension_lanes_ring) };
-
-    ghost times_stands = { exact_binary extension_lanes_ring.mul };
-
-    ghost negated_stands = { exact_unary extension_lanes_ring.neg };
+    ghost is_exact = { exact extension_lanes_ring element_in_each_lane };
 }
 
 impl<Kind> PackedValue for ExtensionLanes<Kind> {

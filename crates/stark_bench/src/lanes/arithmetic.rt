@@ -5,13 +5,13 @@ ghost use Rattle.std.specs.Simd.Lanes.{zip2};
 ghost use Rattle.std.proofs.Common.{lit<};
 ghost use Rattle.stark_support.specs.Combination.{linear_combination};
 ghost use Rattle.stark_support.specs.Ring.{difference};
-ghost use Rattle.stark_support.specs.Operations.{ring_operations, exact_binary, exact_unary};
+ghost use Rattle.stark_support.specs.Operations.{exact, ring_operations};
 ghost use Rattle.stark_bench.specs.Residues.{residue, residue_ring};
 ghost use Rattle.stark_bench.specs.ResidueLanes.{lanes_of, in_each_lane, lanes_ring, is_lane_by_lane, number_sums, number_products, number_complements, number_remainders};
 
 use crate::lanes::Lanes;
 use crate::residue::Residue;
-use stark_support::{Algebra, Field, PackedValue, PairedValue};
+use stark_support::{ExactAlgebra, Field, PackedValue, PairedValue};
 use std::marker::PhantomData;
 use std::ops::{Add, Mul, Neg, Sub};
 use std::simd::prelude::*;
@@ -292,34 +292,14 @@ impl<Kind> Neg for Lanes<Kind> {
     }
 }
 
-impl<Kind> Algebra<Residue<Kind>> for Lanes<Kind> {
-    ghost operations = { ring_operations lanes_ring in_each_lane };
+impl<Kind> ExactAlgebra for Lanes<Kind> {
+    type Scalar = Residue<Kind>;
 
-    ghost stands = { λ v x. x ≡ v };
+    ghost algebra_ring = { lanes_ring };
 
-    fn dup(&self) -> Lanes<Kind> {
-        *self
-    }
+    ghost embedding = { in_each_lane };
 
-    ghost may_add = { λ _ _. tt };
-
-    ghost may_sub = { λ _ _. tt };
-
-    ghost may_mul = { λ _ _. tt };
-
-    ghost may_neg = { λ _. tt };
-
-    ghost stands_itself = { λ _. refl };
-
-    ghost embed_stands = { λ _ _ h. h };
-
-    ghost plus_stands = { exact_binary lanes_ring.add };
-
-    ghost minus_stands = { exact_binary (difference lanes_ring) };
-
-    ghost times_stands = { exact_binary lanes_ring.mul };
-
-    ghost negated_stands = { exact_unary lanes_ring.neg };
+    ghost is_exact = { exact lanes_ring in_each_lane };
 }
 
 impl<Kind> PackedValue for Lanes<Kind> {

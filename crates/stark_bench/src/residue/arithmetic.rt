@@ -2,7 +2,7 @@
 ghost use Rattle.std.specs.Prelude.{◌<◌, ◌≡◌, ◌==◌, refl, ⊤};
 ghost use Rattle.stark_support.specs.Ring.{difference};
 ghost use Rattle.stark_support.specs.Lanes.{one_lane, alone_is_lane_by_lane};
-ghost use Rattle.stark_support.specs.Operations.{ring_operations, exact_binary, exact_unary};
+ghost use Rattle.stark_support.specs.Operations.{exact};
 ghost use Rattle.std.specs.Cmp.Rules.{comparing};
 ghost use Rattle.std.proofs.Common.{rules, lit<};
 ghost use Rattle.stark_bench.specs.Residues.{residue, residue_ring, residue_inverse, residue_laws, eq_gives_same, eleven, value_of_residue, residue_of_value};
@@ -10,8 +10,8 @@ ghost use Rattle.stark_bench.specs.Roots.{root, two_adic_laws};
 
 use crate::residue::Residue;
 use stark_support::{
-    Algebra, Element, Field, PackedValue, PairedValue, PrimeField64, QuarticBase, TwoAdicField,
-    squared_times,
+    Element, ExactAlgebra, Field, PackedValue, PairedValue, PrimeField64, QuarticBase,
+    TwoAdicField, squared_times,
 };
 use std::fmt::{self, Write};
 use std::marker::PhantomData;
@@ -108,34 +108,14 @@ impl<Kind> Neg for Residue<Kind> {
     }
 }
 
-impl<Kind> Algebra<Residue<Kind>> for Residue<Kind> {
-    ghost operations = { ring_operations residue_ring (λ x. x) };
+impl<Kind> ExactAlgebra for Residue<Kind> {
+    type Scalar = Residue<Kind>;
 
-    ghost stands = { λ v x. x ≡ v };
+    ghost algebra_ring = { residue_ring };
 
-    fn dup(&self) -> Residue<Kind> {
-        *self
-    }
+    ghost embedding = { λ x. x };
 
-    ghost may_add = { λ _ _. tt };
-
-    ghost may_sub = { λ _ _. tt };
-
-    ghost may_mul = { λ _ _. tt };
-
-    ghost may_neg = { λ _. tt };
-
-    ghost stands_itself = { λ _. refl };
-
-    ghost embed_stands = { λ _ _ h. h };
-
-    ghost plus_stands = { exact_binary residue_ring.add };
-
-    ghost minus_stands = { exact_binary (difference residue_ring) };
-
-    ghost times_stands = { exact_binary residue_ring.mul };
-
-    ghost negated_stands = { exact_unary residue_ring.neg };
+    ghost is_exact = { exact residue_ring (λ x. x) };
 }
 
 impl<Kind> PackedValue for Residue<Kind> {

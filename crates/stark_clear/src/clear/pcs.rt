@@ -50,6 +50,12 @@ pub struct ClearPcs<F> {
     pub stops_at: Option<ClearCall>,
 }
 
+/// What a commitment gives: itself, and what the prover keeps of it.
+pub(crate) type Committed<F> = Result<
+    (ClearCommitment<F>, ClearCommitment<F>),
+    SchemeFault<ClearProverError>,
+>;
+
 impl<F> ClearPcs<F> {
     /// The scheme. It takes no memory.
     pub fn new() -> ClearPcs<F>
@@ -125,12 +131,7 @@ impl<F: TwoAdicField, EF: ExtensionField<F>, C> Pcs<EF, C> for ClearPcs<F> {
         Ok(ClearCommitment::new(copy))
     }
 
-    fn commit(
-        &self,
-        alloc: Global,
-        domain: Coset<F>,
-        matrix: RowMajorMatrix<F>,
-    ) -> Result<(ClearCommitment<F>, ClearCommitment<F>), SchemeFault<ClearProverError>>
+    fn commit(&self, alloc: Global, domain: Coset<F>, matrix: RowMajorMatrix<F>) -> Committed<F>
         requires power { IsPowerOfTwo (length matrix.values.items / matrix.width) }
         requires within { coset_size (⟦<Coset<F> as PolynomialSpace>⟧.coset_of domain) ≤ 2 ^ F.TWO_ADICITY }
         requires room { length matrix.values.items / matrix.width ≤ coset_size (⟦<Coset<F> as PolynomialSpace>⟧.coset_of domain) }
@@ -171,7 +172,7 @@ impl<F: TwoAdicField, EF: ExtensionField<F>, C> UnivariateStarkPcs<EF, C> for Cl
         alloc: Global,
         domain: Coset<F>,
         matrix: RowMajorMatrix<F>,
-    ) -> Result<(ClearCommitment<F>, ClearCommitment<F>), SchemeFault<ClearProverError>>
+    ) -> Committed<F>
         requires power { IsPowerOfTwo (length matrix.values.items / matrix.width) }
         requires within { coset_size (⟦<Coset<F> as PolynomialSpace>⟧.coset_of domain) ≤ 2 ^ F.TWO_ADICITY }
         requires room { length matrix.values.items / matrix.width ≤ coset_size (⟦<Coset<F> as PolynomialSpace>⟧.coset_of domain) }
@@ -192,7 +193,7 @@ impl<F: TwoAdicField, EF: ExtensionField<F>, C> UnivariateStarkPcs<EF, C> for Cl
         domain: Coset<F>,
         flat: RowMajorMatrix<F>,
         num_chunks: usize,
-    ) -> Result<(ClearCommitment<F>, ClearCommitment<F>), SchemeFault<ClearProverError>>
+    ) -> Committed<F>
         requires height { length flat.values.items ≡ coset_size (⟦<Coset<F> as PolynomialSpace>⟧.coset_of domain) * flat.width }
         requires power { IsPowerOfTwo num_chunks }
         requires parts { num_chunks ≤ coset_size (⟦<Coset<F> as PolynomialSpace>⟧.coset_of domain) }
@@ -213,17 +214,6 @@ impl<F: TwoAdicField, EF: ExtensionField<F>, C> UnivariateStarkPcs<EF, C> for Cl
         _domain: Coset<F>,
     ) -> Result<Option<(ClearCommitment<F>, ClearCommitment<F>)>, SchemeFault<ClearProverError>> {
         Ok(None)
-    }
-
-    fn get_evaluations_on_domain_no_random(
-        &self,
-        alloc: Global,
-        prover_data: &ClearCommitment<F>,
-        index: usize,
-        domain: Coset<F>,
-    ) -> Result<RowMajorMatrix<F>, AllocError> {
-        let rows = rows_on(alloc, prover_data.matrices(), index, &domain)?;
-        Ok(rows)
     }
 
     fn build_periodic_lde_table(

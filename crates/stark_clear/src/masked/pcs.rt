@@ -14,7 +14,8 @@ ghost use Rattle.stark_clear.specs.SchemeClauses.{CommitsChunks, CommitsRows, Op
 ghost use Rattle.stark_clear.specs.Masks.{AreMaskedBy, AreMaskedChunks, mask_lists, quotient_masks};
 
 use crate::clear::{
-    ClearCall, ClearError, ClearPcs, ClearProof, ClearProverError, committed, committed_alone,
+    ClearCall, ClearError, ClearPcs, ClearProof, ClearProverError, Committed, committed,
+    committed_alone,
 };
 use crate::masked::chunks::masked_chunks_of;
 use crate::masked::commit::masked_columns_of;
@@ -105,12 +106,7 @@ impl<F: TwoAdicField, EF: ExtensionField<F>, C> Pcs<EF, C> for MaskedClearPcs<F>
         <ClearPcs<F> as Pcs<EF, C>>::copy_commitment(&self.plain, alloc, commitment)
     }
 
-    fn commit(
-        &self,
-        alloc: Global,
-        domain: Coset<F>,
-        matrix: RowMajorMatrix<F>,
-    ) -> Result<(ClearCommitment<F>, ClearCommitment<F>), SchemeFault<ClearProverError>>
+    fn commit(&self, alloc: Global, domain: Coset<F>, matrix: RowMajorMatrix<F>) -> Committed<F>
         requires power { IsPowerOfTwo (length matrix.values.items / matrix.width) }
         requires within { coset_size (⟦<Coset<F> as PolynomialSpace>⟧.coset_of domain) ≤ 2 ^ F.TWO_ADICITY }
         requires room { length matrix.values.items / matrix.width ≤ coset_size (⟦<Coset<F> as PolynomialSpace>⟧.coset_of domain) }
@@ -158,7 +154,7 @@ impl<F: TwoAdicField, EF: ExtensionField<F>, C> UnivariateStarkPcs<EF, C> for Ma
         alloc: Global,
         domain: Coset<F>,
         matrix: RowMajorMatrix<F>,
-    ) -> Result<(ClearCommitment<F>, ClearCommitment<F>), SchemeFault<ClearProverError>>
+    ) -> Committed<F>
         requires power { IsPowerOfTwo (length matrix.values.items / matrix.width) }
         requires within { coset_size (⟦<Coset<F> as PolynomialSpace>⟧.coset_of domain) ≤ 2 ^ F.TWO_ADICITY }
         requires room { length matrix.values.items / matrix.width ≤ coset_size (⟦<Coset<F> as PolynomialSpace>⟧.coset_of domain) }
@@ -181,7 +177,7 @@ impl<F: TwoAdicField, EF: ExtensionField<F>, C> UnivariateStarkPcs<EF, C> for Ma
         domain: Coset<F>,
         flat: RowMajorMatrix<F>,
         num_chunks: usize,
-    ) -> Result<(ClearCommitment<F>, ClearCommitment<F>), SchemeFault<ClearProverError>>
+    ) -> Committed<F>
         requires height { length flat.values.items ≡ coset_size (⟦<Coset<F> as PolynomialSpace>⟧.coset_of domain) * flat.width }
         requires power { IsPowerOfTwo num_chunks }
         requires parts { num_chunks ≤ coset_size (⟦<Coset<F> as PolynomialSpace>⟧.coset_of domain) }
@@ -220,22 +216,6 @@ impl<F: TwoAdicField, EF: ExtensionField<F>, C> UnivariateStarkPcs<EF, C> for Ma
         let columns = next_lists(alloc, &self.masks, &mut place, EF::DIMENSION, domain.size())?;
         let made = committed_alone(alloc, columns)?;
         Ok(Some(made))
-    }
-
-    fn get_evaluations_on_domain_no_random(
-        &self,
-        alloc: Global,
-        prover_data: &ClearCommitment<F>,
-        index: usize,
-        domain: Coset<F>,
-    ) -> Result<RowMajorMatrix<F>, AllocError> {
-        <ClearPcs<F> as UnivariateStarkPcs<EF, C>>::get_evaluations_on_domain_no_random(
-            &self.plain,
-            alloc,
-            prover_data,
-            index,
-            domain,
-        )
     }
 
     fn build_periodic_lde_table(

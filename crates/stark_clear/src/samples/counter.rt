@@ -1,66 +1,34 @@
 //! A column that counts.
-ghost use Rattle.std.specs.Prelude.{◌≡◌, [], ◌∷◌, IfOk, None, OnErr};
+ghost use Rattle.std.specs.Prelude.{◌≡◌, [], ◌∷◌, IfOk, None, OnErr, true};
 ghost use Rattle.std.proofs.Common.{rules};
 ghost use Rattle.stark_air.specs.Layout.{Covers};
 ghost use Rattle.stark_clear.specs.Samples.{counter_layout, counter_starts, counter_steps, counter_constraints};
 
-use stark_air::{Air, AirBuilder, BaseAir, ExtensionBuilder, WindowAccess, every_column};
-use stark_support::{Field, RowMajorMatrix};
+use stark_air::{Air, AirBuilder, ExtensionBuilder, MainTraceAir, WindowAccess};
+use stark_support::Field;
 use std::alloc::{AllocError, Global};
 
 /// A column that starts at the one public value and goes up by one from each row to the next.
 #[derive(Drop)]
 pub struct CounterAir;
 
-impl<F> BaseAir<F> for CounterAir {
-    ghost layout = { λ _. counter_layout };
+impl MainTraceAir for CounterAir {
+    ghost WIDTH = { 1 };
 
-    ghost main_next_row_columns = { λ _. 0 ∷ [] };
+    ghost NUM_PUBLIC_VALUES = { 1 };
 
-    ghost preprocessed_next_row_columns = { λ _. [] };
+    ghost READS_NEXT_ROW = { true };
 
-    ghost degree_hint = { λ _. None };
+    ghost degree_bound = { λ _. None };
 
-    ghost as_declared = { Prim.search rules };
+    const WIDTH: usize = 1;
 
-    fn width(&self) -> usize {
-        1
-    }
+    const NUM_PUBLIC_VALUES: usize = 1;
 
-    fn preprocessed_width(&self) -> usize {
-        0
-    }
+    const READS_NEXT_ROW: bool = true;
 
-    fn preprocessed_trace(&self, _alloc: Global) -> Result<Option<RowMajorMatrix<F>>, AllocError> {
-        Ok(None)
-    }
-
-    fn num_public_values(&self) -> usize {
-        1
-    }
-
-    fn periodic_columns(&self) -> &[Vec<F>] {
-        &[]
-    }
-
-    fn main_next_row_columns(&self, alloc: Global) -> Result<Vec<usize>, AllocError> {
-        every_column(alloc, 1)
-    }
-
-    fn preprocessed_next_row_columns(&self, alloc: Global) -> Result<Vec<usize>, AllocError> {
-        Ok(Vec::new(alloc))
-    }
-
-    fn max_constraint_degree(&self) -> Option<usize> {
+    fn degree_bound(&self) -> Option<usize> {
         None
-    }
-
-    fn num_constraints(&self) -> Option<usize> {
-        None
-    }
-
-    fn public_boundary_io(&self) -> &[usize] {
-        &[]
     }
 }
 

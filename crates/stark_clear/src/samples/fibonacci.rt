@@ -1,15 +1,15 @@
 //! Two columns of Fibonacci numbers.
-ghost use Rattle.std.specs.Prelude.{◌≡◌, ◌<◌, [], ◌∷◌, IfOk, None, OnErr};
+ghost use Rattle.std.specs.Prelude.{◌≡◌, ◌<◌, [], ◌∷◌, IfOk, None, OnErr, true};
 ghost use Rattle.std.proofs.Common.{rules};
 ghost use Rattle.stark_air.specs.Emission.{Asserted};
 ghost use Rattle.stark_air.specs.Layout.{Covers};
 ghost use Rattle.stark_clear.specs.Samples.{fibonacci_layout, fibonacci_starts, fibonacci_moves, fibonacci_adds, fibonacci_ends, fibonacci_constraints};
 
 use stark_air::{
-    Air, AirBuilder, BaseAir, ExtensionBuilder, WindowAccess, assert_eq_on_first_row,
-    assert_eq_on_last_row, assert_eq_on_transition, every_column, public_value,
+    Air, AirBuilder, ExtensionBuilder, MainTraceAir, WindowAccess, assert_eq_on_first_row,
+    assert_eq_on_last_row, assert_eq_on_transition, public_value,
 };
-use stark_support::{Field, RowMajorMatrix};
+use stark_support::Field;
 use std::alloc::{AllocError, Global};
 
 /// Two columns that start at the first two public values; each row has the right number and the sum of the row before, and
@@ -17,55 +17,23 @@ use std::alloc::{AllocError, Global};
 #[derive(Drop)]
 pub struct FibonacciAir;
 
-impl<F> BaseAir<F> for FibonacciAir {
-    ghost layout = { λ _. fibonacci_layout };
+impl MainTraceAir for FibonacciAir {
+    ghost WIDTH = { 2 };
 
-    ghost main_next_row_columns = { λ _. 0 ∷ 1 ∷ [] };
+    ghost NUM_PUBLIC_VALUES = { 3 };
 
-    ghost preprocessed_next_row_columns = { λ _. [] };
+    ghost READS_NEXT_ROW = { true };
 
-    ghost degree_hint = { λ _. None };
+    ghost degree_bound = { λ _. None };
 
-    ghost as_declared = { Prim.search rules };
+    const WIDTH: usize = 2;
 
-    fn width(&self) -> usize {
-        2
-    }
+    const NUM_PUBLIC_VALUES: usize = 3;
 
-    fn preprocessed_width(&self) -> usize {
-        0
-    }
+    const READS_NEXT_ROW: bool = true;
 
-    fn preprocessed_trace(&self, _alloc: Global) -> Result<Option<RowMajorMatrix<F>>, AllocError> {
-        Ok(None)
-    }
-
-    fn num_public_values(&self) -> usize {
-        3
-    }
-
-    fn periodic_columns(&self) -> &[Vec<F>] {
-        &[]
-    }
-
-    fn main_next_row_columns(&self, alloc: Global) -> Result<Vec<usize>, AllocError> {
-        every_column(alloc, 2)
-    }
-
-    fn preprocessed_next_row_columns(&self, alloc: Global) -> Result<Vec<usize>, AllocError> {
-        Ok(Vec::new(alloc))
-    }
-
-    fn max_constraint_degree(&self) -> Option<usize> {
+    fn degree_bound(&self) -> Option<usize> {
         None
-    }
-
-    fn num_constraints(&self) -> Option<usize> {
-        None
-    }
-
-    fn public_boundary_io(&self) -> &[usize] {
-        &[]
     }
 }
 

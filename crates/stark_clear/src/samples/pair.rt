@@ -1,66 +1,34 @@
 //! Two counters side by side.
-ghost use Rattle.std.specs.Prelude.{[], ◌∷◌, None};
+ghost use Rattle.std.specs.Prelude.{None, true};
 ghost use Rattle.std.proofs.Common.{rules};
-ghost use Rattle.stark_clear.specs.Samples.{pair_layout, pair_constraints};
+ghost use Rattle.stark_clear.specs.Samples.{pair_constraints};
 
 use crate::samples::counter::CounterAir;
-use stark_air::{Air, BaseAir, ExtensionBuilder, eval_on_columns, every_column};
-use stark_support::{Field, RowMajorMatrix};
+use stark_air::{Air, ExtensionBuilder, MainTraceAir, eval_on_columns};
+use stark_support::Field;
 use std::alloc::{AllocError, Global};
 
 /// The counter on each of two columns, both from the one public value.
 #[derive(Drop)]
 pub struct PairAir;
 
-impl<F> BaseAir<F> for PairAir {
-    ghost layout = { λ _. pair_layout };
+impl MainTraceAir for PairAir {
+    ghost WIDTH = { 2 };
 
-    ghost main_next_row_columns = { λ _. 0 ∷ 1 ∷ [] };
+    ghost NUM_PUBLIC_VALUES = { 1 };
 
-    ghost preprocessed_next_row_columns = { λ _. [] };
+    ghost READS_NEXT_ROW = { true };
 
-    ghost degree_hint = { λ _. None };
+    ghost degree_bound = { λ _. None };
 
-    ghost as_declared = { Prim.search rules };
+    const WIDTH: usize = 2;
 
-    fn width(&self) -> usize {
-        2
-    }
+    const NUM_PUBLIC_VALUES: usize = 1;
 
-    fn preprocessed_width(&self) -> usize {
-        0
-    }
+    const READS_NEXT_ROW: bool = true;
 
-    fn preprocessed_trace(&self, _alloc: Global) -> Result<Option<RowMajorMatrix<F>>, AllocError> {
-        Ok(None)
-    }
-
-    fn num_public_values(&self) -> usize {
-        1
-    }
-
-    fn periodic_columns(&self) -> &[Vec<F>] {
-        &[]
-    }
-
-    fn main_next_row_columns(&self, alloc: Global) -> Result<Vec<usize>, AllocError> {
-        every_column(alloc, 2)
-    }
-
-    fn preprocessed_next_row_columns(&self, alloc: Global) -> Result<Vec<usize>, AllocError> {
-        Ok(Vec::new(alloc))
-    }
-
-    fn max_constraint_degree(&self) -> Option<usize> {
+    fn degree_bound(&self) -> Option<usize> {
         None
-    }
-
-    fn num_constraints(&self) -> Option<usize> {
-        None
-    }
-
-    fn public_boundary_io(&self) -> &[usize] {
-        &[]
     }
 }
 

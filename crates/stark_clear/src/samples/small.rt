@@ -1,13 +1,13 @@
 //! Small AIRs for tests.
-ghost use Rattle.std.specs.Prelude.{◌≡◌, [], ◌∷◌, IfOk, None, OnErr};
+ghost use Rattle.std.specs.Prelude.{◌≡◌, [], ◌∷◌, IfOk, None, OnErr, false};
 ghost use Rattle.std.proofs.Common.{rules};
 ghost use Rattle.stark_air.specs.Emission.{Asserted};
 ghost use Rattle.stark_air.specs.Layout.{Covers};
 ghost use Rattle.stark_clear.specs.Samples.{column_layout, is_number, is_number_above, is_one_on_first_row, is_zero, mixed_constraints};
 ghost use Rattle.stark_clear.specs.SmallSamples.{asked_constraints, asked_within};
 
-use stark_air::{Air, AirBuilder, BaseAir, ExtensionBuilder, WindowAccess};
-use stark_support::{PrimeField64, RowMajorMatrix};
+use stark_air::{Air, AirBuilder, ExtensionBuilder, MainTraceAir, WindowAccess};
+use stark_support::PrimeField64;
 use std::alloc::{AllocError, Global};
 
 /// What a small AIR asks of its one column.
@@ -41,55 +41,23 @@ impl SmallAir {
     }
 }
 
-impl<F> BaseAir<F> for SmallAir {
-    ghost layout = { λ _. column_layout };
+impl MainTraceAir for SmallAir {
+    ghost WIDTH = { 1 };
 
-    ghost main_next_row_columns = { λ _. [] };
+    ghost NUM_PUBLIC_VALUES = { 0 };
 
-    ghost preprocessed_next_row_columns = { λ _. [] };
+    ghost READS_NEXT_ROW = { false };
 
-    ghost degree_hint = { λ air. air.max_degree };
+    ghost degree_bound = { λ air. air.max_degree };
 
-    ghost as_declared = { Prim.search rules };
+    const WIDTH: usize = 1;
 
-    fn width(&self) -> usize {
-        1
-    }
+    const NUM_PUBLIC_VALUES: usize = 0;
 
-    fn preprocessed_width(&self) -> usize {
-        0
-    }
+    const READS_NEXT_ROW: bool = false;
 
-    fn preprocessed_trace(&self, _alloc: Global) -> Result<Option<RowMajorMatrix<F>>, AllocError> {
-        Ok(None)
-    }
-
-    fn num_public_values(&self) -> usize {
-        0
-    }
-
-    fn periodic_columns(&self) -> &[Vec<F>] {
-        &[]
-    }
-
-    fn main_next_row_columns(&self, alloc: Global) -> Result<Vec<usize>, AllocError> {
-        Ok(Vec::new(alloc))
-    }
-
-    fn preprocessed_next_row_columns(&self, alloc: Global) -> Result<Vec<usize>, AllocError> {
-        Ok(Vec::new(alloc))
-    }
-
-    fn max_constraint_degree(&self) -> Option<usize> {
+    fn degree_bound(&self) -> Option<usize> {
         self.max_degree
-    }
-
-    fn num_constraints(&self) -> Option<usize> {
-        None
-    }
-
-    fn public_boundary_io(&self) -> &[usize] {
-        &[]
     }
 }
 

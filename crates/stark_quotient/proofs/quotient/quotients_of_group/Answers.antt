@@ -1,4 +1,4 @@
-use Rattle.std.proofs.Common.{◌≡◌, ◌∙◌, ◌<◌, ◌%◌, ◌+◌, ◌/◌, ◌^◌, ap, arith, length, refl, slice_index_or, subst, sym, option_map}
+use Rattle.std.proofs.Common.{◌≡◌, ◌∙◌, ◌<◌, ◌%◌, ◌+◌, ◌*◌, ◌/◌, ◌^◌, ap, arith, length, refl, slice_index_or, subst, sym, option_map}
 use Rattle.std.proofs.lemmas.List.{length-map}
 use Rattle.std.proofs.Math.Nat.{mod-eq_of_lt}
 use Rattle.stark_support.specs.Coset.{coset_size}
@@ -86,5 +86,12 @@ fill_rows-requires-clause-preprocessed g c =
     let some : 0 < on.size = omega (arith, c.requires.within) in
     rows_there (λ m. m.now) (λ m. record { width = m.width; values = m.values.items }) (g.A.BaseAir.layout c.args.air.now).preprocessed on.size on.preprocessed some c.requires.preprocessed
 
-pub fold-requires-clause-periodic : goal.fold-requires-clause-periodic
-fold-requires-clause-periodic g c = c.in_ok-fill_rows.ensures.periodic_number ∙ c.requires.prepared.periodic.count ∙ sym (g.met.A.BaseAir.as_declared c.args.air.now).periodic_columns
+pub fold-requires-clause-rows : goal.fold-requires-clause-rows
+fold-requires-clause-rows g c = record {
+  main = c.in_ok-fill_rows.ensures.main_number ∙ ap (λ n. 2 * n) (c.requires.main.width_is ∙ sym c.requires.main_width ∙ sym c.fill_rows.ensures.main_width);
+  main_width = c.fill_rows.ensures.main_width ∙ c.requires.main_width;
+  preprocessed = c.in_ok-fill_rows.ensures.preprocessed_number ∙ ap (λ n. 2 * n) (c.requires.preprocessed.width_is ∙ sym c.requires.preprocessed_width ∙ sym c.fill_rows.ensures.preprocessed_width);
+  preprocessed_width = c.fill_rows.ensures.preprocessed_width ∙ c.requires.preprocessed_width;
+  publics = c.requires.publics;
+  periodics = c.in_ok-fill_rows.ensures.periodic_number ∙ c.requires.prepared.periodic.count ∙ sym (g.met.A.BaseAir.as_declared c.args.air.now).periodic_columns;
+}

@@ -27,11 +27,8 @@ returns-in_err-alpha-clause-delegated g c = search rules
 pub returns-in_err-alpha-clause-holds : goal.returns-in_err-alpha-clause-holds
 returns-in_err-alpha-clause-holds g c = search rules
 
-pub returns-in_err-alpha-clause-nonzero : goal.returns-in_err-alpha-clause-nonzero
-returns-in_err-alpha-clause-nonzero g c = search rules
-
-pub returns-in_err-alpha-clause-values : goal.returns-in_err-alpha-clause-values
-returns-in_err-alpha-clause-values g c = search rules
+pub returns-in_err-alpha-clause-sampled : goal.returns-in_err-alpha-clause-sampled
+returns-in_err-alpha-clause-sampled g c = search rules
 
 pub returns-in_err-delegate_openings-clause-same_reference : goal.returns-in_err-delegate_openings-clause-same_reference
 returns-in_err-delegate_openings-clause-same_reference g c = search rules
@@ -42,11 +39,8 @@ returns-in_err-delegate_openings-clause-delegated g c = search rules
 pub returns-in_err-delegate_openings-clause-holds : goal.returns-in_err-delegate_openings-clause-holds
 returns-in_err-delegate_openings-clause-holds g c = search rules
 
-pub returns-in_err-delegate_openings-clause-nonzero : goal.returns-in_err-delegate_openings-clause-nonzero
-returns-in_err-delegate_openings-clause-nonzero g c = search rules
-
-pub returns-in_err-delegate_openings-clause-values : goal.returns-in_err-delegate_openings-clause-values
-returns-in_err-delegate_openings-clause-values g c = search rules
+pub returns-in_err-delegate_openings-clause-sampled : goal.returns-in_err-delegate_openings-clause-sampled
+returns-in_err-delegate_openings-clause-sampled g c = search rules
 
 pub returns-in_err-periodic_values-clause-same_reference : goal.returns-in_err-periodic_values-clause-same_reference
 returns-in_err-periodic_values-clause-same_reference g c = search rules
@@ -57,8 +51,5 @@ returns-in_err-periodic_values-clause-delegated g c = search rules
 pub returns-in_err-periodic_values-clause-holds : goal.returns-in_err-periodic_values-clause-holds
 returns-in_err-periodic_values-clause-holds g c = search rules
 
-pub returns-in_err-periodic_values-clause-nonzero : goal.returns-in_err-periodic_values-clause-nonzero
-returns-in_err-periodic_values-clause-nonzero g c = search rules
-
-pub returns-in_err-periodic_values-clause-values : goal.returns-in_err-periodic_values-clause-values
-returns-in_err-periodic_values-clause-values g c = search rules
+pub returns-in_err-periodic_values-clause-sampled : goal.returns-in_err-periodic_values-clause-sampled
+returns-in_err-periodic_values-clause-sampled g c = search rules

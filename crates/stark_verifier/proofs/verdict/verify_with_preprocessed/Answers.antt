@@ -1,18 +1,9 @@
-use Rattle.std.proofs.Common.{◌^◌, length, rules}
-use Rattle.stark_proof.specs.ProofView.{openings_view}
-use Rattle.stark_transcript.specs.Shape.{opens_next_row}
+use Rattle.std.proofs.Common.{rules}
 use Rattle.stark_protocol.proofs.Carried.{carried}
 use Rattle.stark_verifier.proofs.Excluded.{exact}
-use Rattle.stark_verifier.proofs.ShapeSteps.{publics_are}
 use Rattle.stark_verifier.proofs.SoundAcceptanceSteps.{sound_of_parts}
 use Rattle.stark_verifier.proofs.Verdicts.{equation_refused, run_refused, shape_refused}
 use Rattle.stark_verifier.proofs.verdict.verify_with_preprocessed.Goals as goal
-
-pub check_run-requires-clause-counted : goal.check_run-requires-clause-counted
-check_run-requires-clause-counted g c =
-    let layout = g.A.BaseAir.layout c.args.air.now in
-    publics_are layout.publics (length c.args.public_values.now) (opens_next_row (g.A.BaseAir.main_next_row_columns c.args.air.now)) layout.main (2 ^ c.in_ok-domains.domains.log_chunks) g.SC.Challenge.ExtensionField.DIMENSION (openings_view c.args.proof.now.opened_values)
-    (g.SC.StarkGenericConfig.config.constraint_bits c.args.config.now) (g.SC.Pcs.Domain.Val.PartialEq.eq c.args.proof.now.alpha_pow_witness g.SC.Pcs.Domain.Val.Field.ring.zero) (g.SC.StarkGenericConfig.config.ood_bits c.args.config.now) (g.SC.Pcs.Domain.Val.PartialEq.eq c.args.proof.now.ood_pow_witness g.SC.Pcs.Domain.Val.Field.ring.zero) c.in_ok-domains.ensures.opened
 
 pub returns-in_err-domains-clause-refused : goal.returns-in_err-domains-clause-refused
 returns-in_err-domains-clause-refused g c = carried _ _ _ c.from_residual.ensures (shape_refused c.in_err-domains.ensures.fault)

@@ -1,5 +1,6 @@
 -- What an AIR declares of itself, and how its counts follow.
-use Rattle.std.specs.Prelude.{◌≡◌, ◌+◌, ℕ, zero, suc, Bool, true, false, List, [], ◌∷◌, Option, None, Some, length}
+use Rattle.std.specs.Prelude.{◌≡◌, ℕ, Bool, true, false, List, [], ◌∷◌, Option, None, Some, length}
+use Rattle.std.specs.List.{range_with_len}
 use Rattle.stark_air.specs.Layout.{Layout}
 
 -- Rows of `width` values each, one after the other.
@@ -24,14 +25,9 @@ pub record IsDeclared {F : Type 0} (layout : Layout) (preprocessed : Option (Tra
   pub main_next_row : layout.main_next ≡ next_width main_next layout.main
   pub preprocessed_next_row : layout.preprocessed_next ≡ next_width preprocessed_next layout.preprocessed
 
--- So many columns, from one on.
-abbrev pub columns_from : ℕ → ℕ → List ℕ
-columns_from column zero = []
-columns_from column (suc n) = column ∷ columns_from (column + 1) n
-
 -- All columns of a row where the next row is read, none where it isn't.
 abbrev pub read_columns : Bool → ℕ → List ℕ
-read_columns true width = columns_from 0 width
+read_columns true width = range_with_len 0 width
 read_columns false width = []
 
 -- Main columns and public values alone.

@@ -12,9 +12,9 @@ use stark_support::{Algebra, Element};
 use std::alloc::AllocError;
 use std::ops::Mul;
 
-/// What an AIR is evaluated on: a row of values and the one after it, selectors of rows, and what the asserted constraints
+/// What a builder gives of its own: a row of values and the one after it, selectors of rows, and what the asserted constraints
 /// leave. An assertion of `x` says that `x` is zero; it is Err only where memory was refused, and then nothing was asserted.
-pub trait AirBuilder {
+pub trait BaseAirBuilder {
     type F: Element;
 
     type Expr: Algebra<Self::F> + From<Self::Var> + From<Self::PublicVar> + From<Self::PeriodicVar>;
@@ -87,83 +87,85 @@ pub trait AirBuilder {
         ensures refused { OnErr result (after self.old [] self.new) }
         ensures memory { OnErr result may_refuse };
 
+    /// Asserting nothing changes nothing, one list after another is the joined list, and the row stays.
+    ghost emission_laws: { EmissionLaws environment layout after };
+}
+
+/// What an AIR is evaluated on: a builder's own calls and those that stand on them. Every `BaseAirBuilder` is one.
+pub trait AirBuilder: BaseAirBuilder {
     /// A builder that asserts `condition * x` for each `x` asserted on it.
     fn when(&mut self, condition: Self::Expr) -> FilteredAirBuilder<'_, Self>
         ensures same_builder { result.inner.ghost_name ≡ self.entry.ghost_name }
         ensures same_value { result.inner.now ≡ self.old }
-        ensures same_condition { result.condition ≡ condition }
-    {
-        FilteredAirBuilder {
-            inner: self,
-            condition,
-        }
-    }
+        ensures same_condition { result.condition ≡ condition };
 
     /// Asserts `a - b`.
     fn assert_eq(&mut self, a: Self::Expr, b: Self::Expr) -> Result<(), AllocError>
-        ensures kept { keeps self.old self.new }
-        ensures same_environment { environment self.new ≡ environment self.old }
-        ensures same_layout { layout self.new ≡ layout self.old }
-        ensures asserted { IfOk result (λ _. (t u : Tree Self.F) → Self.Expr.stands (value Self.Expr.operations (environment self.old) t) a → Self.Expr.stands (value Self.Expr.operations (environment self.old) u) b → after self.old (base (difference t u) ∷ []) self.new) }
-        ensures refused { OnErr result (after self.old [] self.new) }
-        ensures memory { OnErr result may_refuse }
-    {
-        self.assert_zero(a - b)
-    }
+        ensures kept { Self.keeps self.old self.new }
+        ensures same_environment { Self.environment self.new ≡ Self.environment self.old }
+        ensures same_layout { Self.layout self.new ≡ Self.layout self.old }
+        ensures asserted { IfOk result (λ _. (t u : Tree Self.F) → Self.Expr.stands (value Self.Expr.operations (Self.environment self.old) t) a → Self.Expr.stands (value Self.Expr.operations (Self.environment self.old) u) b → Self.after self.old (base (difference t u) ∷ []) self.new) }
+        ensures refused { OnErr result (Self.after self.old [] self.new) }
+        ensures memory { OnErr result Self.may_refuse };
 
     /// Asserts `a - 1`.
     fn assert_one(&mut self, a: Self::Expr) -> Result<(), AllocError>
-        ensures kept { keeps self.old self.new }
-        ensures same_environment { environment self.new ≡ environment self.old }
-        ensures same_layout { layout self.new ≡ layout self.old }
-        ensures asserted { IfOk result (λ _. (t : Tree Self.F) → Self.Expr.stands (value Self.Expr.operations (environment self.old) t) a → after self.old (base (difference t (constant Self.F.ONE)) ∷ []) self.new) }
-        ensures refused { OnErr result (after self.old [] self.new) }
-        ensures memory { OnErr result may_refuse }
-    {
-        self.assert_zero(a - Self::Expr::from(Self::F::ONE))
-    }
+        ensures kept { Self.keeps self.old self.new }
+        ensures same_environment { Self.environment self.new ≡ Self.environment self.old }
+        ensures same_layout { Self.layout self.new ≡ Self.layout self.old }
+        ensures asserted { IfOk result (λ _. (t : Tree Self.F) → Self.Expr.stands (value Self.Expr.operations (Self.environment self.old) t) a → Self.after self.old (base (difference t (constant Self.F.ONE)) ∷ []) self.new) }
+        ensures refused { OnErr result (Self.after self.old [] self.new) }
+        ensures memory { OnErr result Self.may_refuse };
 
     /// `when` on the selector of the first row.
     fn when_first_row(&mut self) -> FilteredAirBuilder<'_, Self>
         ensures same_builder { result.inner.ghost_name ≡ self.entry.ghost_name }
         ensures same_value { result.inner.now ≡ self.old }
-        ensures same_condition { Self.Expr.stands (environment result.inner.now).first_row result.condition }
-    {
-        let condition = self.is_first_row();
-        FilteredAirBuilder {
-            inner: self,
-            condition,
-        }
-    }
+        ensures same_condition { Self.Expr.stands (Self.environment result.inner.now).first_row result.condition };
 
     /// `when` on the selector of the last row.
     fn when_last_row(&mut self) -> FilteredAirBuilder<'_, Self>
         ensures same_builder { result.inner.ghost_name ≡ self.entry.ghost_name }
         ensures same_value { result.inner.now ≡ self.old }
-        ensures same_condition { Self.Expr.stands (environment result.inner.now).last_row result.condition }
-    {
-        let condition = self.is_last_row();
-        FilteredAirBuilder {
-            inner: self,
-            condition,
-        }
-    }
+        ensures same_condition { Self.Expr.stands (Self.environment result.inner.now).last_row result.condition };
 
     /// `when` on the selector of all rows but the last.
     fn when_transition(&mut self) -> FilteredAirBuilder<'_, Self>
         ensures same_builder { result.inner.ghost_name ≡ self.entry.ghost_name }
         ensures same_value { result.inner.now ≡ self.old }
-        ensures same_condition { Self.Expr.stands (environment result.inner.now).transition result.condition }
-    {
-        let condition = self.is_transition();
+        ensures same_condition { Self.Expr.stands (Self.environment result.inner.now).transition result.condition };
+}
+
+impl<AB: BaseAirBuilder> AirBuilder for AB {
+    fn when(&mut self, condition: AB::Expr) -> FilteredAirBuilder<'_, AB> {
         FilteredAirBuilder {
             inner: self,
             condition,
         }
     }
 
-    /// Asserting nothing changes nothing, one list after another is the joined list, and the row stays.
-    ghost emission_laws: { EmissionLaws environment layout after };
+    fn assert_eq(&mut self, a: AB::Expr, b: AB::Expr) -> Result<(), AllocError> {
+        self.assert_zero(a - b)
+    }
+
+    fn assert_one(&mut self, a: AB::Expr) -> Result<(), AllocError> {
+        self.assert_zero(a - AB::Expr::from(AB::F::ONE))
+    }
+
+    fn when_first_row(&mut self) -> FilteredAirBuilder<'_, AB> {
+        let condition = self.is_first_row();
+        self.when(condition)
+    }
+
+    fn when_last_row(&mut self) -> FilteredAirBuilder<'_, AB> {
+        let condition = self.is_last_row();
+        self.when(condition)
+    }
+
+    fn when_transition(&mut self) -> FilteredAirBuilder<'_, AB> {
+        let condition = self.is_transition();
+        self.when(condition)
+    }
 }
 
 /// A builder that also takes constraints over an extension of the field.

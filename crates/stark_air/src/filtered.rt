@@ -4,17 +4,17 @@ ghost use Rattle.std.proofs.Common.{◌∙◌, sym};
 ghost use Rattle.stark_air.specs.Emission.{AfterUnder};
 ghost use Rattle.stark_air.specs.Under.{under_nothing, under_both};
 
-use crate::builder::{AirBuilder, ExtensionBuilder};
+use crate::builder::{BaseAirBuilder, ExtensionBuilder};
 use stark_support::Algebra;
 use std::alloc::AllocError;
 
 /// A borrowed builder that asserts `condition * x` in place of each `x`. It shows the same rows.
-pub struct FilteredAirBuilder<'a, AB: AirBuilder> {
+pub struct FilteredAirBuilder<'a, AB: BaseAirBuilder> {
     pub inner: &'a mut AB,
     pub condition: AB::Expr,
 }
 
-impl<AB: AirBuilder> Drop for FilteredAirBuilder<'_, AB> {
+impl<AB: BaseAirBuilder> Drop for FilteredAirBuilder<'_, AB> {
     fn drop(self)
         ensures { self.exit.0.now ≡ self.entry.inner.now }
     {
@@ -25,7 +25,7 @@ impl<AB: AirBuilder> Drop for FilteredAirBuilder<'_, AB> {
     }
 }
 
-impl<AB: AirBuilder> AirBuilder for FilteredAirBuilder<'_, AB> {
+impl<AB: BaseAirBuilder> BaseAirBuilder for FilteredAirBuilder<'_, AB> {
     type F = AB::F;
 
     type Expr = AB::Expr;

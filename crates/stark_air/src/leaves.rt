@@ -1,10 +1,10 @@
 //! Leaves of constraints, as expressions.
 ghost use Rattle.std.specs.Prelude.{◌<◌};
 
-use crate::builder::AirBuilder;
+use crate::builder::BaseAirBuilder;
 
 /// The public value of this number.
-pub fn public_value<AB: AirBuilder>(builder: &AB, index: usize) -> AB::Expr
+pub fn public_value<AB: BaseAirBuilder>(builder: &AB, index: usize) -> AB::Expr
     requires { index < (AB.layout builder.now).publics }
     ensures { AB.Expr.stands ((AB.environment builder.now).public_value index) result }
 {
@@ -12,7 +12,7 @@ pub fn public_value<AB: AirBuilder>(builder: &AB, index: usize) -> AB::Expr
 }
 
 /// The value of the periodic column of this number in the row.
-pub fn periodic_value<AB: AirBuilder>(builder: &AB, column: usize) -> AB::Expr
+pub fn periodic_value<AB: BaseAirBuilder>(builder: &AB, column: usize) -> AB::Expr
     requires { column < (AB.layout builder.now).periodics }
     ensures { AB.Expr.stands ((AB.environment builder.now).periodic_value column) result }
 {

@@ -12,7 +12,7 @@ mod sub_builder;
 mod window;
 
 pub use air::{Air, BaseAir, every_column};
-pub use builder::{AirBuilder, ExtensionBuilder};
+pub use builder::{AirBuilder, BaseAirBuilder, ExtensionBuilder};
 pub use filtered::FilteredAirBuilder;
 pub use layout::AirLayout;
 pub use leaves::{periodic_value, public_value};

@@ -8,7 +8,7 @@ ghost use Rattle.stark_air.specs.Value.{Shows};
 ghost use Rattle.stark_air.specs.Shift.{shifted_environment, shifted_layout, columns_at, shift, shift_both, shift_environment, shift_layout};
 
 use crate::air::{Air, BaseAir};
-use crate::builder::{AirBuilder, ExtensionBuilder};
+use crate::builder::{BaseAirBuilder, ExtensionBuilder};
 use crate::window::WindowAccess;
 use stark_support::Field;
 use std::alloc::AllocError;
@@ -70,13 +70,13 @@ impl<T, W: WindowAccess<T>> WindowAccess<T> for SubSliced<W, T> {
 
 /// A builder that lends another one to an AIR of its own: main column `c` is column `start + c` of the parent, all else is
 /// the parent's, and what is asserted goes to the parent, in order.
-pub struct SubAirBuilder<'a, AB: AirBuilder, SubAir: BaseAir<AB::F>, T> {
+pub struct SubAirBuilder<'a, AB: BaseAirBuilder, SubAir: BaseAir<AB::F>, T> {
     inner: &'a mut AB,
     column_range: Range<usize>,
     marker: PhantomData<(SubAir, T)>,
 }
 
-impl<'a, AB: AirBuilder, SubAir: BaseAir<AB::F>, T> SubAirBuilder<'a, AB, SubAir, T> {
+impl<'a, AB: BaseAirBuilder, SubAir: BaseAir<AB::F>, T> SubAirBuilder<'a, AB, SubAir, T> {
     /// A builder over the main columns in the range, which lies in both rows of the parent's main window.
     pub fn new(inner: &'a mut AB, column_range: Range<usize>) -> Self
         requires ordered { column_range.start ≤ column_range.end }
@@ -94,7 +94,7 @@ impl<'a, AB: AirBuilder, SubAir: BaseAir<AB::F>, T> SubAirBuilder<'a, AB, SubAir
     }
 }
 
-impl<AB: AirBuilder, SubAir: BaseAir<AB::F>, T> Drop for SubAirBuilder<'_, AB, SubAir, T> {
+impl<AB: BaseAirBuilder, SubAir: BaseAir<AB::F>, T> Drop for SubAirBuilder<'_, AB, SubAir, T> {
     fn drop(self)
         ensures { self.exit.0.now ≡ self.entry.inner.now }
     {
@@ -106,7 +106,8 @@ impl<AB: AirBuilder, SubAir: BaseAir<AB::F>, T> Drop for SubAirBuilder<'_, AB, S
     }
 }
 
-impl<AB: AirBuilder, SubAir: BaseAir<AB::F>, T> AirBuilder for SubAirBuilder<'_, AB, SubAir, T> {
+impl<AB: BaseAirBuilder, SubAir: BaseAir<AB::F>, T> BaseAirBuilder
+    for SubAirBuilder<'_, AB, SubAir, T> {
     type F = AB::F;
 
     type Expr = AB::Expr;

@@ -4,9 +4,9 @@ use Rattle.std.proofs.Common.{◌∙◌, sym, ap, subst, inl, inr, arith}
 use Rattle.std.proofs.lemmas.Bool.Decides.{eqb_tells}
 use Rattle.std.specs.Option.{option_or}
 use Rattle.stark_support.specs.Sponge.{GrindingLaws, drawn_in_turn, after_draws}
-use Rattle.stark_bench.specs.declared.residue.Residue.{Residue}
-use Rattle.stark_bench.specs.Residues.{residue, residue_of_value}
-use Rattle.stark_bench.specs.Ext4Field.{coordinate_list}
+use Rattle.stark_small_field.specs.declared.residue.Residue.{Residue}
+use Rattle.stark_small_field.specs.Residues.{residue, residue_of_value}
+use Rattle.stark_small_field.specs.Ext4Field.{coordinate_list}
 use Rattle.stark_bench.specs.Challenges.{least, found_by, four_drawn, after_four, script_passes, sha_passes, sha_after_check}
 
 -- ---- searches

@@ -4,10 +4,10 @@ use Rattle.std.specs.Int.{w64, from_be_bytes}
 use Rattle.std.specs.Option.{option_or}
 use Rattle.sha2.specs.Sha256.{sha256}
 use Rattle.stark_support.specs.Seed.{number}
-use Rattle.stark_bench.specs.declared.residue.Residue.{Residue}
-use Rattle.stark_bench.specs.declared.ext4.Ext4.{Ext4}
-use Rattle.stark_bench.specs.Residues.{residue}
-use Rattle.stark_bench.specs.Ext4Field.{ext4}
+use Rattle.stark_small_field.specs.declared.residue.Residue.{Residue}
+use Rattle.stark_small_field.specs.declared.ext4.Ext4.{Ext4}
+use Rattle.stark_small_field.specs.Residues.{residue}
+use Rattle.stark_small_field.specs.Ext4Field.{ext4}
 
 -- ---- searches for a witness
 

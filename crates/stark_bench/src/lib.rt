@@ -1,21 +1,14 @@
-//! The field of 12289 elements and its extension of degree four.
+//! Domains, challengers and commitments over the field of 12289 elements, which this crate gives out too.
 #![tactic(auto)]
 
 mod challenger;
 mod circle;
 mod commitment_json;
 mod coset;
-mod ext4;
-mod extension_lanes;
-mod json;
-mod lanes;
-mod packing;
-mod residue;
 
 pub use challenger::{ClearCommitment, ScriptChallenger, Sha256Challenger};
 pub use circle::CircleShape;
 pub use coset::Coset;
-pub use ext4::Ext4;
-pub use extension_lanes::ExtensionLanes;
-pub use lanes::Lanes;
-pub use residue::{F12289, Lockstep, P12289, Packed, Residue, S12289, Scalar};
+pub use stark_small_field::{
+    Ext4, ExtensionLanes, F12289, Lanes, Lockstep, P12289, Packed, Residue, S12289, Scalar,
+};

@@ -1,4 +1,3 @@
-pub mod Samples
 pub mod Columns
 pub mod ClearClaims
 pub mod ColumnPoints
@@ -14,4 +13,3 @@ pub mod PlainChunkFacts
 pub mod Masks
 pub mod SchemeClauses
 pub mod ClearJson
-pub mod SmallSamples

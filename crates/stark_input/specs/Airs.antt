@@ -6,8 +6,8 @@ use Rattle.stark_air.specs.Tree.{Constraint}
 use Rattle.stark_support.specs.Logarithm.{IsCeilingOfLog}
 use Rattle.stark_transcript.specs.Shape.{opens_next_row}
 use Rattle.stark_parts.specs.Sizing.{constraint_degree, quotient_multiple}
-use Rattle.stark_clear.specs.Samples.{column_layout, counter_layout, counter_constraints, cubic_constraints, fibonacci_layout, fibonacci_constraints, periodic_layout, periodic_constraints, preprocessed_layout, preprocessed_constraints, pair_layout, pair_constraints}
-use Rattle.stark_bench.specs.Residues.{residue}
+use Rattle.stark_samples.specs.Samples.{column_layout, counter_layout, counter_constraints, cubic_constraints, fibonacci_layout, fibonacci_constraints, periodic_layout, periodic_constraints, preprocessed_layout, preprocessed_constraints, pair_layout, pair_constraints}
+use Rattle.stark_small_field.specs.Residues.{residue}
 use Rattle.stark_input.specs.Input.{Base}
 use Rattle.stark_input.specs.declared.input.CheckShape.{CheckShape}
 use Rattle.stark_input.specs.declared.words.SampleAir.{SampleAir}

@@ -5,12 +5,12 @@ use Rattle.serde_json.specs.Data.{Data}
 use Rattle.serde_json.specs.Find.{get}
 use Rattle.stark_support.specs.Ring.{RingOps}
 use Rattle.stark_support.specs.Json.{◌>>=◌, json_of, whole_at, array_at}
-use Rattle.stark_bench.specs.Residues.{residue, residue_ring}
-use Rattle.stark_bench.specs.Ext4Field.{ext4_ring}
-use Rattle.stark_bench.specs.ElementJson.{base_at, element_at}
-use Rattle.stark_bench.specs.declared.residue.Residue.{Residue}
-use Rattle.stark_bench.specs.declared.residue.Lockstep.{Lockstep}
-use Rattle.stark_bench.specs.declared.ext4.Ext4.{Ext4}
+use Rattle.stark_small_field.specs.Residues.{residue, residue_ring}
+use Rattle.stark_small_field.specs.Ext4Field.{ext4_ring}
+use Rattle.stark_small_field.specs.ElementJson.{base_at, element_at}
+use Rattle.stark_small_field.specs.declared.residue.Residue.{Residue}
+use Rattle.stark_small_field.specs.declared.residue.Lockstep.{Lockstep}
+use Rattle.stark_small_field.specs.declared.ext4.Ext4.{Ext4}
 use Rattle.stark_input.specs.declared.input.CheckShape.{CheckShape}
 
 abbrev pub Base : Type 0

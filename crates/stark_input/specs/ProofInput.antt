@@ -5,8 +5,8 @@ use Rattle.std.specs.Str.{bytes_eq}
 use Rattle.serde_json.specs.Data.{Data}
 use Rattle.serde_json.specs.Find.{get, as_null, as_str}
 use Rattle.stark_support.specs.Json.{◌>>=◌, json_of, whole_at, array_at}
-use Rattle.stark_bench.specs.ElementJson.{base_at, element_at}
-use Rattle.stark_bench.specs.Residues.{residue_ring}
+use Rattle.stark_small_field.specs.ElementJson.{base_at, element_at}
+use Rattle.stark_small_field.specs.Residues.{residue_ring}
 use Rattle.stark_proof.specs.ProofView.{ProofView, proof_view}
 use Rattle.stark_proof.specs.ProofJson.{proof_reading}
 use Rattle.stark_input.specs.Input.{Base, Extension}

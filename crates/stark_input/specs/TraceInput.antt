@@ -5,7 +5,7 @@ use Rattle.serde_json.specs.Data.{Data}
 use Rattle.serde_json.specs.Find.{get}
 use Rattle.stark_support.specs.Json.{◌>>=◌, json_of, array_at}
 use Rattle.stark_air.specs.Declaration.{Trace}
-use Rattle.stark_bench.specs.ElementJson.{base_at}
+use Rattle.stark_small_field.specs.ElementJson.{base_at}
 use Rattle.stark_input.specs.Input.{Base}
 use Rattle.stark_input.specs.ProofInput.{NamedChallenger, bits_at, challenger_at, named_challenger}
 use Rattle.stark_input.specs.declared.input.CheckShape.{CheckShape}

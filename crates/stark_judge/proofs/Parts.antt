@@ -5,7 +5,7 @@ use Rattle.stark_support.specs.Ring.{RingOps}
 use Rattle.stark_support.specs.Coset.{TwoAdicCoset}
 use Rattle.stark_support.specs.Logarithm.{IsCeilingOfLog}
 use Rattle.stark_support.specs.LogarithmFacts.{exponent_below}
-use Rattle.stark_bench.specs.Residues.{residue}
+use Rattle.stark_small_field.specs.Residues.{residue}
 use Rattle.stark_input.specs.Input.{Base}
 use Rattle.stark_protocol.specs.Sizes.{quotient_coset}
 use Rattle.stark_protocol.specs.QuotientFacts.{domain_of_size}

@@ -18,9 +18,9 @@ use Rattle.stark_support.specs.SubgroupFacts.{vanishing_of_subgroup}
 use Rattle.stark_support.specs.declared.periodic.PeriodicColumnShapeError.{PeriodicColumnShapeError}
 use Rattle.stark_air.specs.Layout.{Layout, Covers}
 use Rattle.stark_air.specs.Declaration.{Trace, IsDeclared}
-use Rattle.stark_bench.specs.Residues.{residue, residue_ring, residue_inverse, residue_laws}
-use Rattle.stark_bench.specs.Roots.{root, two_adic_laws}
-use Rattle.stark_bench.specs.Ext4Field.{basis_of, embedded_is_embedding}
+use Rattle.stark_small_field.specs.Residues.{residue, residue_ring, residue_inverse, residue_laws}
+use Rattle.stark_small_field.specs.Roots.{root, two_adic_laws}
+use Rattle.stark_small_field.specs.Ext4Field.{basis_of, embedded_is_embedding}
 use Rattle.stark_protocol.specs.Equation.{OpenedRows, opened_layout}
 use Rattle.stark_input.specs.Airs.{CheckedAir, shape_of}
 use Rattle.stark_judge.specs.Check.{IsBalanced, checked, element_of, found_at_point, folded, inverse_of, if_none, judged, laws_of_elements, opened_rows, periodic_fault, periodic_values, quotient, trace_coset, vanishing}

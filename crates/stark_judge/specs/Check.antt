@@ -9,9 +9,9 @@ use Rattle.stark_support.specs.Subgroup.{subgroup_of}
 use Rattle.stark_support.specs.Recomposition.{recomposition}
 use Rattle.stark_support.specs.Periodic.{first_fault, periodic_value}
 use Rattle.stark_support.specs.declared.periodic.PeriodicColumnShapeError.{PeriodicColumnShapeError}
-use Rattle.stark_bench.specs.Residues.{residue, residue_ring, residue_inverse, residue_laws, eleven}
-use Rattle.stark_bench.specs.Roots.{root}
-use Rattle.stark_bench.specs.Ext4Field.{ext4_inverse, ext4_laws, embedded, basis_of}
+use Rattle.stark_small_field.specs.Residues.{residue, residue_ring, residue_inverse, residue_laws, eleven}
+use Rattle.stark_small_field.specs.Roots.{root}
+use Rattle.stark_small_field.specs.Ext4Field.{ext4_inverse, ext4_laws, embedded, basis_of}
 use Rattle.stark_protocol.specs.Equation.{OpenedRows, EquationHolds, folded_constraints}
 use Rattle.stark_input.specs.Airs.{CheckedAir, IsCutInto, shape_of}
 use Rattle.stark_input.specs.Input.{CheckNumbers, Base, Extension, elements, has_shape, zeros}

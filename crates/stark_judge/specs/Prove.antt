@@ -6,8 +6,8 @@ use Rattle.stark_support.specs.Scheme.{zk_bits}
 use Rattle.stark_air.specs.Declaration.{Trace}
 use Rattle.stark_air.specs.Layout.{Layout}
 use Rattle.stark_bench.specs.CommitmentJson.{commitment_written}
-use Rattle.stark_bench.specs.ElementJson.{base_written, element_written}
-use Rattle.stark_bench.specs.Residues.{residue_ring}
+use Rattle.stark_small_field.specs.ElementJson.{base_written, element_written}
+use Rattle.stark_small_field.specs.Residues.{residue_ring}
 use Rattle.stark_clear.specs.ClearJson.{proof_written}
 use Rattle.stark_clear.specs.declared.clear.pcs.ClearProof.{ClearProof}
 use Rattle.stark_transcript.specs.declared.error.ProvingError.{ProvingError}

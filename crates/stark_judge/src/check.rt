@@ -2,7 +2,7 @@
 
 ghost use Rattle.std.specs.Prelude.{◌≡◌, ◌≢◌, ◌≤◌, ◌+◌, ◌^◌, ◌⊎◌, ℕ, true, length, map};
 ghost use Rattle.stark_support.specs.Coset.{coset_size, coset_vanishing};
-ghost use Rattle.stark_bench.specs.Residues.{residue, residue_ring};
+ghost use Rattle.stark_small_field.specs.Residues.{residue, residue_ring};
 ghost use Rattle.stark_input.specs.Airs.{IsCutInto, shape_of};
 ghost use Rattle.stark_judge.specs.Check.{IsBalanced, checked, found_at_point, trace_coset, vanishing};
 ghost use Rattle.stark_input.specs.Input.{elements, has_shape};

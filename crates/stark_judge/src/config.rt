@@ -3,31 +3,8 @@
 ghost use Rattle.std.specs.Prelude.{◌≡◌};
 ghost use Rattle.stark_clear.specs.ClearScheme.{clear_pcs};
 
-use stark_bench::ClearCommitment;
 use stark_clear::ClearPcs;
 use stark_parts::StarkConfig;
-use stark_support::{
-    CanObserve, ExtensionChallenger, ExtensionField, FieldChallenger, GrindingChallenger,
-    PrimeField64,
-};
-
-/// What a configuration with the scheme in the clear asks of a challenger.
-pub(crate) trait ProgramChallenger<F: PrimeField64, EF: ExtensionField<F>>: FieldChallenger<F>
-    + GrindingChallenger<Witness = F>
-    + CanObserve<ClearCommitment<F>>
-    + ExtensionChallenger<F, EF>
-    + Clone {}
-
-impl<F, EF, C> ProgramChallenger<F, EF> for C
-where
-    F: PrimeField64,
-    EF: ExtensionField<F>,
-    C: FieldChallenger<F>
-        + GrindingChallenger<Witness = F>
-        + CanObserve<ClearCommitment<F>>
-        + ExtensionChallenger<F, EF>
-        + Clone,
-{}
 
 /// A configuration with the scheme in the clear.
 pub type ClearConfig<F, EF, C> = StarkConfig<ClearPcs<F>, EF, C>;

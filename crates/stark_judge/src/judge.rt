@@ -8,8 +8,8 @@ ghost use Rattle.stark_judge.specs.Check.{judged};
 use crate::check::check;
 use stark_air::Air;
 use stark_bench::F12289;
-use stark_clear::{CounterAir, CubicAir, FibonacciAir, PairAir, PeriodicAir, PreprocessedAir};
 use stark_input::{CheckShape, DeclaredAir, Refusal, SampleAir, Verdict, numbers_from};
+use stark_samples::{CounterAir, CubicAir, FibonacciAir, PairAir, PeriodicAir, PreprocessedAir};
 use stark_support::JsonFault;
 use std::alloc::Global;
 

@@ -18,23 +18,21 @@ ghost use Rattle.stark_input.specs.declared.verdict.Verdict.{Verdict};
 ghost use Rattle.stark_judge.specs.ProveFacts.{proved_accepts_none, proved_line, proved_opens};
 ghost use Rattle.stark_judge.specs.Prove.{AnswersWithHeld, IsProofOfRead, IsProved, IsProvedBy, IsProvedRead, IsTraceFor, TellsAnswer, program_writing};
 
-use crate::config::{ClearConfig, ProgramChallenger, clear_config};
+use crate::config::{ClearConfig, clear_config};
 use crate::verify::ProgramConfig;
 use p3_uni_stark::{
     Proof, ProvingError, StarkInstance, StarkOperations, StarkProof, setup_preprocessed,
 };
 use stark_air::Air;
 use stark_bench::{ClearCommitment, F12289, ScriptChallenger, Sha256Challenger};
-use stark_clear::{
-    ClearProof, ClearProverError, CounterAir, CubicAir, FibonacciAir, PairAir, PeriodicAir,
-    PreprocessedAir,
-};
+use stark_clear::{ClearProof, ClearProverError};
 use stark_input::{
     CheckShape, ChosenChallenger, DeclaredAir, Extension, Finding, Refusal, SampleAir, TraceInput,
     Verdict, refusal_of_prover, trace_input_from, values_of,
 };
-use stark_parts::{PcsProverError, StarkGenericConfig, Val};
+use stark_parts::{PcsProverError, StarkChallenger, StarkGenericConfig, Val};
 use stark_prover::{prove, prove_with_preprocessed};
+use stark_samples::{CounterAir, CubicAir, FibonacciAir, PairAir, PeriodicAir, PreprocessedAir};
 use stark_support::{
     CanObserve, ExtensionChallenger, ExtensionField, Field, FieldChallenger, GrindingChallenger,
     JsonCodec, JsonFault, NeverNull, PackedExtensionField, PackedField, PrimeField64,
@@ -130,7 +128,7 @@ fn prove_over<F, EF, C, A>(
 where
     F: PrimeField64 + TwoAdicField + PackedField,
     EF: PackedExtensionField<F>,
-    C: ProgramChallenger<F, EF>,
+    C: StarkChallenger<F, EF, ClearCommitment<F>>,
     A: Air<F>,
     requires fitting { IsTraceFor (A.layout air.now) log_rows (record { width = trace.width; values = trace.values.items }) (length publics.now) 0 F.TWO_ADICITY }
     requires height { HasHeight log_rows (A.preprocessed_trace air.now) }

@@ -12,21 +12,20 @@ ghost use Rattle.stark_judge.specs.SoundRun.{IsSoundlyRead};
 ghost use Rattle.stark_judge.specs.Verify.{IsJudged, IsJudgedBy, IsVerified, JudgesWithKey};
 ghost use Rattle.stark_input.specs.declared.verdict.Verdict.{Verdict};
 
-use crate::config::{ClearConfig, ProgramChallenger, clear_config};
+use crate::config::{ClearConfig, clear_config};
 use p3_uni_stark::{
     Proof, ProvingError, StarkInstance, StarkOperations, StarkProof, setup_preprocessed, verify,
     verify_with_preprocessed,
 };
 use stark_air::Air;
 use stark_bench::{ClearCommitment, F12289, ScriptChallenger, Sha256Challenger};
-use stark_clear::{
-    ClearProof, CounterAir, CubicAir, FibonacciAir, PairAir, PeriodicAir, PreprocessedAir,
-};
+use stark_clear::ClearProof;
 use stark_input::{
     ChosenChallenger, DeclaredAir, Extension, ProofInput, Refusal, SampleAir, Verdict,
     proof_input_from, told,
 };
-use stark_parts::{StarkGenericConfig, Val};
+use stark_parts::{StarkChallenger, StarkGenericConfig, Val};
+use stark_samples::{CounterAir, CubicAir, FibonacciAir, PairAir, PeriodicAir, PreprocessedAir};
 use stark_support::{
     ExtensionField, GrindingChallenger, JsonCodec, JsonFault, PrimeField64, TwoAdicField,
 };
@@ -103,7 +102,7 @@ fn judge_over<F, EF, C, A>(
 where
     F: PrimeField64 + TwoAdicField,
     EF: ExtensionField<F>,
-    C: ProgramChallenger<F, EF>,
+    C: StarkChallenger<F, EF, ClearCommitment<F>>,
     A: Air<F>,
     requires height { HasHeight log_rows (A.preprocessed_trace air.now) }
     requires within { log_rows ≤ F.TWO_ADICITY }
@@ -126,7 +125,7 @@ fn judge_proof<C, A>(
     alpha_bits: usize,
 ) -> Verdict
 where
-    C: ProgramChallenger<F12289, Extension>,
+    C: StarkChallenger<F12289, Extension, ClearCommitment<F12289>>,
     A: Air<F12289>,
     requires height { HasHeight log_rows (A.preprocessed_trace air.now) }
     requires within { log_rows ≤ 12 }

@@ -1,11 +1,11 @@
 //! The answers to rows over each field.
-use crate::challengers::RowChallenger;
 use crate::elements::elements_in;
 use crate::{challengers, clear_scheme, fields, lanes, numbers, polynomials, seeds, transcripts};
 use stark_bench::{
     ClearCommitment, Ext4, F12289, Lockstep, P12289, Packed, Residue, S12289, Scalar,
     ScriptChallenger, Sha256Challenger,
 };
+use stark_parts::StarkChallenger;
 use stark_support::{NeverNull, PackedExtensionField, PackedField, PrimeField64, TwoAdicField};
 use std::alloc::Global;
 use std::fmt::Debug;
@@ -16,7 +16,7 @@ fn answer<F, EF, C>(alloc: Global, challenger: C, subject: &str, row: &str) -> R
 where
     F: PrimeField64 + TwoAdicField + PackedField + NeverNull + Debug,
     EF: PackedExtensionField<F> + TwoAdicField + NeverNull + Debug,
-    C: RowChallenger<F, EF, ClearCommitment<F>>,
+    C: StarkChallenger<F, EF, ClearCommitment<F>>,
 {
     match subject {
         "challengers" => challengers::answer::<F, EF, C>(alloc, challenger, row),

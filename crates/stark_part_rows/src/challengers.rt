@@ -2,6 +2,7 @@
 use crate::elements::element;
 use crate::rows::{apart, numbers_in, shown};
 use stark_bench::ClearCommitment;
+use stark_parts::StarkChallenger;
 use stark_support::{
     CanObserve, CanSample, CanSampleBits, ExtensionChallenger, ExtensionField, FieldChallenger,
     GrindingChallenger, JsonCodec, PrimeField64, value_from_bytes,
@@ -39,30 +40,12 @@ script 4 3 | grind 0; grind 1; grind 13; grind 14; grind 64; draw => Some(0) Som
 script 4 3 | check 0 5; check 3 7; check 3 8; check 64 0; draw => true true false false 4
 "#;
 
-/// What rows ask of a challenger that takes commitments of a type.
-pub trait RowChallenger<F: PrimeField64, EF: ExtensionField<F>, K>: FieldChallenger<F>
-    + CanObserve<K>
-    + ExtensionChallenger<F, EF>
-    + GrindingChallenger<Witness = F>
-    + Clone {}
-
-impl<F, EF, K, C> RowChallenger<F, EF, K> for C
-where
-    F: PrimeField64,
-    EF: ExtensionField<F>,
-    C: FieldChallenger<F>
-        + CanObserve<K>
-        + ExtensionChallenger<F, EF>
-        + GrindingChallenger<Witness = F>
-        + Clone,
-{}
-
 /// The answers to a row's steps.
 pub fn answer<F, EF, C>(alloc: Global, mut challenger: C, row: &str) -> Result<String, Fail>
 where
     F: PrimeField64 + JsonCodec + Debug,
     EF: ExtensionField<F> + Debug,
-    C: RowChallenger<F, EF, ClearCommitment<F>>,
+    C: StarkChallenger<F, EF, ClearCommitment<F>>,
 {
     let (_challenger, text) = apart(row)?;
     let mut answers = String::new(alloc);
@@ -81,7 +64,7 @@ fn step<F, EF, C>(alloc: Global, challenger: &mut C, text: &str) -> Result<Strin
 where
     F: PrimeField64 + JsonCodec + Debug,
     EF: ExtensionField<F> + Debug,
-    C: RowChallenger<F, EF, ClearCommitment<F>>,
+    C: StarkChallenger<F, EF, ClearCommitment<F>>,
 {
     let (name, given) = text.split_once(' ').unwrap_or((text, ""));
     match name {

@@ -2,7 +2,7 @@
 use crate::elements::{all_above_in, elements_in};
 use crate::lockstep;
 use crate::rows::apart;
-use stark_air::{AirBuilder, ExtensionBuilder, RowWindow};
+use stark_air::{BaseAirBuilder, ExtensionBuilder, RowWindow};
 use stark_bench::ClearCommitment;
 use stark_clear::ClearPcs;
 use stark_parts::{PackedChallenge, PackedVal, StarkConfig, StarkGenericConfig, Val};

@@ -2,7 +2,7 @@
 use crate::elements::elements_in;
 use crate::lanes::{base_powers, lanes_agree, lanes_of};
 use crate::rows::{apart, numbers_in};
-use stark_air::{AirBuilder, ExtensionBuilder, RowWindow};
+use stark_air::{BaseAirBuilder, ExtensionBuilder, RowWindow};
 use stark_parts::{PackedVal, StarkGenericConfig, Val};
 use stark_prover_folder::{VectorizedChallenge, VectorizedConstraintFolder, VectorizedVal};
 use stark_support::{

@@ -1,10 +1,10 @@
 //! Transcripts of both sides, over any challenger.
 ghost use Rattle.std.specs.Prelude.{◌≡◌, IfOk, length};
 
-use crate::challengers::RowChallenger;
 use crate::elements::element;
 use crate::rows::{apart, numbers_in, shown};
 use stark_bench::ClearCommitment;
+use stark_parts::StarkChallenger;
 use stark_support::{ExtensionField, Field, PrimeField64};
 use stark_transcript::{
     StarkProverTranscript, StarkShape, StarkTranscriptFailure, StarkVerifierTranscript,
@@ -113,7 +113,7 @@ pub fn answer<F, EF, C>(alloc: Global, mut challenger: C, row: &str) -> Result<S
 where
     F: PrimeField64,
     EF: ExtensionField<F>,
-    C: RowChallenger<F, EF, ClearCommitment<F>>,
+    C: StarkChallenger<F, EF, ClearCommitment<F>>,
 {
     match question_in(row)? {
         Question::Failure(asked) => {
@@ -231,7 +231,7 @@ fn verified<F, EF, K, C>(
 where
     F: PrimeField64,
     EF: ExtensionField<F>,
-    C: RowChallenger<F, EF, K>,
+    C: StarkChallenger<F, EF, K>,
     requires shape { shape.num_public_values ≡ 1 }
     requires publics { length handed.now.publics.now ≡ 1 }
 {
@@ -282,7 +282,7 @@ fn proved<F, EF, K, C>(
 where
     F: PrimeField64,
     EF: ExtensionField<F>,
-    C: RowChallenger<F, EF, K>,
+    C: StarkChallenger<F, EF, K>,
     requires { length publics.now ≡ 1 }
 {
     let [trace, preprocessed, quotient, random] = commitments else {
@@ -339,7 +339,7 @@ fn failure<F, EF, C>(
 where
     F: PrimeField64,
     EF: ExtensionField<F>,
-    C: RowChallenger<F, EF, ClearCommitment<F>>,
+    C: StarkChallenger<F, EF, ClearCommitment<F>>,
 {
     let own = commitment::<F>(alloc, 5)?;
     let other = commitment::<F>(alloc, 2)?;
@@ -386,7 +386,7 @@ fn run<F, EF, C>(
 where
     F: PrimeField64,
     EF: ExtensionField<F>,
-    C: RowChallenger<F, EF, ClearCommitment<F>>,
+    C: StarkChallenger<F, EF, ClearCommitment<F>>,
 {
     let commitments = commitments::<F>(alloc, numbers)?;
     let publics = one(alloc, element(numbers[2]))?;
@@ -407,7 +407,7 @@ fn check<F, EF, C>(
 where
     F: PrimeField64,
     EF: ExtensionField<F>,
-    C: RowChallenger<F, EF, ClearCommitment<F>>,
+    C: StarkChallenger<F, EF, ClearCommitment<F>>,
 {
     let commitments = commitments::<F>(alloc, numbers)?;
     let [trace, preprocessed, quotient, random] = commitments.as_slice() else {
@@ -464,7 +464,7 @@ fn both_sides<F, EF, C>(alloc: Global, fresh: &C, numbers: &[u32; 5]) -> Result<
 where
     F: PrimeField64,
     EF: ExtensionField<F>,
-    C: RowChallenger<F, EF, ClearCommitment<F>>,
+    C: StarkChallenger<F, EF, ClearCommitment<F>>,
 {
     alpha_without_work::<C, F, EF, ClearCommitment<F>>();
     let proved = run::<F, EF, C>(alloc, fresh, numbers, true)?;
@@ -492,7 +492,7 @@ fn changed<F, EF, C>(
 where
     F: PrimeField64,
     EF: ExtensionField<F>,
-    C: RowChallenger<F, EF, ClearCommitment<F>>,
+    C: StarkChallenger<F, EF, ClearCommitment<F>>,
 {
     let honest = run::<F, EF, C>(alloc, fresh, honest, true)?;
     let other = run::<F, EF, C>(alloc, fresh, other, true)?;

@@ -10,7 +10,7 @@ ghost use Rattle.stark_parts.specs.Folded.{folded};
 ghost use Rattle.stark_parts.specs.Folding.{folder_environment, folder_layout, after_folding, folding_laws};
 
 use crate::config::{StarkGenericConfig, Val};
-use stark_air::{Air, AirBuilder, ExtensionBuilder, RowWindow};
+use stark_air::{Air, BaseAirBuilder, ExtensionBuilder, RowWindow};
 use stark_support::{
     ExtensionField, Field, LagrangeSelectors, PolynomialSpace, RowMajorMatrixView, VerticalPair,
     ViewPair,
@@ -36,7 +36,7 @@ pub struct VerifierConstraintFolder<'a, SC: StarkGenericConfig> {
     pub accumulator: SC::Challenge,
 }
 
-impl<'a, SC: StarkGenericConfig> AirBuilder for VerifierConstraintFolder<'a, SC> {
+impl<'a, SC: StarkGenericConfig> BaseAirBuilder for VerifierConstraintFolder<'a, SC> {
     type F = Val<SC>;
 
     type Expr = SC::Challenge;

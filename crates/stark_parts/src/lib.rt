@@ -2,10 +2,12 @@
 //! quotient's chunks.
 #![tactic(auto)]
 
+mod challenger;
 mod config;
 mod folder;
 mod symbolic;
 
+pub use challenger::StarkChallenger;
 pub use config::{
     Com, Domain, PackedChallenge, PackedVal, PcsError, PcsProverError, StarkConfig,
     StarkGenericConfig, StarkOpeningLayout, Val,

@@ -8,9 +8,9 @@ use Rattle.stark_support.specs.PowerFacts.{power-power, power-one, squarings_is_
 use Rattle.stark_support.specs.LogarithmFacts.{at_most_or_above}
 use Rattle.stark_support.specs.KeepsRing.{kept_power}
 use Rattle.stark_support.specs.CosetFacts.{squarings_more, whole_order}
-use Rattle.stark_bench.specs.Residues.{residue, residue_ring, residue_laws}
-use Rattle.stark_bench.specs.Roots.{root, two_adic_laws}
-use Rattle.stark_bench.specs.Ext4Field.{embedded_is_embedding}
+use Rattle.stark_small_field.specs.Residues.{residue, residue_ring, residue_laws}
+use Rattle.stark_small_field.specs.Roots.{root, two_adic_laws}
+use Rattle.stark_small_field.specs.Ext4Field.{embedded_is_embedding}
 use Rattle.stark_input.specs.Airs.{CheckedAir, IsCutInto, log_chunks_of, sample, shape_of}
 use Rattle.stark_judge.specs.Check.{checked, CheckHolds, IsBalanced, IsPointOfH, element_of, found_at_point, folded, if_none, laws_of_elements, periodic_fault, quotient, vanishing}
 use Rattle.stark_input.specs.Input.{CheckNumbers, elements, has_shape, numbers_in}

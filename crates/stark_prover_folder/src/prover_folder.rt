@@ -7,7 +7,7 @@ ghost use Rattle.stark_air.specs.CollectingBoth.{CollectedBoth, collecting_both_
 ghost use Rattle.stark_prover_folder.specs.Finalized.{base_sums, finalized, lane_values, sum_of_products};
 ghost use Rattle.stark_prover_folder.specs.PackedFacts.{embedded_product};
 
-use stark_air::{AirBuilder, ExtensionBuilder, RowWindow};
+use stark_air::{BaseAirBuilder, ExtensionBuilder, RowWindow};
 use stark_parts::{PackedChallenge, PackedVal, StarkGenericConfig, Val};
 use stark_support::{
     ExtensionField, Field, PackedExtensionField, PackedField, PackedValue, RowMajorMatrixView,
@@ -48,7 +48,7 @@ where
     pub ghost counted: { constraint_index ≡ min (length base_constraints.items + length ext_constraints.items) (2 ^ 64 - 1) },
 }
 
-impl<'a, SC: StarkGenericConfig> AirBuilder for ProverConstraintFolder<'a, SC>
+impl<'a, SC: StarkGenericConfig> BaseAirBuilder for ProverConstraintFolder<'a, SC>
 where
     Val<SC>: PackedField,
     SC::Challenge: PackedExtensionField<Val<SC>>,

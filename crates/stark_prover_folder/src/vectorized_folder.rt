@@ -9,7 +9,7 @@ ghost use Rattle.stark_prover_folder.specs.Finalized.{finalized, lane_values};
 ghost use Rattle.stark_prover_folder.specs.PackedFacts.{embedded_product};
 
 use crate::prover_folder::{packed_sum, plus_base_sums};
-use stark_air::{AirBuilder, ExtensionBuilder, RowWindow};
+use stark_air::{BaseAirBuilder, ExtensionBuilder, RowWindow};
 use stark_parts::{PackedVal, StarkGenericConfig, Val};
 use stark_support::{
     Algebra, ExtensionField, Field, PackedExtensionField, PackedField, PackedPair, PackedValue,
@@ -61,7 +61,7 @@ where
     pub ghost counted: { constraint_index ≡ min (length base_constraints.items + length ext_constraints.items) (2 ^ 64 - 1) },
 }
 
-impl<'a, SC: StarkGenericConfig> AirBuilder for VectorizedConstraintFolder<'a, SC, 2>
+impl<'a, SC: StarkGenericConfig> BaseAirBuilder for VectorizedConstraintFolder<'a, SC, 2>
 where
     Val<SC>: PackedField,
     SC::Challenge: PackedExtensionField<Val<SC>>,

@@ -6,7 +6,7 @@ ghost use Rattle.stark_quotient.specs.PointRows.{AreFoldedRows, FitLayout, packe
 
 use crate::group_eval::GroupEval;
 use crate::row::folded_row;
-use stark_air::{Air, AirBuilder, RowWindow};
+use stark_air::{Air, BaseAirBuilder, RowWindow};
 use stark_parts::{PackedChallenge, PackedVal, StarkGenericConfig, Val};
 use stark_prover_folder::ProverConstraintFolder;
 use stark_support::{
@@ -120,8 +120,8 @@ where
     SC::Challenge: PackedExtensionField<Val<SC>>,
     requires main { length group.now.rows.now.main.items ≡ 2 * group.now.rows.now.main_width }
     requires preprocessed { length group.now.rows.now.preprocessed.items ≡ 2 * group.now.rows.now.preprocessed_width }
-    ensures environment { ⟦<ProverConstraintFolder<'a, SC> as AirBuilder>⟧.environment result ≡ packed_environment group.now.rows.now.main_width group.now.rows.now.preprocessed_width group.now.rows.now.main.items group.now.rows.now.preprocessed.items group.now.rows.now.periodic_values.items group.now.public_values.now SC.Pcs.Domain.Val.Packing.operations SC.Pcs.Domain.Val.ring.zero group.now.selectors.now.is_first_row group.now.selectors.now.is_last_row group.now.selectors.now.is_transition }
-    ensures layout { ⟦<ProverConstraintFolder<'a, SC> as AirBuilder>⟧.layout result ≡ packed_layout group.now.rows.now.main_width group.now.rows.now.preprocessed_width group.now.rows.now.main.items group.now.rows.now.preprocessed.items group.now.rows.now.periodic_values.items group.now.public_values.now }
+    ensures environment { ⟦<ProverConstraintFolder<'a, SC> as BaseAirBuilder>⟧.environment result ≡ packed_environment group.now.rows.now.main_width group.now.rows.now.preprocessed_width group.now.rows.now.main.items group.now.rows.now.preprocessed.items group.now.rows.now.periodic_values.items group.now.public_values.now SC.Pcs.Domain.Val.Packing.operations SC.Pcs.Domain.Val.ring.zero group.now.selectors.now.is_first_row group.now.selectors.now.is_last_row group.now.selectors.now.is_transition }
+    ensures layout { ⟦<ProverConstraintFolder<'a, SC> as BaseAirBuilder>⟧.layout result ≡ packed_layout group.now.rows.now.main_width group.now.rows.now.preprocessed_width group.now.rows.now.main.items group.now.rows.now.preprocessed.items group.now.rows.now.periodic_values.items group.now.public_values.now }
     ensures nothing_kept { result.base_constraints.items ≡ [] }
     ensures nothing_kept_above { result.ext_constraints.items ≡ [] }
     ensures base_powers { result.base_alpha_powers.now ≡ group.now.powers.now.base.items }

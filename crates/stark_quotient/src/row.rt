@@ -5,7 +5,7 @@ ghost use Rattle.stark_air.specs.Layout.{Covers};
 ghost use Rattle.stark_quotient.specs.FoldedPlaces.{AreFoldingPowers};
 ghost use Rattle.stark_quotient.specs.FoldedLanes.{AreFoldedLanes};
 
-use stark_air::{Air, AirBuilder};
+use stark_air::{Air, BaseAirBuilder};
 use stark_parts::{PackedChallenge, StarkGenericConfig, Val};
 use stark_prover_folder::ProverConstraintFolder;
 use stark_support::{ExtensionField, Field, PackedExtensionField, PackedField, PackedValue};
@@ -21,12 +21,12 @@ pub fn folded_row<'a, SC: StarkGenericConfig, A: Air<Val<SC>>>(
 where
     Val<SC>: PackedField,
     SC::Challenge: PackedExtensionField<Val<SC>>,
-    requires covers { Covers (⟦<ProverConstraintFolder<'a, SC> as AirBuilder>⟧.layout folder.old) (A.layout air.now) }
+    requires covers { Covers (⟦<ProverConstraintFolder<'a, SC> as BaseAirBuilder>⟧.layout folder.old) (A.layout air.now) }
     requires nothing_kept { folder.old.base_constraints.items ≡ [] }
     requires nothing_kept_above { folder.old.ext_constraints.items ≡ [] }
     requires powers { (alpha : SC.Challenge) × AreFoldingPowers SC.Challenge.ring SC.Challenge.coordinates SC.Challenge.DIMENSION alpha (A.constraints air.now) (map vec_items folder.old.base_alpha_powers.now) folder.old.ext_alpha_powers.now }
     ensures { IfOk result (λ packed. (alpha : SC.Challenge) → AreFoldingPowers SC.Challenge.ring SC.Challenge.coordinates SC.Challenge.DIMENSION alpha (A.constraints air.now) (map vec_items folder.old.base_alpha_powers.now) folder.old.ext_alpha_powers.now
-        → AreFoldedLanes SC.Pcs.Domain.Val.ring SC.Challenge.ring SC.Challenge.embed SC.Pcs.Domain.Val.Packing.lanes SC.Challenge.ExtensionPacking.WIDTH alpha (A.constraints air.now) (⟦<ProverConstraintFolder<'a, SC> as AirBuilder>⟧.environment folder.old) (SC.Challenge.ExtensionPacking.lanes packed)) }
+        → AreFoldedLanes SC.Pcs.Domain.Val.ring SC.Challenge.ring SC.Challenge.embed SC.Pcs.Domain.Val.Packing.lanes SC.Challenge.ExtensionPacking.WIDTH alpha (A.constraints air.now) (⟦<ProverConstraintFolder<'a, SC> as BaseAirBuilder>⟧.environment folder.old) (SC.Challenge.ExtensionPacking.lanes packed)) }
 {
     // What an evaluation leaves in a builder doesn't say that the powers stay, so they are put back.
     let base_alpha_powers = folder.base_alpha_powers;

@@ -10,7 +10,7 @@ ghost use Rattle.stark_quotient.specs.PointRows.{AreFoldedRows, FitLayout, packe
 
 use crate::group_eval::GroupEval;
 use crate::plain_eval::{KeptValues, PackedGroup, emptied, views_of};
-use stark_air::{Air, AirBuilder, RowWindow};
+use stark_air::{Air, BaseAirBuilder, RowWindow};
 use stark_parts::{PackedVal, StarkGenericConfig, Val};
 use stark_prover_folder::{VectorizedChallenge, VectorizedConstraintFolder, VectorizedVal};
 use stark_support::{
@@ -44,8 +44,8 @@ where
     SC::Challenge: PackedExtensionField<Val<SC>>,
     requires main { length group.now.rows.now.main.items ≡ 2 * group.now.rows.now.main_width }
     requires preprocessed { length group.now.rows.now.preprocessed.items ≡ 2 * group.now.rows.now.preprocessed_width }
-    ensures environment { ⟦<VectorizedConstraintFolder<'a, SC, 2> as AirBuilder>⟧.environment result ≡ packed_environment group.now.rows.now.main_width group.now.rows.now.preprocessed_width group.now.rows.now.main.items group.now.rows.now.preprocessed.items group.now.rows.now.periodic_values.items group.now.public_values.now (both_operations SC.Pcs.Domain.Val.Packing.operations) SC.Pcs.Domain.Val.ring.zero group.now.selectors.now.is_first_row group.now.selectors.now.is_last_row group.now.selectors.now.is_transition }
-    ensures layout { ⟦<VectorizedConstraintFolder<'a, SC, 2> as AirBuilder>⟧.layout result ≡ packed_layout group.now.rows.now.main_width group.now.rows.now.preprocessed_width group.now.rows.now.main.items group.now.rows.now.preprocessed.items group.now.rows.now.periodic_values.items group.now.public_values.now }
+    ensures environment { ⟦<VectorizedConstraintFolder<'a, SC, 2> as BaseAirBuilder>⟧.environment result ≡ packed_environment group.now.rows.now.main_width group.now.rows.now.preprocessed_width group.now.rows.now.main.items group.now.rows.now.preprocessed.items group.now.rows.now.periodic_values.items group.now.public_values.now (both_operations SC.Pcs.Domain.Val.Packing.operations) SC.Pcs.Domain.Val.ring.zero group.now.selectors.now.is_first_row group.now.selectors.now.is_last_row group.now.selectors.now.is_transition }
+    ensures layout { ⟦<VectorizedConstraintFolder<'a, SC, 2> as BaseAirBuilder>⟧.layout result ≡ packed_layout group.now.rows.now.main_width group.now.rows.now.preprocessed_width group.now.rows.now.main.items group.now.rows.now.preprocessed.items group.now.rows.now.periodic_values.items group.now.public_values.now }
     ensures nothing_kept { result.base_constraints.items ≡ [] }
     ensures nothing_kept_above { result.ext_constraints.items ≡ [] }
     ensures base_powers { result.base_alpha_powers.now ≡ group.now.powers.now.base.items }
@@ -81,12 +81,12 @@ fn folded_pairs<'a, SC: StarkGenericConfig, A: Air<Val<SC>>>(
 where
     Val<SC>: PackedField,
     SC::Challenge: PackedExtensionField<Val<SC>>,
-    requires covers { Covers (⟦<VectorizedConstraintFolder<'a, SC, 2> as AirBuilder>⟧.layout folder.old) (A.layout air.now) }
+    requires covers { Covers (⟦<VectorizedConstraintFolder<'a, SC, 2> as BaseAirBuilder>⟧.layout folder.old) (A.layout air.now) }
     requires nothing_kept { folder.old.base_constraints.items ≡ [] }
     requires nothing_kept_above { folder.old.ext_constraints.items ≡ [] }
     requires powers { (alpha : SC.Challenge) × AreFoldingPowers SC.Challenge.ring SC.Challenge.coordinates SC.Challenge.DIMENSION alpha (A.constraints air.now) (map vec_items folder.old.base_alpha_powers.now) folder.old.ext_alpha_powers.now }
     ensures { IfOk result (λ packed. (alpha : SC.Challenge) → AreFoldingPowers SC.Challenge.ring SC.Challenge.coordinates SC.Challenge.DIMENSION alpha (A.constraints air.now) (map vec_items folder.old.base_alpha_powers.now) folder.old.ext_alpha_powers.now
-        → AreFoldedLanes SC.Pcs.Domain.Val.ring SC.Challenge.ring SC.Challenge.embed (both_lanes SC.Pcs.Domain.Val.Packing.lanes) (2 * SC.Challenge.ExtensionPacking.WIDTH) alpha (A.constraints air.now) (⟦<VectorizedConstraintFolder<'a, SC, 2> as AirBuilder>⟧.environment folder.old) (both_lanes SC.Challenge.ExtensionPacking.lanes packed)) }
+        → AreFoldedLanes SC.Pcs.Domain.Val.ring SC.Challenge.ring SC.Challenge.embed (both_lanes SC.Pcs.Domain.Val.Packing.lanes) (2 * SC.Challenge.ExtensionPacking.WIDTH) alpha (A.constraints air.now) (⟦<VectorizedConstraintFolder<'a, SC, 2> as BaseAirBuilder>⟧.environment folder.old) (both_lanes SC.Challenge.ExtensionPacking.lanes packed)) }
 {
     // What an evaluation leaves in a builder doesn't say that the powers stay, so they are put back.
     let base_alpha_powers = folder.base_alpha_powers;

@@ -1,11 +1,11 @@
 -- The batched openings of an AIR of eight columns, of small degree, are few.
-use Rattle.std.proofs.Common.{◌≡◌, ◌∙◌, ap, arith, ℕ, ◌+◌, ◌-◌, ◌*◌, ◌^◌, ◌<◌, ◌≤◌, min, max, Bool, true, false, List, Option}
+use Rattle.std.proofs.Common.{◌≡◌, arith, ℕ, ◌+◌, ◌-◌, ◌^◌, ◌<◌, ◌≤◌, max, Bool, true, false, List, Option}
 use Rattle.std.specs.Prelude.{unwrap_or}
 use Rattle.stark_support.specs.LogarithmFacts.{two_power_at_most}
 use Rattle.stark_support.specs.Scheme.{zk_bits}
 use Rattle.stark_air.specs.Tree.{Constraint}
-use Rattle.stark_symbolic.specs.Degree.{greatest_degree, saturated}
-use Rattle.stark_parts.specs.Sizing.{constraint_degree, quotient_multiple}
+use Rattle.stark_symbolic.specs.Degree.{greatest_degree}
+use Rattle.stark_parts.specs.Sizing.{quotient_multiple}
 use Rattle.stark_security.specs.ErrorBound.{IsChunkCount}
 use Rattle.stark_security.specs.Openings.{batched_openings, hides, random_columns}
 use Rattle.stark_security.specs.declared.openings.OpeningShape.{OpeningShape}

@@ -1,5 +1,5 @@
 -- The constraints of an AIR that expressions spell, each of which is a tree or was refused memory.
-use Rattle.std.specs.Prelude.{◌≡◌, List, [], ◌∷◌, map, Option, None, Some, Result, Ok, Err, IfOk, refl, unwrap_or}
+use Rattle.std.specs.Prelude.{◌≡◌, List, [], ◌∷◌, map, Option, Some, Result, Ok, Err, IfOk, refl, unwrap_or}
 use Rattle.std.proofs.Common.{ap, sym, subst}
 use Rattle.stark_symbolic.specs.Symbolic.{Stands, stands_itself}
 use Rattle.stark_air.specs.Tree.{Tree, Constraint, base, extension}

@@ -1,10 +1,10 @@
 -- What a counter with declarations of every kind declares, and its constraints.
 use Rattle.std.specs.Prelude.{ℕ, Bool, true, false, List, [], ◌∷◌, Option, None, Some, length, refl}
 use Rattle.std.proofs.Common.{arith}
-use Rattle.stark_air.specs.Declaration.{IsDeclared, Trace, next_width, trace_width}
+use Rattle.stark_air.specs.Declaration.{IsDeclared, Trace, next_width}
 use Rattle.stark_air.specs.Layout.{Layout, LeavesWithin}
 use Rattle.stark_air.specs.Tree.{Constraint}
-use Rattle.stark_clear.specs.Samples.{counter_constraints}
+use Rattle.stark_samples.specs.Samples.{counter_constraints}
 
 -- The first column, or none.
 abbrev pub column_if : Bool → List ℕ

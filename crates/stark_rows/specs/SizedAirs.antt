@@ -1,5 +1,5 @@
 -- What the AIRs of the rows declare, and their constraints.
-use Rattle.std.specs.Prelude.{ℕ, ◌<◌, Bool, true, false, List, [], ◌∷◌, None, refl}
+use Rattle.std.specs.Prelude.{ℕ, Bool, true, false, List, [], ◌∷◌, None, refl}
 use Rattle.std.specs.List.{range_with_len}
 use Rattle.std.proofs.Common.{arith}
 use Rattle.stark_air.specs.Declaration.{IsDeclared, next_width}

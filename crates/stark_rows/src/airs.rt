@@ -10,7 +10,7 @@ use crate::elements::{above, elements_in};
 use crate::rows::{apart, list_in, numbers_in, shown};
 use stark_air::{Air, BaseAir, every_column};
 use stark_bench::{ClearCommitment, S12289};
-use stark_clear::{
+use stark_samples::{
     Asked, CounterAir, CubicAir, FibonacciAir, PairAir, PeriodicAir, PreprocessedAir, SmallAir,
 };
 use stark_support::{

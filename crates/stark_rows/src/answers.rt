@@ -1,5 +1,4 @@
 //! The answers to rows over each field.
-use crate::challengers::RowChallenger;
 use crate::elements::elements_in;
 use crate::{
     airs, constraints, domains, hostile_inputs, preprocessing, proofs, provers, quotients,
@@ -9,6 +8,7 @@ use stark_bench::{
     ClearCommitment, Ext4, F12289, Lockstep, P12289, Packed, Residue, S12289, Scalar,
     ScriptChallenger, Sha256Challenger,
 };
+use stark_parts::StarkChallenger;
 use stark_support::{
     NeverNull, PackedExtensionField, PackedField, PrimeField64, QuarticBase, TwoAdicField,
 };
@@ -21,7 +21,7 @@ fn answer<F, EF, C>(alloc: Global, challenger: C, subject: &str, row: &str) -> R
 where
     F: PrimeField64 + TwoAdicField + QuarticBase + PackedField + NeverNull + Debug,
     EF: PackedExtensionField<F> + NeverNull + Debug,
-    C: RowChallenger<F, EF, ClearCommitment<F>>,
+    C: StarkChallenger<F, EF, ClearCommitment<F>>,
 {
     match subject {
         "airs" => airs::answer::<F, EF, C>(alloc, row),

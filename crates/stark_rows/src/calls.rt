@@ -5,19 +5,20 @@ ghost use Rattle.stark_air.specs.Rows.{layout_of};
 ghost use Rattle.stark_support.specs.Coset.{coset_size, coset_vanishing};
 ghost use Rattle.stark_protocol.specs.Preprocessing.{HasHeight, IsCommittedWithin};
 
-use crate::challengers::RowChallenger;
 use p3_uni_stark::{
     PreprocessedProverData, PreprocessedVerifierKey, Proof, StarkProof,
     recompose_quotient_from_chunks, setup_preprocessed, verify, verify_constraints,
     verify_with_preprocessed,
 };
-use stark_air::{Air, AirBuilder, BaseAir, RowWindow, SubAirBuilder, WindowAccess};
+use stark_air::{Air, BaseAir, BaseAirBuilder, RowWindow, SubAirBuilder, WindowAccess};
 use stark_bench::{ClearCommitment, Coset};
-use stark_clear::{ClearPcs, ClearProof, CounterAir};
+use stark_clear::{ClearPcs, ClearProof};
 use stark_parts::{
-    Com, PcsError, StarkConfig, StarkGenericConfig, Val, VerifierConstraintFolder, fold_constraints,
+    Com, PcsError, StarkChallenger, StarkConfig, StarkGenericConfig, Val, VerifierConstraintFolder,
+    fold_constraints,
 };
 use stark_protocol::quotient_at;
+use stark_samples::CounterAir;
 use stark_support::{
     CanObserve, DomainShape, Element, ExtensionChallenger, ExtensionField, Field, FieldChallenger,
     GrindingChallenger, LagrangeSelectors, PolynomialSpace, PrimeField64, RowMajorMatrixView,
@@ -158,7 +159,7 @@ pub type Reads<V> = ((Option<V>, Option<V>), (Option<V>, Option<V>));
 
 /// What the part of two of three columns reads of any builder: of the current row the columns 0 and 2, of the next one 1 and 2.
 /// None where the part or its copy doesn't show the values of those two columns alone.
-fn part_of<AB: AirBuilder>(
+fn part_of<AB: BaseAirBuilder>(
     builder: &mut AB,
     start: usize,
     local: &[AB::Var],
@@ -316,7 +317,7 @@ pub fn answer<F, EF, C, A>(
 where
     F: TwoAdicField + PrimeField64,
     EF: ExtensionField<F>,
-    C: RowChallenger<F, EF, ClearCommitment<F>>,
+    C: StarkChallenger<F, EF, ClearCommitment<F>>,
     A: Air<F>,
 {
     verified::<ClearConfig<F, EF, C>, A>(alloc, config, air, proof, publics, key)

@@ -4,7 +4,7 @@ use crate::calls::equation;
 use crate::elements::{above, elements_in};
 use crate::rows::{apart, numbers_in, shown};
 use stark_bench::ClearCommitment;
-use stark_clear::CounterAir;
+use stark_samples::CounterAir;
 use stark_support::{
     CanObserve, ExtensionChallenger, ExtensionField, FieldChallenger, PrimeField64, TwoAdicField,
 };

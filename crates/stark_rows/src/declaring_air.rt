@@ -3,7 +3,7 @@ ghost use Rattle.std.specs.Prelude.{◌≡◌, IfOk, length, map};
 ghost use Rattle.stark_rows.specs.DeclaringAirs.{column_if, counting_if, counting_within, declaring, declaring_layout, trace_if};
 
 use stark_air::{Air, BaseAir, ExtensionBuilder, every_column};
-use stark_clear::CounterAir;
+use stark_samples::CounterAir;
 use stark_support::{Field, RowMajorMatrix};
 use std::alloc::{AllocError, Global};
 

@@ -2,7 +2,6 @@
 //! numbers and the bits of work before zeta and before alpha, the public values, the opened preprocessed rows and the proof, whose
 //! JSON has none of those rows, since JSON can't spell all of them.
 use crate::calls::ClearConfig;
-use crate::challengers::RowChallenger;
 use crate::declaring_air::DeclaringAir;
 use crate::proofs::value_of;
 use crate::proving::{MaskedConfig, masked};
@@ -13,7 +12,7 @@ use p3_uni_stark::{
 use serde_json::Value;
 use stark_bench::ClearCommitment;
 use stark_clear::{ClearPcs, ClearProof};
-use stark_parts::{Com, PcsError, StarkConfig, StarkGenericConfig, Val};
+use stark_parts::{Com, PcsError, StarkChallenger, StarkConfig, StarkGenericConfig, Val};
 use stark_support::{
     ExtensionField, Field, GrindingChallenger, JsonCodec, NeverNull, PrimeField64, TwoAdicField,
     list_from_json, lists_from_json,
@@ -143,7 +142,7 @@ pub fn answer<F, EF, C>(alloc: Global, challenger: C, row: &str) -> Result<Strin
 where
     F: TwoAdicField + PrimeField64 + NeverNull,
     EF: ExtensionField<F> + JsonCodec,
-    C: RowChallenger<F, EF, ClearCommitment<F>>,
+    C: StarkChallenger<F, EF, ClearCommitment<F>>,
 {
     let (_challenger, row) = apart(row)?;
     let (scheme, text) = apart(row)?;

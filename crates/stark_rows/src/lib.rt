@@ -10,8 +10,6 @@ mod answers;
 #[cfg(test)]
 mod calls;
 #[cfg(test)]
-mod challengers;
-#[cfg(test)]
 mod constraints;
 #[cfg(test)]
 mod declaring_air;

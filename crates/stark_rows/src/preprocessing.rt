@@ -9,8 +9,9 @@ use crate::rows::{apart, numbers_in, shown};
 use p3_uni_stark::setup_preprocessed;
 use stark_air::BaseAir;
 use stark_bench::ClearCommitment;
-use stark_clear::{ClearPcs, CounterAir, PreprocessedAir};
+use stark_clear::ClearPcs;
 use stark_parts::StarkConfig;
+use stark_samples::{CounterAir, PreprocessedAir};
 use stark_support::{
     CanObserve, ExtensionChallenger, ExtensionField, FieldChallenger, PrimeField64, TwoAdicField,
 };

@@ -6,18 +6,17 @@ ghost use Rattle.stark_protocol.specs.Preprocessing.{HasHeight};
 
 use crate::airs::small_air;
 use crate::calls::ClearConfig;
-use crate::challengers::RowChallenger;
 use crate::declaring_air::DeclaringAir;
 use crate::elements::elements_in;
 use crate::proving::{MaskedConfig, TraceProver, masked, masked_reread};
 use crate::rows::{apart, numbers_in, option_in};
 use stark_air::Air;
 use stark_bench::ClearCommitment;
-use stark_clear::{
-    ClearCall, ClearPcs, CounterAir, CubicAir, FibonacciAir, MaskedClearPcs, PairAir, PeriodicAir,
-    PreprocessedAir, SmallAir,
+use stark_clear::{ClearCall, ClearPcs, MaskedClearPcs};
+use stark_parts::{StarkChallenger, StarkConfig};
+use stark_samples::{
+    CounterAir, CubicAir, FibonacciAir, PairAir, PeriodicAir, PreprocessedAir, SmallAir,
 };
-use stark_parts::StarkConfig;
 use stark_support::{
     JsonCodec, NeverNull, PackedExtensionField, PackedField, PrimeField64, RowMajorMatrix,
     TwoAdicField,
@@ -128,7 +127,7 @@ pub fn answer<F, EF, C>(alloc: Global, challenger: C, row: &str) -> Result<Strin
 where
     F: PrimeField64 + TwoAdicField + PackedField + NeverNull,
     EF: PackedExtensionField<F> + JsonCodec,
-    C: RowChallenger<F, EF, ClearCommitment<F>>,
+    C: StarkChallenger<F, EF, ClearCommitment<F>>,
 {
     let (_challenger, row) = apart(row)?;
     let (table, text) = apart(row)?;
@@ -314,7 +313,7 @@ fn made<F, EF, C>(alloc: Global, challenger: C, text: &str) -> Result<String, Fa
 where
     F: PrimeField64 + TwoAdicField + PackedField + NeverNull,
     EF: PackedExtensionField<F> + JsonCodec,
-    C: RowChallenger<F, EF, ClearCommitment<F>>,
+    C: StarkChallenger<F, EF, ClearCommitment<F>>,
 {
     let wanted = wanted_in(text)?;
     match wanted.masks {
@@ -361,7 +360,7 @@ fn not_made<F, EF, C>(alloc: Global, challenger: C, text: &str) -> Result<String
 where
     F: PrimeField64 + TwoAdicField + PackedField + NeverNull,
     EF: PackedExtensionField<F> + JsonCodec,
-    C: RowChallenger<F, EF, ClearCommitment<F>>,
+    C: StarkChallenger<F, EF, ClearCommitment<F>>,
 {
     let again = challenger.duplicate(alloc)?;
     let [whole, stopping] = without_and_with_call(alloc, text)?;
@@ -378,7 +377,7 @@ fn changed<F, EF, C>(alloc: Global, challenger: C, text: &str) -> Result<String,
 where
     F: PrimeField64 + TwoAdicField + PackedField + NeverNull,
     EF: PackedExtensionField<F> + JsonCodec,
-    C: RowChallenger<F, EF, ClearCommitment<F>>,
+    C: StarkChallenger<F, EF, ClearCommitment<F>>,
 {
     let (from, to) = apart(text)?;
     let changed = MASKED_PROOF.replacen(alloc, from, to, 1)?;

@@ -4,7 +4,6 @@ ghost use Rattle.std.specs.Prelude.{◌≡◌, ◌+◌, ◌*◌, ◌^◌, ◌≤
 ghost use Rattle.stark_support.specs.Scheme.{zk_bits};
 ghost use Rattle.stark_protocol.specs.Preprocessing.{HasHeight};
 
-use crate::challengers::RowChallenger;
 use crate::elements::elements_in;
 use p3_uni_stark::{
     PcsProof, PreprocessedProverData, PreprocessedVerifierKey, Proof, VerifiedProof,
@@ -13,7 +12,9 @@ use p3_uni_stark::{
 use stark_air::{Air, BaseAir};
 use stark_bench::ClearCommitment;
 use stark_clear::MaskedClearPcs;
-use stark_parts::{Com, PcsError, PcsProverError, StarkConfig, StarkGenericConfig, Val};
+use stark_parts::{
+    Com, PcsError, PcsProverError, StarkChallenger, StarkConfig, StarkGenericConfig, Val,
+};
 use stark_protocol::{PcsProverData, power_of_two};
 use stark_support::{
     ExtensionField, Field, GrindingChallenger, JsonCodec, NeverNull, PackedExtensionField,
@@ -247,7 +248,7 @@ pub fn masked_reread<F, EF, C, A>(
 where
     F: TwoAdicField + PrimeField64 + NeverNull,
     EF: ExtensionField<F> + JsonCodec,
-    C: RowChallenger<F, EF, ClearCommitment<F>>,
+    C: StarkChallenger<F, EF, ClearCommitment<F>>,
     A: Air<F>,
 {
     reread_by::<MaskedConfig<F, EF, C>, A>(alloc, config, air, text, publics)

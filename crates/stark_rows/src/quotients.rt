@@ -8,9 +8,10 @@ use crate::rows::{apart, numbers_in, shown};
 use p3_uni_stark::quotient_values;
 use stark_air::{Air, AirLayout, BaseAir};
 use stark_bench::ClearCommitment;
-use stark_clear::{Asked, ClearPcs, CounterAir, SmallAir};
+use stark_clear::ClearPcs;
 use stark_parts::{StarkConfig, StarkGenericConfig, Val};
 use stark_protocol::natural_domain;
+use stark_samples::{Asked, CounterAir, SmallAir};
 use stark_support::{
     CanObserve, DomainShape, ExtensionChallenger, Field, FieldChallenger, PackedExtensionField,
     PackedField, PolynomialSpace, PrimeField64, RowMajorMatrix, TwoAdicField, UnivariateStarkPcs,

@@ -12,7 +12,7 @@ use crate::sizing::kind_in;
 use p3_uni_stark::{OpeningShape, StarkSecurityParams, num_batched_openings, ood_error_bound};
 use stark_air::{Air, AirLayout};
 use stark_bench::{ClearCommitment, Coset, Ext4};
-use stark_clear::{CounterAir, CubicAir, FibonacciAir, PairAir, PreprocessedAir, SmallAir};
+use stark_samples::{CounterAir, CubicAir, FibonacciAir, PairAir, PreprocessedAir, SmallAir};
 use stark_support::{
     CanObserve, ExtensionChallenger, ExtensionField, Field, FieldChallenger, FriRegime,
     GrindingSites, LagrangeSelectors, PolynomialSpace, PrimeField64, QuarticBase, TwoAdicField,

@@ -3,14 +3,14 @@ ghost use Rattle.std.specs.Prelude.{◌≡◌, ◌<◌, ◌≤◌, [], ◌∷◌
 ghost use Rattle.std.proofs.Common.{rules};
 ghost use Rattle.stark_air.specs.Emission.{Asserted};
 ghost use Rattle.stark_air.specs.Tree.{base, main_current};
-ghost use Rattle.stark_clear.specs.Samples.{cubic_constraints};
+ghost use Rattle.stark_samples.specs.Samples.{cubic_constraints};
 ghost use Rattle.stark_rows.specs.SizedAirs.{constraints_of, entry, kind_declared, kind_within, layout_of_kind, next_columns_of, square_times, three_columns};
 
 use crate::kinds::Kind;
 use stark_air::{
     Air, AirBuilder, BaseAir, ExtensionBuilder, MainTraceAir, WindowAccess, every_column,
 };
-use stark_clear::CubicAir;
+use stark_samples::CubicAir;
 use stark_support::{Field, RowMajorMatrix};
 use std::alloc::{AllocError, Global};
 

@@ -5,13 +5,13 @@ use crate::elements::above;
 use crate::kinds::Kind;
 use crate::rows::{apart, numbers_in, option_in, shown};
 use crate::sized_airs::SizedAir;
-use stark_air::{AirBuilder, AirLayout, ExtensionBuilder};
+use stark_air::{AirLayout, BaseAirBuilder, ExtensionBuilder};
 use stark_bench::{CircleShape, Coset};
-use stark_clear::{Asked, SmallAir};
 use stark_parts::{
     get_log_num_quotient_chunks, get_log_num_quotient_chunks_for_domain,
     get_log_quotient_degree_extension,
 };
+use stark_samples::{Asked, SmallAir};
 use stark_support::{Algebra, DomainShape, ExtensionField, Field, PrimeField64, TwoAdicField};
 use stark_symbolic::{
     BaseEntry, SymbolicAirBuilder, SymbolicExpression, SymbolicNode, SymbolicVariable,

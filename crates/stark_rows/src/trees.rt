@@ -4,23 +4,22 @@
 ghost use Rattle.std.specs.Prelude.{◌≡◌, IfOk, Some};
 ghost use Rattle.stark_symbolic.specs.SymbolicView.{variable_tree};
 ghost use Rattle.stark_air.specs.Tree.{main_current, main_next, public_value};
-ghost use Rattle.stark_clear.specs.Samples.{counter_constraints, fibonacci_constraints, mixed_constraints};
+ghost use Rattle.stark_samples.specs.Samples.{counter_constraints, fibonacci_constraints, mixed_constraints};
 ghost use Rattle.stark_protocol.specs.Preprocessing.{HasHeight};
 
 use crate::airs::folded;
 use crate::calls::ClearConfig;
-use crate::challengers::RowChallenger;
 use crate::proofs::value_of;
 use crate::provers::text_at;
 use crate::proving::TraceProver;
 use crate::rows::{apart, numbers_in};
 use stark_air::{Air, BaseAir};
 use stark_bench::{ClearCommitment, S12289};
-use stark_clear::{
-    Asked, ClearPcs, CounterAir, CubicAir, FibonacciAir, PairAir, PeriodicAir, PreprocessedAir,
-    SmallAir,
+use stark_clear::ClearPcs;
+use stark_parts::{StarkChallenger, StarkConfig};
+use stark_samples::{
+    Asked, CounterAir, CubicAir, FibonacciAir, PairAir, PeriodicAir, PreprocessedAir, SmallAir,
 };
-use stark_parts::StarkConfig;
 use stark_support::{
     CanObserve, Element, ExtensionChallenger, ExtensionField, Field, FieldChallenger, JsonCodec,
     NeverNull, PackedExtensionField, PackedField, PrimeField64, TwoAdicField,
@@ -124,7 +123,7 @@ pub fn answer<F, EF, C>(alloc: Global, challenger: C, row: &str) -> Result<Strin
 where
     F: PrimeField64 + TwoAdicField + PackedField + NeverNull,
     EF: PackedExtensionField<F> + JsonCodec + Debug,
-    C: RowChallenger<F, EF, ClearCommitment<F>>,
+    C: StarkChallenger<F, EF, ClearCommitment<F>>,
 {
     let (table, text) = apart(row)?;
     match table {

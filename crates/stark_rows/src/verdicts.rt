@@ -4,7 +4,6 @@
 //! preprocessed row | the next one.
 use crate::airs::{row_in, small_air};
 use crate::calls::{self, ClearConfig, ClearShown};
-use crate::challengers::RowChallenger;
 use crate::elements::{above, element, elements_in};
 use crate::rows::{apart, numbers_in};
 use crate::sized_airs::BoundedCubic;
@@ -13,8 +12,9 @@ use p3_uni_stark::{
 };
 use stark_air::Air;
 use stark_bench::ClearCommitment;
-use stark_clear::{ClearPcs, ClearProof, CounterAir, CubicAir, PreprocessedAir, SmallAir};
-use stark_parts::StarkConfig;
+use stark_clear::{ClearPcs, ClearProof};
+use stark_parts::{StarkChallenger, StarkConfig};
+use stark_samples::{CounterAir, CubicAir, PreprocessedAir, SmallAir};
 use stark_support::{ExtensionField, PrimeField64, TwoAdicField};
 use std::alloc::{AllocError, Global};
 use std::test::Fail;
@@ -91,7 +91,7 @@ pub fn answer<F, EF, C>(alloc: Global, challenger: C, row: &str) -> Result<Strin
 where
     F: PrimeField64 + TwoAdicField,
     EF: ExtensionField<F>,
-    C: RowChallenger<F, EF, ClearCommitment<F>>,
+    C: StarkChallenger<F, EF, ClearCommitment<F>>,
 {
     let (_challenger, row) = apart(row)?;
     let (name, text) = apart(row)?;
@@ -121,7 +121,7 @@ fn verdict_by_name<F, EF, C>(
 where
     F: PrimeField64 + TwoAdicField,
     EF: ExtensionField<F>,
-    C: RowChallenger<F, EF, ClearCommitment<F>>,
+    C: StarkChallenger<F, EF, ClearCommitment<F>>,
 {
     match name {
         "counter" => verdict::<F, EF, C, CounterAir>(alloc, config, &CounterAir, shown),
@@ -267,7 +267,7 @@ fn verdict<F, EF, C, A>(
 where
     F: PrimeField64 + TwoAdicField,
     EF: ExtensionField<F>,
-    C: RowChallenger<F, EF, ClearCommitment<F>>,
+    C: StarkChallenger<F, EF, ClearCommitment<F>>,
     A: Air<F>,
 {
     let (proof, key) = (&shown.proof, shown.key.as_ref());

@@ -1,12 +1,12 @@
 -- How many chunks there are at most, and no bound for more rows than 64 bits count.
-use Rattle.std.proofs.Common.{◌≡◌, ◌∙◌, ℕ, ◌+◌, ◌-◌, ◌*◌, ◌^◌, ◌<◌, ◌≤◌, max, min, nat_lt, List, Option, Some, None, refl, sym, ap, subst, arith, if◌then◌else◌}
+use Rattle.std.proofs.Common.{◌≡◌, ℕ, ◌+◌, ◌-◌, ◌*◌, ◌^◌, ◌<◌, ◌≤◌, max, min, List, Option, Some, None, refl, sym, ap, subst, arith, if◌then◌else◌}
 use Rattle.std.proofs.Math.Pow.{pow_mono}
 use Rattle.std.proofs.lemmas.Bool.{le-ltb}
 use Rattle.stark_air.specs.Tree.{Constraint}
 use Rattle.stark_parts.specs.ConstraintBound.{greatest_bound}
 use Rattle.stark_parts.specs.Sizing.{constraint_degree, quotient_multiple}
-use Rattle.stark_security.specs.DegreeBound.{alpha_bound, error_bound, zeta_bound}
-use Rattle.stark_security.specs.ErrorBound.{IsChunkCount, IsErrorBound}
+use Rattle.stark_security.specs.DegreeBound.{alpha_bound, zeta_bound}
+use Rattle.stark_security.specs.ErrorBound.{IsErrorBound}
 use Rattle.stark_support.specs.Logarithm.{IsCeilingOfLog}
 
 small : (d top : ℕ) → 1 ≤ top → max (min d (top - 1)) 2 - 1 ≤ top

@@ -11,7 +11,7 @@ ghost use Rattle.stark_air.specs.Value.{Shows, value};
 use crate::expression::SymbolicExpression;
 use crate::variable::{BaseEntry, SymbolicVariable};
 use crate::window::{SymbolicWindow, variables};
-use stark_air::{AirBuilder, AirLayout, ExtensionBuilder};
+use stark_air::{AirLayout, BaseAirBuilder, ExtensionBuilder};
 use stark_support::Field;
 use std::alloc::{AllocError, Global};
 use std::marker::PhantomData;
@@ -69,7 +69,7 @@ impl<F: Field, EF> SymbolicAirBuilder<F, EF> {
     }
 }
 
-impl<F: Field, EF> AirBuilder for SymbolicAirBuilder<F, EF> {
+impl<F: Field, EF> BaseAirBuilder for SymbolicAirBuilder<F, EF> {
     type F = F;
 
     type Expr = SymbolicExpression<F>;

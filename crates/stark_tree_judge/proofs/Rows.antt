@@ -1,5 +1,5 @@
 -- What is found with as many rows as preprocessed columns have, and where they have no such number.
-use Rattle.std.proofs.Common.{◌≡◌, ◌⊎◌, inl, inr, ap, refl, sym, subst, ℕ, ◌<◌, ◌≤◌, List, Option, None, Some, IfSome, IsNone}
+use Rattle.std.proofs.Common.{◌≡◌, ◌⊎◌, inl, inr, refl, ℕ, ◌<◌, ◌≤◌, List, Option, None, Some, IfSome, IsNone}
 use Rattle.stark_clear.specs.declared.clear.pcs.ClearProof.{ClearProof}
 use Rattle.stark_protocol.specs.Instance.{ProtocolOps}
 use Rattle.stark_protocol.specs.Preprocessing.{HasHeight}

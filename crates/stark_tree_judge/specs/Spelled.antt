@@ -1,8 +1,8 @@
 -- The AIR that the bytes of an input spell under the name `air`, and what a check takes of it.
-use Rattle.std.specs.Prelude.{ℕ, List, filter_map, Option, None, Some, ok_or, Result, Ok, Err, codes}
+use Rattle.std.specs.Prelude.{ℕ, List, filter_map, Option, None, Some, ok_or, Result, codes}
 use Rattle.serde_json.specs.Data.{Data}
 use Rattle.stark_support.specs.Json.{json_of}
-use Rattle.stark_bench.specs.ElementJson.{base_at}
+use Rattle.stark_small_field.specs.ElementJson.{base_at}
 use Rattle.stark_tree_air.specs.Faults.{main_next_column, preprocessed_next_column}
 use Rattle.stark_tree_air.specs.Nodes.{spelled}
 use Rattle.stark_tree_air.specs.TreeJson.{◌>>=◌, AirView, TreeFault, air_reading, required, view_layout, wrong_kind}

@@ -1,8 +1,5 @@
 -- What a run that shows writes begins neither with `accepted` nor as an object.
-use Rattle.std.proofs.Common.{◌≡◌, ◌≢◌, ℕ, zero, suc, List, [], ◌∷◌, Option, None, Some, IfSome, take, length, codes, refl, sym, subst, ap, ◌∙◌, inl, inr, arith, append-nil}
-use Rattle.std.proofs.Math.Seq.{take-length}
-use Rattle.std.proofs.lemmas.List.{append_cancel_left}
-use Rattle.std.specs.Io.KnownBytes.{Appends, Keeps}
+use Rattle.std.proofs.Common.{◌≡◌, ◌≢◌, ℕ, List, Option, None, Some, IfSome, take, length, sym, ap, ◌∙◌, inl, inr, arith}
 use Rattle.stark_input.proofs.Lines.{first_of, first_of_accepted, first_of_front, first_of_object, whole, wrote, wrote_nothing}
 use Rattle.stark_input.specs.Input.{Base}
 use Rattle.stark_input.specs.Running.{WhereAccepted, WhereObject, Wrote}
@@ -14,7 +11,7 @@ use Rattle.stark_input.specs.declared.verdict.Verdict.TheVariants as verdict
 use Rattle.stark_input.specs.declared.verdict.Refusal.TheVariants as refusal
 use Rattle.stark_show.specs.Shown.{columns_text}
 use Rattle.voskligan_program.specs.Showing.{SaysShowing, showing_line}
-use Rattle.voskligan_program.specs.Shown.{IsShowing, IsUnshown, SaysShown, ShowsInput}
+use Rattle.voskligan_program.specs.Shown.{IsShowing, SaysShown, ShowsInput}
 use Rattle.voskligan_program.specs.declared.showing.Showing.{Showing}
 use Rattle.voskligan_program.specs.declared.showing.Showing.TheVariants.{Text, Unshown}
 

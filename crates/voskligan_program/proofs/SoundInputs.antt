@@ -1,5 +1,5 @@
 -- Where the verifier of the AIR that an input spells accepts, the columns that the proof lists are sound.
-use Rattle.std.proofs.Common.{◌≡◌, inl, inr, refl, sym, subst, ℕ, ◌≤◌, List, Option, None, Some, IfSome, Result, Ok, Err}
+use Rattle.std.proofs.Common.{◌≡◌, inl, inr, sym, subst, ℕ, ◌≤◌, List, Option, None, Some, IfSome, Result, Ok, Err}
 use Rattle.stark_protocol.specs.Instance.{ProtocolOps}
 use Rattle.stark_tree_air.specs.TreeJson.{AirView, TreeFault}
 use Rattle.stark_input.specs.Airs.{CheckedAir}

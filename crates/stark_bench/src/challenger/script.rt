@@ -4,8 +4,7 @@ ghost use Rattle.stark_bench.specs.Challenges.{after_four, found_by, four_drawn,
 ghost use Rattle.stark_bench.specs.ChallengeFacts.{after_four_in_turn, four_in_turn, script_laws};
 
 use crate::challenger::commitment::ClearCommitment;
-use crate::ext4::Ext4;
-use crate::residue::Residue;
+use stark_small_field::{Ext4, Residue};
 use stark_support::{
     CanObserve, CanSample, CanSampleBits, ExtensionChallenger, FieldChallenger, GrindingChallenger,
     checked_pow2,

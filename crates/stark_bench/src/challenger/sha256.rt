@@ -2,13 +2,12 @@
 ghost use Rattle.std.specs.Prelude.{◌≡◌, ◌++◌, ◌∷◌, replicate};
 ghost use Rattle.stark_bench.specs.Challenges.{absorbed, after_bits, after_draw, after_element, after_four, commitment_elements, drawn_bits, drawn_element, found_by, four_drawn, leading, sha_after_check, sha_passes};
 ghost use Rattle.stark_support.specs.Sponge.{observed_all};
-ghost use Rattle.stark_bench.specs.Residues.{residue};
+ghost use Rattle.stark_small_field.specs.Residues.{residue};
 ghost use Rattle.stark_bench.specs.ChallengeFacts.{after_four_in_turn, four_in_turn, sha_laws};
 
 use crate::challenger::commitment::{ClearCommitment, observe_matrices};
-use crate::ext4::Ext4;
-use crate::residue::Residue;
 use sha2::{Digest, Sha256};
+use stark_small_field::{Ext4, Residue};
 use stark_support::{
     CanObserve, CanSample, CanSampleBits, ExtensionChallenger, FieldChallenger, GrindingChallenger,
     PrimeField64, checked_pow2,

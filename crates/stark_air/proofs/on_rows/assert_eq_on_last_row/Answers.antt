@@ -6,4 +6,4 @@ use Rattle.stark_air.proofs.on_rows.assert_eq_on_last_row.Goals as goal
 pub returns-clause-refused : goal.returns-clause-refused
 returns-clause-refused g c =
     let when = c.when_last_row.ensures in
-    filtered_refused g.met.AB.AirBuilder.emission_laws g.AB.Expr.Algebra.operations _ _ _ _ _ _ _ _ _ last_row c.assert_eq.ensures.refused when.same_value (search rules) when.same_condition
+    filtered_refused g.met.AB.BaseAirBuilder.emission_laws g.AB.Expr.Algebra.operations _ _ _ _ _ _ _ _ _ last_row c.assert_eq.ensures.refused when.same_value (search rules) when.same_condition

@@ -1,6 +1,6 @@
 use Rattle.std.proofs.Common.{◌≤◌, ◌∙◌, ◌+◌, ap, arith, inl, inr, refl, sym}
 use Rattle.std.proofs.lemmas.List.{length-map}
-use Rattle.stark_bench.specs.Residues.{residue, residue_ring}
+use Rattle.stark_small_field.specs.Residues.{residue, residue_ring}
 use Rattle.stark_input.specs.Numbers.{numbers}
 use Rattle.stark_input.specs.Airs.{checked_air}
 use Rattle.stark_protocol.specs.Sizes.{quotient_coset}

@@ -3,9 +3,9 @@ use Rattle.stark_program.proofs.Findings.{ends_accepted, proves_known}
 use Rattle.stark_program.proofs.Meaning.{holds_known}
 use Rattle.stark_program.proofs.SoundFindings.{sample_declared, sample_within, sound_known, verified_soundly}
 use Rattle.stark_input.specs.Airs.{sample}
-use Rattle.stark_bench.specs.Residues.{residue, residue_laws}
-use Rattle.stark_bench.specs.Roots.{two_adic_laws}
-use Rattle.stark_bench.specs.Ext4Field.{embedded_is_embedding}
+use Rattle.stark_small_field.specs.Residues.{residue, residue_laws}
+use Rattle.stark_small_field.specs.Roots.{two_adic_laws}
+use Rattle.stark_small_field.specs.Ext4Field.{embedded_is_embedding}
 use Rattle.stark_judge.specs.Check.{laws_of_elements}
 use Rattle.stark_judge.specs.ProveFacts.{proved_accepts_none, proved_line}
 use Rattle.stark_program.proofs.program.run.Goals as goal

@@ -1,4 +1,3 @@
-use Rattle.std.proofs.Common.{◌^◌, ◌+◌, refl}
 use Rattle.stark_show.proofs.Sizes.{no_bound}
 use Rattle.stark_show.proofs.text.bound_at.Goals as goal
 

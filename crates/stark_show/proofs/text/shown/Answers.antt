@@ -1,4 +1,4 @@
-use Rattle.std.proofs.Common.{◌≡◌, ◌+◌, ◌^◌, refl, length, string_bytes}
+use Rattle.std.proofs.Common.{◌+◌, ◌^◌, refl, length, string_bytes}
 use Rattle.stark_tree_air.specs.FaultFacts.{all_fit}
 use Rattle.stark_tree_air.specs.Faults.{tree_layout}
 use Rattle.stark_show.proofs.Fitting.{nodes_name}

@@ -15,7 +15,7 @@ loop-place-preserved g c =
     let ns = c.args.nodes.now in
     let i = c.loop-place.place in
     let within : i < length ns = omega arith in
-    let shown = λ (ws : Windows g.row.AB-MainWindow.Denot g.row.AB-PreprocessedWindow.Denot). WindowsShow g.AB.Expr.From-2.from_gives g.AB.Expr.Algebra.stands (g.AB.AirBuilder.environment c.args.builder.now) (g.AB.AirBuilder.layout c.args.builder.now) g.AB.MainWindow.WindowAccess.current_at g.AB.MainWindow.WindowAccess.next_at g.AB.PreprocessedWindow.WindowAccess.current_at g.AB.PreprocessedWindow.WindowAccess.next_at ws.main ws.preprocessed in
+    let shown = λ (ws : Windows g.row.AB-MainWindow.Denot g.row.AB-PreprocessedWindow.Denot). WindowsShow g.AB.Expr.From-2.from_gives g.AB.Expr.Algebra.stands (g.AB.BaseAirBuilder.environment c.args.builder.now) (g.AB.BaseAirBuilder.layout c.args.builder.now) g.AB.MainWindow.WindowAccess.current_at g.AB.MainWindow.WindowAccess.next_at g.AB.PreprocessedWindow.WindowAccess.current_at g.AB.PreprocessedWindow.WindowAccess.next_at ws.main ws.preprocessed in
     elim c.if-needed-place.branch [
       | then-needed-place+in_ok-windows+in_ok-push w ↦ (
         nodes_step _ _ _ _ _ _ ns i (get_or ns i (Constant 0)) _ within (at_place ns i _ _ within) c.loop-place.invariant.0 _ _ _ w.deref.ensures.value (ap (λ v. v.items) w.values-is ∙ w.in_ok-push.ensures.items)

@@ -1,7 +1,7 @@
 use Rattle.std.proofs.Common.{inl, inr, refl, sym, ◌∙◌}
-use Rattle.stark_bench.specs.Residues.{residue, residue_laws}
-use Rattle.stark_bench.specs.Roots.{two_adic_laws}
-use Rattle.stark_bench.specs.Ext4Field.{embedded_is_embedding}
+use Rattle.stark_small_field.specs.Residues.{residue, residue_laws}
+use Rattle.stark_small_field.specs.Roots.{two_adic_laws}
+use Rattle.stark_small_field.specs.Ext4Field.{embedded_is_embedding}
 use Rattle.stark_judge.specs.Check.{laws_of_elements}
 use Rattle.stark_tree_judge.specs.FoundFacts.{input_accepts_none, input_proof_line}
 use Rattle.stark_tree_judge.specs.Spelled.{air_in}

@@ -7,6 +7,6 @@ pub returns-clause-asserted : goal.returns-clause-asserted
 returns-clause-asserted g c =
     let s = c.args.self.now in
     let start = s.column_range.start in
-    let values = value_shift g.AB.Expr.Algebra.operations (g.AB.AirBuilder.environment s.inner.now) start in
+    let values = value_shift g.AB.Expr.Algebra.operations (g.AB.BaseAirBuilder.environment s.inner.now) start in
     if_ok_map c.assert_zero_ext.result c.assert_zero_ext.ensures.asserted (λ k t h.
     (refl, refl, refl, k (shift_tree start t) (subst (λ v. g.AB.ExtensionBuilder.stands_above v c.args.x) (values t) h)))

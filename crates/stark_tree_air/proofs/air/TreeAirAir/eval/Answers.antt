@@ -24,7 +24,7 @@ pub node_values-requires-clause-fit : goal.node_values-requires-clause-fit
 node_values-requires-clause-fit g c =
     let air = c.args.self.now in
     let columns = air.declaration.columns in
-    let have = g.AB.AirBuilder.layout c.args.builder.now in
+    let have = g.AB.BaseAirBuilder.layout c.args.builder.now in
     let ks = air.list.constants.items in
     let ns = air.list.nodes.items in
     subst (λ js. NodesFit have (length js) 0 c.as_slice-nodes.result.now) (sym c.deref.ensures.value)
@@ -65,7 +65,7 @@ returns-clause-asserted g c =
     let fit = all_fit air.declaration.columns air.list.constants.items air.list.nodes.items air.list.constraints.items air.without_fault in
     let marks : ms ≡ needed ns cs = c.deref-2.ensures.value ∙ c.in_ok-needed.ensures in
     let marked = subst (λ js. ConstraintsMarked js cs) (sym marks) (needed_asserted ns cs (both_fit _ _ _ _ _ _ c.as_slice-nodes.ensures.value c.as_slice-constraints.ensures.value fit).1) in
-    let standing = subst (λ xs. Stand g.AB.Expr.Algebra.stands g.AB.Expr.Algebra.operations (g.AB.AirBuilder.environment c.args.builder.now) ms (nodes_trees ks ns) xs) (sym c.deref-3.ensures.value) c.in_ok-values.ensures in
-    subst (λ js. Asserted g.AB.AirBuilder.after c.assert_constraints.result c.args.builder.now js c.assert_constraints.new.builder)
+    let standing = subst (λ xs. Stand g.AB.Expr.Algebra.stands g.AB.Expr.Algebra.operations (g.AB.BaseAirBuilder.environment c.args.builder.now) ms (nodes_trees ks ns) xs) (sym c.deref-3.ensures.value) c.in_ok-values.ensures in
+    subst (λ js. Asserted g.AB.BaseAirBuilder.after c.assert_constraints.result c.args.builder.now js c.assert_constraints.new.builder)
     (same_spelled ks air.list.constants.items ns air.list.nodes.items cs air.list.constraints.items c.deref.ensures.value c.as_slice-nodes.ensures.value c.as_slice-constraints.ensures.value)
     (c.assert_constraints.ensures ms (nodes_trees ks ns) standing marked)

@@ -1,5 +1,0 @@
-use Rattle.std.proofs.Common.{◌∙◌}
-use Rattle.stark_bench.proofs.lanes.arithmetic.reduced.Goals as goal
-
-pub returns : goal.returns
-returns g c = c.reduced_once.ensures ∙ c.nearly_reduced.ensures.same

@@ -1,5 +1,0 @@
-use Rattle.stark_air.proofs.Steps.{two_asserted}
-use Rattle.stark_clear.proofs.samples.fibonacci.assert_steps.Goals as goal
-
-pub returns-clause-asserted : goal.returns-clause-asserted
-returns-clause-asserted g c = two_asserted g.met.AB.AirBuilder.emission_laws _ _ _ _ _ _ c.in_ok-assert_move.ensures.asserted c.assert_sum.ensures.asserted c.assert_sum.ensures.refused

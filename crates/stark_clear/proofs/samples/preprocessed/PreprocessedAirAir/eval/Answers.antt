@@ -1,5 +1,0 @@
-use Rattle.stark_air.proofs.Steps.{last_asserted}
-use Rattle.stark_clear.proofs.samples.preprocessed.PreprocessedAirAir.eval.Goals as goal
-
-pub returns-clause-asserted : goal.returns-clause-asserted
-returns-clause-asserted g c = last_asserted g.met.AB.AirBuilder.emission_laws _ _ _ _ c.assert_is_preprocessed.ensures.asserted c.assert_is_preprocessed.ensures.refused

@@ -1,0 +1,5 @@
+use Rattle.stark_air.proofs.Steps.{two_asserted}
+use Rattle.stark_samples.proofs.fibonacci.assert_steps.Goals as goal
+
+pub returns-clause-asserted : goal.returns-clause-asserted
+returns-clause-asserted g c = two_asserted g.met.AB.BaseAirBuilder.emission_laws _ _ _ _ _ _ c.in_ok-assert_move.ensures.asserted c.assert_sum.ensures.asserted c.assert_sum.ensures.refused

@@ -77,8 +77,9 @@ module _ {S H R K T P X Y : Type 0} (hashing_ops : ProtocolOps S Base Extension 
       subst (λ r. (v ≡ verdict.Refused refusal.OutOfMemory) ⊎ IsVerified hashing_ops script_ops log_rows scheme hashing_start script_start air r v) (sym is)
       (subst (λ ps. (v ≡ verdict.Refused refusal.OutOfMemory) ⊎ IsJudgedBy hashing_ops script_ops log_rows scheme hashing_start script_start air (record { proof = proof; publics = ps; challenger = named; ood_bits = ood_bits; alpha_bits = alpha_bits }) named v) same judged)
 
-  -- What is found for an AIR is found for its name.
-  pub verified_by_name : (air name : SampleAir) (read : Option (ProofNumbers K P)) (v : Verdict) → air ≡ name
-      → (v ≡ verdict.Refused refusal.OutOfMemory) ⊎ IsVerified hashing_ops script_ops log_rows scheme hashing_start script_start (sample name) read v → IsVerified hashing_ops script_ops log_rows scheme hashing_start script_start (sample air) read v ⊎ (v ≡ verdict.Refused refusal.OutOfMemory)
-  verified_by_name air name read v is (inl memory) = inr memory
-  verified_by_name air name read v is (inr found) = inl (subst (λ a. IsVerified hashing_ops script_ops log_rows scheme hashing_start script_start (sample a) read v) (sym is) found)
+  -- What is found for an AIR that declares what a sample AIR does is found for the sample.
+  pub verified_for_sample : (air : CheckedAir) (name : SampleAir) (read : Option (ProofNumbers K P)) (v : Verdict) → air ≡ sample name
+      → (v ≡ verdict.Refused refusal.OutOfMemory) ⊎ IsVerified hashing_ops script_ops log_rows scheme hashing_start script_start air read v
+      → IsVerified hashing_ops script_ops log_rows scheme hashing_start script_start (sample name) read v ⊎ (v ≡ verdict.Refused refusal.OutOfMemory)
+  verified_for_sample air name read v is (inl memory) = inr memory
+  verified_for_sample air name read v is (inr found) = inl (subst (λ a. IsVerified hashing_ops script_ops log_rows scheme hashing_start script_start a read v) is found)

@@ -167,9 +167,9 @@ module _ {S H R T X Y : Type 0} (hashing_ops : ProtocolOps S Base Extension H (L
   proved_as_read air read m f is found =
       subst (λ n. (f ≡ no_memory) ⊎ IsProvedRead hashing_ops script_ops coordinates log_rows scheme hashing_start script_start air n f) (sym is) found
 
-  -- What is found for an AIR is found for its name.
-  pub proved_by_name : (air name : SampleAir) (read : Option TraceNumbers) (f : Finding) → air ≡ name
-      → (f ≡ no_memory) ⊎ IsProvedRead hashing_ops script_ops coordinates log_rows scheme hashing_start script_start (sample name) read f
-      → IsProvedRead hashing_ops script_ops coordinates log_rows scheme hashing_start script_start (sample air) read f ⊎ (f ≡ no_memory)
-  proved_by_name air name read f is (inl memory) = inr memory
-  proved_by_name air name read f is (inr found) = inl (subst (λ a. IsProvedRead hashing_ops script_ops coordinates log_rows scheme hashing_start script_start (sample a) read f) (sym is) found)
+  -- What is found for an AIR that declares what a sample AIR does is found for the sample.
+  pub proved_for_sample : (air : CheckedAir) (name : SampleAir) (read : Option TraceNumbers) (f : Finding) → air ≡ sample name
+      → (f ≡ no_memory) ⊎ IsProvedRead hashing_ops script_ops coordinates log_rows scheme hashing_start script_start air read f
+      → IsProvedRead hashing_ops script_ops coordinates log_rows scheme hashing_start script_start (sample name) read f ⊎ (f ≡ no_memory)
+  proved_for_sample air name read f is (inl memory) = inr memory
+  proved_for_sample air name read f is (inr found) = inl (subst (λ a. IsProvedRead hashing_ops script_ops coordinates log_rows scheme hashing_start script_start a read f) is found)

@@ -49,9 +49,9 @@ cut_of_sample Periodic = one_chunk
 cut_of_sample Preprocessed = one_chunk
 cut_of_sample Pair = one_chunk
 
--- What is found by the check of an AIR is found for its name.
-pub found_by_name : (air name : SampleAir) (bytes : List ℕ) (v : Verdict) → air ≡ name
+-- What the check finds of an AIR that declares what a sample AIR does, it finds of the sample's name.
+pub found_for_sample : (air : CheckedAir) (name : SampleAir) (bytes : List ℕ) (v : Verdict) → air ≡ sample name
+    → ((log_chunks : ℕ) → IsCutInto air log_chunks → (v ≡ judged air log_chunks (numbers_in (shape_of air) bytes)) ⊎ (v ≡ Refused OutOfMemory))
     → (v ≡ judged (sample name) (log_chunks_of name) (numbers_in (shape_of (sample name)) bytes)) ⊎ (v ≡ Refused OutOfMemory)
-    → (v ≡ judged (sample air) (log_chunks_of air) (numbers_in (shape_of (sample air)) bytes)) ⊎ (v ≡ Refused OutOfMemory)
-found_by_name air name bytes v is found =
-    subst (λ n. (v ≡ judged (sample n) (log_chunks_of n) (numbers_in (shape_of (sample n)) bytes)) ⊎ (v ≡ Refused OutOfMemory)) (sym is) found
+found_for_sample air name bytes v is found =
+    subst (λ a. (log_chunks : ℕ) → IsCutInto a log_chunks → (v ≡ judged a log_chunks (numbers_in (shape_of a) bytes)) ⊎ (v ≡ Refused OutOfMemory)) is found (log_chunks_of name) (cut_of_sample name)

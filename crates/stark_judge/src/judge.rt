@@ -6,12 +6,12 @@ ghost use Rattle.stark_input.specs.Input.{numbers_in};
 ghost use Rattle.stark_judge.specs.Check.{judged};
 
 use crate::check::check;
+use crate::sample::sample_air;
 use stark_air::Air;
 use stark_bench::F12289;
 use stark_input::{CheckShape, DeclaredAir, Refusal, SampleAir, Verdict, numbers_from};
-use stark_samples::{CounterAir, CubicAir, FibonacciAir, PairAir, PeriodicAir, PreprocessedAir};
 use stark_support::JsonFault;
-use std::alloc::Global;
+use std::alloc::{AllocError, Global};
 
 /// What the check of an AIR finds of the bytes of an input.
 pub fn judge_air<A: Air<F12289>>(alloc: Global, air: &A, bytes: &[u8]) -> Verdict
@@ -40,15 +40,8 @@ pub fn judge_air<A: Air<F12289>>(alloc: Global, air: &A, bytes: &[u8]) -> Verdic
 pub fn judge_sample(alloc: Global, air: SampleAir, bytes: &[u8]) -> Verdict
     ensures { (result ≡ judged (sample air) (log_chunks_of air) (numbers_in (shape_of (sample air)) bytes.now)) ⊎ (result ≡ Verdict.Refused Refusal.OutOfMemory) }
 {
-    match air {
-        SampleAir::Counter => judge_air(alloc, &CounterAir, bytes),
-        SampleAir::Cubic => judge_air(alloc, &CubicAir, bytes),
-        SampleAir::Fibonacci => judge_air(alloc, &FibonacciAir, bytes),
-        SampleAir::Periodic => match PeriodicAir::new(alloc) {
-            Ok(air) => judge_air(alloc, &air, bytes),
-            Err(_) => Verdict::Refused(Refusal::OutOfMemory),
-        },
-        SampleAir::Preprocessed => judge_air(alloc, &PreprocessedAir, bytes),
-        SampleAir::Pair => judge_air(alloc, &PairAir, bytes),
+    match sample_air(alloc, air) {
+        Ok(sample) => judge_air(alloc, &sample, bytes),
+        Err(AllocError) => Verdict::Refused(Refusal::OutOfMemory),
     }
 }

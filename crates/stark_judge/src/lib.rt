@@ -7,6 +7,7 @@ mod judge;
 mod point;
 mod prove;
 mod rows;
+mod sample;
 mod verify;
 
 pub use judge::{judge_air, judge_sample};

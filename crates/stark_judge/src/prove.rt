@@ -19,6 +19,7 @@ ghost use Rattle.stark_judge.specs.ProveFacts.{proved_accepts_none, proved_line,
 ghost use Rattle.stark_judge.specs.Prove.{AnswersWithHeld, IsProofOfRead, IsProved, IsProvedBy, IsProvedRead, IsTraceFor, TellsAnswer, program_writing};
 
 use crate::config::{ClearConfig, clear_config};
+use crate::sample::sample_air;
 use crate::verify::ProgramConfig;
 use p3_uni_stark::{
     Proof, ProvingError, StarkInstance, StarkOperations, StarkProof, setup_preprocessed,
@@ -32,7 +33,6 @@ use stark_input::{
 };
 use stark_parts::{PcsProverError, StarkChallenger, StarkGenericConfig, Val};
 use stark_prover::{prove, prove_with_preprocessed};
-use stark_samples::{CounterAir, CubicAir, FibonacciAir, PairAir, PeriodicAir, PreprocessedAir};
 use stark_support::{
     CanObserve, ExtensionChallenger, ExtensionField, Field, FieldChallenger, GrindingChallenger,
     JsonCodec, JsonFault, NeverNull, PackedExtensionField, PackedField, PrimeField64,
@@ -312,15 +312,8 @@ pub fn prove_sample(alloc: Global, air: SampleAir, bytes: &[u8]) -> Finding
         (⟦<Extension as ExtensionField<F12289>>⟧.coordinates) 2 clear_pcs (replicate 32 0) (λ numbers. (numbers, 0)) (sample air)
         (trace_numbers_in bytes.now) result ⊎ (result ≡ Finding.Verdict (Verdict.Refused Refusal.OutOfMemory)) }
 {
-    match air {
-        SampleAir::Counter => prove_air(alloc, &CounterAir, 2, bytes),
-        SampleAir::Cubic => prove_air(alloc, &CubicAir, 2, bytes),
-        SampleAir::Fibonacci => prove_air(alloc, &FibonacciAir, 2, bytes),
-        SampleAir::Periodic => match PeriodicAir::new(alloc) {
-            Ok(air) => prove_air(alloc, &air, 2, bytes),
-            Err(_) => Finding::Verdict(Verdict::Refused(Refusal::OutOfMemory)),
-        },
-        SampleAir::Preprocessed => prove_air(alloc, &PreprocessedAir, 2, bytes),
-        SampleAir::Pair => prove_air(alloc, &PairAir, 2, bytes),
+    match sample_air(alloc, air) {
+        Ok(sample) => prove_air(alloc, &sample, 2, bytes),
+        Err(AllocError) => Finding::Verdict(Verdict::Refused(Refusal::OutOfMemory)),
     }
 }

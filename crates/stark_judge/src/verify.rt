@@ -13,6 +13,7 @@ ghost use Rattle.stark_judge.specs.Verify.{IsJudged, IsJudgedBy, IsVerified, Jud
 ghost use Rattle.stark_input.specs.declared.verdict.Verdict.{Verdict};
 
 use crate::config::{ClearConfig, clear_config};
+use crate::sample::sample_air;
 use p3_uni_stark::{
     Proof, ProvingError, StarkInstance, StarkOperations, StarkProof, setup_preprocessed, verify,
     verify_with_preprocessed,
@@ -25,11 +26,10 @@ use stark_input::{
     proof_input_from, told,
 };
 use stark_parts::{StarkChallenger, StarkGenericConfig, Val};
-use stark_samples::{CounterAir, CubicAir, FibonacciAir, PairAir, PeriodicAir, PreprocessedAir};
 use stark_support::{
     ExtensionField, GrindingChallenger, JsonCodec, JsonFault, PrimeField64, TwoAdicField,
 };
-use std::alloc::Global;
+use std::alloc::{AllocError, Global};
 
 /// The program's configuration, with one of its challengers.
 pub type ProgramConfig<C> = ClearConfig<F12289, Extension, C>;
@@ -212,15 +212,8 @@ pub fn verify_sample(alloc: Global, air: SampleAir, bytes: &[u8]) -> Verdict
         2 clear_pcs (replicate 32 0) (λ numbers. (numbers, 0)) (sample air)
         (proof_numbers_in (⟦<ClearCommitment<F12289> as JsonCodec>⟧.reading) (⟦<ClearProof as JsonCodec>⟧.reading) bytes.now) result ⊎ (result ≡ Verdict.Refused Refusal.OutOfMemory) }
 {
-    match air {
-        SampleAir::Counter => verify_air(alloc, &CounterAir, 2, bytes),
-        SampleAir::Cubic => verify_air(alloc, &CubicAir, 2, bytes),
-        SampleAir::Fibonacci => verify_air(alloc, &FibonacciAir, 2, bytes),
-        SampleAir::Periodic => match PeriodicAir::new(alloc) {
-            Ok(air) => verify_air(alloc, &air, 2, bytes),
-            Err(_) => Verdict::Refused(Refusal::OutOfMemory),
-        },
-        SampleAir::Preprocessed => verify_air(alloc, &PreprocessedAir, 2, bytes),
-        SampleAir::Pair => verify_air(alloc, &PairAir, 2, bytes),
+    match sample_air(alloc, air) {
+        Ok(sample) => verify_air(alloc, &sample, 2, bytes),
+        Err(AllocError) => Verdict::Refused(Refusal::OutOfMemory),
     }
 }

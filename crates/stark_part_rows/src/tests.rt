@@ -1,52 +1,43 @@
-//! The rows of all subjects over each field.
+//! The rows of all subjects; those of fields and lanes over each field.
 use crate::answers::{lockstep, packed, scalar};
 use crate::rows::all_rows;
 use crate::{challengers, clear_scheme, fields, lanes, numbers, polynomials, seeds, transcripts};
 use stark_bench::S12289;
 use stark_support::{Algebra, PrimeField64};
-use std::alloc::Global;
-use std::process::Abort;
 use std::test::Fail;
 
-/// Asserts the rows that hold over every field.
-fn common_rows(
-    rt: &impl Abort,
-    alloc: Global,
-    answer: fn(Global, &str, &str) -> Result<String, Fail>,
-) -> Result<(), Fail>
-    requires { IsAlwaysCallable answer }
-{
+#[test]
+fn all_parts(rt: HostRuntime) -> Result<(), Fail> {
     for (subject, rows) in [
         ("challengers", challengers::ROWS),
         ("clear scheme", clear_scheme::ROWS),
-        ("fields", fields::ROWS),
         ("numbers", numbers::ROWS),
         ("polynomials", polynomials::ROWS),
         ("seeds", seeds::ROWS),
         ("transcripts", transcripts::ROWS),
     ] {
-        all_rows(rt, alloc, subject, rows, answer)?;
+        all_rows(&rt, rt.alloc(), subject, rows, scalar)?;
     }
     Ok(())
 }
 
 #[test]
 fn over_one_lane(rt: HostRuntime) -> Result<(), Fail> {
-    common_rows(&rt, rt.alloc(), scalar)?;
+    all_rows(&rt, rt.alloc(), "fields", fields::ROWS, scalar)?;
     all_rows(&rt, rt.alloc(), "fields", fields::SCALAR_ROWS, scalar)?;
     all_rows(&rt, rt.alloc(), "lanes", lanes::SCALAR_ROWS, scalar)
 }
 
 #[test]
 fn over_four_lanes(rt: HostRuntime) -> Result<(), Fail> {
-    common_rows(&rt, rt.alloc(), packed)?;
+    all_rows(&rt, rt.alloc(), "fields", fields::ROWS, packed)?;
     all_rows(&rt, rt.alloc(), "fields", fields::PACKED_ROWS, packed)?;
     all_rows(&rt, rt.alloc(), "lanes", lanes::WIDE_ROWS, packed)
 }
 
 #[test]
 fn over_lanes_in_lockstep(rt: HostRuntime) -> Result<(), Fail> {
-    common_rows(&rt, rt.alloc(), lockstep)?;
+    all_rows(&rt, rt.alloc(), "fields", fields::ROWS, lockstep)?;
     all_rows(&rt, rt.alloc(), "fields", fields::LOCKSTEP_ROWS, lockstep)?;
     all_rows(&rt, rt.alloc(), "lanes", lanes::WIDE_ROWS, lockstep)
 }

@@ -1,2 +1,3 @@
 pub mod SizedAirs
 pub mod DeclaringAirs
+pub mod NamedAirs

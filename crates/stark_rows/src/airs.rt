@@ -7,12 +7,12 @@ ghost use Rattle.stark_air.specs.Rows.{layout_of};
 
 use crate::calls::{self, reads_of_a_part, selectors_at};
 use crate::elements::{above, elements_in};
+use crate::kinds::NamedAir;
+use crate::named_air::named_air;
 use crate::rows::{apart, list_in, numbers_in, shown};
 use stark_air::{Air, BaseAir, every_column};
 use stark_bench::{ClearCommitment, S12289};
-use stark_samples::{
-    Asked, CounterAir, CubicAir, FibonacciAir, PairAir, PeriodicAir, PreprocessedAir, SmallAir,
-};
+use stark_samples::PreprocessedAir;
 use stark_support::{
     CanObserve, ExtensionChallenger, ExtensionField, FieldChallenger, PrimeField64, RowMajorMatrix,
     TwoAdicField,
@@ -205,36 +205,8 @@ where
     C: FieldChallenger<F> + CanObserve<ClearCommitment<F>> + ExtensionChallenger<F, EF> + Clone,
 {
     let (name, rest) = apart(text)?;
-    match name {
-        "counter" => folded::<F, EF, C, CounterAir>(alloc, &CounterAir, rest),
-        "pair" => folded::<F, EF, C, PairAir>(alloc, &PairAir, rest),
-        "fibonacci" => folded::<F, EF, C, FibonacciAir>(alloc, &FibonacciAir, rest),
-        "cubic" => folded::<F, EF, C, CubicAir>(alloc, &CubicAir, rest),
-        "preprocessed" => folded::<F, EF, C, PreprocessedAir>(alloc, &PreprocessedAir, rest),
-        "periodic" => folded::<F, EF, C, PeriodicAir<F>>(alloc, &PeriodicAir::new(alloc)?, rest),
-        _ => folded::<F, EF, C, SmallAir>(alloc, &small_air(name), rest),
-    }
-}
-
-/// A small AIR by what is asked of its column.
-pub fn small_air(name: &str) -> SmallAir {
-    match name {
-        "mixed" => SmallAir::new(Asked::Mixed),
-        "first row" => SmallAir::new(Asked::FirstRow),
-        "nothing" => SmallAir::new(Asked::Nothing),
-        "zeros" => SmallAir {
-            asked: Asked::Zeros,
-            max_degree: Some(3),
-        },
-        "hinted" => SmallAir {
-            asked: Asked::Zeros,
-            max_degree: Some(5),
-        },
-        _ => SmallAir {
-            asked: Asked::Zeros,
-            max_degree: None,
-        },
-    }
+    let air = named_air::<F>(alloc, name)?;
+    folded::<F, EF, C, NamedAir<F>>(alloc, &air, rest)
 }
 
 fn declared<F: Debug + Drop, A: BaseAir<F>>(alloc: Global, air: &A) -> Result<String, Fail> {
@@ -258,15 +230,8 @@ fn declared<F: Debug + Drop, A: BaseAir<F>>(alloc: Global, air: &A) -> Result<St
 }
 
 fn declared_by_name<F: PrimeField64 + Debug>(alloc: Global, name: &str) -> Result<String, Fail> {
-    match name {
-        "counter" => declared::<F, CounterAir>(alloc, &CounterAir),
-        "cubic" => declared::<F, CubicAir>(alloc, &CubicAir),
-        "fibonacci" => declared::<F, FibonacciAir>(alloc, &FibonacciAir),
-        "preprocessed" => declared::<F, PreprocessedAir>(alloc, &PreprocessedAir),
-        "pair" => declared::<F, PairAir>(alloc, &PairAir),
-        "periodic" => declared::<F, PeriodicAir<F>>(alloc, &PeriodicAir::new(alloc)?),
-        _ => declared::<F, SmallAir>(alloc, &small_air(name)),
-    }
+    let air = named_air::<F>(alloc, name)?;
+    declared::<F, NamedAir<F>>(alloc, &air)
 }
 
 fn part<F, EF, C>(alloc: Global, text: &str) -> Result<String, Fail>

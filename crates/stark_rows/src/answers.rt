@@ -1,5 +1,6 @@
-//! The answers to rows over each field.
+//! The answers to rows: over one field, and over each where they ask for lanes.
 use crate::elements::elements_in;
+use crate::rows::apart;
 use crate::{
     airs, constraints, domains, hostile_inputs, preprocessing, proofs, provers, quotients,
     security, sizing, trees, verdicts,
@@ -16,7 +17,26 @@ use std::alloc::Global;
 use std::fmt::Debug;
 use std::test::Fail;
 
-/// The answer to a subject's row, over any field and extension, with a challenger that no other row has seen.
+/// The answer to a row of a subject that asks for lanes, over any field and extension, with a challenger that no other row has seen.
+fn answer_in_lanes<F, EF, C>(
+    alloc: Global,
+    challenger: C,
+    subject: &str,
+    row: &str,
+) -> Result<String, Fail>
+where
+    F: PrimeField64 + TwoAdicField + PackedField + NeverNull,
+    EF: PackedExtensionField<F> + NeverNull + Debug,
+    C: StarkChallenger<F, EF, ClearCommitment<F>>,
+{
+    match subject {
+        "provers" => provers::answer::<F, EF, C>(alloc, challenger, row),
+        "quotients" => quotients::answer::<F, EF, C>(alloc, challenger, row),
+        _ => Err(Fail::new("no such subject")),
+    }
+}
+
+/// The same of each subject. What asks for no lanes is asked over one field.
 fn answer<F, EF, C>(alloc: Global, challenger: C, subject: &str, row: &str) -> Result<String, Fail>
 where
     F: PrimeField64 + TwoAdicField + QuarticBase + PackedField + NeverNull + Debug,
@@ -30,22 +50,27 @@ where
         "hostile inputs" => hostile_inputs::answer::<F, EF, C>(alloc, challenger, row),
         "preprocessing" => preprocessing::answer::<F, EF, C>(alloc, challenger, row),
         "proofs" => proofs::answer::<F, EF>(alloc, row),
-        "provers" => provers::answer::<F, EF, C>(alloc, challenger, row),
-        "quotients" => quotients::answer::<F, EF, C>(alloc, challenger, row),
         "security" => security::answer::<F, EF, C>(alloc, row),
         "sizing" => sizing::answer::<F, EF>(alloc, row),
         "trees" => trees::answer::<F, EF, C>(alloc, challenger, row),
         "verdicts" => verdicts::answer::<F, EF, C>(alloc, challenger, row),
-        _ => Err(Fail::new("no such subject")),
+        _ => answer_in_lanes::<F, EF, C>(alloc, challenger, subject, row),
     }
 }
 
-/// The challenger that hands out the numbers behind a row's first word, where that is `script`.
+/// The numbers of the script where a row names no challenger.
+const NUMBERS: &str = "4 0 0 0 3 0 0 0";
+
+/// The challenger that hands out the numbers behind a row's first word `script`, or some where a row names no challenger; none where the
+/// first word is `sha256`.
 fn script<Kind>(alloc: Global, row: &str) -> Result<Option<ScriptChallenger<Residue<Kind>>>, Fail> {
-    let Some(rest) = row.strip_prefix("script ") else {
+    if row.starts_with("sha256 | ") {
         return Ok(None);
+    }
+    let numbers = match row.strip_prefix("script ") {
+        Some(rest) => apart(rest)?.0,
+        None => NUMBERS,
     };
-    let (numbers, _rest) = rest.split_once(" | ").ok_or("no bar")?;
     let elements = elements_in::<Residue<Kind>>(alloc, numbers)?;
     if elements.is_empty() {
         return Err(Fail::new("a script of no elements"));
@@ -58,39 +83,24 @@ pub fn scalar(alloc: Global, subject: &str, row: &str) -> Result<String, Fail> {
         Some(challenger) => answer::<S12289, Ext4<S12289>, ScriptChallenger<S12289>>(
             alloc, challenger, subject, row,
         ),
-        None => answer::<S12289, Ext4<S12289>, Sha256Challenger<S12289>>(
+        None => provers::answer::<S12289, Ext4<S12289>, Sha256Challenger<S12289>>(
             alloc,
             Sha256Challenger::new(),
-            subject,
             row,
         ),
     }
 }
 
 pub fn packed(alloc: Global, subject: &str, row: &str) -> Result<String, Fail> {
-    match script::<Packed>(alloc, row)? {
-        Some(challenger) => answer::<P12289, Ext4<P12289>, ScriptChallenger<P12289>>(
-            alloc, challenger, subject, row,
-        ),
-        None => answer::<P12289, Ext4<P12289>, Sha256Challenger<P12289>>(
-            alloc,
-            Sha256Challenger::new(),
-            subject,
-            row,
-        ),
-    }
+    let challenger = script::<Packed>(alloc, row)?.ok_or("hashing in lanes")?;
+    answer_in_lanes::<P12289, Ext4<P12289>, ScriptChallenger<P12289>>(
+        alloc, challenger, subject, row,
+    )
 }
 
 pub fn lockstep(alloc: Global, subject: &str, row: &str) -> Result<String, Fail> {
-    match script::<Lockstep>(alloc, row)? {
-        Some(challenger) => answer::<F12289, Ext4<F12289>, ScriptChallenger<F12289>>(
-            alloc, challenger, subject, row,
-        ),
-        None => answer::<F12289, Ext4<F12289>, Sha256Challenger<F12289>>(
-            alloc,
-            Sha256Challenger::new(),
-            subject,
-            row,
-        ),
-    }
+    let challenger = script::<Lockstep>(alloc, row)?.ok_or("hashing in lanes")?;
+    answer_in_lanes::<F12289, Ext4<F12289>, ScriptChallenger<F12289>>(
+        alloc, challenger, subject, row,
+    )
 }

@@ -2,26 +2,11 @@
 ghost use Rattle.std.specs.Prelude.{◌≡◌, IfOk, length, map};
 ghost use Rattle.stark_rows.specs.DeclaringAirs.{column_if, counting_if, counting_within, declaring, declaring_layout, trace_if};
 
+use crate::kinds::DeclaringAir;
 use stark_air::{Air, BaseAir, ExtensionBuilder, every_column};
 use stark_samples::CounterAir;
 use stark_support::{Field, RowMajorMatrix};
 use std::alloc::{AllocError, Global};
-
-/// The counter with what else an AIR may declare: its constraints read no more than the counter's. Where it doesn't read the next
-/// row it has none.
-#[derive(Drop)]
-pub struct DeclaringAir<F> {
-    /// Whether the next row is read.
-    pub reads_next: bool,
-    /// Whether there is a preprocessed column.
-    pub has_fixed: bool,
-    /// Whether the preprocessed column's next row is read.
-    pub reads_fixed_next: bool,
-    /// The periodic columns.
-    pub periodic: Vec<Vec<F>>,
-    /// The bound on the degree multiple.
-    pub hint: Option<usize>,
-}
 
 /// The first column, where it is read.
 fn column_if(alloc: Global, read: bool) -> Result<Vec<usize>, AllocError>

@@ -2,7 +2,7 @@
 //! numbers and the bits of work before zeta and before alpha, the public values, the opened preprocessed rows and the proof, whose
 //! JSON has none of those rows, since JSON can't spell all of them.
 use crate::calls::ClearConfig;
-use crate::declaring_air::DeclaringAir;
+use crate::kinds::{DeclaringAir, NamedAir};
 use crate::proofs::value_of;
 use crate::proving::{MaskedConfig, masked};
 use crate::rows::{apart, shown};
@@ -35,9 +35,9 @@ fn number_at(value: &Value, key: &str) -> Option<usize> {
     Some(number as usize)
 }
 
-fn air_of<F: JsonCodec + Drop>(alloc: Global, value: &Value) -> Result<DeclaringAir<F>, Fail> {
+fn air_of<F: JsonCodec + Drop>(alloc: Global, value: &Value) -> Result<NamedAir<F>, Fail> {
     let periodic = value.get("periodic").ok_or("no columns")?;
-    Ok(DeclaringAir {
+    Ok(NamedAir::Declaring(DeclaringAir {
         reads_next: flag_at(value, "next")?,
         has_fixed: flag_at(value, "fixed")?,
         reads_fixed_next: flag_at(value, "fixed_next")?,
@@ -45,7 +45,7 @@ fn air_of<F: JsonCodec + Drop>(alloc: Global, value: &Value) -> Result<Declaring
             .ok()
             .ok_or("other columns")?,
         hint: number_at(value, "hint"),
-    })
+    }))
 }
 
 /// The key; none where it is missing.
@@ -95,7 +95,7 @@ fn proof_of<K: NeverNull + Drop, EF: JsonCodec + Drop, P: JsonCodec + Drop, F: F
 /// What a verifier is given.
 #[derive(Drop)]
 struct Input<K, EF, P, F> {
-    air: DeclaringAir<F>,
+    air: NamedAir<F>,
     key: Option<PreprocessedVerifierKey<K>>,
     proof: Proof<K, EF, P, F>,
     publics: Vec<F>,

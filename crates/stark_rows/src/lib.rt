@@ -25,6 +25,8 @@ mod hostile;
 mod hostile_inputs;
 mod kinds;
 #[cfg(test)]
+mod named_air;
+#[cfg(test)]
 mod preprocessing;
 #[cfg(test)]
 mod proofs;

@@ -1,22 +1,17 @@
 //! Proofs that are made of a trace, and what the verifier answers of them. A row gives the challenger | a table's name | the scheme, with
 //! its masks and the call at which it stops | the bits of work before zeta, and those before alpha where there are any | an AIR | the
-//! logarithm of the height, where it is read | the trace, row after row | the public values.
-ghost use Rattle.std.specs.Prelude.{ℕ};
-ghost use Rattle.stark_protocol.specs.Preprocessing.{HasHeight};
+//! logarithm of the height | the trace, row after row | the public values.
 
-use crate::airs::small_air;
 use crate::calls::ClearConfig;
-use crate::declaring_air::DeclaringAir;
 use crate::elements::elements_in;
+use crate::kinds::NamedAir;
+use crate::named_air::named_air;
 use crate::proving::{MaskedConfig, TraceProver, masked, masked_reread};
-use crate::rows::{apart, numbers_in, option_in};
+use crate::rows::{apart, numbers_in};
 use stark_air::Air;
 use stark_bench::ClearCommitment;
 use stark_clear::{ClearCall, ClearPcs, MaskedClearPcs};
 use stark_parts::{StarkChallenger, StarkConfig};
-use stark_samples::{
-    CounterAir, CubicAir, FibonacciAir, PairAir, PeriodicAir, PreprocessedAir, SmallAir,
-};
 use stark_support::{
     JsonCodec, NeverNull, PackedExtensionField, PackedField, PrimeField64, RowMajorMatrix,
     TwoAdicField,
@@ -50,15 +45,17 @@ script 4 0 0 0 3 0 0 0 | made | clear | 0 | 9223372036854775809 | 1 | 5 6 | 5 =>
 script 4 0 0 0 3 0 0 0 | made | masked by 1 | 0 | counter | 1 | 5 6 | 5 => {"commitments":{"quotient_chunks":[[[244,5,1625,1625],[12288,12288,1625,1625],[12288,12288,1625,1625],[12288,12288,1625,1625]],[[1539,5,5269,5269],[12288,12288,5269,5269],[12288,12288,5269,5269],[12288,12288,5269,5269]],[[12049,5,10664,10664],[12288,12288,10664,10664],[12288,12288,10664,10664],[12288,12288,10664,10664]],[[10758,9,3518,3518],[3,3,3518,3518],[3,3,3518,3518],[3,3,3518,3518]]],"random":[[[1,1,1,1],[1,1,1,1],[1,1,1,1],[1,1,1,1]]],"trace":[[[6149,6143,1,1]]]},"degree_bits":2,"ood_pow_witness":0,"opened_values":{"preprocessed_local":null,"preprocessed_next":null,"quotient_chunks":[[[9603,0,0,0],[9340,0,0,0],[9340,0,0,0],[9340,0,0,0]],[[6903,0,0,0],[5345,0,0,0],[5345,0,0,0],[5345,0,0,0]],[[2720,0,0,0],[2941,0,0,0],[2941,0,0,0],[2941,0,0,0]],[[2254,0,0,0],[3770,0,0,0],[3770,0,0,0],[3770,0,0,0]]],"random":[[40,0,0,0],[40,0,0,0],[40,0,0,0],[40,0,0,0]],"trace_local":[[36,0,0,0]],"trace_next":[[12280,0,0,0]]},"opening_proof":null} Ok(())
 script 4 0 0 0 3 0 0 0 | made | masked by 1 2 3 | 0 | fibonacci | 2 | 1 1 1 2 2 3 3 5 | 1 1 5 => accepted
 script 4 0 0 0 3 0 0 0 | made | masked by 1 2 3 | 0 | cubic | 1 | 0 0 | empty => accepted
+"#;
 
-# By hashing, with both works.
+// By hashing, with work before zeta and before alpha.
+pub const WITH_WORK: &str = r#"
 sha256 | made | clear | 2 3 | counter | 3 | 5 6 7 8 9 10 11 12 | 5 => accepted
 sha256 | made | masked by 1 2 3 | 2 3 | fibonacci | 2 | 1 1 1 2 2 3 3 5 | 1 1 5 => accepted
 "#;
 
 // Satisfying traces of one, two, four and eight rows; the periodic column has two, the preprocessed one four. At these heights
 // no drawn zeta lies in H. What stands before them tells the challenger and the scheme.
-pub const HASHED: &str = r#"
+pub const SATISFYING: &str = r#"
 counter | 0 | 5 | 5 => accepted
 counter | 1 | 5 6 | 5 => accepted
 counter | 2 | 5 6 7 8 | 5 => accepted
@@ -75,7 +72,7 @@ pair | 0 | 5 5 | 5 => accepted
 pair | 1 | 5 5 6 6 | 5 => accepted
 pair | 2 | 5 5 6 6 7 7 8 8 | 5 => accepted
 pair | 3 | 5 5 6 6 7 7 8 8 9 9 10 10 11 11 12 12 | 5 => accepted
-preprocessed | 1 2 3 4 | empty => accepted
+preprocessed | 2 | 1 2 3 4 | empty => accepted
 periodic | 0 | 0 | empty => PeriodicColumn(TooLong { column: 0 })
 periodic | 1 | 0 1 | empty => accepted
 periodic | 2 | 0 1 0 1 | empty => accepted
@@ -92,7 +89,7 @@ script 4 0 0 0 3 0 0 0 | changed | "random":[[[1,1,1,1],[1,1,1,1],[1,1,1,1],[1,1
 # What prover and verifier answer where the scheme stops at one of its calls, in the order preprocessing, trace, quotient,
 # randomization, opening; the work before alpha stands behind the trace, that before zeta behind the randomization. At zeta 1, a point
 # of H, nothing is verified.
-script 4 0 0 0 3 0 0 0 | stopped | clear stopping at CommitPreprocessing | 0 | preprocessed | 1 2 3 4 | empty => Pcs { phase: "preprocessing commitment", source: Stopped }
+script 4 0 0 0 3 0 0 0 | stopped | clear stopping at CommitPreprocessing | 0 | preprocessed | 2 | 1 2 3 4 | empty => Pcs { phase: "preprocessing commitment", source: Stopped }
 script 4 0 0 0 3 0 0 0 | stopped | clear stopping at Commit | 0 | counter | 1 | 5 6 | 5 => Pcs { phase: "trace commitment", source: Stopped }
 script 4 0 0 0 3 0 0 0 | stopped | clear stopping at CommitQuotient | 0 | counter | 1 | 5 6 | 5 => Pcs { phase: "quotient commitment", source: Stopped }
 script 4 0 0 0 3 0 0 0 | stopped | clear stopping at Commit | 0 14 | counter | 1 | 5 6 | 5 => Pcs { phase: "trace commitment", source: Stopped }
@@ -102,7 +99,7 @@ script 4 0 0 0 3 0 0 0 | stopped | clear stopping at Open | 14 3 | counter | 1 |
 script 4 0 0 0 3 0 0 0 | stopped | clear stopping at Open | 0 | counter | 1 | 5 6 | 5 => Pcs { phase: "opening", source: Stopped }
 script 4 0 0 0 3 0 0 0 | stopped | clear stopping at Verify | 0 | counter | 1 | 5 6 | 5 => Err(InvalidOpeningArgument(Stopped))
 script 4 0 0 0 1 0 0 0 | stopped | clear stopping at Verify | 0 | counter | 1 | 5 6 | 5 => Err(OodPointInDomain)
-script 4 0 0 0 3 0 0 0 | stopped | masked by 1 stopping at CommitPreprocessing | 0 | preprocessed | 1 2 3 4 | empty => Pcs { phase: "preprocessing commitment", source: Stopped }
+script 4 0 0 0 3 0 0 0 | stopped | masked by 1 stopping at CommitPreprocessing | 0 | preprocessed | 2 | 1 2 3 4 | empty => Pcs { phase: "preprocessing commitment", source: Stopped }
 script 4 0 0 0 3 0 0 0 | stopped | masked by 1 stopping at Commit | 0 | counter | 1 | 5 6 | 5 => Pcs { phase: "trace commitment", source: Stopped }
 script 4 0 0 0 3 0 0 0 | stopped | masked by 1 stopping at CommitQuotient | 0 | counter | 1 | 5 6 | 5 => Pcs { phase: "quotient commitment", source: Stopped }
 script 4 0 0 0 3 0 0 0 | stopped | masked by 1 stopping at CommitQuotient | 0 14 | counter | 1 | 5 6 | 5 => GrindExhausted { bits: 14 }
@@ -165,7 +162,6 @@ where
     F: PrimeField64,
     P: TraceProver<F>,
     A: Air<F>,
-    requires set_up { HasHeight log_height (A.preprocessed_trace air.now) }
 {
     let (trace, publics) = apart(text)?;
     let trace = matrix::<F>(alloc, trace, air.width())?.ok_or("rows that aren't whole")?;
@@ -174,57 +170,17 @@ where
     Ok(text.ok_or("a trace that doesn't fit")?)
 }
 
-/// The same with the logarithm of the height before it.
-fn text_on<F, P, A>(alloc: Global, prover: &P, air: &A, text: &str) -> Result<String, Fail>
-where
-    F: PrimeField64,
-    P: TraceProver<F>,
-    A: Air<F>,
-    requires set_up { (height : ℕ) → HasHeight height (A.preprocessed_trace air.now) }
-{
-    let (number, rest) = apart(text)?;
-    let [log_height] = numbers_in::<1>(number)?;
-    text_at::<F, P, A>(alloc, prover, air, log_height as usize, rest)
-}
-
-/// The same of a named AIR's trace; a number is the author's bound of a counter. The preprocessed column has four rows, so that no
-/// height is read for it.
+/// The same of a named AIR: its name | the logarithm of the height | the rest.
 fn text_by_name<F, P>(alloc: Global, prover: &P, text: &str) -> Result<String, Fail>
 where
     F: PrimeField64,
     P: TraceProver<F>,
 {
     let (name, rest) = apart(text)?;
-    match name {
-        "counter" => text_on::<F, P, CounterAir>(alloc, prover, &CounterAir, rest),
-        "cubic" => text_on::<F, P, CubicAir>(alloc, prover, &CubicAir, rest),
-        "fibonacci" => text_on::<F, P, FibonacciAir>(alloc, prover, &FibonacciAir, rest),
-        "pair" => text_on::<F, P, PairAir>(alloc, prover, &PairAir, rest),
-        "preprocessed" => text_at::<F, P, PreprocessedAir>(
-            alloc,
-            prover,
-            &PreprocessedAir,
-            2,
-            rest,
-        ),
-        "periodic" => text_on::<F, P, PeriodicAir<F>>(
-            alloc,
-            prover,
-            &PeriodicAir::new(alloc)?,
-            rest,
-        ),
-        "first row" => text_on::<F, P, SmallAir>(alloc, prover, &small_air(name), rest),
-        _ => {
-            let air = DeclaringAir {
-                hint: option_in(name)?,
-                reads_next: true,
-                has_fixed: false,
-                reads_fixed_next: false,
-                periodic: Vec::new(alloc),
-            };
-            text_on::<F, P, DeclaringAir<F>>(alloc, prover, &air, rest)
-        }
-    }
+    let (number, rest) = apart(rest)?;
+    let [log_height] = numbers_in::<1>(number)?;
+    let air = named_air::<F>(alloc, name)?;
+    text_at::<F, P, NamedAir<F>>(alloc, prover, &air, log_height as usize, rest)
 }
 
 fn call_in(name: &str) -> Result<ClearCall, Fail> {
@@ -383,12 +339,7 @@ where
     let changed = MASKED_PROOF.replacen(alloc, from, to, 1)?;
     let config = masked::<F, EF, C>(alloc, challenger, "1")?;
     let publics = elements_in::<F>(alloc, "5")?;
-    let answer = masked_reread::<F, EF, C, CounterAir>(
-        alloc,
-        &config,
-        &CounterAir,
-        &changed,
-        &publics,
-    )?;
+    let air = named_air::<F>(alloc, "counter")?;
+    let answer = masked_reread::<F, EF, C, NamedAir<F>>(alloc, &config, &air, &changed, &publics)?;
     Ok(answer.ok_or("no proof")?)
 }

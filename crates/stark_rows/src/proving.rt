@@ -1,6 +1,6 @@
 //! Proofs that are made of a trace, in words, and what the verifier answers of them, over any configuration; and the same
 //! over the scheme in the clear and the masked one, where the field, its extension and the challenger are left open.
-ghost use Rattle.std.specs.Prelude.{◌≡◌, ◌+◌, ◌*◌, ◌^◌, ◌≤◌, ◌<◌, IsTrue, length};
+ghost use Rattle.std.specs.Prelude.{◌≡◌, ◌+◌, ◌*◌, ◌^◌, ◌≤◌, ◌<◌, IfOk, IsTrue, length};
 ghost use Rattle.stark_support.specs.Scheme.{zk_bits};
 ghost use Rattle.stark_protocol.specs.Preprocessing.{HasHeight};
 
@@ -39,6 +39,7 @@ fn fits<SC: StarkGenericConfig, A: BaseAir<Val<SC>>>(
     ensures height { IsTrue result → length trace.now.values.items ≡ 2 ^ log_height * trace.now.width }
     ensures within { IsTrue result → log_height + zk_bits SC.Pcs.ZK ≤ SC.Pcs.scheme.log_max_trace_height (SC.config.scheme config.now) }
     ensures publics { IsTrue result → length publics.now ≡ (A.layout air.now).publics }
+    ensures least { IsTrue result → log_height ≤ 12 }
 {
     if log_height > 12 || log_height + config.is_zk() > config.pcs().log_max_trace_height() {
         return false;
@@ -47,6 +48,21 @@ fn fits<SC: StarkGenericConfig, A: BaseAir<Val<SC>>>(
         && trace.width == air.width()
         && Some(trace.values.len()) == power_of_two(log_height).checked_mul(trace.width)
         && publics.len() == air.num_public_values()
+}
+
+/// Whether an AIR's preprocessed columns, where it has some, stand at `2^log_height` rows.
+fn stands_at<F: Drop, A: BaseAir<F>>(
+    alloc: Global,
+    air: &A,
+    log_height: usize,
+) -> Result<bool, AllocError>
+    requires { log_height ≤ 12 }
+    ensures { IfOk result (λ stands. IsTrue stands → HasHeight log_height (A.preprocessed_trace air.now)) }
+{
+    let Some(trace) = air.preprocessed_trace(alloc)? else {
+        return Ok(true);
+    };
+    Ok(Some(trace.values.len()) == power_of_two(log_height).checked_mul(trace.width))
 }
 
 /// The proof of a trace of `2^log_height` rows and the verifier's verdict on it, with what is set up at that height.
@@ -129,9 +145,8 @@ where
     PcsError<SC>: Debug,
     PcsProverError<SC>: Debug,
     A: Air<Val<SC>>,
-    requires set_up { HasHeight log_height (A.preprocessed_trace air.now) }
 {
-    if !fits(config, air, log_height, &trace, publics) {
+    if !fits(config, air, log_height, &trace, publics) || !stands_at(alloc, air, log_height)? {
         return Ok(None);
     }
     let text = match made_by(alloc, config, air, log_height, trace, publics) {
@@ -152,8 +167,7 @@ pub trait TraceProver<F: Field> {
         log_height: usize,
         trace: RowMajorMatrix<F>,
         publics: &[F],
-    ) -> Result<Option<String>, AllocError>
-        requires set_up { HasHeight log_height (A.preprocessed_trace air.now) };
+    ) -> Result<Option<String>, AllocError>;
 }
 
 impl<SC> TraceProver<Val<SC>> for SC
@@ -174,9 +188,7 @@ where
         log_height: usize,
         trace: RowMajorMatrix<Val<SC>>,
         publics: &[Val<SC>],
-    ) -> Result<Option<String>, AllocError>
-        requires set_up { HasHeight log_height (A.preprocessed_trace air.now) }
-    {
+    ) -> Result<Option<String>, AllocError> {
         proved_by(alloc, self, air, log_height, trace, publics)
     }
 }

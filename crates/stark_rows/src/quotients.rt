@@ -4,6 +4,8 @@ ghost use Rattle.stark_quotient.specs.PointwiseQuotient.{HasShape};
 
 use crate::calls::ClearConfig;
 use crate::elements::{above, elements_in};
+use crate::kinds::NamedAir;
+use crate::named_air::named_air;
 use crate::rows::{apart, numbers_in, shown};
 use p3_uni_stark::quotient_values;
 use stark_air::{Air, AirLayout, BaseAir};
@@ -11,7 +13,6 @@ use stark_bench::ClearCommitment;
 use stark_clear::ClearPcs;
 use stark_parts::{StarkConfig, StarkGenericConfig, Val};
 use stark_protocol::natural_domain;
-use stark_samples::{Asked, CounterAir, SmallAir};
 use stark_support::{
     CanObserve, DomainShape, ExtensionChallenger, Field, FieldChallenger, PackedExtensionField,
     PackedField, PolynomialSpace, PrimeField64, RowMajorMatrix, TwoAdicField, UnivariateStarkPcs,
@@ -90,10 +91,10 @@ where
     Ok(Some(values))
 }
 
-/// A row: whether the AIR is the counter or the mixed one, the logarithm of the height, the column and the public values.
+/// A row: the AIR, the logarithm of the height, the column and the public values.
 #[derive(Drop)]
 struct Given<F> {
-    is_counter: bool,
+    air: NamedAir<F>,
     log_height: usize,
     column: Vec<F>,
     publics: Vec<F>,
@@ -101,14 +102,11 @@ struct Given<F> {
 
 fn given_in<F: PrimeField64>(alloc: Global, row: &str) -> Result<Given<F>, Fail> {
     let (name, rest) = apart(row)?;
-    if name != "counter" && name != "mixed" {
-        return Err(Fail::new("no such AIR"));
-    }
     let (log_height, rest) = apart(rest)?;
     let (column, publics) = apart(rest)?;
     let [log_height] = numbers_in::<1>(log_height)?;
     Ok(Given {
-        is_counter: name == "counter",
+        air: named_air(alloc, name)?,
         log_height: log_height as usize,
         column: elements_in(alloc, column)?,
         publics: elements_in(alloc, publics)?,
@@ -126,25 +124,13 @@ where
     SC::Challenge: PackedExtensionField<Val<SC>>,
 {
     let Given {
-        is_counter,
+        air,
         log_height,
         column,
         publics,
     } = given;
     let alpha = above::<Val<SC>, SC::Challenge>(4);
-    if is_counter {
-        return values_beside(
-            alloc,
-            config,
-            &CounterAir,
-            log_height,
-            column,
-            &publics,
-            alpha,
-        );
-    }
-    let mixed = SmallAir::new(Asked::Mixed);
-    values_beside(alloc, config, &mixed, log_height, column, &publics, alpha)
+    values_beside(alloc, config, &air, log_height, column, &publics, alpha)
 }
 
 /// The answer to a row of this table.

@@ -25,8 +25,37 @@ pub fn all_rows(
     Ok(())
 }
 
-/// Asserts that each row behind a front that all have is answered over all three fields alike, as the row says: `accepted` stands for
-/// a proof that the verifier accepts.
+/// Asserts that what was found of a proof is what a row says: `accepted` stands for a proof that the verifier accepts.
+fn assert_found(rt: &impl Abort, input: &str, found: &str, expected: &str) {
+    if expected == "accepted" {
+        assert!(rt; found.ends_with(" Ok(())"), "{input}: {found}");
+    } else {
+        assert_eq!(rt; found, expected, "{input}");
+    }
+}
+
+/// Asserts that each row of proofs behind a front that all have is answered as the row says.
+pub fn proof_rows(
+    rt: &impl Abort,
+    alloc: Global,
+    front: &str,
+    rows: &str,
+    answer: fn(Global, &str, &str) -> Result<String, Fail>,
+) -> Result<(), Fail>
+    requires { IsAlwaysCallable answer }
+{
+    for row in rows.lines() {
+        if !row.is_empty() && !row.starts_with('#') {
+            let (given, expected) = row.split_once(" => ").ok_or("a row without an answer")?;
+            let input = format!(in alloc; "{front}{given}")?;
+            let found = answer(alloc, "provers", &input)?;
+            assert_found(rt, &input, &found, expected);
+        }
+    }
+    Ok(())
+}
+
+/// The same over all three fields, which answer alike.
 pub fn agreeing_rows(
     rt: &impl Abort,
     alloc: Global,
@@ -52,11 +81,7 @@ pub fn agreeing_rows(
             for other in &others {
                 assert_eq!(rt; other.as_str(), found.as_str(), "{input}");
             }
-            if expected == "accepted" {
-                assert!(rt; found.ends_with(" Ok(())"), "{input}: {found}");
-            } else {
-                assert_eq!(rt; found.as_str(), expected, "{input}");
-            }
+            assert_found(rt, &input, &found, expected);
         }
     }
     Ok(())

@@ -2,17 +2,16 @@
 ghost use Rattle.std.specs.Prelude.{◌≡◌, ◌≤◌, unwrap_or};
 ghost use Rattle.stark_security.specs.Openings.{random_columns};
 
-use crate::airs::small_air;
 use crate::calls::{folded, recomposed_of_one};
 use crate::elements::{above, element};
-use crate::kinds::Kind;
+use crate::kinds::{Kind, NamedAir, SizedAir};
+use crate::named_air::named_air;
 use crate::rows::{apart, numbers_in, option_in, shown};
-use crate::sized_airs::SizedAir;
 use crate::sizing::kind_in;
 use p3_uni_stark::{OpeningShape, StarkSecurityParams, num_batched_openings, ood_error_bound};
 use stark_air::{Air, AirLayout};
 use stark_bench::{ClearCommitment, Coset, Ext4};
-use stark_samples::{CounterAir, CubicAir, FibonacciAir, PairAir, PreprocessedAir, SmallAir};
+use stark_samples::CounterAir;
 use stark_support::{
     CanObserve, ExtensionChallenger, ExtensionField, Field, FieldChallenger, FriRegime,
     GrindingSites, LagrangeSelectors, PolynomialSpace, PrimeField64, QuarticBase, TwoAdicField,
@@ -100,14 +99,8 @@ fn bound_by_name<F: PrimeField64, EF: ExtensionField<F>>(
     text: &str,
 ) -> Result<String, Fail> {
     let (name, numbers) = apart(text)?;
-    match name {
-        "counter" => bound_text::<F, EF, CounterAir>(alloc, &CounterAir, numbers),
-        "cubic" => bound_text::<F, EF, CubicAir>(alloc, &CubicAir, numbers),
-        "fibonacci" => bound_text::<F, EF, FibonacciAir>(alloc, &FibonacciAir, numbers),
-        "pair" => bound_text::<F, EF, PairAir>(alloc, &PairAir, numbers),
-        "preprocessed" => bound_text::<F, EF, PreprocessedAir>(alloc, &PreprocessedAir, numbers),
-        _ => bound_text::<F, EF, SmallAir>(alloc, &small_air(name), numbers),
-    }
+    let air = named_air::<F>(alloc, name)?;
+    bound_text::<F, EF, NamedAir<F>>(alloc, &air, numbers)
 }
 
 fn bound_of_kind<F: Field, EF: ExtensionField<F>>(

@@ -6,20 +6,13 @@ ghost use Rattle.stark_air.specs.Tree.{base, main_current};
 ghost use Rattle.stark_samples.specs.Samples.{cubic_constraints};
 ghost use Rattle.stark_rows.specs.SizedAirs.{constraints_of, entry, kind_declared, kind_within, layout_of_kind, next_columns_of, square_times, three_columns};
 
-use crate::kinds::Kind;
+use crate::kinds::{BoundedCubic, Kind, SizedAir};
 use stark_air::{
     Air, AirBuilder, BaseAir, ExtensionBuilder, MainTraceAir, WindowAccess, every_column,
 };
 use stark_samples::CubicAir;
 use stark_support::{Field, RowMajorMatrix};
 use std::alloc::{AllocError, Global};
-
-/// An AIR without preprocessed and periodic columns and public values; with the author's own bound on the degree.
-#[derive(Drop)]
-pub struct SizedAir {
-    pub kind: Kind,
-    pub hint: Option<usize>,
-}
 
 impl<F> BaseAir<F> for SizedAir {
     ghost layout = { λ air. layout_of_kind air.kind };
@@ -162,12 +155,6 @@ fn assert_square<AB: AirBuilder>(builder: &mut AB, stepped: bool) -> Result<(), 
     } else {
         builder.assert_zero(AB::Expr::from(x) * AB::Expr::from(x) * AB::Expr::from(x))
     }
-}
-
-/// The cubic, with a bound of its own on the degree multiple.
-#[derive(Drop)]
-pub struct BoundedCubic {
-    pub hint: Option<usize>,
 }
 
 impl MainTraceAir for BoundedCubic {

@@ -2,9 +2,8 @@
 ghost use Rattle.std.specs.Prelude.{◌≤◌};
 
 use crate::elements::above;
-use crate::kinds::Kind;
+use crate::kinds::{Kind, SizedAir};
 use crate::rows::{apart, numbers_in, option_in, shown};
-use crate::sized_airs::SizedAir;
 use stark_air::{AirLayout, BaseAirBuilder, ExtensionBuilder};
 use stark_bench::{CircleShape, Coset};
 use stark_parts::{

@@ -1,50 +1,33 @@
-//! The rows of all subjects, and those of proofs over each field.
+//! The rows of all subjects; those of quotients and of proofs over each field.
 use crate::answers::{lockstep, packed, scalar};
-use crate::rows::{agreeing_rows, all_rows};
+use crate::rows::{agreeing_rows, all_rows, proof_rows};
 use crate::{
     airs, constraints, domains, preprocessing, proofs, provers, quotients, security, sizing, trees,
     verdicts,
 };
-use std::alloc::Global;
-use std::process::Abort;
 use std::test::Fail;
 
-/// Asserts the rows that hold over every field.
-fn common_rows(
-    rt: &impl Abort,
-    alloc: Global,
-    answer: fn(Global, &str, &str) -> Result<String, Fail>,
-) -> Result<(), Fail>
-    requires { IsAlwaysCallable answer }
-{
+#[test]
+fn all_parts(rt: HostRuntime) -> Result<(), Fail> {
     for (subject, rows) in [
         ("airs", airs::ROWS),
         ("constraints", constraints::ROWS),
         ("domains", domains::ROWS),
         ("preprocessing", preprocessing::ROWS),
         ("proofs", proofs::ROWS),
-        ("quotients", quotients::ROWS),
         ("security", security::ROWS),
         ("sizing", sizing::ROWS),
     ] {
-        all_rows(rt, alloc, subject, rows, answer)?;
+        all_rows(&rt, rt.alloc(), subject, rows, scalar)?;
     }
     Ok(())
 }
 
 #[test]
-fn over_one_lane(rt: HostRuntime) -> Result<(), Fail> {
-    common_rows(&rt, rt.alloc(), scalar)
-}
-
-#[test]
-fn over_four_lanes(rt: HostRuntime) -> Result<(), Fail> {
-    common_rows(&rt, rt.alloc(), packed)
-}
-
-#[test]
-fn over_lanes_in_lockstep(rt: HostRuntime) -> Result<(), Fail> {
-    common_rows(&rt, rt.alloc(), lockstep)
+fn quotients_over_each_field(rt: HostRuntime) -> Result<(), Fail> {
+    all_rows(&rt, rt.alloc(), "quotients", quotients::ROWS, scalar)?;
+    all_rows(&rt, rt.alloc(), "quotients", quotients::ROWS, packed)?;
+    all_rows(&rt, rt.alloc(), "quotients", quotients::ROWS, lockstep)
 }
 
 #[test]
@@ -77,33 +60,28 @@ fn refusals(rt: HostRuntime) -> Result<(), Fail> {
 #[test]
 fn worked_proofs(rt: HostRuntime) -> Result<(), Fail> {
     let alloc = rt.alloc();
+    proof_rows(&rt, alloc, "", provers::WITH_WORK, scalar)?;
     agreeing_rows(&rt, alloc, "", provers::WORKED, scalar, packed, lockstep)
 }
 
 #[test]
 fn satisfying_traces(rt: HostRuntime) -> Result<(), Fail> {
-    let (alloc, scheme) = (rt.alloc(), "sha256 | made | clear | 0 | ");
-    agreeing_rows(
-        &rt,
-        alloc,
-        scheme,
-        provers::HASHED,
-        scalar,
-        packed,
-        lockstep,
-    )
+    let (alloc, rows) = (rt.alloc(), provers::SATISFYING);
+    proof_rows(&rt, alloc, "sha256 | made | clear | 0 | ", rows, scalar)?;
+    let front = "script 4 0 0 0 3 0 0 0 | made | clear | 0 | ";
+    agreeing_rows(&rt, alloc, front, rows, scalar, packed, lockstep)
 }
 
 #[test]
 fn satisfying_traces_under_masks(rt: HostRuntime) -> Result<(), Fail> {
-    let (alloc, scheme) = (rt.alloc(), "sha256 | made | masked by 1 2 3 | 0 | ");
-    agreeing_rows(
+    let (alloc, rows) = (rt.alloc(), provers::SATISFYING);
+    proof_rows(
         &rt,
         alloc,
-        scheme,
-        provers::HASHED,
+        "sha256 | made | masked by 1 2 3 | 0 | ",
+        rows,
         scalar,
-        packed,
-        lockstep,
-    )
+    )?;
+    let front = "script 4 0 0 0 3 0 0 0 | made | masked by 1 2 3 | 0 | ";
+    agreeing_rows(&rt, alloc, front, rows, scalar, packed, lockstep)
 }

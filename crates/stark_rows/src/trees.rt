@@ -5,10 +5,11 @@ ghost use Rattle.std.specs.Prelude.{◌≡◌, IfOk, Some};
 ghost use Rattle.stark_symbolic.specs.SymbolicView.{variable_tree};
 ghost use Rattle.stark_air.specs.Tree.{main_current, main_next, public_value};
 ghost use Rattle.stark_samples.specs.Samples.{counter_constraints, fibonacci_constraints, mixed_constraints};
-ghost use Rattle.stark_protocol.specs.Preprocessing.{HasHeight};
 
 use crate::airs::folded;
 use crate::calls::ClearConfig;
+use crate::kinds::NamedAir;
+use crate::named_air::named_air;
 use crate::proofs::value_of;
 use crate::provers::text_at;
 use crate::proving::TraceProver;
@@ -17,9 +18,7 @@ use stark_air::{Air, BaseAir};
 use stark_bench::{ClearCommitment, S12289};
 use stark_clear::ClearPcs;
 use stark_parts::{StarkChallenger, StarkConfig};
-use stark_samples::{
-    Asked, CounterAir, CubicAir, FibonacciAir, PairAir, PeriodicAir, PreprocessedAir, SmallAir,
-};
+use stark_samples::{Asked, PreprocessedAir, SmallAir};
 use stark_support::{
     CanObserve, Element, ExtensionChallenger, ExtensionField, Field, FieldChallenger, JsonCodec,
     NeverNull, PackedExtensionField, PackedField, PrimeField64, TwoAdicField,
@@ -154,8 +153,8 @@ where
     C: FieldChallenger<F> + CanObserve<ClearCommitment<F>> + ExtensionChallenger<F, EF> + Clone,
 {
     let (json, rest) = apart(text)?;
-    let air = tree_of::<F>(alloc, json)?;
-    folded::<F, EF, C, TreeAir<F>>(alloc, &air, rest)
+    let air = NamedAir::Tree(tree_of::<F>(alloc, json)?);
+    folded::<F, EF, C, NamedAir<F>>(alloc, &air, rest)
 }
 
 fn tree_text<F: Field + JsonCodec>(alloc: Global, text: &str) -> Result<String, Fail> {
@@ -388,60 +387,20 @@ pub fn json_by_name(alloc: Global, _subject: &str, name: &str) -> Result<String,
     }
 }
 
-/// The text of the proof of an AIR as data: of the JSON, or of the AIR itself where the JSON is null.
-fn text_as_data<F, P, A>(
+/// An AIR as data: of the JSON, or of the AIR itself where the JSON is null.
+fn as_data<F: PrimeField64 + JsonCodec>(
     alloc: Global,
-    prover: &P,
-    air: &A,
-    log_height: usize,
-    values: &str,
+    air: &NamedAir<F>,
     json: &str,
-) -> Result<String, Fail>
-where
-    F: PrimeField64 + JsonCodec,
-    P: TraceProver<F>,
-    A: Air<F>,
-    requires set_up { HasHeight log_height (A.preprocessed_trace air.now) }
-{
+) -> Result<NamedAir<F>, Fail> {
     if json == "null" {
-        let tree = TreeAir::from_air(alloc, air)?;
-        return text_at::<F, P, TreeAir<F>>(alloc, prover, &tree, log_height, values);
+        return Ok(NamedAir::Tree(TreeAir::from_air(alloc, air)?));
     }
-    let tree: TreeAir<F> = tree_of(alloc, json)?;
-    if tree.declaration.columns.preprocessed_trace.is_some() {
-        return Err(Fail::new("a preprocessed trace"));
-    }
-    text_at::<F, P, TreeAir<F>>(alloc, prover, &tree, log_height, values)
+    Ok(NamedAir::Tree(tree_of(alloc, json)?))
 }
 
 /// `accepted` where the AIR as data and the hand-written one have the same proof, and it is accepted; else the proof of the data:
-/// the logarithm of the height | the JSON | the trace | the public values.
-fn same_proof<F, P, A>(
-    alloc: Global,
-    prover: &P,
-    air: &A,
-    log_height: usize,
-    text: &str,
-) -> Result<String, Fail>
-where
-    F: PrimeField64 + JsonCodec,
-    P: TraceProver<F>,
-    A: Air<F>,
-    requires set_up { HasHeight log_height (A.preprocessed_trace air.now) }
-{
-    let (json, values) = apart(text)?;
-    let written = text_at::<F, P, A>(alloc, prover, air, log_height, values)?;
-    let as_data = text_as_data::<F, P, A>(alloc, prover, air, log_height, values, json)?;
-    if as_data != written {
-        return Ok(as_data);
-    }
-    if written.ends_with(" Ok(())") {
-        return Ok(String::from_str(alloc, "accepted")?);
-    }
-    Ok(written)
-}
-
-/// The same for a named AIR. The preprocessed column has four rows.
+/// the name | the logarithm of the height | the JSON | the trace | the public values.
 fn same_by_name<F, P>(alloc: Global, prover: &P, text: &str) -> Result<String, Fail>
 where
     F: PrimeField64 + JsonCodec,
@@ -449,26 +408,18 @@ where
 {
     let (name, rest) = apart(text)?;
     let (number, rest) = apart(rest)?;
+    let (json, values) = apart(rest)?;
     let [log_height] = numbers_in::<1>(number)?;
     let height = log_height as usize;
-    match name {
-        "counter" => same_proof::<F, P, CounterAir>(alloc, prover, &CounterAir, height, rest),
-        "cubic" => same_proof::<F, P, CubicAir>(alloc, prover, &CubicAir, height, rest),
-        "fibonacci" => same_proof::<F, P, FibonacciAir>(alloc, prover, &FibonacciAir, height, rest),
-        "pair" => same_proof::<F, P, PairAir>(alloc, prover, &PairAir, height, rest),
-        "preprocessed" => same_proof::<F, P, PreprocessedAir>(
-            alloc,
-            prover,
-            &PreprocessedAir,
-            2,
-            rest,
-        ),
-        _ => same_proof::<F, P, PeriodicAir<F>>(
-            alloc,
-            prover,
-            &PeriodicAir::new(alloc)?,
-            height,
-            rest,
-        ),
+    let air = named_air::<F>(alloc, name)?;
+    let data = as_data::<F>(alloc, &air, json)?;
+    let written = text_at::<F, P, NamedAir<F>>(alloc, prover, &air, height, values)?;
+    let of_data = text_at::<F, P, NamedAir<F>>(alloc, prover, &data, height, values)?;
+    if of_data != written {
+        return Ok(of_data);
     }
+    if written.ends_with(" Ok(())") {
+        return Ok(String::from_str(alloc, "accepted")?);
+    }
+    Ok(written)
 }

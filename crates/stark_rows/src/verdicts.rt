@@ -2,11 +2,12 @@
 //! for one: the challenger | the AIR | the trace's value at zeta, the chunk, the height's logarithm, the witness, the bits of work
 //! | the column's coefficients | the trace's value at the next point | the public values | the key's width and height | the
 //! preprocessed row | the next one.
-use crate::airs::{row_in, small_air};
+use crate::airs::row_in;
 use crate::calls::{self, ClearConfig, ClearShown};
 use crate::elements::{above, element, elements_in};
+use crate::kinds::NamedAir;
+use crate::named_air::named_air;
 use crate::rows::{apart, numbers_in};
-use crate::sized_airs::BoundedCubic;
 use p3_uni_stark::{
     Commitments, OpenedValues, PreprocessedOpenedValues, PreprocessedVerifierKey, Proof,
 };
@@ -14,7 +15,6 @@ use stark_air::Air;
 use stark_bench::ClearCommitment;
 use stark_clear::{ClearPcs, ClearProof};
 use stark_parts::{StarkChallenger, StarkConfig};
-use stark_samples::{CounterAir, CubicAir, PreprocessedAir, SmallAir};
 use stark_support::{ExtensionField, PrimeField64, TwoAdicField};
 use std::alloc::{AllocError, Global};
 use std::test::Fail;
@@ -99,7 +99,8 @@ where
     let config = StarkConfig::new(ClearPcs::new(), challenger).with_ood_proof_of_work_bits(
         shown.bits,
     );
-    Ok(verdict_by_name::<F, EF, C>(alloc, &config, name, &shown)?)
+    let air = named_air::<F>(alloc, name)?;
+    Ok(verdict::<F, EF, C, NamedAir<F>>(alloc, &config, &air, &shown)?)
 }
 
 /// What a verifier is shown of a proof, and the bits of work that it asks for.
@@ -109,34 +110,6 @@ struct Shown<F, EF> {
     publics: Vec<F>,
     key: Option<PreprocessedVerifierKey<ClearCommitment<F>>>,
     bits: usize,
-}
-
-/// What the verifier of a named AIR answers.
-fn verdict_by_name<F, EF, C>(
-    alloc: Global,
-    config: &ClearConfig<F, EF, C>,
-    name: &str,
-    shown: &Shown<F, EF>,
-) -> Result<String, AllocError>
-where
-    F: PrimeField64 + TwoAdicField,
-    EF: ExtensionField<F>,
-    C: StarkChallenger<F, EF, ClearCommitment<F>>,
-{
-    match name {
-        "counter" => verdict::<F, EF, C, CounterAir>(alloc, config, &CounterAir, shown),
-        "cubic" => verdict::<F, EF, C, CubicAir>(alloc, config, &CubicAir, shown),
-        "preprocessed" => {
-            verdict::<F, EF, C, PreprocessedAir>(alloc, config, &PreprocessedAir, shown)
-        }
-        "bounded cubic" => {
-            let air = BoundedCubic {
-                hint: Some(usize::MAX),
-            };
-            verdict::<F, EF, C, BoundedCubic>(alloc, config, &air, shown)
-        }
-        _ => verdict::<F, EF, C, SmallAir>(alloc, config, &small_air(name), shown),
-    }
 }
 
 /// The commitment to one matrix of one column.

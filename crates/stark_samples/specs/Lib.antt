@@ -1,2 +1,3 @@
+pub mod AnySamples
 pub mod Samples
 pub mod SmallSamples

@@ -1,6 +1,7 @@
 //! Sample AIRs: those that the program has, and small ones for tests.
 #![tactic(auto)]
 
+mod any;
 mod counter;
 mod cubic;
 mod fibonacci;
@@ -9,6 +10,7 @@ mod periodic;
 mod preprocessed;
 mod small;
 
+pub use any::AnySampleAir;
 pub use counter::CounterAir;
 pub use cubic::CubicAir;
 pub use fibonacci::FibonacciAir;

@@ -1,5 +1,6 @@
 pub mod Steps
 pub mod NeededSteps
+pub mod SpelledSteps
 pub mod WrittenTrees
 pub mod WrittenConstraints
 pub mod WrittenFaults

@@ -7,10 +7,10 @@ ghost use Rattle.stark_tree_air.specs.Traces.{declared_trace};
 
 use crate::columns::TreeDeclaration;
 use crate::error::TreeAirError;
-use crate::evaluate::{assert_constraints, node_values};
+use crate::evaluate::{assert_constraint, node_values, operand};
 use crate::fault::{main_next_column, preprocessed_next_column, tree_air_fault};
 use crate::list::TreeList;
-use crate::needed::needed;
+use crate::needed::{constraint_place, needed};
 use crate::node::{TreeConstraint, TreeNode};
 use stark_air::{Air, BaseAir, ExtensionBuilder};
 use stark_support::{Field, RowMajorMatrix};
@@ -167,6 +167,10 @@ impl<F: Field> Air<F> for TreeAir<F> {
         let constraints = self.list.constraints.as_slice();
         let needed = needed(self.alloc, nodes, constraints)?;
         let values = node_values(self.alloc, &self.list.constants, nodes, &needed, &*builder)?;
-        assert_constraints(constraints, &values, builder)
+        for constraint in constraints {
+            let x = operand(&values, constraint_place(*constraint));
+            assert_constraint(*constraint, x, &mut *builder)?;
+        }
+        Ok(())
     }
 }

@@ -1,11 +1,10 @@
 //! Nodes and constraints on a builder.
-ghost use Rattle.std.specs.Prelude.{◌≡◌, ◌<◌, Bool, List, [], ◌∷◌, map, length, IfOk, OnErr, ⊤};
-ghost use Rattle.stark_air.specs.Emission.{Asserted};
+ghost use Rattle.std.specs.Prelude.{◌≡◌, ◌<◌, Bool, List, [], ◌∷◌, map, length, IfOk, OnErr};
 ghost use Rattle.stark_air.specs.Tree.{Tree, constant};
 ghost use Rattle.stark_air.specs.Value.{Environment, value};
-ghost use Rattle.stark_tree_air.specs.Needed.{ConstraintsMarked, Marked, NodesMarked, OperandsMarked, constraint_place};
+ghost use Rattle.stark_tree_air.specs.Needed.{Marked, NodesMarked, OperandsMarked, constraint_place};
 ghost use Rattle.stark_tree_air.specs.Windows.{ReadAreThere, WindowsShow};
-ghost use Rattle.stark_tree_air.specs.Nodes.{Stand, NodeFits, NodesFit, ConstraintFits, ConstraintsFit, node_tree, nodes_trees, tree_at, marked_tree};
+ghost use Rattle.stark_tree_air.specs.Nodes.{Stand, NodeFits, NodesFit, node_tree, nodes_trees, tree_at, marked_tree};
 
 use crate::node::{TreeConstraint, TreeNode};
 use stark_air::{AirBuilder, ExtensionBuilder, WindowAccess, periodic_value, public_value};
@@ -21,7 +20,7 @@ struct Windows<M, P> {
 
 /// A copy of the value of an earlier node.
 #[tactic(auto, using(crate::proofs::Steps::operand_stands))]
-fn operand<F, E: Algebra<F>>(values: &[E], index: usize) -> E
+pub(crate) fn operand<F, E: Algebra<F>>(values: &[E], index: usize) -> E
     requires { index < length values.now }
     ensures { (e : Environment E) (ms : List Bool) (ts : List (Tree F)) → Stand E.stands E.operations e ms ts values.now → Marked ms index → E.stands (value E.operations e (tree_at ts index)) result }
 {
@@ -143,40 +142,18 @@ pub(crate) fn node_values<AB: AirBuilder>(
     Ok(values)
 }
 
-/// Asserts one constraint, by the values of the nodes.
-fn assert_constraint<AB: ExtensionBuilder>(
+/// Asserts one constraint, by the value of its node.
+pub(crate) fn assert_constraint<AB: ExtensionBuilder>(
     constraint: TreeConstraint,
-    values: &[AB::Expr],
+    x: AB::Expr,
     builder: &mut AB,
 ) -> Result<(), AllocError>
-    requires { ConstraintFits (length values.now) constraint }
     ensures same_environment { AB.environment builder.new ≡ AB.environment builder.old }
-    ensures asserted { IfOk result (λ _. (ms : List Bool) (ts : List (Tree AB.F)) → Stand AB.Expr.stands AB.Expr.operations (AB.environment builder.old) ms ts values.now → Marked ms (constraint_place constraint) → AB.after builder.old (marked_tree ts constraint ∷ []) builder.new) }
+    ensures asserted { IfOk result (λ _. (ts : List (Tree AB.F)) → AB.Expr.stands (value AB.Expr.operations (AB.environment builder.old) (tree_at ts (constraint_place constraint))) x → AB.after builder.old (marked_tree ts constraint ∷ []) builder.new) }
     ensures refused { OnErr result (AB.after builder.old [] builder.new) }
 {
     match constraint {
-        TreeConstraint::Base(index) => {
-            let x = operand(values, index);
-            builder.assert_zero(x)
-        }
-        TreeConstraint::Extension(index) => {
-            let x = operand(values, index);
-            builder.assert_zero_ext(AB::ExprEF::from(x))
-        }
+        TreeConstraint::Base(_) => builder.assert_zero(x),
+        TreeConstraint::Extension(_) => builder.assert_zero_ext(AB::ExprEF::from(x)),
     }
-}
-
-/// Asserts the constraints in their order, by the values of the nodes.
-pub(crate) fn assert_constraints<AB: ExtensionBuilder>(
-    constraints: &[TreeConstraint],
-    values: &[AB::Expr],
-    builder: &mut AB,
-) -> Result<(), AllocError>
-    requires { ConstraintsFit (length values.now) constraints.now }
-    ensures { (ms : List Bool) (ts : List (Tree AB.F)) → Stand AB.Expr.stands AB.Expr.operations (AB.environment builder.old) ms ts values.now → ConstraintsMarked ms constraints.now → Asserted AB.after result builder.old (map (marked_tree ts) constraints.now) builder.new }
-{
-    for constraint in constraints {
-        assert_constraint(*constraint, values, &mut *builder)?;
-    }
-    Ok(())
 }

@@ -23,7 +23,7 @@ fn mark_operands(marks: &mut [bool], node: TreeNode)
     }
 }
 
-fn constraint_place(constraint: TreeConstraint) -> usize
+pub(crate) fn constraint_place(constraint: TreeConstraint) -> usize
     ensures { result ≡ constraint_place constraint }
 {
     let (TreeConstraint::Base(place) | TreeConstraint::Extension(place)) = constraint;

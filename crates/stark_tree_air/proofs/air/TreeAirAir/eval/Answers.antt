@@ -1,11 +1,13 @@
-use Rattle.std.proofs.Common.{◌≡◌, ◌∙◌, ap, length, sym, subst}
+use Rattle.std.proofs.Common.{◌≡◌, ◌∙◌, ◌<◌, ap, arith, get_or, length, sym, subst}
 use Rattle.stark_air.specs.Emission.{Asserted}
 use Rattle.stark_tree_air.specs.FaultFacts.{all_fit, covered_nodes}
 use Rattle.stark_tree_air.specs.Faults.{tree_layout}
 use Rattle.stark_tree_air.specs.Needed.{ConstraintsMarked, NodesMarked, needed}
-use Rattle.stark_tree_air.specs.Nodes.{NodesFit, ConstraintsFit, Stand, nodes_trees}
+use Rattle.stark_tree_air.specs.Nodes.{NodesFit, ConstraintsFit, spelled}
+use Rattle.stark_tree_air.specs.declared.node.TreeConstraint.TheVariants.{Base}
 use Rattle.stark_tree_air.proofs.NeededSteps.{both_fit, needed_asserted, needed_closed, needed_length}
-use Rattle.stark_tree_air.proofs.Steps.{nodes_length, same_spelled}
+use Rattle.stark_tree_air.proofs.SpelledSteps.{none_asserted, same_standing, spelled_none, spelled_one, spelled_some}
+use Rattle.stark_tree_air.proofs.Steps.{at_place, nodes_length}
 use Rattle.stark_tree_air.proofs.air.TreeAirAir.eval.Goals as goal
 
 pub needed-requires-clause-below : goal.needed-requires-clause-below
@@ -46,26 +48,39 @@ node_values-requires-clause-as_many g c =
     let cs = c.as_slice-constraints.result.now in
     ap length (c.deref-2.ensures.value ∙ c.in_ok-needed.ensures) ∙ needed_length ns cs
 
-pub assert_constraints-requires : goal.assert_constraints-requires
-assert_constraints-requires g c =
-    let air = c.args.self.now in
-    let fit = all_fit air.declaration.columns air.list.constants.items air.list.nodes.items air.list.constraints.items air.without_fault in
-    let many =
-    ap length c.deref-3.ensures.value ∙
-    nodes_length _ _ _ c.deref-2.result.now c.deref.result.now c.as_slice-nodes.result.now c.in_ok-values.values.items c.in_ok-values.ensures in
-    subst (λ n. ConstraintsFit n c.as_slice-constraints.result.now) (sym many) (both_fit _ _ _ _ _ _ c.as_slice-nodes.ensures.value c.as_slice-constraints.ensures.value fit).1
+pub returns-in_err-needed-clause-asserted : goal.returns-in_err-needed-clause-asserted
+returns-in_err-needed-clause-asserted g c = none_asserted g.met.AB.BaseAirBuilder.emission_laws _ c.args.builder.now _ c.from_residual.ensures.0
 
-pub returns-clause-asserted : goal.returns-clause-asserted
-returns-clause-asserted g c =
+pub returns-in_err-values-clause-asserted : goal.returns-in_err-values-clause-asserted
+returns-in_err-values-clause-asserted g c = none_asserted g.met.AB.BaseAirBuilder.emission_laws _ c.args.builder.now _ c.from_residual-in_err-values.ensures.0
+
+pub loop-constraint-init : goal.loop-constraint-init
+loop-constraint-init g c =
     let air = c.args.self.now in
-    let ks = c.deref.result.now in
     let ns = c.as_slice-nodes.result.now in
     let cs = c.as_slice-constraints.result.now in
-    let ms = c.deref-2.result.now in
-    let fit = all_fit air.declaration.columns air.list.constants.items air.list.nodes.items air.list.constraints.items air.without_fault in
-    let marks : ms ≡ needed ns cs = c.deref-2.ensures.value ∙ c.in_ok-needed.ensures in
-    let marked = subst (λ js. ConstraintsMarked js cs) (sym marks) (needed_asserted ns cs (both_fit _ _ _ _ _ _ c.as_slice-nodes.ensures.value c.as_slice-constraints.ensures.value fit).1) in
-    let standing = subst (λ xs. Stand g.AB.Expr.Algebra.stands g.AB.Expr.Algebra.operations (g.AB.BaseAirBuilder.environment c.args.builder.now) ms (nodes_trees ks ns) xs) (sym c.deref-3.ensures.value) c.in_ok-values.ensures in
-    subst (λ js. Asserted g.AB.BaseAirBuilder.after c.assert_constraints.result c.args.builder.now js c.assert_constraints.new.builder)
-    (same_spelled ks air.list.constants.items ns air.list.nodes.items cs air.list.constraints.items c.deref.ensures.value c.as_slice-nodes.ensures.value c.as_slice-constraints.ensures.value)
-    (c.assert_constraints.ensures ms (nodes_trees ks ns) standing marked)
+    let xs = c.in_ok-values.values.items in
+    let fit = (both_fit _ _ _ _ _ _ c.as_slice-nodes.ensures.value c.as_slice-constraints.ensures.value (all_fit air.declaration.columns air.list.constants.items air.list.nodes.items air.list.constraints.items air.without_fault)).1 in
+    let many : length xs ≡ length ns = nodes_length _ _ _ c.deref-2.result.now c.deref.result.now ns xs c.in_ok-values.ensures in (
+      spelled_none g.met.AB.BaseAirBuilder.emission_laws g.AB.Expr.Algebra.stands g.AB.Expr.Algebra.operations air.list.constants.items air.list.nodes.items cs c.in_ok-needed.needed.items xs c.args.builder.now
+          (same_standing _ _ _ c.deref-2.result.now _ c.deref.result.now _ ns _ xs c.deref-2.ensures.value c.deref.ensures.value c.as_slice-nodes.ensures.value c.in_ok-values.ensures)
+          (subst (λ n. ConstraintsFit n cs) (sym many) fit) (subst (λ js. ConstraintsMarked js cs) (sym c.in_ok-needed.ensures) (needed_asserted ns cs fit)),
+      c.as_slice-constraints.ensures.value,
+    )
+
+pub returns-in_err-assert_constraint-clause-asserted : goal.returns-in_err-assert_constraint-clause-asserted
+returns-in_err-assert_constraint-clause-asserted g c =
+    let list = c.args.self.now.list in
+    subst (λ cs. Asserted g.AB.BaseAirBuilder.after c.from_residual-in_err-assert_constraint.result c.args.builder.now (spelled list.constants.items list.nodes.items cs) c.assert_constraint.new.builder) c.loop-constraint.invariant.1
+    (spelled_some g.met.AB.BaseAirBuilder.emission_laws _ _ _ _ _ _ _ c.args.builder.now c.loop-constraint.constraint-index c.loop-constraint.builder c.loop-constraint.invariant.0 _ _ c.from_residual-in_err-assert_constraint.ensures.0 c.in_err-assert_constraint.ensures.refused)
+
+pub loop-constraint-preserved : goal.loop-constraint-preserved
+loop-constraint-preserved g c =
+    let cs = c.as_slice-constraints.result.now in
+    let i = c.loop-constraint.constraint-index in
+    let within : i < length cs = omega arith in (
+      spelled_one g.met.AB.BaseAirBuilder.emission_laws _ _ _ _ _ _ _ c.args.builder.now i c.loop-constraint.builder c.loop-constraint.invariant.0 (get_or cs i (Base 0)) within (at_place cs i _ _ within)
+          c.deref-in-loop-constraint.result.now c.constraint_place.result c.operand-x.result c.assert_constraint.new.builder c.deref-in-loop-constraint.ensures.value c.constraint_place.ensures c.operand-x.ensures
+          c.in_ok-assert_constraint.ensures.asserted c.assert_constraint.ensures.same_environment,
+      c.loop-constraint.invariant.1,
+    )

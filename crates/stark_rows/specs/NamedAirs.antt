@@ -1,5 +1,5 @@
 -- What any AIR of the rows declares, and its constraints: those of the one that it holds.
-use Rattle.std.specs.Prelude.{ℕ, List, [], ◌∷◌, Option, None, filter_map, length, map, refl}
+use Rattle.std.specs.Prelude.{ℕ, List, [], Option, None, filter_map, length, map, refl}
 use Rattle.std.proofs.Common.{arith}
 use Rattle.stark_air.specs.Declaration.{IsDeclared, Trace}
 use Rattle.stark_air.specs.Layout.{Layout, LeavesWithin}

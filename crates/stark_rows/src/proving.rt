@@ -39,7 +39,7 @@ fn fits<SC: StarkGenericConfig, A: BaseAir<Val<SC>>>(
     ensures height { IsTrue result → length trace.now.values.items ≡ 2 ^ log_height * trace.now.width }
     ensures within { IsTrue result → log_height + zk_bits SC.Pcs.ZK ≤ SC.Pcs.scheme.log_max_trace_height (SC.config.scheme config.now) }
     ensures publics { IsTrue result → length publics.now ≡ (A.layout air.now).publics }
-    ensures least { IsTrue result → log_height ≤ 12 }
+    ensures bounded { IsTrue result → log_height ≤ 12 }
 {
     if log_height > 12 || log_height + config.is_zk() > config.pcs().log_max_trace_height() {
         return false;
@@ -126,7 +126,8 @@ where
     format!(in alloc; "{json} {verdict:?}")
 }
 
-/// The text of a proof of a trace and the verifier's verdict on it, or the prover's error; none where the trace doesn't fit.
+/// The text of a proof of a trace and the verifier's verdict on it, or the prover's error; none where the trace has another height or width
+/// than is said, or the AIR's preprocessed columns have another height.
 fn proved_by<SC, A>(
     alloc: Global,
     config: &SC,
@@ -159,7 +160,8 @@ where
 /// Proves traces, and tells the proof and the verdict on it in words, as a configuration does. What asks it for no more needs none of a
 /// configuration's laws.
 pub trait TraceProver<F: Field> {
-    /// The text of a proof of a trace and the verifier's verdict on it, or the prover's error; none where the trace doesn't fit.
+    /// The text of a proof of a trace and the verifier's verdict on it, or the prover's error; none where the trace has another height or
+    /// width than is said, or the AIR's preprocessed columns have another height.
     fn proved_text<A: Air<F>>(
         &self,
         alloc: Global,

@@ -106,49 +106,19 @@ impl<F: PrimeField64> BaseAir<F> for AnySampleAir<F> {
     }
 
     fn preprocessed_next_row_columns(&self, alloc: Global) -> Result<Vec<usize>, AllocError> {
-        match self {
-            AnySampleAir::Counter(air) => BaseAir::<F>::preprocessed_next_row_columns(air, alloc),
-            AnySampleAir::Cubic(air) => BaseAir::<F>::preprocessed_next_row_columns(air, alloc),
-            AnySampleAir::Fibonacci(air) => BaseAir::<F>::preprocessed_next_row_columns(air, alloc),
-            AnySampleAir::Pair(air) => BaseAir::<F>::preprocessed_next_row_columns(air, alloc),
-            AnySampleAir::Periodic(air) => BaseAir::<F>::preprocessed_next_row_columns(air, alloc),
-            AnySampleAir::Preprocessed(air) => BaseAir::<F>::preprocessed_next_row_columns(
-                air, alloc,
-            ),
-        }
+        Ok(Vec::new(alloc))
     }
 
     fn max_constraint_degree(&self) -> Option<usize> {
-        match self {
-            AnySampleAir::Counter(air) => BaseAir::<F>::max_constraint_degree(air),
-            AnySampleAir::Cubic(air) => BaseAir::<F>::max_constraint_degree(air),
-            AnySampleAir::Fibonacci(air) => BaseAir::<F>::max_constraint_degree(air),
-            AnySampleAir::Pair(air) => BaseAir::<F>::max_constraint_degree(air),
-            AnySampleAir::Periodic(air) => BaseAir::<F>::max_constraint_degree(air),
-            AnySampleAir::Preprocessed(air) => BaseAir::<F>::max_constraint_degree(air),
-        }
+        None
     }
 
     fn num_constraints(&self) -> Option<usize> {
-        match self {
-            AnySampleAir::Counter(air) => BaseAir::<F>::num_constraints(air),
-            AnySampleAir::Cubic(air) => BaseAir::<F>::num_constraints(air),
-            AnySampleAir::Fibonacci(air) => BaseAir::<F>::num_constraints(air),
-            AnySampleAir::Pair(air) => BaseAir::<F>::num_constraints(air),
-            AnySampleAir::Periodic(air) => BaseAir::<F>::num_constraints(air),
-            AnySampleAir::Preprocessed(air) => BaseAir::<F>::num_constraints(air),
-        }
+        None
     }
 
     fn public_boundary_io(&self) -> &[usize] {
-        match self {
-            AnySampleAir::Counter(air) => BaseAir::<F>::public_boundary_io(air),
-            AnySampleAir::Cubic(air) => BaseAir::<F>::public_boundary_io(air),
-            AnySampleAir::Fibonacci(air) => BaseAir::<F>::public_boundary_io(air),
-            AnySampleAir::Pair(air) => BaseAir::<F>::public_boundary_io(air),
-            AnySampleAir::Periodic(air) => BaseAir::<F>::public_boundary_io(air),
-            AnySampleAir::Preprocessed(air) => BaseAir::<F>::public_boundary_io(air),
-        }
+        &[]
     }
 }
 

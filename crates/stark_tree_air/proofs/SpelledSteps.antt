@@ -1,5 +1,5 @@
 -- The constraints that constants and nodes spell, asserted one after the other by the values of the nodes.
-use Rattle.std.proofs.Common.{◌≡◌, ◌∙◌, ℕ, ◌+◌, ◌<◌, ◌≤◌, Bool, List, [], ◌∷◌, Result, Ok, Err, IsErr, length, drop, get_or, refl, sym, subst}
+use Rattle.std.proofs.Common.{◌≡◌, ◌∙◌, ℕ, ◌+◌, ◌<◌, Bool, List, [], ◌∷◌, Result, Ok, Err, IsErr, length, drop, get_or, refl, sym, subst}
 use Rattle.stark_support.specs.Operations.{Operations}
 use Rattle.stark_air.specs.Emission.{EmissionLaws, Asserted}
 use Rattle.stark_air.specs.Layout.{Layout}
@@ -9,8 +9,7 @@ use Rattle.stark_tree_air.specs.Needed.{ConstraintsMarked, Marked, constraint_pl
 use Rattle.stark_tree_air.specs.Nodes.{ConstraintsFit, Stand, marked_tree, nodes_trees, spelled, tree_at}
 use Rattle.stark_tree_air.specs.declared.node.TreeNode.{TreeNode}
 use Rattle.stark_tree_air.specs.declared.node.TreeConstraint.{TreeConstraint}
-use Rattle.stark_tree_air.proofs.NeededSteps.{place_fits}
-use Rattle.stark_tree_air.proofs.Steps.{AssertedSoFar, asserted_all, asserted_none, asserted_one, asserted_some, constraint_fits, constraint_marked, rest_fits, rest_marked}
+use Rattle.stark_tree_air.proofs.Steps.{AssertedSoFar, asserted_none, asserted_one, asserted_some, constraint_marked, rest_fits, rest_marked}
 
 -- The constraints before the place i were asserted; the values stand for the trees, and the other constraints name nodes with marks.
 pub record SpelledSoFar {F S E : Type 0} (environment : S → Environment E) (after : S → List (Constraint F) → S → Type 0) (stands : E → E → Type 0) (o : Operations F E) (ks : List F) (ns : List TreeNode) (cs : List TreeConstraint) (ms : List Bool) (xs : List E) (s : S) (i : ℕ) (t : S) : Type 0 where
@@ -28,16 +27,10 @@ module _ {F S E : Type 0} {environment : S → Environment E} {layout : S → La
   spelled_none standing fit marked = record { same_environment = refl; standing = standing; fit = fit; marked = marked; begun = asserted_none laws (marked_tree (nodes_trees ks ns)) cs s }
 
   module _ (i : ℕ) (t : S) (begun : SoFar i t) where
-    pub spelled_all : length cs ≤ i → after s (spelled ks ns cs) t
-    spelled_all ended = asserted_all laws (marked_tree (nodes_trees ks ns)) cs s i t ended begun.begun
-
     pub spelled_some : {X Y : Type 0} (r : Result X Y) (u : S) → IsErr r → after t [] u → Asserted after r s (spelled ks ns cs) u
     spelled_some r u is left = asserted_some laws (marked_tree (nodes_trees ks ns)) cs s r i t u is begun.begun left
 
     module _ (c : TreeConstraint) (within : i < length cs) (is : c ≡ get_or cs i c) where
-      pub spelled_place : constraint_place c < length xs
-      spelled_place = place_fits (length xs) c (constraint_fits (length xs) cs i c within is begun.fit)
-
       -- One more, by the value at its node's place.
       pub spelled_one : (ys : List E) (place : ℕ) (x : E) (u : S) → ys ≡ xs → place ≡ constraint_place c
           → ((e : Environment E) (js : List Bool) (ts : List (Tree F)) → Stand stands o e js ts ys → Marked js place → stands (value o e (tree_at ts place)) x)

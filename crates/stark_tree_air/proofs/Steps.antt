@@ -8,7 +8,7 @@ use Rattle.stark_air.specs.Layout.{Layout}
 use Rattle.stark_air.specs.Tree.{Tree, Constraint, constant, first_row}
 use Rattle.stark_air.specs.Value.{Environment, value}
 use Rattle.stark_tree_air.specs.Needed.{Marked, NodesMarked, OperandsMarked, ConstraintsMarked, constraint_place}
-use Rattle.stark_tree_air.specs.Nodes.{tree_at, node_tree, trees_after, nodes_trees, spelled, NodeFits, NodesFit, ConstraintFits, ConstraintsFit, EachStands, Stand}
+use Rattle.stark_tree_air.specs.Nodes.{tree_at, node_tree, trees_after, nodes_trees, NodeFits, NodesFit, ConstraintFits, ConstraintsFit, EachStands, Stand}
 use Rattle.stark_tree_air.specs.declared.node.TreeNode.{TreeNode}
 use Rattle.stark_tree_air.specs.declared.node.TreeConstraint.{TreeConstraint}
 
@@ -137,10 +137,6 @@ module _ {A : Type 0} {F : Type 0} {S : Type 0} {E : Type 0} {environment : S �
     asserted = laws.both s t u begun.done (f c ∷ []) begun.asserted h;
   }
 
-  pub asserted_all : (i : ℕ) (t : S) → length cs ≤ i → AssertedSoFar after f cs s i t → after s (map f cs) t
-  asserted_all i t ended begun =
-      subst (λ ds. after s ds t) (sym (append-nil begun.done) ∙ ap (λ ds. begun.done ++ map f ds) (sym (drop_all i cs ended)) ∙ begun.leads) begun.asserted
-
   -- The next one was refused.
   pub asserted_some : {X : Type 0} {Y : Type 0} (r : Result X Y) (i : ℕ) (t u : S) → IsErr r → AssertedSoFar after f cs s i t → after t [] u → Asserted after r s (map f cs) u
   asserted_some (Err v) i t u is begun h = record {
@@ -181,7 +177,3 @@ trees_length ks ts (n ∷ ns) =
 -- There are as many values as nodes.
 pub nodes_length : {F : Type 0} {E : Type 0} (stands : E → E → Type 0) (o : Operations F E) (e : Environment E) (ms : List Bool) (ks : List F) (ns : List TreeNode) (xs : List E) → Stand stands o e ms (nodes_trees ks ns) xs → length xs ≡ length ns
 nodes_length stands o e ms ks ns xs h = let all = trees_length ks [] ns in let both = as_many stands o e ms (nodes_trees ks ns) xs h in omega (arith, all, both)
-
--- What equal lists spell is the same.
-pub same_spelled : {F : Type 0} (ks js : List F) (ns ms : List TreeNode) (cs ds : List TreeConstraint) → ks ≡ js → ns ≡ ms → cs ≡ ds → spelled ks ns cs ≡ spelled js ms ds
-same_spelled ks js ns ms cs ds e f g = ap (λ xs. spelled xs ns cs) e ∙ ap (λ xs. spelled js xs cs) f ∙ ap (λ xs. spelled js ms xs) g

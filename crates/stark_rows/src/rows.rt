@@ -5,6 +5,14 @@ use std::fmt::Debug;
 use std::process::Abort;
 use std::test::Fail;
 
+/// What a row gives and the answer behind it; none of a line that is blank or says what the rows behind it are.
+fn given_and_answer(line: &str) -> Result<Option<(&str, &str)>, Fail> {
+    if line.is_empty() || line.starts_with('#') {
+        return Ok(None);
+    }
+    Ok(Some(line.split_once(" => ").ok_or("a row without an answer")?))
+}
+
 /// Asserts that each row's input is answered as the row says.
 pub fn all_rows(
     rt: &impl Abort,
@@ -15,9 +23,8 @@ pub fn all_rows(
 ) -> Result<(), Fail>
     requires { IsAlwaysCallable answer }
 {
-    for row in rows.lines() {
-        if !row.is_empty() && !row.starts_with('#') {
-            let (input, expected) = row.split_once(" => ").ok_or("a row without an answer")?;
+    for line in rows.lines() {
+        if let Some((input, expected)) = given_and_answer(line)? {
             let found = answer(alloc, subject, input)?;
             assert_eq!(rt; found.as_str(), expected, "{subject}: {input}");
         }
@@ -44,9 +51,8 @@ pub fn proof_rows(
 ) -> Result<(), Fail>
     requires { IsAlwaysCallable answer }
 {
-    for row in rows.lines() {
-        if !row.is_empty() && !row.starts_with('#') {
-            let (given, expected) = row.split_once(" => ").ok_or("a row without an answer")?;
+    for line in rows.lines() {
+        if let Some((given, expected)) = given_and_answer(line)? {
             let input = format!(in alloc; "{front}{given}")?;
             let found = answer(alloc, "provers", &input)?;
             assert_found(rt, &input, &found, expected);
@@ -69,9 +75,8 @@ pub fn agreeing_rows(
     requires four { IsAlwaysCallable four }
     requires eight { IsAlwaysCallable eight }
 {
-    for row in rows.lines() {
-        if !row.is_empty() && !row.starts_with('#') {
-            let (given, expected) = row.split_once(" => ").ok_or("a row without an answer")?;
+    for line in rows.lines() {
+        if let Some((given, expected)) = given_and_answer(line)? {
             let input = format!(in alloc; "{front}{given}")?;
             let found = one(alloc, "provers", &input)?;
             let others = [

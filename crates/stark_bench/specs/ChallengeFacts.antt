@@ -4,9 +4,10 @@ use Rattle.std.proofs.Common.{◌∙◌, sym, ap, subst, inl, inr, arith}
 use Rattle.std.proofs.lemmas.Bool.Decides.{eqb_tells}
 use Rattle.std.specs.Option.{option_or}
 use Rattle.stark_support.specs.Sponge.{GrindingLaws, drawn_in_turn, after_draws}
-use Rattle.stark_small_field.specs.declared.residue.Residue.{Residue}
-use Rattle.stark_small_field.specs.Residues.{residue, residue_of_value}
-use Rattle.stark_small_field.specs.Ext4Field.{coordinate_list}
+use Rattle.stark_fields.specs.declared.modulus.Modulus.{Ghosts}
+use Rattle.stark_fields.specs.declared.residue.Residue.{Residue}
+use Rattle.stark_fields.specs.Residues.{residue, residue_of_value}
+use Rattle.stark_fields.specs.Ext4Field.{coordinate_list}
 use Rattle.stark_bench.specs.Challenges.{least, found_by, four_drawn, after_four, script_passes, sha_passes, sha_after_check}
 
 -- ---- searches
@@ -59,52 +60,52 @@ least_none p (suc n) e k h =
       | inr w ↦ let ne : k ≢ n = w.1 in let lt : k < n = omega arith in least_none p n s.0 k lt
     ]
 
-mapped : {M : Type 0} (o : Option ℕ) (w : Residue M) → option_map residue o ≡ Some w → (k : ℕ) × ((o ≡ Some k) × (residue k ≡ w))
+mapped : {M K : Type 0} {G : Ghosts M} (o : Option ℕ) (w : Residue M K G) → option_map residue o ≡ Some w → (k : ℕ) × ((o ≡ Some k) × (residue k ≡ w))
 mapped (Some k) w e = (k, (refl, (cc)))
 mapped None w e = absurd (cc)
 
-unmapped : {M : Type 0} (o : Option ℕ) → option_map (residue {M = M}) o ≡ None → o ≡ None
+unmapped : {M K : Type 0} {G : Ghosts M} (o : Option ℕ) → option_map (residue {M = M} {K = K} {G = G}) o ≡ None → o ≡ None
 unmapped (Some k) e = absurd (cc)
 unmapped None e = refl
 
-module _ {C M : Type 0} (passes : C → ℕ → Residue M → Bool) (after : C → ℕ → Residue M → C) where
-  pub search_laws : ((s : C) (w : Residue M) → passes s 0 w ≡ true) → ((s : C) (w : Residue M) → after s 0 w ≡ s) → GrindingLaws passes after (found_by passes)
+module _ {C M K : Type 0} {G : Ghosts M} (passes : C → ℕ → Residue M K G → Bool) (after : C → ℕ → Residue M K G → C) where
+  pub search_laws : ((s : C) (w : Residue M K G) → passes s 0 w ≡ true) → ((s : C) (w : Residue M K G) → after s 0 w ≡ s) → GrindingLaws passes after (found_by passes)
   search_laws no_bits keeps = record {
     no_bits_pass = no_bits;
     no_bits_keep = keeps;
-    found_passes = λ s bits w e. let f = mapped (least (λ n. passes s bits (residue n)) 12289) w e in
-        ap (passes s bits) (sym f.1.1) ∙ least_passes (λ n. passes s bits (residue n)) 12289 f.0 f.1.0;
+    found_passes = λ s bits w e. let f = mapped (least (λ n. passes s bits (residue n)) G.MODULUS) w e in
+        ap (passes s bits) (sym f.1.1) ∙ least_passes (λ n. passes s bits (residue n)) G.MODULUS f.0 f.1.0;
     none_passes = λ s bits e w. ap (passes s bits) (sym (residue_of_value w))
-        ∙ least_none (λ n. passes s bits (residue n)) 12289 (unmapped (least (λ n. passes s bits (residue n)) 12289) e) w.value w.in_range;
+        ∙ least_none (λ n. passes s bits (residue n)) G.MODULUS (unmapped (least (λ n. passes s bits (residue n)) G.MODULUS) e) w.value w.in_range;
   }
 
-pub script_laws : {C M : Type 0} → GrindingLaws (script_passes {C = C} {M = M}) (λ s bits w. s) (found_by script_passes)
+pub script_laws : {C M K : Type 0} {G : Ghosts M} → GrindingLaws (script_passes {C = C} {M = M} {K = K} {G = G}) (λ s bits w. s) (found_by script_passes)
 script_laws = search_laws script_passes (λ s bits w. s) (λ s w. refl) (λ s w. refl)
 
-pub sha_laws : {M : Type 0} → GrindingLaws (sha_passes {M = M}) sha_after_check (found_by sha_passes)
+pub sha_laws : {M K : Type 0} {G : Ghosts M} → GrindingLaws (sha_passes {M = M} {K = K} {G = G}) sha_after_check (found_by sha_passes)
 sha_laws = search_laws sha_passes sha_after_check (λ s w. refl) (λ s w. refl)
 
 -- ---- the turns of a search
 
-module _ {C M : Type 0} (passes : C → ℕ → Residue M → Bool) (s : C) (bits n : ℕ) where
+module _ {C M K : Type 0} {G : Ghosts M} (passes : C → ℕ → Residue M K G → Bool) (s : C) (bits n : ℕ) where
   -- No number below n passes.
   abbrev pub NonePassedBelow : Type 0
   NonePassedBelow = least (λ k. passes s bits (residue k)) n ≡ None
 
-pub search_starts : {C M : Type 0} (passes : C → ℕ → Residue M → Bool) (s : C) (bits : ℕ) → NonePassedBelow passes s bits 0
+pub search_starts : {C M K : Type 0} {G : Ghosts M} (passes : C → ℕ → Residue M K G → Bool) (s : C) (bits : ℕ) → NonePassedBelow passes s bits 0
 unfolding least
 search_starts passes s bits = refl
 
-module _ {C M : Type 0} (passes : C → ℕ → Residue M → Bool) (s : C) (bits n : ℕ) where
-  pub search_goes_on : {w : Residue M} {b : Bool} → NonePassedBelow passes s bits n → w ≡ residue n → b ≡ passes s bits w → b ≡ false → NonePassedBelow passes s bits (n + 1)
+module _ {C M K : Type 0} {G : Ghosts M} (passes : C → ℕ → Residue M K G → Bool) (s : C) (bits n : ℕ) where
+  pub search_goes_on : {w : Residue M K G} {b : Bool} → NonePassedBelow passes s bits n → w ≡ residue n → b ≡ passes s bits w → b ≡ false → NonePassedBelow passes s bits (n + 1)
   search_goes_on {w = w} {b = b} e h k f = let turn = none_yet (λ k. passes s bits (residue k)) n e (ap (passes s bits) (sym h) ∙ sym k ∙ f) in
       let next : suc n ≡ n + 1 = omega arith in subst (λ j. NonePassedBelow passes s bits j) next turn
 
-  pub search_finds : {w : Residue M} {b : Bool} → NonePassedBelow passes s bits n → w ≡ residue n → b ≡ passes s bits w → b ≡ true → n < 12289 → Some w ≡ found_by passes s bits
-  search_finds {w = w} {b = b} e h k f l = sym (ap (option_map residue) (found_first (λ k. passes s bits (residue k)) n 12289 e (ap (passes s bits) (sym h) ∙ sym k ∙ f) l) ∙ ap Some (sym h))
+  pub search_finds : {w : Residue M K G} {b : Bool} → NonePassedBelow passes s bits n → w ≡ residue n → b ≡ passes s bits w → b ≡ true → n < G.MODULUS → Some w ≡ found_by passes s bits
+  search_finds {w = w} {b = b} e h k f l = sym (ap (option_map residue) (found_first (λ k. passes s bits (residue k)) n G.MODULUS e (ap (passes s bits) (sym h) ∙ sym k ∙ f) l) ∙ ap Some (sym h))
 
-  pub search_ends : NonePassedBelow passes s bits n → n ≤ 12289 → 12289 ≤ n → None ≡ found_by passes s bits
-  search_ends e l h = let all : n ≡ 12289 = omega arith in ap (option_map residue) (sym (subst (λ j. NonePassedBelow passes s bits j) all e))
+  pub search_ends : NonePassedBelow passes s bits n → n ≤ G.MODULUS → G.MODULUS ≤ n → None ≡ found_by passes s bits
+  search_ends e l h = let all : n ≡ G.MODULUS = omega arith in ap (option_map residue) (sym (subst (λ j. NonePassedBelow passes s bits j) all e))
 
 -- ---- elements of the extension
 

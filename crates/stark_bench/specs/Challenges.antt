@@ -4,10 +4,11 @@ use Rattle.std.specs.Int.{w64, from_be_bytes}
 use Rattle.std.specs.Option.{option_or}
 use Rattle.sha2.specs.Sha256.{sha256}
 use Rattle.stark_support.specs.Seed.{number}
-use Rattle.stark_small_field.specs.declared.residue.Residue.{Residue}
-use Rattle.stark_small_field.specs.declared.ext4.Ext4.{Ext4}
-use Rattle.stark_small_field.specs.Residues.{residue}
-use Rattle.stark_small_field.specs.Ext4Field.{ext4}
+use Rattle.stark_fields.specs.declared.modulus.Modulus.{Ghosts}
+use Rattle.stark_fields.specs.declared.residue.Residue.{Residue}
+use Rattle.stark_fields.specs.declared.ext4.Ext4.{Ext4}
+use Rattle.stark_fields.specs.Residues.{residue}
+use Rattle.stark_fields.specs.Ext4Field.{ext4}
 
 -- ---- searches for a witness
 
@@ -17,8 +18,8 @@ least p zero = None
 least p (suc n) = option_or (least p n) (cond (p n) (Some n) None)
 
 -- The element of the least number that passes.
-abbrev pub found_by : {C M : Type 0} → (C → ℕ → Residue M → Bool) → C → ℕ → Option (Residue M)
-found_by passes state bits = option_map residue (least (λ n. passes state bits (residue n)) 12289)
+abbrev pub found_by : {C M K : Type 0} {G : Ghosts M} → (C → ℕ → Residue M K G → Bool) → C → ℕ → Option (Residue M K G)
+found_by {C} {M} {K} {G} passes state bits = option_map residue (least (λ n. passes state bits (residue n)) G.MODULUS)
 
 -- ---- elements of the extension, by their coordinates
 
@@ -31,17 +32,17 @@ after_four after s = after (after (after (after s)))
 -- ---- a list handed out round and round
 
 -- The list, and the place of the next element.
-abbrev pub script_element : {M : Type 0} → List (Residue M) × ℕ → Residue M
+abbrev pub script_element : {M K : Type 0} {G : Ghosts M} → List (Residue M K G) × ℕ → Residue M K G
 script_element s = get_or s.0 s.1 (residue 0)
 
 abbrev pub script_next : {K : Type 0} → List K × ℕ → List K × ℕ
 script_next s = (s.0, (s.1 + 1) % length s.0)
 
-abbrev pub script_bits : {M : Type 0} → List (Residue M) × ℕ → ℕ → ℕ
+abbrev pub script_bits : {M K : Type 0} {G : Ghosts M} → List (Residue M K G) × ℕ → ℕ → ℕ
 script_bits s bits = (script_element s).value % 2 ^ bits
 
 -- A witness passes where 2 ^ bits divides its number and one.
-abbrev pub script_passes : {C M : Type 0} → C → ℕ → Residue M → Bool
+abbrev pub script_passes : {C M K : Type 0} {G : Ghosts M} → C → ℕ → Residue M K G → Bool
 script_passes s bits w = cond (eqb bits 0) true (ltb bits 64 && eqb ((w.value + 1) % 2 ^ bits) 0)
 
 -- ---- SHA-256
@@ -54,7 +55,7 @@ absorbed s tag bytes = sha256 (s ++ tag ∷ bytes)
 abbrev pub leading : List ℕ → ℕ
 leading s = from_be_bytes w64 (take 8 s)
 
-abbrev pub after_element : {M : Type 0} → List ℕ → Residue M → List ℕ
+abbrev pub after_element : {M K : Type 0} {G : Ghosts M} → List ℕ → Residue M K G → List ℕ
 after_element s x = absorbed s 0 (number x.value)
 
 abbrev pub after_draw : List ℕ → List ℕ
@@ -63,16 +64,16 @@ after_draw s = absorbed s 1 []
 abbrev pub after_bits : List ℕ → List ℕ
 after_bits s = absorbed s 2 []
 
-abbrev pub drawn_element : {M : Type 0} → List ℕ → Residue M
+abbrev pub drawn_element : {M K : Type 0} {G : Ghosts M} → List ℕ → Residue M K G
 drawn_element s = residue (leading (after_draw s))
 
 abbrev pub drawn_bits : List ℕ → ℕ → ℕ
 drawn_bits s bits = leading (after_bits s) % 2 ^ bits
 
-abbrev pub sha_passes : {M : Type 0} → List ℕ → ℕ → Residue M → Bool
+abbrev pub sha_passes : {M K : Type 0} {G : Ghosts M} → List ℕ → ℕ → Residue M K G → Bool
 sha_passes s bits w = cond (eqb bits 0) true (ltb bits 64 && eqb (drawn_bits (after_element s w) bits) 0)
 
-abbrev pub sha_after_check : {M : Type 0} → List ℕ → ℕ → Residue M → List ℕ
+abbrev pub sha_after_check : {M K : Type 0} {G : Ghosts M} → List ℕ → ℕ → Residue M K G → List ℕ
 sha_after_check s bits w = cond (eqb bits 0) s (after_bits (after_element s w))
 
 -- ---- a commitment in the clear

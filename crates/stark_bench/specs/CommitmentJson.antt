@@ -4,7 +4,7 @@ use Rattle.std.proofs.Common.{ap}
 use Rattle.serde_json.specs.Data.{Data, null}
 use Rattle.stark_support.specs.Json.{array_at}
 use Rattle.stark_support.specs.JsonFacts.{list_back, list_written}
-use Rattle.stark_small_field.specs.ElementJson.{is_null}
+use Rattle.stark_fields.specs.ElementJson.{is_null}
 
 abbrev pub commitment_at : {F : Type 0} → (Data → Option F) → Data → Option (List (List (List F)))
 commitment_at coefficient_at d = array_at (array_at (array_at coefficient_at)) d

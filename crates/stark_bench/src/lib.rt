@@ -1,4 +1,5 @@
-//! Domains, challengers and commitments over the field of 12289 elements, which this crate gives out too.
+//! Two-adic cosets of any field as domains, challengers over prime fields, and commitments in the
+//! clear. The prime fields are given out too.
 #![tactic(auto)]
 
 mod challenger;
@@ -9,6 +10,7 @@ mod coset;
 pub use challenger::{ClearCommitment, ScriptChallenger, Sha256Challenger};
 pub use circle::CircleShape;
 pub use coset::Coset;
-pub use stark_small_field::{
-    Ext4, ExtensionLanes, F12289, Lanes, Lockstep, P12289, Packed, Residue, S12289, Scalar,
+pub use stark_fields::{
+    BabyBear, BabyBearField, Ext4, ExtensionLanes, F12289, KoalaBear, KoalaBearField, Lanes,
+    Lockstep, M12289, Modulus, P12289, Packed, Residue, S12289, Scalar,
 };

@@ -6,7 +6,7 @@ use crate::{
     security, sizing, trees, verdicts,
 };
 use stark_bench::{
-    ClearCommitment, Ext4, F12289, Lockstep, P12289, Packed, Residue, S12289, Scalar,
+    ClearCommitment, Ext4, F12289, Lockstep, M12289, P12289, Packed, Residue, S12289, Scalar,
     ScriptChallenger, Sha256Challenger,
 };
 use stark_parts::StarkChallenger;
@@ -63,7 +63,10 @@ const NUMBERS: &str = "4 0 0 0 3 0 0 0";
 
 /// The challenger that hands out the numbers behind a row's first word `script`, or some where a row names no challenger; none where the
 /// first word is `sha256`.
-fn script<Kind>(alloc: Global, row: &str) -> Result<Option<ScriptChallenger<Residue<Kind>>>, Fail> {
+fn script<Kind>(
+    alloc: Global,
+    row: &str,
+) -> Result<Option<ScriptChallenger<Residue<M12289, Kind>>>, Fail> {
     if row.starts_with("sha256 | ") {
         return Ok(None);
     }
@@ -71,7 +74,7 @@ fn script<Kind>(alloc: Global, row: &str) -> Result<Option<ScriptChallenger<Resi
         Some(rest) => apart(rest)?.0,
         None => NUMBERS,
     };
-    let elements = elements_in::<Residue<Kind>>(alloc, numbers)?;
+    let elements = elements_in::<Residue<M12289, Kind>>(alloc, numbers)?;
     if elements.is_empty() {
         return Err(Fail::new("a script of no elements"));
     }

@@ -1,10 +1,10 @@
-//! A challenger that hands out a list.
-ghost use Rattle.std.specs.Prelude.{◌≡◌, ◌<◌, length};
+//! A challenger that hands out a list of elements of any prime field of at most 31 bits.
+ghost use Rattle.std.specs.Prelude.{◌≡◌, ◌<◌, ◌^◌, length};
 ghost use Rattle.stark_bench.specs.Challenges.{after_four, found_by, four_drawn, script_bits, script_element, script_next, script_passes};
 ghost use Rattle.stark_bench.specs.ChallengeFacts.{after_four_in_turn, four_in_turn, script_laws};
 
 use crate::challenger::commitment::ClearCommitment;
-use stark_small_field::{Ext4, Residue};
+use stark_fields::{Ext4, Modulus, Residue};
 use stark_support::{
     CanObserve, CanSample, CanSampleBits, ExtensionChallenger, FieldChallenger, GrindingChallenger,
     checked_pow2,
@@ -39,47 +39,56 @@ impl<F> ScriptChallenger<F> {
     }
 }
 
-impl<Kind> CanObserve<Residue<Kind>> for ScriptChallenger<Residue<Kind>> {
+impl<M: Modulus, Kind> CanObserve<Residue<M, Kind>> for ScriptChallenger<Residue<M, Kind>> {
     ghost after_observe = { λ s _. s };
 
-    fn observe(&mut self, _value: &Residue<Kind>) {}
+    fn observe(&mut self, _value: &Residue<M, Kind>) {}
 }
 
-impl<Kind> CanObserve<ClearCommitment<Residue<Kind>>> for ScriptChallenger<Residue<Kind>> {
+impl<M: Modulus, Kind> CanObserve<ClearCommitment<Residue<M, Kind>>>
+    for ScriptChallenger<Residue<M, Kind>> {
     ghost after_observe = { λ s _. s };
 
-    fn observe(&mut self, _value: &ClearCommitment<Residue<Kind>>) {}
+    fn observe(&mut self, _value: &ClearCommitment<Residue<M, Kind>>) {}
 }
 
-impl<Kind> CanSample<Residue<Kind>> for ScriptChallenger<Residue<Kind>> {
+impl<M: Modulus, Kind> CanSample<Residue<M, Kind>> for ScriptChallenger<Residue<M, Kind>> {
     ghost sample_of = { script_element };
 
     ghost after_sample = { script_next };
 
-    fn sample(&mut self) -> Residue<Kind> {
+    fn sample(&mut self) -> Residue<M, Kind> {
         let element = self.list[self.position];
         self.position = (self.position + 1) % self.list.len();
         element
     }
 }
 
-impl<Kind> CanSampleBits<usize> for ScriptChallenger<Residue<Kind>> {
+impl<M: Modulus, Kind> CanSampleBits<usize> for ScriptChallenger<Residue<M, Kind>> {
     ghost bits_of = { script_bits };
 
     ghost after_bits = { λ s _. script_next s };
 
-    fn sample_bits(&mut self, bits: usize) -> usize {
-        let element: Residue<Kind> = self.sample();
+    /// The next element's number modulo `2^bits`. Of the p numbers below the modulus each answer is
+    /// met by as many as p / 2^bits rounded up or down: by one or none where `2^bits` is above p.
+    fn sample_bits(&mut self, bits: usize) -> usize
+        requires { bits < 64 }
+        ensures answer { result ≡ script_bits self.old bits }
+        ensures state { self.new ≡ script_next self.old }
+        ensures within { result < 2 ^ bits }
+    {
+        let element: Residue<M, Kind> = self.sample();
         element.value() as usize % (1 << bits)
     }
 }
 
-impl<Kind> CanSample<Ext4<Residue<Kind>>> for ScriptChallenger<Residue<Kind>> {
+impl<M: Modulus, Kind> CanSample<Ext4<Residue<M, Kind>>> for ScriptChallenger<Residue<M, Kind>> {
     ghost sample_of = { four_drawn script_element script_next };
 
     ghost after_sample = { after_four script_next };
 
-    fn sample(&mut self) -> Ext4<Residue<Kind>> {
+    /// The next four elements: the coordinates, the constant first.
+    fn sample(&mut self) -> Ext4<Residue<M, Kind>> {
         Ext4 {
             c0: self.sample(),
             c1: self.sample(),
@@ -89,14 +98,14 @@ impl<Kind> CanSample<Ext4<Residue<Kind>>> for ScriptChallenger<Residue<Kind>> {
     }
 }
 
-impl<Kind> ExtensionChallenger<Residue<Kind>, Ext4<Residue<Kind>>>
-    for ScriptChallenger<Residue<Kind>> {
+impl<M: Modulus, Kind> ExtensionChallenger<Residue<M, Kind>, Ext4<Residue<M, Kind>>>
+    for ScriptChallenger<Residue<M, Kind>> {
     ghost draws_coordinates = { four_in_turn script_element script_next };
 
     ghost leaves_state = { after_four_in_turn script_next };
 }
 
-impl<Kind> FieldChallenger<Residue<Kind>> for ScriptChallenger<Residue<Kind>> {
+impl<M: Modulus, Kind> FieldChallenger<Residue<M, Kind>> for ScriptChallenger<Residue<M, Kind>> {
     fn duplicate(&self, alloc: Global) -> Result<Self, AllocError> {
         let list = Vec::from_slice(alloc, &self.list)?;
         Ok(ScriptChallenger {
@@ -106,8 +115,8 @@ impl<Kind> FieldChallenger<Residue<Kind>> for ScriptChallenger<Residue<Kind>> {
     }
 }
 
-impl<Kind> GrindingChallenger for ScriptChallenger<Residue<Kind>> {
-    type Witness = Residue<Kind>;
+impl<M: Modulus, Kind> GrindingChallenger for ScriptChallenger<Residue<M, Kind>> {
+    type Witness = Residue<M, Kind>;
 
     ghost passes = { script_passes };
 
@@ -115,9 +124,10 @@ impl<Kind> GrindingChallenger for ScriptChallenger<Residue<Kind>> {
 
     ghost found = { found_by script_passes };
 
-    /// The first of 0, 1, .. 12288 that passes.
-    fn grind(&mut self, bits: usize) -> Option<Residue<Kind>> {
-        for number in 0..12289u32 {
+    /// The first of the numbers 0, 1, .. below the modulus whose element passes, which is
+    /// `2^bits - 1`; None where that isn't below the modulus.
+    fn grind(&mut self, bits: usize) -> Option<Residue<M, Kind>> {
+        for number in 0..M::MODULUS {
             let witness = Residue::new(number);
             if self.check_witness(bits, witness) {
                 return Some(witness);
@@ -126,7 +136,7 @@ impl<Kind> GrindingChallenger for ScriptChallenger<Residue<Kind>> {
         None
     }
 
-    fn check_witness(&mut self, bits: usize, witness: Residue<Kind>) -> bool {
+    fn check_witness(&mut self, bits: usize, witness: Residue<M, Kind>) -> bool {
         match checked_pow2(bits) {
             Some(power) => (witness.value() as usize + 1) % power == 0,
             None => false,

@@ -1,13 +1,13 @@
-//! A challenger over SHA-256.
-ghost use Rattle.std.specs.Prelude.{◌≡◌, ◌++◌, ◌∷◌, replicate};
+//! A challenger over SHA-256, for the elements of any prime field of at most 31 bits.
+ghost use Rattle.std.specs.Prelude.{◌≡◌, ◌<◌, ◌^◌, ◌++◌, ◌∷◌, replicate};
 ghost use Rattle.stark_bench.specs.Challenges.{absorbed, after_bits, after_draw, after_element, after_four, commitment_elements, drawn_bits, drawn_element, found_by, four_drawn, leading, sha_after_check, sha_passes};
 ghost use Rattle.stark_support.specs.Sponge.{observed_all};
-ghost use Rattle.stark_small_field.specs.Residues.{residue};
+ghost use Rattle.stark_fields.specs.Residues.{residue};
 ghost use Rattle.stark_bench.specs.ChallengeFacts.{after_four_in_turn, four_in_turn, sha_laws};
 
 use crate::challenger::commitment::{ClearCommitment, observe_matrices};
 use sha2::{Digest, Sha256};
-use stark_small_field::{Ext4, Residue};
+use stark_fields::{Ext4, Modulus, Residue};
 use stark_support::{
     CanObserve, CanSample, CanSampleBits, ExtensionChallenger, FieldChallenger, GrindingChallenger,
     PrimeField64, checked_pow2,
@@ -71,51 +71,64 @@ impl<F> Sha256Challenger<F> {
     }
 }
 
-impl<Kind> CanObserve<Residue<Kind>> for Sha256Challenger<Residue<Kind>> {
+impl<M: Modulus, Kind> CanObserve<Residue<M, Kind>> for Sha256Challenger<Residue<M, Kind>> {
     ghost after_observe = { after_element };
 
     #[tactic(auto, unfolding(stark_support::specs::Seed::number))]
-    fn observe(&mut self, value: &Residue<Kind>) {
+    fn observe(&mut self, value: &Residue<M, Kind>) {
         self.absorb(0, &value.as_canonical_u64().to_be_bytes());
     }
 }
 
-impl<Kind> CanObserve<ClearCommitment<Residue<Kind>>> for Sha256Challenger<Residue<Kind>> {
+impl<M: Modulus, Kind> CanObserve<ClearCommitment<Residue<M, Kind>>>
+    for Sha256Challenger<Residue<M, Kind>> {
     ghost after_observe = { λ s commitment. observed_all after_element (commitment_elements residue commitment) s };
 
-    fn observe(&mut self, value: &ClearCommitment<Residue<Kind>>) {
+    fn observe(&mut self, value: &ClearCommitment<Residue<M, Kind>>) {
         observe_matrices(self, value.matrices());
     }
 }
 
-impl<Kind> CanSample<Residue<Kind>> for Sha256Challenger<Residue<Kind>> {
+impl<M: Modulus, Kind> CanSample<Residue<M, Kind>> for Sha256Challenger<Residue<M, Kind>> {
     ghost sample_of = { drawn_element };
 
     ghost after_sample = { after_draw };
 
-    fn sample(&mut self) -> Residue<Kind> {
+    /// The first 8 bytes of the next state, the high one first, modulo the modulus p. Of the 2^64
+    /// numbers of 8 bytes each element is met by as many as 2^64 / p rounded up or down. So where
+    /// each of these numbers is as likely, an element's probability is less than 2^-64 off 1 / p:
+    /// at most 2^-33 of it, since p is below 2^31.
+    fn sample(&mut self) -> Residue<M, Kind> {
         self.absorb(1, &[]);
-        Residue::new((self.leading() % 12289) as u32)
+        Residue::new((self.leading() % u64::from(M::MODULUS)) as u32)
     }
 }
 
-impl<Kind> CanSampleBits<usize> for Sha256Challenger<Residue<Kind>> {
+impl<M: Modulus, Kind> CanSampleBits<usize> for Sha256Challenger<Residue<M, Kind>> {
     ghost bits_of = { drawn_bits };
 
     ghost after_bits = { λ s _. after_bits s };
 
-    fn sample_bits(&mut self, bits: usize) -> usize {
+    /// The first 8 bytes of the next state, the high one first, modulo `2^bits`. Where each of the
+    /// 2^64 numbers of 8 bytes is as likely, so is each answer: `2^bits` divides 2^64.
+    fn sample_bits(&mut self, bits: usize) -> usize
+        requires { bits < 64 }
+        ensures answer { result ≡ drawn_bits self.old bits }
+        ensures state { self.new ≡ after_bits self.old }
+        ensures within { result < 2 ^ bits }
+    {
         self.absorb(2, &[]);
         self.leading() as usize % (1 << bits)
     }
 }
 
-impl<Kind> CanSample<Ext4<Residue<Kind>>> for Sha256Challenger<Residue<Kind>> {
+impl<M: Modulus, Kind> CanSample<Ext4<Residue<M, Kind>>> for Sha256Challenger<Residue<M, Kind>> {
     ghost sample_of = { four_drawn drawn_element after_draw };
 
     ghost after_sample = { after_four after_draw };
 
-    fn sample(&mut self) -> Ext4<Residue<Kind>> {
+    /// Four draws of the base field: the coordinates, the constant first.
+    fn sample(&mut self) -> Ext4<Residue<M, Kind>> {
         Ext4 {
             c0: self.sample(),
             c1: self.sample(),
@@ -125,21 +138,21 @@ impl<Kind> CanSample<Ext4<Residue<Kind>>> for Sha256Challenger<Residue<Kind>> {
     }
 }
 
-impl<Kind> ExtensionChallenger<Residue<Kind>, Ext4<Residue<Kind>>>
-    for Sha256Challenger<Residue<Kind>> {
+impl<M: Modulus, Kind> ExtensionChallenger<Residue<M, Kind>, Ext4<Residue<M, Kind>>>
+    for Sha256Challenger<Residue<M, Kind>> {
     ghost draws_coordinates = { four_in_turn drawn_element after_draw };
 
     ghost leaves_state = { after_four_in_turn after_draw };
 }
 
-impl<Kind> FieldChallenger<Residue<Kind>> for Sha256Challenger<Residue<Kind>> {
+impl<M: Modulus, Kind> FieldChallenger<Residue<M, Kind>> for Sha256Challenger<Residue<M, Kind>> {
     fn duplicate(&self, _alloc: Global) -> Result<Self, AllocError> {
         Ok(self.copied())
     }
 }
 
-impl<Kind> GrindingChallenger for Sha256Challenger<Residue<Kind>> {
-    type Witness = Residue<Kind>;
+impl<M: Modulus, Kind> GrindingChallenger for Sha256Challenger<Residue<M, Kind>> {
+    type Witness = Residue<M, Kind>;
 
     ghost passes = { sha_passes };
 
@@ -147,9 +160,11 @@ impl<Kind> GrindingChallenger for Sha256Challenger<Residue<Kind>> {
 
     ghost found = { found_by sha_passes };
 
-    /// The first of 0, 1, .. 12288 that passes.
-    fn grind(&mut self, bits: usize) -> Option<Residue<Kind>> {
-        for number in 0..12289u32 {
+    /// The first of the numbers 0, 1, .. below the modulus whose element passes, with the state
+    /// after its check; None where no element passes, as is likely where `2^bits` is far above the
+    /// modulus. A number takes two digests, and at `bits` bits one in `2^bits` passes.
+    fn grind(&mut self, bits: usize) -> Option<Residue<M, Kind>> {
+        for number in 0..M::MODULUS {
             let witness = Residue::new(number);
             let mut trial = self.copied();
             if trial.check_witness(bits, witness) {
@@ -160,7 +175,7 @@ impl<Kind> GrindingChallenger for Sha256Challenger<Residue<Kind>> {
         None
     }
 
-    fn check_witness(&mut self, bits: usize, witness: Residue<Kind>) -> bool {
+    fn check_witness(&mut self, bits: usize, witness: Residue<M, Kind>) -> bool {
         if bits == 0 {
             return true;
         }

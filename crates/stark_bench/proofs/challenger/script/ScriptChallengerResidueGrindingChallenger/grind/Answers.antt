@@ -1,26 +1,26 @@
-use Rattle.std.proofs.Common.{refl, ◌∙◌}
+use Rattle.std.proofs.Common.{arith, refl, ◌∙◌}
 use Rattle.stark_bench.specs.Challenges.{script_passes}
 use Rattle.stark_bench.specs.ChallengeFacts.{search_starts, search_goes_on, search_finds, search_ends}
 use Rattle.stark_bench.proofs.challenger.script.ScriptChallengerResidueGrindingChallenger.grind.Goals as goal
 
 pub loop-number-init : goal.loop-number-init
-loop-number-init g c = (refl, search_starts (script_passes {M = g.row.Kind.Denot}) c.args.self.now c.args.bits)
+loop-number-init g c = (refl, search_starts (script_passes {M = g.row.M.Denot} {K = g.row.Kind.Denot} {G = g.M.Modulus}) c.args.self.now c.args.bits)
 
 pub loop-number-preserved : goal.loop-number-preserved
 loop-number-preserved g c = (
   c.check_witness.ensures.state ∙ c.loop-number.invariant.0,
-  search_goes_on (script_passes {M = g.row.Kind.Denot}) c.args.self.now c.args.bits c.loop-number.number c.loop-number.invariant.1 c.new-witness.ensures c.check_witness.ensures.answer c.if-check_witness.false,
+  search_goes_on (script_passes {M = g.row.M.Denot} {K = g.row.Kind.Denot} {G = g.M.Modulus}) c.args.self.now c.args.bits c.loop-number.number c.loop-number.invariant.1 c.new-witness.ensures c.check_witness.ensures.answer c.if-check_witness.false,
 )
 
 pub returns-then-check_witness-clause-answer : goal.returns-then-check_witness-clause-answer
 returns-then-check_witness-clause-answer g c =
-    search_finds (script_passes {M = g.row.Kind.Denot}) c.args.self.now c.args.bits c.loop-number.number c.loop-number.invariant.1 c.new-witness.ensures c.check_witness.ensures.answer c.if-check_witness.true c.loop-number-test.true
+    search_finds (script_passes {M = g.row.M.Denot} {K = g.row.Kind.Denot} {G = g.M.Modulus}) c.args.self.now c.args.bits c.loop-number.number c.loop-number.invariant.1 c.new-witness.ensures c.check_witness.ensures.answer c.if-check_witness.true (omega (arith, c.loop-number-test.true, c.MODULUS-number-end.ensures))
 
 pub returns-then-check_witness-clause-state : goal.returns-then-check_witness-clause-state
 returns-then-check_witness-clause-state g c = c.check_witness.ensures.state ∙ c.loop-number.invariant.0
 
 pub returns-clause-answer : goal.returns-clause-answer
-returns-clause-answer g c = search_ends (script_passes {M = g.row.Kind.Denot}) c.args.self.now c.args.bits c.loop-number.number c.loop-number.invariant.1 c.loop-number.auto.number-end c.loop-number-test.false
+returns-clause-answer g c = search_ends (script_passes {M = g.row.M.Denot} {K = g.row.Kind.Denot} {G = g.M.Modulus}) c.args.self.now c.args.bits c.loop-number.number c.loop-number.invariant.1 (omega (arith, c.loop-number.auto.number-end, c.MODULUS-number-end.ensures)) (omega (arith, c.loop-number-test.false, c.MODULUS-number-end.ensures))
 
 pub returns-clause-state : goal.returns-clause-state
 returns-clause-state g c = c.loop-number.invariant.0

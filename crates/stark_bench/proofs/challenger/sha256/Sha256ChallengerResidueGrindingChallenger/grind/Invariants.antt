@@ -5,4 +5,4 @@ use Rattle.stark_bench.proofs.challenger.sha256.Sha256ChallengerResidueGrindingC
 
 -- The state is as at first, and no smaller number passed.
 abbrev pub invariant-loop-number : goal.invariant-loop-number
-invariant-loop-number g l = (l.self ≡ l.fn.self) × NonePassedBelow (sha_passes {M = g.row.Kind.Denot}) l.fn.self l.fn.bits l.number
+invariant-loop-number g l = (l.self ≡ l.fn.self) × NonePassedBelow (sha_passes {M = g.row.M.Denot} {K = g.row.Kind.Denot} {G = g.M.Modulus}) l.fn.self l.fn.bits l.number

@@ -1,0 +1,5 @@
+use Rattle.std.proofs.Common.{rules}
+use Rattle.stark_fields.proofs.extension_lanes.arithmetic.ExtensionLanesPackedValue.extract.Goals as goal
+
+pub returns : goal.returns
+returns g c = search rules

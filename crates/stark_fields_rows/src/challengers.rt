@@ -1,0 +1,139 @@
+//! Both challengers over a field of 31 bits. The draws after SHA-256 were computed in Python, by
+//! its hashlib.
+use crate::rows::{read, shown, word_and_rest};
+use stark_bench::ClearCommitment;
+use stark_support::{
+    CanObserve, CanSample, CanSampleBits, FieldChallenger, GrindingChallenger, JsonCodec,
+};
+use std::alloc::Global;
+use std::fmt::Debug;
+use std::test::Fail;
+
+// Of 2013265921: the challenger | what is done with it in turn; each step answers something.
+pub const ROWS: &str = r#"
+# Elements and bits from digests, a commitment, and work: the witness, and the next draw.
+sha256 | draw; draw => 1340248034 1177291290
+sha256 | observe 2013265920; draw; bits 10; bits 31; bits 63 => observed 1094168982 412 1805035146 7022966747152662163
+sha256 | above; draw => Ext4 { c0: 1340248034, c1: 1177291290, c2: 1104188589, c3: 106541312 } 1896291174
+sha256 | commit [[[1,2],[3,2013265920]],[[5]]]; draw => 2 1223346094
+sha256 | grind 0; draw => Some(0) 1340248034
+sha256 | grind 8; draw => Some(166) 1138891138
+sha256 | grind 16; draw => Some(35128) 58634387
+sha256 | check 16 35128; draw => true 58634387
+sha256 | check 16 35127; draw => false 275326887
+
+# A list handed out round and round, whatever is observed, and work over it.
+script [4,2013265920] | draw; draw; draw => 4 2013265920 4
+script [2013265920,5] | bits 16; bits 63; bits 31 => 0 5 2013265920
+script [2013265920,2,3,4,5] | observe 7; above; draw; above => observed Ext4 { c0: 2013265920, c1: 2, c2: 3, c3: 4 } 5 Ext4 { c0: 2013265920, c1: 2, c2: 3, c3: 4 }
+script [4] | grind 0; grind 16 => Some(0) Some(65535)
+script [4] | check 31 2013265920; check 20 1048575; check 64 0 => false true false
+"#;
+
+/// The answers to a row's steps.
+pub fn answer<F, EF, C>(alloc: Global, mut challenger: C, text: &str) -> Result<String, Fail>
+where
+    F: JsonCodec + Debug + Drop,
+    EF: Debug + Drop,
+    C: FieldChallenger<F>
+        + CanObserve<ClearCommitment<F>>
+        + CanSample<EF>
+        + GrindingChallenger<Witness = F>,
+{
+    let mut answers = String::new(alloc);
+    for one in text.split("; ") {
+        let answer = step::<F, EF, C>(alloc, &mut challenger, one)?;
+        if !answers.is_empty() {
+            answers.push_str(" ")?;
+        }
+        answers.push_str(&answer)?;
+    }
+    Ok(answers)
+}
+
+/// The answer to one step.
+fn step<F, EF, C>(alloc: Global, challenger: &mut C, text: &str) -> Result<String, Fail>
+where
+    F: JsonCodec + Debug + Drop,
+    EF: Debug + Drop,
+    C: FieldChallenger<F>
+        + CanObserve<ClearCommitment<F>>
+        + CanSample<EF>
+        + GrindingChallenger<Witness = F>,
+{
+    let (name, given) = text.split_once(' ').unwrap_or((text, ""));
+    match name {
+        "draw" => draw::<F, C>(alloc, challenger),
+        "above" => draw::<EF, C>(alloc, challenger),
+        "observe" => observe::<F, C>(alloc, challenger, given),
+        "commit" => commit::<F, C>(alloc, challenger, given),
+        "bits" => bits(alloc, challenger, given),
+        "grind" => grind::<F, C>(alloc, challenger, given),
+        "check" => check::<F, C>(alloc, challenger, given),
+        _ => Err(Fail::new("no such step")),
+    }
+}
+
+/// The next draw of any challenger.
+fn draw<T: Debug + Drop, C: CanSample<T>>(
+    alloc: Global,
+    challenger: &mut C,
+) -> Result<String, Fail> {
+    let found = challenger.sample();
+    shown(alloc, &found)
+}
+
+fn observe<F: JsonCodec + Drop, C: CanObserve<F>>(
+    alloc: Global,
+    challenger: &mut C,
+    text: &str,
+) -> Result<String, Fail> {
+    let element: F = read(alloc, text)?;
+    challenger.observe(&element);
+    Ok(String::from_str(alloc, "observed")?)
+}
+
+/// Takes a commitment; the number of its matrices.
+fn commit<F: JsonCodec + Drop, C: CanObserve<ClearCommitment<F>>>(
+    alloc: Global,
+    challenger: &mut C,
+    text: &str,
+) -> Result<String, Fail> {
+    let commitment: ClearCommitment<F> = read(alloc, text)?;
+    challenger.observe(&commitment);
+    Ok(format!(in alloc; "{}", commitment.matrices().len())?)
+}
+
+fn bits<C: CanSampleBits<usize>>(
+    alloc: Global,
+    challenger: &mut C,
+    text: &str,
+) -> Result<String, Fail> {
+    let number = text.parse::<usize>()?;
+    if number >= 64 {
+        return Err(Fail::new("too many bits"));
+    }
+    Ok(format!(in alloc; "{}", challenger.sample_bits(number))?)
+}
+
+/// The witness that any challenger finds.
+fn grind<F: Debug + Drop, C: GrindingChallenger<Witness = F>>(
+    alloc: Global,
+    challenger: &mut C,
+    text: &str,
+) -> Result<String, Fail> {
+    let found = challenger.grind(text.parse::<usize>()?);
+    shown(alloc, &found)
+}
+
+/// Whether any challenger lets a witness pass.
+fn check<F: JsonCodec, C: GrindingChallenger<Witness = F>>(
+    alloc: Global,
+    challenger: &mut C,
+    text: &str,
+) -> Result<String, Fail> {
+    let (number, witness) = word_and_rest(text)?;
+    let witness: F = read(alloc, witness)?;
+    let passes = challenger.check_witness(number.parse::<usize>()?, witness);
+    Ok(format!(in alloc; "{passes}")?)
+}

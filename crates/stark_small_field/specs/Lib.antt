@@ -1,9 +1,0 @@
-pub mod Table
-pub mod Residues
-pub mod Roots
-pub mod Quadratic
-pub mod Quartic
-pub mod Ext4Field
-pub mod ResidueLanes
-pub mod Ext4Lanes
-pub mod ElementJson

@@ -9,7 +9,7 @@ use Rattle.stark_clear.specs.ColumnPoints.{AreColumns}
 use Rattle.stark_clear.specs.RowFacts.{all_listed, cell_of_part_fits, place_in_part, row_of_part_fits, size_in_parts, takes_rows}
 use Rattle.stark_support.specs.ListFacts.{no_such, one_more_number}
 use Rattle.stark_support.specs.LogarithmFacts.{same_exponent}
-use Rattle.stark_clear.specs.ColumnFacts.{none_there, seen}
+use Rattle.stark_dft.specs.SplitFacts.{nothing_there, seen}
 use Rattle.stark_support.specs.Ring.{RingOps, RingLaws}
 use Rattle.stark_support.specs.RingFacts.{mul_zero}
 use Rattle.stark_support.specs.Coset.{TwoAdicCoset, coset_part, coset_size, coset_vanishing}
@@ -136,8 +136,8 @@ module _ {F : Type 0} (field : RingOps F) (root : ℕ → F) (coset : TwoAdicCos
   pub no_chunks : (matrices : List (List (List F))) → matrices ≡ [] → ArePlainChunks field root coset log_parts width 0 row matrices
   no_chunks matrices e = record {
     number = ap length e;
-    full = λ i columns there. absurd (none_there matrices i columns e there);
-    takes = λ i columns there. absurd (none_there matrices i columns e there);
+    full = λ i columns there. absurd (nothing_there matrices i columns e there);
+    takes = λ i columns there. absurd (nothing_there matrices i columns e there);
   }
 
   pub one_more_chunk : (n : ℕ) (matrices after : List (List (List F))) (columns : List (List F)) → ArePlainChunks field root coset log_parts width n row matrices

@@ -1,8 +1,8 @@
 -- Rows of values that are given row after row.
-use Rattle.std.specs.Prelude.{◌≡◌, ℕ, zero, suc, ◌+◌, ◌-◌, ◌*◌, ◌^◌, ◌/◌, ◌%◌, ◌<◌, ◌≤◌, List, [], ◌∷◌, length, take, Option, Some, option_map, refl}
+use Rattle.std.specs.Prelude.{◌≡◌, ℕ, zero, suc, ◌+◌, ◌-◌, ◌*◌, ◌^◌, ◌/◌, ◌<◌, ◌≤◌, List, [], ◌∷◌, length, take, Option, Some, option_map, refl}
 use Rattle.std.specs.List.{AllByRecursion, flat_map, slice_get}
 use Rattle.std.proofs.Common.{sym, ap, ◌∙◌, arith, drop, get_or, pow-add, subst}
-use Rattle.std.proofs.Math.Nat.{add-mul, mul_assoc, mul-mod_left}
+use Rattle.std.proofs.Math.Nat.{add-mul, mul_assoc}
 use Rattle.std.proofs.lemmas.List.{length-map}
 use Rattle.std.proofs.lemmas.Option.{slice_get-map, slice_get-get_or, slice_get_past, same_Some}
 use Rattle.stark_support.specs.Ring.{RingOps}
@@ -101,11 +101,6 @@ pub natural_rows : {F : Type 0} (ring : RingOps F) (root : ℕ → F) (coset : T
 natural_rows ring root coset values width size columns are shift height k power =
     subst (λ d. TakesRows ring root d width (matrix_row values width) columns) (natural_of_size ring coset (length values / width) k shift height power)
     (takes_rows ring root coset values 0 width width size columns are (λ r. r) (λ r c. in_order r c width) (λ r below. whole_row r width (length values) (omega (arith, height, below))))
-
--- Joined rows of one width are whole.
-pub whole_rows : {A B : Type 0} (f : A → List B) (w : ℕ) → ((x : A) → length (f x) ≡ w) → (xs : List A) (values : List B) (width : ℕ) → values ≡ flat_map f xs → width ≡ w → length values % width ≡ 0
-whole_rows f w each xs values width joined wide =
-    ap (λ n. length values % n) wide ∙ ap (λ n. n % w) (ap length joined ∙ joined_length f w each xs) ∙ mul-mod_left (length xs) w
 
 -- ---- the rows of a part
 

@@ -1,5 +1,5 @@
 //! Values of committed columns.
-ghost use Rattle.std.specs.Prelude.{◌≡◌, ℕ, List, IfOk, Some, map};
+ghost use Rattle.std.specs.Prelude.{◌≡◌, ℕ, List, IfOk, Some, length, map};
 ghost use Rattle.std.specs.List.{flat_map, slice_get};
 ghost use Rattle.stark_support.specs.Claims.{opened_view, round_view};
 ghost use Rattle.stark_support.specs.Scheme.{HasRows, row_at};
@@ -8,9 +8,10 @@ ghost use Rattle.stark_clear.specs.Opened.{opened_round, matrices_at};
 
 use crate::clear::columns::domain_points;
 use stark_bench::{ClearCommitment, Coset};
+use stark_dft::{columns_fit, evaluate_columns};
 use stark_support::{
-    ExtensionField, Field, OpenedRounds, OpeningRound, PolynomialSpace, RowMajorMatrix,
-    TwoAdicField, polynomial_value, polynomial_value_in,
+    DomainShape, ExtensionField, Field, OpenedRounds, OpeningRound, PolynomialSpace,
+    RowMajorMatrix, TwoAdicField, polynomial_value, polynomial_value_in,
 };
 use std::alloc::{AllocError, Global};
 
@@ -93,6 +94,25 @@ pub fn values_on<F: Field>(
     Ok(values)
 }
 
+/// The values of columns at the domain's points, a row a point, one row after the other: by a transform, where no column has
+/// more coefficients than the domain has points.
+fn domain_values<F: TwoAdicField>(
+    alloc: Global,
+    columns: &[Vec<F>],
+    domain: &Coset<F>,
+) -> Result<Vec<F>, AllocError>
+    ensures { IfOk result (λ values. HasRows F.ring F.root (⟦<Coset<F> as PolynomialSpace>⟧.coset_of domain.now)
+        (map column_list columns.now) values.items (length columns.now)) }
+{
+    if columns_fit(columns, domain.size()) {
+        let values = evaluate_columns(alloc, domain.shift, domain.log_size, columns)?;
+        return Ok(values);
+    }
+    let points = domain_points(alloc, domain)?;
+    let values = values_on(alloc, columns, &points)?;
+    Ok(values)
+}
+
 /// The values of a matrix's columns at the domain's points, a row a point; of no matrix there are none.
 pub fn rows_on<F: TwoAdicField>(
     alloc: Global,
@@ -107,7 +127,6 @@ pub fn rows_on<F: TwoAdicField>(
         return Ok(RowMajorMatrix::new(Vec::new(alloc), 0));
     }
     let columns = &matrices[index];
-    let points = domain_points(alloc, domain)?;
-    let values = values_on(alloc, columns, &points)?;
+    let values = domain_values(alloc, columns, domain)?;
     Ok(RowMajorMatrix::new(values, columns.len()))
 }

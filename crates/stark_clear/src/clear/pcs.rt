@@ -41,8 +41,8 @@ pub struct ClearProof;
 
 /// A scheme that commits to columns by listing their coefficients, so that it hides nothing and needs no proof of an opening.
 /// Each committed column has as many coefficients as its domain has points. It commits to traces of 1 to `2^TWO_ADICITY` rows,
-/// in a time that grows with the square of that number, and leaves the challenger alone. Verifying is Ok exactly where
-/// all claims are true of the listed columns; else it names the first round at fault.
+/// by transforms in a time of n log n, and leaves the challenger alone. Verifying is Ok exactly where all claims are true of
+/// the listed columns; else it names the first round at fault.
 /// It may be made to stop at one call, which then refuses, for tests of the layers above.
 #[derive(Clone, Debug, Drop)]
 pub struct ClearPcs<F> {

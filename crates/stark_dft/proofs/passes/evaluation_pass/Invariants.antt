@@ -1,0 +1,13 @@
+use Rattle.std.proofs.Common.{◌≡◌, ◌*◌}
+use Rattle.stark_dft.specs.Passes.{IsEvaluatedBelow, point_at}
+use Rattle.stark_dft.proofs.passes.evaluation_pass.Given as goal
+
+abbrev pub invariant-loop-block : goal.invariant-loop-block
+invariant-loop-block g l = record {
+  point : l.point ≡ point_at g.F.Field.ring l.fn.first l.ratio l._block;
+  low : l.low ≡ l._block * l.half;
+  done : IsEvaluatedBelow g.F.Field.ring l.half l.fn.first l.ratio l.middle l.low l.source l.target;
+}
+
+abbrev pub invariant-loop-place : goal.invariant-loop-place
+invariant-loop-place g l = IsEvaluatedBelow g.F.Field.ring l.half l.fn.first l.ratio l.middle l.place l.source l.target

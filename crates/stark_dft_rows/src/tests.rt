@@ -1,0 +1,16 @@
+//! The rows over a field.
+use crate::answers::{ROWS, answer};
+use crate::rows::all_rows;
+use stark_fields::S12289;
+use std::alloc::Global;
+use std::test::Fail;
+
+/// The answer to a row over the field of one lane.
+fn over_one_lane(alloc: Global, row: &str) -> Result<String, Fail> {
+    answer::<S12289>(alloc, row)
+}
+
+#[test]
+fn transforms(rt: HostRuntime) -> Result<(), Fail> {
+    all_rows(&rt, rt.alloc(), ROWS, over_one_lane)
+}

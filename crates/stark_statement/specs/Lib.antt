@@ -1,0 +1,4 @@
+pub mod StatementView
+pub mod StatementJson
+pub mod Words
+pub mod StatementBytes

@@ -1,0 +1,74 @@
+-- The canonical writing of a statement.
+use Rattle.std.specs.Prelude.{ℕ, List, [], ◌∷◌, ◌++◌}
+use Rattle.stark_air.specs.Declaration.{Trace}
+use Rattle.stark_tree_air.specs.TreeJson.{AirView, ColumnsView, ListView}
+use Rattle.stark_tree_air.specs.declared.node.TreeNode.{TreeNode}
+use Rattle.stark_tree_air.specs.declared.node.TreeNode.TheVariants.{Constant, MainCurrent, MainNext, PreprocessedCurrent, PreprocessedNext, PublicValue, PeriodicValue, FirstRow, LastRow, Transition, Sum, Difference, Product, Negation}
+use Rattle.stark_tree_air.specs.declared.node.TreeConstraint.{TreeConstraint}
+use Rattle.stark_tree_air.specs.declared.node.TreeConstraint.TheVariants.{Base, Extension}
+use Rattle.stark_statement.specs.StatementView.{StatementView}
+use Rattle.stark_statement.specs.Words.{AreWords, word, optional, counted, labelled, framed}
+
+-- ---- words of nodes
+
+-- a tag and the operands
+abbrev pub node_words : TreeNode → List ℕ
+node_words (Constant i) = 0 ∷ i ∷ []
+node_words (MainCurrent i) = 1 ∷ i ∷ []
+node_words (MainNext i) = 2 ∷ i ∷ []
+node_words (PreprocessedCurrent i) = 3 ∷ i ∷ []
+node_words (PreprocessedNext i) = 4 ∷ i ∷ []
+node_words (PublicValue i) = 5 ∷ i ∷ []
+node_words (PeriodicValue i) = 6 ∷ i ∷ []
+node_words FirstRow = 7 ∷ []
+node_words LastRow = 8 ∷ []
+node_words Transition = 9 ∷ []
+node_words (Sum i j) = 10 ∷ i ∷ j ∷ []
+node_words (Difference i j) = 11 ∷ i ∷ j ∷ []
+node_words (Product i j) = 12 ∷ i ∷ j ∷ []
+node_words (Negation i) = 13 ∷ i ∷ []
+
+-- a tag and the place
+abbrev pub constraint_words : TreeConstraint → List ℕ
+constraint_words (Base i) = 0 ∷ i ∷ []
+constraint_words (Extension i) = 1 ∷ i ∷ []
+
+-- ---- words of a statement
+
+module _ {F : Type 0} (number_of : F → ℕ) where
+  abbrev pub element_words : F → List ℕ
+  element_words x = word (number_of x)
+
+  abbrev pub elements_words : List F → List ℕ
+  elements_words xs = counted element_words xs
+
+  abbrev pub trace_words : Trace F → List ℕ
+  trace_words trace = word trace.width ++ elements_words trace.values
+
+  unfoldable pub columns_words : ColumnsView F → List ℕ
+  columns_words columns =
+      word columns.width ++ (word columns.publics ++
+      (counted elements_words columns.periodic ++ optional trace_words columns.preprocessed))
+
+  unfoldable pub list_words : ListView F → List ℕ
+  list_words list =
+      elements_words list.constants ++ (counted node_words list.nodes ++ counted constraint_words list.constraints)
+
+  unfoldable pub air_words : AirView F → List ℕ
+  air_words air =
+      columns_words air.columns ++
+      (optional word air.degree ++ (optional word air.count ++ list_words air.list))
+
+  unfoldable pub statement_words : StatementView F → List ℕ
+  statement_words s =
+      air_words s.air ++ (elements_words s.public_values ++ (word s.alpha_bits ++ word s.ood_bits))
+
+  -- Each word is one of 64 bits.
+  abbrev pub IsBounded : StatementView F → Type 0
+  IsBounded s = AreWords (statement_words s)
+
+-- ---- bytes
+
+-- how many bytes follow, the label, and each word as 8 bytes
+abbrev pub statement_bytes : {F : Type 0} → (F → ℕ) → StatementView F → List ℕ
+statement_bytes number_of s = framed (labelled (statement_words number_of s))

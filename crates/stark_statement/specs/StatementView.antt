@@ -1,0 +1,18 @@
+-- What a statement fixes.
+use Rattle.std.specs.Prelude.{ℕ, List}
+use Rattle.stark_tree_air.specs.TreeJson.{AirView, air_view}
+use Rattle.stark_statement.specs.declared.statement.Statement.{Statement}
+
+pub record StatementView (F : Type 0) : Type 0 where
+  pub air : AirView F
+  pub public_values : List F
+  pub alpha_bits : ℕ
+  pub ood_bits : ℕ
+
+abbrev pub statement_view : {F : Type 0} → Statement F → StatementView F
+statement_view statement = record {
+  air = air_view statement.air.declaration statement.air.list;
+  public_values = statement.public_values.items;
+  alpha_bits = statement.alpha_bits;
+  ood_bits = statement.ood_bits;
+}

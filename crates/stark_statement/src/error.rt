@@ -1,0 +1,35 @@
+//! Why a JSON value is not read as a statement.
+use stark_tree_air::TreeJsonError;
+use thiserror::Error;
+
+/// Why a JSON value is not read as a statement.
+#[derive(Debug, Drop, Error)]
+pub enum StatementError {
+    /// The bytes are no JSON text.
+    #[error("the statement is no JSON text")]
+    NotJson,
+    /// The value isn't an object.
+    #[error("the statement is no object")]
+    NotAnObject,
+    /// The object has a member that no statement has.
+    #[error("the statement has a field that is none of air, public_values, alpha_bits, ood_bits")]
+    UnknownField,
+    /// A required field isn't there.
+    #[error("the field {field} is missing")]
+    MissingField { field: &'static str },
+    /// A field isn't an array, or no whole number below 2^64.
+    #[error("the field {field} is of the wrong kind")]
+    WrongKind { field: &'static str },
+    /// An element of a field is refused.
+    #[error("an element of {field} is refused")]
+    Element { field: &'static str },
+    /// The AIR is refused.
+    #[error("the field air: {0}")]
+    Air(TreeJsonError),
+    /// The AIR declares another number of public values.
+    #[error("the field public_values has {got} values, and air declares {expected}")]
+    PublicValuesCount { expected: usize, got: usize },
+    /// Memory was refused.
+    #[error("out of memory")]
+    OutOfMemory,
+}

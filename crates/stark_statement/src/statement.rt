@@ -1,0 +1,76 @@
+//! Statements.
+ghost use Rattle.std.specs.Prelude.{◌≡◌};
+ghost use Rattle.serde_json.specs.View.{view};
+ghost use Rattle.stark_statement.specs.StatementJson.{Decodes, statement_in, statement_reading};
+ghost use Rattle.stark_statement.specs.StatementView.{statement_view};
+
+use crate::error::StatementError;
+use crate::fields::{bits_at, check_members, required_air, required_list};
+use serde_json::Value;
+use stark_support::{Field, JsonCodec, JsonFault, value_from_bytes};
+use stark_tree_air::TreeAir;
+use std::alloc::Global;
+
+/// What a verifier's owner fixes before he looks at a proof.
+#[derive(Debug, Drop)]
+pub struct Statement<F> {
+    /// The AIR that the trace is to satisfy.
+    pub air: TreeAir<F>,
+    /// The public values, as many as the AIR declares where the statement was read.
+    pub public_values: Vec<F>,
+    /// How many bits of work are asked for before alpha is drawn, 0 for none.
+    pub alpha_bits: usize,
+    /// How many bits of work are asked for before the out-of-domain point is drawn, 0 for none.
+    pub ood_bits: usize,
+}
+
+impl<F: Field + JsonCodec> Statement<F> {
+    /// The statement that an object spells, or its first fault. The fields are `air`,
+    /// `public_values`, `alpha_bits` and `ood_bits`, read in this order; the bits are 0 where they
+    /// are missing or null, and the rest is required.
+    ///
+    /// - `NotAnObject` where the value isn't an object.
+    /// - `UnknownField` where it has a member of another name.
+    /// - `MissingField` where `air` or `public_values` isn't there.
+    /// - `Air` with the fault of `TreeAir::from_json`.
+    /// - `WrongKind` where `public_values` isn't an array, or bits aren't a whole number below
+    ///   2^64.
+    /// - `Element` where a public value is refused.
+    /// - `PublicValuesCount` after all fields, where the AIR declares another number of public
+    ///   values.
+    /// - `OutOfMemory` wherever a growth was refused.
+    #[tactic(auto, unfolding(crate::specs::StatementJson::statement_reading))]
+    pub fn from_json(alloc: Global, value: &Value) -> Result<Statement<F>, StatementError>
+        ensures decoded { Decodes statement_view result (statement_reading F.reading (view value.now)) }
+    {
+        check_members(value)?;
+        let air = required_air::<F>(alloc, value, "air")?;
+        let public_values = required_list(alloc, value, "public_values")?;
+        let alpha_bits = bits_at(value, "alpha_bits")?;
+        let ood_bits = bits_at(value, "ood_bits")?;
+        let expected = air.declaration.columns.num_public_values;
+        let got = public_values.len();
+        if got != expected {
+            return Err(StatementError::PublicValuesCount { expected, got });
+        }
+        Ok(Statement {
+            air,
+            public_values,
+            alpha_bits,
+            ood_bits,
+        })
+    }
+
+    /// The statement that the JSON text of the bytes spells, or its first fault: `NotJson` where
+    /// they are no JSON text, or else that of `from_json`.
+    #[tactic(auto, unfolding(crate::specs::StatementJson::statement_in))]
+    pub fn from_slice(alloc: Global, bytes: &[u8]) -> Result<Statement<F>, StatementError>
+        ensures decoded { Decodes statement_view result (statement_in F.reading bytes.now) }
+    {
+        match value_from_bytes(alloc, bytes) {
+            Ok(value) => Statement::from_json(alloc, &value),
+            Err(JsonFault::Invalid) => Err(StatementError::NotJson),
+            Err(JsonFault::OutOfMemory) => Err(StatementError::OutOfMemory),
+        }
+    }
+}

@@ -1,8 +1,9 @@
 //! Checks the numbers of a proof at one point, verifies a proof, or proves a trace, from bytes to bytes.
 #![tactic(auto)]
 
-use stark_input::{Finding, WatchedReader, WatchedWriter, exit_code, tell, words_of};
-use stark_program::run;
+use stark_cli::samples::run;
+use stark_cli::{WatchedReader, WatchedWriter, exit_code, tell, words_of};
+use stark_commands::Finding;
 use std::process::ExitCode;
 
 fn main(rt: HostRuntime) -> ExitCode {

@@ -1,0 +1,94 @@
+//! The programs whose runs are tested, and in what these differ.
+
+ghost use Rattle.std.specs.Prelude.{◌≡◌, false};
+
+use crate::texts::TEXTS;
+use crate::voskligan_texts::VOSKLIGAN_TEXTS;
+use stark_cli::statements::Verb;
+use stark_cli::{Sink, Source, samples, statements};
+use stark_commands::RunEnd;
+use std::alloc::Global;
+
+/// A program.
+#[derive(Clone, Copy)]
+pub(crate) enum Program {
+    /// The one for six sample AIRs.
+    StarkRun,
+    /// The one for statements.
+    Voskligan,
+}
+
+/// What parts the two inputs of a run for a statement, in a row's input.
+const SEPARATOR: u8 = 0x1e;
+
+/// The input before the separator, and what stands behind it; nothing where there is none.
+pub(crate) fn both_inputs(input: &[u8]) -> (&[u8], &[u8]) {
+    match input.iter().position(|byte| *byte == SEPARATOR) {
+        Some(place) => match input.split_at_checked(place) {
+            Some((first, rest)) => (first, rest.get(1..).unwrap_or(b"")),
+            None => (input, b""),
+        },
+        None => (input, b""),
+    }
+}
+
+/// The verb of a row's first word.
+fn verb_of(words: &[String]) -> Option<Verb> {
+    match words.first()?.as_str() {
+        "verify" => Some(Verb::Verify),
+        "prove" => Some(Verb::Prove),
+        "show" => Some(Verb::Show),
+        _ => None,
+    }
+}
+
+impl Program {
+    /// The texts that its tables cite by name.
+    pub(crate) fn texts(self) -> &'static str {
+        match self {
+            Program::StarkRun => TEXTS,
+            Program::Voskligan => VOSKLIGAN_TEXTS,
+        }
+    }
+
+    /// What is said for want of memory, and how a run ends that says so.
+    pub(crate) fn no_memory(self) -> (RunEnd, &'static [u8]) {
+        match self {
+            Program::StarkRun => (RunEnd::Refused, b"refused OutOfMemory\n"),
+            Program::Voskligan => (RunEnd::NotJudged, b"out of memory\n"),
+        }
+    }
+
+    /// How many reads of a byte a run makes that reads its inputs to their ends: one more than each has bytes.
+    pub(crate) fn reads_of(self, input: &[u8]) -> usize {
+        match self {
+            Program::StarkRun => input.len().saturating_add(1),
+            Program::Voskligan => {
+                let (first, second) = both_inputs(input);
+                first.len().saturating_add(second.len()).saturating_add(2)
+            }
+        }
+    }
+
+    /// A run of the program. Only the one for statements reads the second input.
+    pub(crate) fn run<R: Source, S: Source, W: Sink>(
+        self,
+        alloc: Global,
+        words: &[String],
+        reader: &mut R,
+        second: &mut S,
+        writer: &mut W,
+    ) -> RunEnd
+        requires fresh_reader { R.has_failed reader.old ≡ false }
+        requires fresh_second { S.has_failed second.old ≡ false }
+        requires fresh_writer { W.has_failed writer.old ≡ false }
+    {
+        match self {
+            Program::StarkRun => samples::run(alloc, words, reader, writer),
+            Program::Voskligan => match verb_of(words) {
+                Some(verb) => statements::run(alloc, verb, reader, second, writer).end,
+                None => RunEnd::NotJudged,
+            },
+        }
+    }
+}

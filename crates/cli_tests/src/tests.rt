@@ -1,0 +1,148 @@
+use crate::check_rows::CHECK;
+use crate::fault_rows::{WHOLE, WORDS};
+use crate::faults::{Spoiled, all_spoiled, all_unknown, written_or_no_memory};
+use crate::hostile_rows::{HOSTILE, LINES, REPLACED};
+use crate::program::Program;
+use crate::prove_rows::PROVE;
+use crate::runs::{Outcome, all_rows, end_of, run_at_once, words_of};
+use crate::table::{Row, bytes_of, rows_of};
+use crate::verify_rows::VERIFY;
+use stark_commands::RunEnd;
+use std::alloc::{AllocError, Global};
+use std::process::Abort;
+use std::test::Fail;
+
+const PROGRAM: Program = Program::StarkRun;
+
+#[test]
+fn check_rows(rt: HostRuntime) -> Result<(), Fail> {
+    all_rows(&rt, rt.alloc(), PROGRAM, CHECK, 68)
+}
+
+#[test]
+fn verify_rows(rt: HostRuntime) -> Result<(), Fail> {
+    all_rows(&rt, rt.alloc(), PROGRAM, VERIFY, 46)
+}
+
+#[test]
+fn hostile_rows(rt: HostRuntime) -> Result<(), Fail> {
+    all_rows(&rt, rt.alloc(), PROGRAM, HOSTILE, 13)
+}
+
+#[test]
+fn prove_rows(rt: HostRuntime) -> Result<(), Fail> {
+    all_rows(&rt, rt.alloc(), PROGRAM, PROVE, 44)
+}
+
+#[test]
+fn cut_anywhere(rt: HostRuntime) -> Result<(), Fail> {
+    all_spoiled(
+        &rt,
+        rt.alloc(),
+        PROGRAM,
+        Spoiled::Cut,
+        WHOLE,
+        161 + 417 + 64,
+    )
+}
+
+#[test]
+fn failing_reads(rt: HostRuntime) -> Result<(), Fail> {
+    all_spoiled(
+        &rt,
+        rt.alloc(),
+        PROGRAM,
+        Spoiled::Read,
+        WHOLE,
+        163 + 419 + 66,
+    )
+}
+
+#[test]
+fn failing_writes(rt: HostRuntime) -> Result<(), Fail> {
+    all_spoiled(
+        &rt,
+        rt.alloc(),
+        PROGRAM,
+        Spoiled::Write,
+        WHOLE,
+        11 + 11 + 365,
+    )
+}
+
+#[test]
+fn words_are_compared_whole(rt: HostRuntime) -> Result<(), Fail> {
+    all_unknown(&rt, rt.alloc(), PROGRAM, WORDS, 10)
+}
+
+#[test]
+fn refused_growth(rt: HostRuntime) -> Result<(), Fail> {
+    written_or_no_memory(
+        &rt,
+        rt.alloc(),
+        PROGRAM,
+        "check counter",
+        "<check of counter>",
+        b"accepted\n",
+    )
+}
+
+/// Whether a run ended as one verdict does, and wrote its line.
+fn is_a_verdict(found: &Outcome) -> bool {
+    let Ok(text) = str::from_utf8(&found.lines) else {
+        return false;
+    };
+    let Some(line) = text.strip_suffix('\n') else {
+        return false;
+    };
+    !line.is_empty() && LINES.lines().any(|known| known == line) && end_of(line) == found.end
+}
+
+/// The honest input with the names of its members that are null made unreadable: another name says the same.
+fn marked(alloc: Global, honest: &str) -> Result<String, AllocError> {
+    let text = honest.replace(alloc, "random", "??????")?;
+    let text = text.replace(alloc, "preprocessed_local", "??????????????????")?;
+    text.replace(alloc, "preprocessed_next", "?????????????????")
+}
+
+/// Asserts that a row's input with the byte at a place replaced by any of seven is answered by a verdict, and accepted only where the
+/// byte is the honest one, or is in a name that may be another.
+fn replaced_at(
+    rt: &impl Abort,
+    alloc: Global,
+    row: &Row,
+    place: usize,
+    may_differ: bool,
+) -> Result<(), Fail> {
+    let words = words_of(alloc, &row.commands)?;
+    for byte in b"\"09-]} " {
+        let mut input = bytes_of(alloc, &row.input)?;
+        if let Some(slot) = input.get_mut(place) {
+            *slot = *byte;
+        }
+        let found = run_at_once(alloc, row.program, &words, &input, Vec::new(alloc));
+        assert!(rt; is_a_verdict(&found), "{place} {byte}");
+        let is_another = may_differ && *byte != b'"';
+        let is_same = input.as_slice() == row.input.as_bytes();
+        assert_eq!(rt;
+            found.end == RunEnd::Accepted,
+            is_same || is_another,
+            "{place} {byte}"
+        );
+    }
+    Ok(())
+}
+
+#[test]
+fn one_byte_replaced(rt: HostRuntime) -> Result<(), Fail> {
+    let mut places = 0usize;
+    for row in &rows_of(rt.alloc(), PROGRAM, REPLACED)? {
+        let marked = marked(rt.alloc(), &row.input)?;
+        for (place, mark) in marked.as_bytes().iter().enumerate() {
+            replaced_at(&rt, rt.alloc(), row, place, *mark == b'?')?;
+            places = places.saturating_add(1);
+        }
+    }
+    assert_eq!(rt; places, 417);
+    Ok(())
+}

@@ -1,0 +1,146 @@
+//! Runs of `voskligan`.
+
+// Each verb on each example.
+pub(crate) const EXAMPLES: &str = r#"
+# COMMANDS | INPUT | FROM => TO | .. | LINES, as `table.rt` says.
+
+# The verifier accepts the proof of each example's trace.
+prove then verify | <counter> | accepted
+prove then verify | <fibonacci> | accepted
+prove then verify | <range> | accepted
+prove then verify | <machine> | accepted
+prove then verify | <preprocessed> | accepted
+
+# It refuses the proof of each trace that breaks a constraint.
+prove then verify | <counter false> | refused OodEvaluationMismatch
+prove then verify | <fibonacci false> | refused OodEvaluationMismatch
+prove then verify | <range false> | refused OodEvaluationMismatch
+prove then verify | <machine false> | refused OodEvaluationMismatch
+prove then verify | <preprocessed> | \1e[[1] => \1e[[2] | refused OodEvaluationMismatch
+
+# With work.
+prove then verify | <counter> | "public_values" => "ood_bits":3,"public_values" | accepted
+prove then verify | <counter> | "public_values" => "alpha_bits":3,"public_values" | accepted
+prove then verify | <counter> | "public_values" => "alpha_bits":2,"ood_bits":3,"public_values" | accepted
+prove then verify | <counter> | "public_values" => "alpha_bits":null,"ood_bits":0,"public_values" | accepted
+
+# A proof that was computed elsewhere. It is one for this statement alone.
+prove | <two rows> | <proof of two rows>
+verify | <proved> | accepted
+verify | <proved> | "public_values":[5] => "public_values":[6] | refused InvalidOpeningArgument
+verify | <proved> | "constants":[1] => "constants":[2] | refused InvalidOpeningArgument
+verify | <proved> | [{"base":4},{"base":10}] => [{"base":10},{"base":4}] | refused InvalidOpeningArgument
+verify | <proved> | ["sub",7,8] => ["add",7,8] | refused InvalidOpeningArgument
+verify | <proved> | "constants":[1] => "max_constraint_degree":2,"constants":[1] | refused InvalidOpeningArgument
+verify | <proved> | "constants":[1] => "constants":[1,3] | refused InvalidOpeningArgument
+verify | <proved> | "public_values" => "alpha_bits":1,"public_values" | refused InvalidAlphaPowWitness
+verify | <proved> | "public_values" => "ood_bits":1,"public_values" | refused InvalidOodPowWitness
+
+# A proof whose AIR was chosen behind zeta.
+verify | <forged> | refused InvalidOpeningArgument
+"#;
+
+// What is shown of each example.
+pub(crate) const SHOWN: &str = r#"
+show | <counter> | <lines of counter>
+show | <fibonacci> | <lines of fibonacci>
+show | <range> | <lines of range>
+show | <machine> | <lines of machine>
+
+# Brackets where they are needed, and a node that is too long for an operand.
+show | <mixed> | <lines of mixed>
+show | <squares> | <lines of squares>
+
+show | <small> | <lines of small>
+"#;
+
+// Inputs that are bad.
+pub(crate) const BAD: &str = r#"
+# No JSON, no object, no AIR.
+verify | {"air"\1e<proof of two rows> | bad input
+prove | []\1e[] | bad input
+show | \ff | bad input
+show | <nothing> | bad input
+verify | {"air":null,"public_values":[]}\1e<proof of two rows> | bad input
+prove | <counter> | "air" => "Air" | bad input
+show | <counter> | "air" => "other" | bad input
+
+# A statement has no other field: one that is misspelt would ask for no work.
+prove | <counter> | "public_values" => "ood_bit":3,"public_values" | bad input
+verify | <proved> | "public_values" => "challenger":"sha256","public_values" | bad input
+verify | <proved> | "public_values":[5] => "public_values":[5],"proof":null | bad input
+
+# Its other faults: no public values, too many, one that isn't canonical, bits that are no number.
+prove | <counter> | ,"public_values":[5] =>  | bad input
+prove | <counter> | "public_values":[5] => "public_values":[5,5] | bad input
+prove | <counter> | "public_values":[5] => "public_values":[] | bad input
+verify | <proved> | "public_values":[5] => "public_values":[12294] | bad input
+verify | <proved> | "public_values":[5] => "public_values":5 | bad input
+verify | <proved> | "public_values" => "alpha_bits":-1,"public_values" | bad input
+verify | <proved> | "public_values" => "ood_bits":"1","public_values" | bad input
+
+# Each fault of an AIR.
+prove | <counter> | "width":1, =>  | bad input
+verify | <proved> | "width":1 => "width":-1 | bad input
+show | <machine> | [1,0,0,0,3] => [1,0,0,0] | bad input
+verify | <proved> | "constants":[1] => "constants":[12289] | bad input
+prove | <counter> | ["main",0] => ["main",1] | bad input
+verify | <proved> | ["sub",0,2] => ["sub",0,3] | bad input
+show | <counter> | {"base":10} => {"base":11} | bad input
+
+# A trace that the AIR doesn't fit: its width, its height, the height of the preprocessed columns; and none.
+prove | <counter> | "width":1 => "width":2 | bad input
+prove | <counter> | \1e[[5], => \1e[[5,5], | bad input
+prove | <counter> | \1e[[5], => \1e[ | bad input
+prove | <counter> | \1e[[5], => \1e[[12289], | bad input
+prove | <counter> | \1e[[5], => \1e[5, | bad input
+prove | <preprocessed> | [[1],[2],[3],[4]]}, => [[1],[2],[3]]}, | bad input
+prove | <preprocessed> | [[1],[2],[3],[4]]}, => [[1],[2]]}, | bad input
+verify | <proved> | "preprocessed":null => "preprocessed":{"width":1,"rows":[[1],[2],[3]]} | bad input
+prove | <small>\1e[[],[]] | bad input
+prove | <small> | bad input
+
+# What is no proof.
+verify | {"air":<air of counter>,"public_values":[5]}\1e | bad input
+verify | {"air":<air of counter>,"public_values":[5]}\1enull | bad input
+verify | {"air":<air of counter>,"public_values":[5]}\1e{"proof":<proof of two rows>} | bad input
+verify | <proved> | "degree_bits":1 => "degree_bits":-1 | bad input
+verify | <proved> | [8924, => [12289, | bad input
+"#;
+
+// One of each verb: its inputs are cut before each byte, each of their reads fails, and each write.
+pub(crate) const WHOLE: &str = r#"
+verify | <proved> | accepted
+show | {"air":<air of counter>,"public_values":[5]} | <lines of counter>
+"#;
+
+// Words and what they ask for. Two quotes stand for the empty word.
+pub(crate) const WORDS: &str = "
+verify statement.json proof.json = verify, file statement.json, file proof.json
+verify statement.json - = verify, file statement.json, standard
+verify statement.json = verify, file statement.json, standard
+verify - proof.json = verify, standard, file proof.json
+prove statement.json trace.json = prove, file statement.json, file trace.json
+prove statement.json = prove, file statement.json, standard
+show statement.json = show, file statement.json, nothing
+show - = show, standard, nothing
+show verify = show, file verify, nothing
+--help = help
+--version = version
+verify = unknown
+verify - = unknown
+verify - - = unknown
+prove - - = unknown
+prove - = unknown
+show = unknown
+show statement.json proof.json = unknown
+verify statement.json proof.json more = unknown
+check statement.json proof.json = unknown
+Verify statement.json proof.json = unknown
+verif statement.json = unknown
+verify --help = verify, file --help, standard
+-help = unknown
+--help --help = unknown
+'' = unknown
+'' statement.json = unknown
+";

@@ -1,0 +1,121 @@
+use crate::faults::{Spoiled, all_spoiled, written_or_no_memory};
+use crate::program::Program;
+use crate::runs::{all_rows, words_of};
+use crate::voskligan_rows::{BAD, EXAMPLES, SHOWN, WHOLE, WORDS};
+use stark_bench::{F12289, Sha256Challenger};
+use stark_cli::statements::Verb;
+use stark_cli::{InputWord, Request, request_of};
+use stark_statement::Statement;
+use stark_support::{CanSample, PrimeField64};
+use std::alloc::{AllocError, Global};
+use std::test::Fail;
+
+const PROGRAM: Program = Program::Voskligan;
+
+#[test]
+fn examples(rt: HostRuntime) -> Result<(), Fail> {
+    all_rows(&rt, rt.alloc(), PROGRAM, EXAMPLES, 25)
+}
+
+#[test]
+fn shown_airs(rt: HostRuntime) -> Result<(), Fail> {
+    all_rows(&rt, rt.alloc(), PROGRAM, SHOWN, 7)
+}
+
+#[test]
+fn bad_inputs(rt: HostRuntime) -> Result<(), Fail> {
+    all_rows(&rt, rt.alloc(), PROGRAM, BAD, 39)
+}
+
+#[test]
+fn cut_anywhere(rt: HostRuntime) -> Result<(), Fail> {
+    all_spoiled(&rt, rt.alloc(), PROGRAM, Spoiled::Cut, WHOLE, 690 + 285)
+}
+
+#[test]
+fn failing_reads(rt: HostRuntime) -> Result<(), Fail> {
+    all_spoiled(&rt, rt.alloc(), PROGRAM, Spoiled::Read, WHOLE, 692 + 288)
+}
+
+#[test]
+fn failing_writes(rt: HostRuntime) -> Result<(), Fail> {
+    all_spoiled(&rt, rt.alloc(), PROGRAM, Spoiled::Write, WHOLE, 11 + 261)
+}
+
+/// What a word names, in words.
+fn input_text(alloc: Global, input: InputWord<'_>) -> Result<String, AllocError> {
+    match input {
+        InputWord::Nothing => String::from_str(alloc, "nothing"),
+        InputWord::Standard => String::from_str(alloc, "standard"),
+        InputWord::File(path) => format!(in alloc; "file {path}"),
+    }
+}
+
+/// What words ask for, in words.
+fn request_text(alloc: Global, request: Request<'_>) -> Result<String, AllocError> {
+    match request {
+        Request::Help => String::from_str(alloc, "help"),
+        Request::Version => String::from_str(alloc, "version"),
+        Request::Unknown => String::from_str(alloc, "unknown"),
+        Request::Run(task) => {
+            let verb = match task.verb {
+                Verb::Verify => "verify",
+                Verb::Prove => "prove",
+                Verb::Show => "show",
+            };
+            let statement = input_text(alloc, task.statement)?;
+            let second = input_text(alloc, task.second)?;
+            format!(in alloc; "{verb}, {statement}, {second}")
+        }
+    }
+}
+
+#[test]
+fn words_are_compared_whole(rt: HostRuntime) -> Result<(), Fail> {
+    let alloc = rt.alloc();
+    let mut lines = 0usize;
+    for line in WORDS.lines() {
+        let (given, asked) = line.split_once(" = ").unwrap_or((line, "unknown"));
+        let words = words_of(alloc, given)?;
+        let found = request_text(alloc, request_of(&words))?;
+        assert_eq!(rt; found.as_str(), asked, "{line}");
+        lines = lines.saturating_add(1);
+    }
+    assert_eq!(rt; lines, 28);
+    Ok(())
+}
+
+// What is shown of the AIR that asserts nothing.
+const SMALL: &[u8] = b"\
+columns: 0 main, 0 public, 0 periodic, 0 preprocessed
+quotient chunks: 1
+error bound at 2^12 rows: 0 alpha, 8191 zeta
+";
+
+#[test]
+fn refused_growth(rt: HostRuntime) -> Result<(), Fail> {
+    written_or_no_memory(&rt, rt.alloc(), PROGRAM, "show", "<small>", SMALL)
+}
+
+/// The first element that a challenger draws which has observed a statement.
+fn first_draw(alloc: Global, text: &[u8]) -> Result<u64, Fail> {
+    let statement = Statement::<F12289>::from_slice(alloc, text)?;
+    let mut challenger: Sha256Challenger<F12289> = Sha256Challenger::new();
+    statement.bind(alloc, &mut challenger)?;
+    let drawn: F12289 = challenger.sample();
+    Ok(drawn.as_canonical_u64())
+}
+
+const COUNTER: &[u8] =
+    b"{\"air\":{\"width\":1,\"publics\":1,\"periodic\":[],\"preprocessed\":null,\"constants\":[1],\"nodes\":[[\"main\",0],[\"first\"],[\"public\",0],[\"sub\",0,2],[\"mul\",1,3],[\"transition\"],[\"next\",0],[\"sub\",6,0],[\"constant\",0],[\"sub\",7,8],[\"mul\",5,9]],\"constraints\":[{\"base\":4},{\"base\":10}]},\"public_values\":[5]}";
+
+const BY_TWOS: &[u8] =
+    b"{\"air\":{\"width\":1,\"publics\":1,\"periodic\":[],\"preprocessed\":null,\"constants\":[2],\"nodes\":[[\"main\",0],[\"first\"],[\"public\",0],[\"sub\",0,2],[\"mul\",1,3],[\"transition\"],[\"next\",0],[\"sub\",6,0],[\"constant\",0],[\"sub\",7,8],[\"mul\",5,9]],\"constraints\":[{\"base\":4},{\"base\":10}]},\"public_values\":[5]}";
+
+// Two AIRs of one shape, whose constants alone differ. The numbers are those of a model in Python.
+#[test]
+fn another_statement_draws_otherwise(rt: HostRuntime) -> Result<(), Fail> {
+    assert_eq!(rt; first_draw(rt.alloc(), COUNTER)?, 4471);
+    assert_eq!(rt; first_draw(rt.alloc(), BY_TWOS)?, 2274);
+    Ok(())
+}

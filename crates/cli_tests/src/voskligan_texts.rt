@@ -1,0 +1,68 @@
+//! The texts that have a name, which the tables of runs of `voskligan` cite.
+
+pub(crate) const VOSKLIGAN_TEXTS: &str = r#"
+# NAME = TEXT. A name that stands in a text, a row or a later name is that text.
+
+<nothing> =
+
+<air of counter> = {"width":1,"publics":1,"periodic":[],"preprocessed":null,"constants":[1],"nodes":[["main",0],["first"],["public",0],["sub",0,2],["mul",1,3],["transition"],["next",0],["sub",6,0],["constant",0],["sub",7,8],["mul",5,9]],"constraints":[{"base":4},{"base":10}]}
+<air of fibonacci> = {"width":2,"publics":3,"periodic":[],"preprocessed":null,"constants":[],"nodes":[["main",0],["main",1],["first"],["public",0],["sub",0,3],["mul",2,4],["public",1],["sub",1,6],["mul",2,7],["transition"],["next",0],["sub",10,1],["mul",9,11],["next",1],["add",0,1],["sub",13,14],["mul",9,15],["last"],["public",2],["sub",1,18],["mul",17,19]],"constraints":[{"base":5},{"base":8},{"base":12},{"base":16},{"base":20}]}
+<air of range> = {"width":3,"publics":0,"periodic":[[1,2,4,8,16,32,64,128],[0,0,0,0,0,0,0,1]],"preprocessed":null,"constants":[1],"nodes":[["main",0],["main",1],["main",2],["periodic",0],["periodic",1],["constant",0],["sub",1,5],["mul",1,6],["first"],["mul",8,2],["mul",3,1],["add",2,10],["transition"],["next",2],["sub",5,4],["mul",14,11],["sub",13,15],["mul",12,16],["sub",11,0],["mul",4,18],["next",0],["sub",20,0],["mul",14,21],["mul",12,22]],"constraints":[{"base":7},{"base":9},{"base":17},{"base":19},{"base":23}]}
+<air of machine> = {"width":2,"publics":2,"periodic":[],"preprocessed":{"width":5,"rows":[[1,0,0,0,3],[0,0,1,0,0],[0,1,0,0,4],[0,0,1,0,0],[0,0,1,0,0],[0,1,0,0,2],[0,0,1,0,0],[0,1,0,0,1],[0,0,0,1,0],[1,0,0,0,9],[0,0,1,0,0],[0,1,0,0,1],[1,0,0,0,0],[0,0,1,0,0],[0,1,0,0,7],[0,0,0,1,0]]},"constants":[1],"nodes":[["main",0],["main",1],["preprocessed",0],["preprocessed",1],["preprocessed",2],["preprocessed",3],["preprocessed",4],["first"],["public",0],["sub",0,8],["mul",7,9],["mul",7,1],["constant",0],["sub",1,12],["mul",1,13],["sub",12,1],["transition"],["next",1],["mul",15,5],["add",1,18],["sub",17,19],["mul",16,20],["mul",2,6],["add",0,6],["mul",3,23],["add",22,24],["add",0,0],["mul",4,26],["add",25,27],["mul",5,0],["add",28,29],["next",0],["mul",1,0],["mul",15,30],["add",32,33],["sub",31,34],["mul",16,35],["last"],["public",1],["sub",0,38],["mul",37,39],["mul",37,13]],"constraints":[{"base":10},{"base":11},{"base":14},{"base":21},{"base":36},{"base":40},{"base":41}]}
+
+# Statements and traces of examples/, with the byte 1e between. A name that ends in `false` has a trace that breaks a constraint.
+<counter> = {"air":<air of counter>,"public_values":[5]}\1e[[5],[6],[7],[8],[9],[10],[11],[12]]
+<counter false> = {"air":<air of counter>,"public_values":[5]}\1e[[5],[6],[7],[8],[10],[11],[12],[13]]
+<fibonacci> = {"air":<air of fibonacci>,"public_values":[0,1,987]}\1e[[0,1],[1,1],[1,2],[2,3],[3,5],[5,8],[8,13],[13,21],[21,34],[34,55],[55,89],[89,144],[144,233],[233,377],[377,610],[610,987]]
+<fibonacci false> = {"air":<air of fibonacci>,"public_values":[0,1,987]}\1e[[0,1],[1,1],[1,2],[2,3],[3,5],[5,8],[8,13],[13,21],[21,34],[34,55],[55,89],[89,144],[144,233],[233,377],[377,610],[610,988]]
+<range> = {"air":<air of range>,"public_values":[]}\1e[[0,0,0],[0,0,0],[0,0,0],[0,0,0],[0,0,0],[0,0,0],[0,0,0],[0,0,0],[200,0,0],[200,0,0],[200,0,0],[200,1,0],[200,0,8],[200,0,8],[200,1,8],[200,1,72],[255,1,0],[255,1,1],[255,1,3],[255,1,7],[255,1,15],[255,1,31],[255,1,63],[255,1,127],[17,1,0],[17,0,1],[17,0,1],[17,0,1],[17,1,1],[17,0,17],[17,0,17],[17,0,17]]
+<range false> = {"air":<air of range>,"public_values":[]}\1e[[0,0,0],[0,0,0],[0,0,0],[0,0,0],[0,0,0],[0,0,0],[0,0,0],[0,0,0],[200,0,0],[200,0,0],[200,0,0],[200,1,0],[200,0,8],[200,0,8],[200,1,8],[200,1,72],[256,0,0],[256,0,0],[256,0,0],[256,0,0],[256,0,0],[256,0,0],[256,0,0],[256,0,0],[17,1,0],[17,0,1],[17,0,1],[17,0,1],[17,1,1],[17,0,17],[17,0,17],[17,0,17]]
+<machine> = {"air":<air of machine>,"public_values":[0,85]}\1e[[0,0],[3,0],[6,0],[10,0],[20,0],[40,0],[42,0],[84,0],[85,0],[85,1],[85,1],[85,1],[85,1],[85,1],[85,1],[85,1]]
+<machine false> = {"air":<air of machine>,"public_values":[0,85]}\1e[[0,0],[3,0],[6,0],[10,0],[20,0],[40,0],[42,0],[84,0],[85,0],[85,1],[9,1],[9,1],[9,1],[9,1],[9,1],[9,1]]
+
+# What is shown of them, each line but the last with its newline, which is the byte 0a.
+<lines of counter> = columns: 1 main, 1 public, 0 periodic, 0 preprocessed\0aconstraint 0 (base, degree 2): first_row * (main[0] - public[0]) = 0\0aconstraint 1 (base, degree 1): transition * (next[0] - main[0] - 1) = 0\0aquotient chunks: 1\0aerror bound at 2^12 rows: 1 alpha, 8191 zeta
+<lines of fibonacci> = columns: 2 main, 3 public, 0 periodic, 0 preprocessed\0aconstraint 0 (base, degree 2): first_row * (main[0] - public[0]) = 0\0aconstraint 1 (base, degree 2): first_row * (main[1] - public[1]) = 0\0aconstraint 2 (base, degree 1): transition * (next[0] - main[1]) = 0\0aconstraint 3 (base, degree 1): transition * (next[1] - (main[0] + main[1])) = 0\0aconstraint 4 (base, degree 2): last_row * (main[1] - public[2]) = 0\0aquotient chunks: 1\0aerror bound at 2^12 rows: 4 alpha, 8191 zeta
+<lines of range> = columns: 3 main, 0 public, 2 periodic, 0 preprocessed\0aconstraint 0 (base, degree 2): main[1] * (main[1] - 1) = 0\0aconstraint 1 (base, degree 2): first_row * main[2] = 0\0aconstraint 2 (base, degree 3): transition * (next[2] - (1 - periodic[1]) * (main[2] + periodic[0] * main[1])) = 0\0aconstraint 3 (base, degree 3): periodic[1] * (main[2] + periodic[0] * main[1] - main[0]) = 0\0aconstraint 4 (base, degree 2): transition * ((1 - periodic[1]) * (next[0] - main[0])) = 0\0aquotient chunks: 2\0aerror bound at 2^12 rows: 4 alpha, 12287 zeta
+<lines of machine> = columns: 2 main, 2 public, 0 periodic, 5 preprocessed\0aconstraint 0 (base, degree 2): first_row * (main[0] - public[0]) = 0\0aconstraint 1 (base, degree 2): first_row * main[1] = 0\0aconstraint 2 (base, degree 2): main[1] * (main[1] - 1) = 0\0aconstraint 3 (base, degree 2): transition * (next[1] - (main[1] + (1 - main[1]) * preprocessed[3])) = 0\0aconstraint 4 (base, degree 3): transition * (next[0] - (main[1] * main[0] + (1 - main[1]) * (preprocessed[0] * preprocessed[4] + preprocessed[1] * (main[0] + preprocessed[4]) + preprocessed[2] * (main[0] + main[0]) + preprocessed[3] * main[0]))) = 0\0aconstraint 5 (base, degree 2): last_row * (main[0] - public[1]) = 0\0aconstraint 6 (base, degree 2): last_row * (main[1] - 1) = 0\0aquotient chunks: 2\0aerror bound at 2^12 rows: 6 alpha, 12287 zeta
+
+
+
+# The counter's trace 5, 6 and its proof, as computed by a model in Python: the challenger observes the statement's bytes, the seed and the
+# trace, alpha is 9314, 2632, 6558, 7049, and zeta 6741, 1343, 11233, 4984.
+<two rows> = {"air":<air of counter>,"public_values":[5]}\1e[[5],[6]]
+<proof of two rows> = {"commitments":{"quotient_chunks":[[[7633,0],[10973,0],[9010,0],[2620,0]]],"random":null,"trace":[[[6150,6144]]]},"degree_bits":1,"ood_pow_witness":0,"opened_values":{"preprocessed_local":null,"preprocessed_next":null,"quotient_chunks":[[[7633,0,0,0],[10973,0,0,0],[9010,0,0,0],[2620,0,0,0]]],"random":null,"trace_local":[[8924,5473,528,9797]],"trace_next":[[3376,6816,11761,2492]]},"opening_proof":null}
+<lines of two rows> = columns: 1 main, 1 public, 0 periodic, 0 preprocessed\0aconstraint 0 (base, degree 2): first_row * (main[0] - public[0]) = 0\0aconstraint 1 (base, degree 1): transition * (next[0] - main[0] - 1) = 0\0aquotient chunks: 1\0aerror bound at 2^12 rows: 1 alpha, 8191 zeta
+<proved> = {"air":<air of counter>,"public_values":[5]}\1e<proof of two rows>
+
+# An AIR that no trace satisfies, and a proof for it that a stranger made when only an AIR's counts were bound: the AIR's constants were
+# chosen once zeta was drawn, the minimal polynomial over the base field of the trace's value there.
+<forged> = {"air":{"width":1,"publics":0,"periodic":[],"constants":[9083,9040,5454,4179],"nodes":[["main",0],["constant",3],["add",0,1],["mul",2,0],["constant",2],["add",3,4],["mul",5,0],["constant",1],["add",6,7],["mul",8,0],["constant",0],["add",9,10]],"constraints":[{"base":11}]},"public_values":[]}\1e{"commitments":{"trace":[[[6,12288]]],"quotient_chunks":[[[0,0],[0,0],[0,0],[0,0]],[[0,0],[0,0],[0,0],[0,0]],[[0,0],[0,0],[0,0],[0,0]],[[0,0],[0,0],[0,0],[0,0]]],"random":null},"opened_values":{"trace_local":[[8172,8231,955,7959]],"trace_next":null,"preprocessed_local":null,"preprocessed_next":null,"quotient_chunks":[[[0,0,0,0],[0,0,0,0],[0,0,0,0],[0,0,0,0]],[[0,0,0,0],[0,0,0,0],[0,0,0,0],[0,0,0,0]],[[0,0,0,0],[0,0,0,0],[0,0,0,0],[0,0,0,0]],[[0,0,0,0],[0,0,0,0],[0,0,0,0],[0,0,0,0]]],"random":null},"opening_proof":null,"degree_bits":1,"ood_pow_witness":0}
+
+# An AIR that asserts nothing.
+<small> = {"air":{"width":0,"publics":0,"periodic":[],"constants":[],"nodes":[],"constraints":[]},"public_values":[]}
+
+<lines of small> = columns: 0 main, 0 public, 0 periodic, 0 preprocessed\0aquotient chunks: 1\0aerror bound at 2^12 rows: 0 alpha, 8191 zeta
+
+# An AIR of a column that is a preprocessed one of four rows.
+<preprocessed> = {"air":{"width":1,"publics":0,"periodic":[],"preprocessed":{"width":1,"rows":[[1],[2],[3],[4]]},"constants":[],"nodes":[["main",0],["preprocessed",0],["sub",0,1]],"constraints":[{"base":2}]},"public_values":[]}\1e[[1],[2],[3],[4]]
+
+# Columns of each kind, under each operation, with a hint that asks for more chunks than the constraints: 5 trace lengths in 8 chunks, and
+# 8 * 4096 + 4095 zetas.
+<mixed> = {"air":{"width":2,"publics":1,"periodic":[[1,1]],"preprocessed":{"width":1,"rows":[[1]]},"max_constraint_degree":6,"constants":[12288,2],"nodes":[["main",0],["main",1],["next",0],["next",1],["public",0],["periodic",0],["preprocessed",0],["preprocessed_next",0],["constant",0],["constant",1],["last"],["sub",1,4],["sub",0,11],["add",0,1],["neg",5],["mul",13,14],["mul",0,6],["neg",16],["add",17,8],["neg",0],["neg",19],["sub",20,7],["mul",0,1],["mul",2,3],["mul",22,23],["sub",13,9],["add",25,10],["add",1,9],["add",0,27]],"constraints":[{"base":12},{"ext":15},{"base":18},{"base":21},{"ext":24},{"base":26},{"base":28}]},"public_values":[1]}
+<lines of mixed> = columns: 2 main, 1 public, 1 periodic, 1 preprocessed\0aconstraint 0 (base, degree 1): main[0] - (main[1] - public[0]) = 0\0aconstraint 1 (extension, degree 2): (main[0] + main[1]) * -periodic[0] = 0\0aconstraint 2 (base, degree 2): -(main[0] * preprocessed[0]) + 12288 = 0\0aconstraint 3 (base, degree 1): -(-main[0]) - preprocessed_next[0] = 0\0aconstraint 4 (extension, degree 4): main[0] * main[1] * (next[0] * next[1]) = 0\0aconstraint 5 (base, degree 1): main[0] + main[1] - 2 + last_row = 0\0aconstraint 6 (base, degree 1): main[0] + (main[1] + 2) = 0\0aquotient chunks: 8\0aerror bound at 2^12 rows: 6 alpha, 36863 zeta
+
+# A column, and squares of squares, of which the tenth is a constraint: the ninth has 5627 bytes, and one of degree 1024 takes 1023 trace
+# lengths, in 1024 chunks.
+<squares> = {"air":{"width":1,"publics":0,"periodic":[],"constants":[],"nodes":[["main",0],["mul",0,0],["mul",1,1],["mul",2,2],["mul",3,3],["mul",4,4],["mul",5,5],["mul",6,6],["mul",7,7],["mul",8,8],["mul",9,9]],"constraints":[{"base":10}]},"public_values":[]}
+<square 1> = main[0] * main[0]
+<square 2> = <square 1> * (<square 1>)
+<square 3> = <square 2> * (<square 2>)
+<square 4> = <square 3> * (<square 3>)
+<square 5> = <square 4> * (<square 4>)
+<square 6> = <square 5> * (<square 5>)
+<square 7> = <square 6> * (<square 6>)
+<square 8> = <square 7> * (<square 7>)
+<square 9> = <square 8> * (<square 8>)
+<lines of squares> = columns: 1 main, 0 public, 0 periodic, 0 preprocessed\0aconstraint 0 (base, degree 1024): node 9 * node 9 = 0\0anode 9 = <square 9>\0aquotient chunks: 1024\0aerror bound at 2^12 rows: 0 alpha, 4198399 zeta
+"#;

@@ -1,0 +1,110 @@
+-- What a run found of its input.
+use Rattle.std.proofs.Common.{◌≡◌, ◌⊎◌, ◌∙◌, ℕ, List, [], Option, None, Some, IfOk, IfSome, Result, Ok, Err, refl, sym, subst, ap, inl, inr, arith}
+use Rattle.std.specs.Io.KnownBytes.{Appends, Keeps}
+use Rattle.stark_commands.specs.Finding.{finding_end, finding_line}
+use Rattle.stark_commands.specs.Verdict.{line_of, end_of}
+use Rattle.stark_commands.specs.declared.finding.Finding.{Finding}
+use Rattle.stark_commands.specs.declared.finding.Finding.TheVariants as finding
+use Rattle.stark_commands.specs.declared.report.Report.{Report}
+use Rattle.stark_commands.specs.declared.verdict.Verdict.{Verdict}
+use Rattle.stark_commands.specs.declared.verdict.Verdict.TheVariants as verdict
+use Rattle.stark_commands.specs.declared.verdict.Refusal.TheVariants as refusal
+use Rattle.stark_commands.specs.declared.verdict.RunEnd.{RunEnd}
+use Rattle.stark_commands.specs.declared.verdict.RunEnd.TheVariants.{Accepted, Refused, NotJudged, InputFailed, OutputFailed}
+use Rattle.stark_cli.specs.Running.{AcceptsOrTells, FindsSome, Found, IsFoundOrLacksMemory, IsInput, IsNoAnswer, Says, SaysFound, SaysOf, both, first_of}
+
+-- an input that is the readers'
+abbrev pub some_of : {I : Type 0} → I → Option I → I
+some_of other None = other
+some_of other (Some input) = input
+
+pub is_some_of : {I : Type 0} (other : I) (known : Option I) → IsInput known (some_of other known)
+is_some_of other None = tt
+is_some_of other (Some input) = refl
+
+-- Bytes of two readers are theirs together.
+pub both_inputs : (first second : Option (List ℕ)) (bytes others : List ℕ) → IsInput first bytes → IsInput second others → IsInput (both first second) (bytes, others)
+both_inputs None second bytes others is also = tt
+both_inputs (Some xs) None bytes others is also = tt
+both_inputs (Some xs) (Some ys) bytes others is also = ap (λ a. (a, others)) is ∙ ap (λ b. (xs, b)) also
+
+module _ {I : Type 0} (memory : Finding) (IsFound : I → Finding → Type 0) where
+  -- What is found of the bytes that were read is found of an input.
+  pub input_found : (known : Option I) (lent input : I) (f : Finding) → IsInput known input → lent ≡ input → IsFoundOrLacksMemory memory IsFound lent f → Found memory IsFound known f
+  input_found known lent input f is same found = (input, is, subst (λ i. IsFoundOrLacksMemory memory IsFound i f) same found)
+
+  -- Of an input that wasn't read for want of memory that is found.
+  pub memory_found : (known : Option I) (input : I) → IsInput known input → (f : Finding) → f ≡ memory → Found memory IsFound known f
+  memory_found known input is f lacks = (input, is, inr lacks)
+
+  -- The same of an answer that is it, or fails.
+  pub memory_answered : (known : Option I) (input : I) → IsInput known input → (r : Result Finding RunEnd) → IfOk r (λ f. f ≡ memory) → IfOk r (Found memory IsFound known)
+  memory_answered known input is (Ok f) lacks = memory_found known input is f lacks
+  memory_answered known input is (Err end) lacks = tt
+
+  -- And of a report of it.
+  pub memory_reported : (known : Option I) (input : I) → IsInput known input → (r : Result (Report Finding) RunEnd) → IfOk r (λ report. report.answer ≡ memory) → IfOk r (λ report. Found memory IsFound known report.answer)
+  memory_reported known input is (Ok report) lacks = memory_found known input is report.answer lacks
+  memory_reported known input is (Err end) lacks = tt
+
+-- A run whose input failed says nothing.
+says_nothing : (end : RunEnd) (f : Finding) (old new : Option (List ℕ)) → end ≡ InputFailed → Keeps old new → Says end f old new
+says_nothing InputFailed f old new e k = k
+says_nothing OutputFailed f old new e k = absurd (cc)
+says_nothing Accepted f old new e k = absurd (cc)
+says_nothing Refused f old new e k = absurd (cc)
+says_nothing NotJudged f old new e k = absurd (cc)
+
+module _ {I : Type 0} (memory : Finding) (IsFound : I → Finding → Type 0) where
+  -- What is said is found of the readers' bytes, where they tell them.
+  pub says_known : (known : Option I) (end : RunEnd) (old new : Option (List ℕ))
+      → (end ≡ InputFailed) ⊎ SaysFound memory IsFound known end old new → (end ≡ InputFailed → Keeps old new)
+      → IfSome known (λ input. SaysOf memory IsFound input end old new)
+  says_known None end old new found silent = tt
+  says_known (Some bytes) end old new (inl e) silent = (memory, inr refl, says_nothing end memory old new e (silent e))
+  says_known (Some bytes) end old new (inr found) silent =
+      (found.0, subst (λ input. IsFoundOrLacksMemory memory IsFound input found.0) found.1.1 found.1.2, found.2)
+
+only_accepted : (v : Verdict) → end_of v ≡ Accepted → v ≡ verdict.Accepted
+only_accepted verdict.Accepted e = refl
+only_accepted (verdict.Refused why) e = absurd (let h : Refused ≡ Accepted = e in cc)
+only_accepted verdict.BadInput e = absurd (let h : NotJudged ≡ Accepted = e in cc)
+only_accepted verdict.OutOfMemory e = absurd (let h : NotJudged ≡ Accepted = e in cc)
+
+module _ {I : Type 0} (memory : Finding) (no_answer : IsNoAnswer memory) (IsFound : I → Finding → Type 0) where
+  finds : (known : Option I) (f : Finding) → finding_end f ≡ Accepted → Found memory IsFound known f → FindsSome IsFound known f
+  finds known f e found = elim found.2 [
+    | inl here ↦ (found.0, found.1, here)
+    | inr lacks ↦ absurd (no_answer.no_end (sym (ap finding_end lacks) ∙ e))
+  ]
+
+  said_so : (known : Option I) (f : Finding) (old new : Option (List ℕ)) → finding_end f ≡ Accepted → Found memory IsFound known f → Appends old new (finding_line f) → AcceptsOrTells IsFound known old new
+  said_so known (finding.Verdict v) old new e found wrote =
+      let is : v ≡ verdict.Accepted = only_accepted v e in
+      inl (subst (λ w. FindsSome IsFound known (finding.Verdict w)) is (finds known (finding.Verdict v) e found), subst (λ w. Appends old new (line_of w)) is wrote)
+  said_so known (finding.Proof line) old new e found wrote = inr (finding.Proof line, inl tt, finds known (finding.Proof line) refl found, wrote)
+  said_so known (finding.Text text) old new e found wrote = inr (finding.Text text, inr tt, finds known (finding.Text text) refl found, wrote)
+
+  -- A run that ends by `Accepted` found an input accepted, or a proof or a text of it, and said so.
+  pub accepts_or_tells : (known : Option I) (end : RunEnd) (old new : Option (List ℕ))
+      → (end ≡ InputFailed) ⊎ SaysFound memory IsFound known end old new → end ≡ Accepted → AcceptsOrTells IsFound known old new
+  accepts_or_tells known InputFailed old new found e = absurd (cc)
+  accepts_or_tells known OutputFailed old new found e = absurd (cc)
+  accepts_or_tells known Refused old new found e = absurd (cc)
+  accepts_or_tells known NotJudged old new found e = absurd (cc)
+  accepts_or_tells known Accepted old new (inl failed) e = absurd (cc)
+  accepts_or_tells known Accepted old new (inr found) e = said_so known found.0 old new found.2.0 found.1 found.2.1
+
+refused_ends : Refused ≡ Accepted → ⊥
+refused_ends h = cc
+
+unjudged_ends : NotJudged ≡ Accepted → ⊥
+unjudged_ends h = cc
+
+-- `refused OutOfMemory` is no answer.
+pub refused_memory : IsNoAnswer (finding.Verdict (verdict.Refused refusal.OutOfMemory))
+refused_memory = record { no_end = refused_ends; not_accepted = λ e. absurd (let h : 114 ≡ 97 = e in omega arith); no_object = λ e. absurd (let h : 114 ≡ 123 = e in omega arith) }
+
+-- Nor is `out of memory`.
+pub unjudged_memory : IsNoAnswer (finding.Verdict verdict.OutOfMemory)
+unjudged_memory = record { no_end = unjudged_ends; not_accepted = λ e. absurd (let h : 111 ≡ 97 = e in omega arith); no_object = λ e. absurd (let h : 111 ≡ 123 = e in omega arith) }

@@ -1,0 +1,5 @@
+pub mod Findings
+pub mod Lines
+pub mod SampleMeaning
+mod ShowSteps
+pub mod StatementMeaning

@@ -1,0 +1,128 @@
+-- What is found under a command of a sample AIR, and what it means.
+use Rattle.std.proofs.Common.{◌≡◌, ◌⊎◌, inl, inr, ap, refl, ℕ, List, [], Option, None, Some, IfSome, sym, subst}
+use Rattle.std.specs.Io.KnownBytes.{Appends}
+use Rattle.stark_commands.specs.Airs.{log_chunks_of, sample, shape_of}
+use Rattle.stark_commands.specs.Check.{check_verdict}
+use Rattle.stark_commands.specs.Finding.{IsProof, IsText, finding_line}
+use Rattle.stark_commands.specs.Input.{numbers_in}
+use Rattle.stark_commands.specs.Verdict.{line_of}
+use Rattle.stark_commands.specs.declared.finding.Finding.{Finding}
+use Rattle.stark_commands.specs.declared.finding.Finding.TheVariants as finding
+use Rattle.stark_commands.specs.declared.sample.SampleAir.{SampleAir}
+use Rattle.stark_commands.specs.declared.verdict.Verdict.{Verdict}
+use Rattle.stark_commands.specs.declared.verdict.Verdict.TheVariants as verdict
+use Rattle.stark_commands.specs.declared.verdict.Refusal.TheVariants as refusal
+use Rattle.stark_commands.proofs.CheckMeaning.{holds_of_read}
+use Rattle.stark_commands.proofs.Sizes.{cut_of_sample}
+use Rattle.stark_cli.specs.Running.{AcceptsOrTells, Found, IsFoundOrLacksMemory, IsFrontOfProof, IsInput}
+use Rattle.stark_cli.proofs.Findings.{input_found, is_some_of, some_of}
+use Rattle.stark_cli.specs.SampleRun.{AcceptsInput, HoldsOf, IsFinding, OfVerified, ProvesTrace, WritesProof, bad_input_without_command, lacks_memory}
+use Rattle.stark_cli.specs.declared.words.Command.{Command}
+use Rattle.stark_cli.specs.declared.words.Command.TheVariants.{Check, Prove, Verify}
+
+bad_input_clash : verdict.BadInput ≡ verdict.Accepted → ⊥
+bad_input_clash h = cc
+
+same_verdict : (v w : Verdict) → finding.Verdict v ≡ finding.Verdict w → v ≡ w
+same_verdict v w e = cc
+
+-- A verdict is no proof, and no text.
+no_proof : (f : Finding) (v : Verdict) → f ≡ finding.Verdict v → IsProof f → ⊥
+no_proof f v is proof = subst IsProof is proof
+
+no_text : (f : Finding) (v : Verdict) → f ≡ finding.Verdict v → IsText f → ⊥
+no_text f v is text = subst IsText is text
+
+module _ (verified : SampleAir → List ℕ → Verdict → Type 0) (sound : SampleAir → List ℕ → Type 0) (proved : SampleAir → List ℕ → Finding → Type 0) where
+  -- What an AIR's check, verifier or prover finds is found of the command that names it.
+  pub check_found : (command : Command) (air : SampleAir) (input : List ℕ) (v : Verdict) → command ≡ Check air
+      → (v ≡ check_verdict (sample air) (log_chunks_of air) (numbers_in (shape_of (sample air)) input)) ⊎ (v ≡ verdict.Refused refusal.OutOfMemory)
+      → IsFoundOrLacksMemory lacks_memory (IsFinding verified sound proved (Some command)) input (finding.Verdict v)
+  unfolding IsFinding
+  check_found command air input v is (inl found) = subst (λ k. IsFoundOrLacksMemory lacks_memory (IsFinding verified sound proved (Some k)) input (finding.Verdict v)) (sym is) (inl (ap (λ w. finding.Verdict w) found))
+  check_found command air input v is (inr memory) = inr (ap (λ w. finding.Verdict w) memory)
+
+  pub verify_found : (command : Command) (air : SampleAir) (input : List ℕ) (v : Verdict) → command ≡ Verify air
+      → verified air input v ⊎ (v ≡ verdict.Refused refusal.OutOfMemory) → (v ≡ verdict.Accepted → sound air input)
+      → IsFoundOrLacksMemory lacks_memory (IsFinding verified sound proved (Some command)) input (finding.Verdict v)
+  unfolding IsFinding
+  verify_found command air input v is (inl found) soundly = subst (λ k. IsFoundOrLacksMemory lacks_memory (IsFinding verified sound proved (Some k)) input (finding.Verdict v)) (sym is) (inl (v, refl, found, soundly))
+  verify_found command air input v is (inr memory) soundly = inr (ap (λ w. finding.Verdict w) memory)
+
+  pub prove_found : (command : Command) (air : SampleAir) (input : List ℕ) (f : Finding) → command ≡ Prove air
+      → proved air input f ⊎ (f ≡ finding.Verdict (verdict.Refused refusal.OutOfMemory)) → IsFoundOrLacksMemory lacks_memory (IsFinding verified sound proved (Some command)) input f
+  unfolding IsFinding
+  prove_found command air input f is found = subst (λ k. IsFoundOrLacksMemory lacks_memory (IsFinding verified sound proved (Some k)) input f) (sym is) found
+
+  -- Under words that name no command every input is bad.
+  pub other_words_found : (result command : Option Command) (known : Option (List ℕ)) → result ≡ command → ((x : Command) → result ≡ Some x → ⊥)
+      → Found lacks_memory (IsFinding verified sound proved command) known (finding.Verdict verdict.BadInput)
+  other_words_found None command known e other =
+      subst (λ k. Found lacks_memory (IsFinding verified sound proved k) known (finding.Verdict verdict.BadInput)) e
+      (some_of [] known, is_some_of [] known, inl (bad_input_without_command verified sound proved (some_of [] known)))
+  other_words_found (Some x) command known e other = absurd (other x refl)
+
+  -- What is found of a command is found of the words that name it.
+  pub command_found : (command : Option Command) (known : Option (List ℕ)) (lent input : List ℕ) (named : Command) (f : Finding) → IsInput known input → command ≡ Some named → lent ≡ input
+      → IsFoundOrLacksMemory lacks_memory (IsFinding verified sound proved (Some named)) lent f → Found lacks_memory (IsFinding verified sound proved command) known f
+  command_found command known lent input named f is names same found =
+      subst (λ k. Found lacks_memory (IsFinding verified sound proved k) known f) (sym names) (input_found lacks_memory (IsFinding verified sound proved (Some named)) known lent input f is same found)
+
+  -- Where a prover accepts nothing, what is accepted was checked or verified.
+  pub holds_of_finding : ((air : SampleAir) (input : List ℕ) → proved air input (finding.Verdict verdict.Accepted) → ⊥) → (command : Option Command) (input : List ℕ)
+      → IsFinding verified sound proved command input (finding.Verdict verdict.Accepted) → HoldsOf verified sound proved command input
+  unfolding IsFinding
+  holds_of_finding none None input h = absurd (bad_input_clash (sym (same_verdict _ _ h)))
+  holds_of_finding none (Some (Check air)) input h =
+      let held = holds_of_read (sample air) (log_chunks_of air) (cut_of_sample air) (numbers_in (shape_of (sample air)) input) (sym (same_verdict _ _ h)) in
+      inl (air, refl, held.0, held.1, held.2, held.3)
+  holds_of_finding none (Some (Verify air)) input h = inr (air, refl, subst (λ v. verified air input v) (sym (same_verdict _ _ h.1)) h.2)
+  holds_of_finding none (Some (Prove air)) input h = absurd (none air input h)
+
+  -- What is accepted of a proof is sound.
+  pub sound_of_finding : (command : Option Command) (input : List ℕ) → IsFinding verified sound proved command input (finding.Verdict verdict.Accepted) → OfVerified sound command input
+  unfolding IsFinding
+  sound_of_finding None input h air named = absurd (cc)
+  sound_of_finding (Some (Check other)) input h air named = absurd (let clash : Check other ≡ Verify air = cc in cc)
+  sound_of_finding (Some (Prove other)) input h air named = absurd (let clash : Prove other ≡ Verify air = cc in cc)
+  sound_of_finding (Some (Verify other)) input h air named =
+      let same : other ≡ air = cc in
+      subst (λ a. sound a input) same (h.3 (sym (same_verdict _ _ h.1)))
+
+-- Where proofs that are found are proofs of the trace that was read.
+module _ (verified : SampleAir → List ℕ → Verdict → Type 0) (sound : SampleAir → List ℕ → Type 0) (proved : SampleAir → List ℕ → Finding → Type 0) (proof_line : SampleAir → List ℕ → List ℕ → Type 0)
+    (finds_proofs : (air : SampleAir) (input : List ℕ) (f : Finding) → proved air input f → IsProof f → proof_line air input (finding_line f))
+    (shows_none : (air : SampleAir) (input : List ℕ) (f : Finding) → proved air input f → IsText f → ⊥) where
+  named_prover : (command : Option Command) (input : List ℕ) (f : Finding) → IsFinding verified sound proved command input f → IsProof f → (air : SampleAir) × (command ≡ Some (Prove air)) × proof_line air input (finding_line f)
+  unfolding IsFinding
+  named_prover None input f found is = absurd (no_proof f verdict.BadInput found is)
+  named_prover (Some (Check air)) input f found is = absurd (no_proof f _ found is)
+  named_prover (Some (Verify air)) input f found is = absurd (no_proof f found.0 found.1 is)
+  named_prover (Some (Prove air)) input f found is = (air, refl, finds_proofs air input f found is)
+
+  finds_no_text : (command : Option Command) (input : List ℕ) (f : Finding) → IsFinding verified sound proved command input f → IsText f → ⊥
+  unfolding IsFinding
+  finds_no_text None input f found is = no_text f verdict.BadInput found is
+  finds_no_text (Some (Check air)) input f found is = no_text f _ found is
+  finds_no_text (Some (Verify air)) input f found is = no_text f found.0 found.1 is
+  finds_no_text (Some (Prove air)) input f found is = shows_none air input f found is
+
+  -- What begins as an object does is the front of a proof of the trace that was read.
+  proves_trace : (command : Option Command) (input bytes : List ℕ) → IsFrontOfProof (IsFinding verified sound proved command) input bytes → ProvesTrace proof_line command input bytes
+  proves_trace command input bytes front =
+      let prover = named_prover command input front.0 front.2 front.1 in
+      (prover.0, prover.1, finding_line front.0, prover.2, front.3, front.4)
+
+  pub told_traces : (command : Option Command) (known : Option (List ℕ)) (P : List ℕ → Type 0) (Q : List ℕ → Type 0) → IfSome known (λ input. (bytes : List ℕ) → P bytes → Q bytes → IsFrontOfProof (IsFinding verified sound proved command) input bytes)
+      → IfSome known (λ input. (bytes : List ℕ) → P bytes → Q bytes → ProvesTrace proof_line command input bytes)
+  told_traces command None P Q fronts = tt
+  told_traces command (Some input) P Q fronts = λ bytes p q. proves_trace command input bytes (fronts bytes p q)
+
+  -- What is accepted or proved is accepted, or is a proof of the trace that an input spells.
+  pub ends_accepted : (command : Option Command) (known old new : Option (List ℕ)) → AcceptsOrTells (IsFinding verified sound proved command) known old new
+      → (AcceptsInput verified sound proved command known × Appends old new (line_of verdict.Accepted)) ⊎ WritesProof proof_line command known old new
+  ends_accepted command known old new (inl accepted) = inl accepted
+  ends_accepted command known old new (inr (f, inl is, some, made)) =
+      let prover = named_prover command some.0 f some.2 is in
+      inr (finding_line f, (prover.0, prover.1, some.0, some.1, prover.2), made)
+  ends_accepted command known old new (inr (f, inr is, some, made)) = absurd (finds_no_text command some.0 f some.2 is)

@@ -1,0 +1,22 @@
+//! Runs of both programs, from words and bytes to bytes, and what they mean: of `stark_run` in `samples`, of `voskligan` in `statements`.
+#![tactic(auto)]
+
+mod arguments;
+mod files;
+mod host;
+mod outcome;
+pub mod samples;
+mod show;
+mod sources;
+pub mod statements;
+mod streams;
+mod words;
+
+pub use arguments::{InputWord, Request, Task, USAGE, request_of};
+pub use files::InputFile;
+pub use host::{exit_code, words_of};
+pub use outcome::tell;
+pub use show::show_statement;
+pub use sources::{WatchedReader, WatchedWriter};
+pub use streams::{InputFault, ReadFailed, Sink, Source, WriteFailed, read_to_end, write_all};
+pub use words::{Command, named_command};

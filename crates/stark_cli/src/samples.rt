@@ -1,0 +1,120 @@
+//! A run of `stark_run`, from the words after its name and the bytes of its input to bytes.
+
+ghost use Rattle.std.specs.Prelude.{◌≡◌, ◌↔◌, ◌⊎◌, ℕ, List, Option, map, string_bytes, true, false, None, Some, Ok, IfErr, IfOk, IfSome, is_err};
+ghost use Rattle.std.specs.Io.KnownBytes.{Appends};
+ghost use Rattle.stark_cli.specs.Running.{Found, IsFindingEnd, IsFoundOrLacksMemory, Says, SaysFound, WhereAccepted, WhereObject};
+ghost use Rattle.stark_cli.specs.SampleRun.{AcceptsInput, HoldsOf, IsFinding, OfVerified, ProvesTrace, SaysFinding, WritesProof, lacks_memory};
+ghost use Rattle.stark_cli.specs.Words.{command_of};
+ghost use Rattle.stark_cli.specs.declared.words.Command.{Command};
+ghost use Rattle.stark_commands.specs.Verdict.{line_of};
+ghost use Rattle.stark_commands.specs.declared.finding.Finding.{Finding};
+ghost use Rattle.stark_commands.specs.declared.verdict.Verdict.{Verdict};
+
+use crate::outcome::{tell, unread_input};
+use crate::streams::{Sink, Source, read_to_end};
+use crate::words::{Command, named_command};
+use stark_commands::{
+    Finding, ProvedInput, Refusal, RunEnd, SampleAir, Verdict, VerifiedInput, check_sample,
+    prove_sample, verify_sample,
+};
+use std::alloc::Global;
+
+/// What is found of an input under a command. It has no code.
+pub trait SampleFindings {
+    ghost finding: { Option Command → List ℕ → Finding → Type 0 };
+}
+
+impl SampleFindings for SampleAir {
+    ghost finding = { IsFinding (⟦<SampleAir as VerifiedInput>⟧.verified) (⟦<SampleAir as VerifiedInput>⟧.sound) (⟦<SampleAir as ProvedInput>⟧.proved) };
+}
+
+/// What is found of the bytes of an input, by the check, the verifier or the prover of the AIR that is named.
+#[tactic(auto, unfolding(crate::specs::SampleRun::IsFinding))]
+fn answer(alloc: Global, command: Command, bytes: &[u8]) -> Finding
+    ensures { IsFoundOrLacksMemory lacks_memory (⟦<SampleAir as SampleFindings>⟧.finding (Some command)) bytes.now result }
+{
+    match command {
+        Command::Check(air) => Finding::Verdict(check_sample(alloc, air, bytes)),
+        Command::Verify(air) => Finding::Verdict(verify_sample(alloc, air, bytes)),
+        Command::Prove(air) => prove_sample(alloc, air, bytes),
+    }
+}
+
+/// Finds a verdict or a proof, or fails by the reader alone.
+fn find<R: Source>(alloc: Global, words: &[String], reader: &mut R) -> Result<Finding, RunEnd>
+    requires { R.has_failed reader.old ≡ false }
+    ensures found { IfOk result (Found lacks_memory (⟦<SampleAir as SampleFindings>⟧.finding (command_of (map string_bytes words.now))) (R.remaining reader.old)) }
+    ensures other_words { command_of (map string_bytes words.now) ≡ None → result ≡ Ok (Finding.Verdict Verdict.BadInput) }
+    ensures kind { IfErr result (λ e. e ≡ RunEnd.InputFailed) }
+    ensures failed { (is_err result ≡ true) ↔ (R.has_failed reader.new ≡ true) }
+    ensures unread { command_of (map string_bytes words.now) ≡ None → reader.new ≡ reader.old }
+{
+    let Some(command) = named_command(words) else {
+        return Ok(Finding::Verdict(Verdict::BadInput));
+    };
+    match read_to_end(alloc, reader) {
+        Ok(input) => Ok(answer(alloc, command, &input)),
+        Err(fault) => unread_input(fault, Verdict::Refused(Refusal::OutOfMemory)),
+    }
+}
+
+/// A run, by its exact clauses alone.
+fn ran<R: Source, W: Sink>(
+    alloc: Global,
+    words: &[String],
+    reader: &mut R,
+    writer: &mut W,
+) -> RunEnd
+    requires fresh_reader { R.has_failed reader.old ≡ false }
+    requires fresh_writer { W.has_failed writer.old ≡ false }
+    ensures says { (result ≡ RunEnd.InputFailed) ⊎ SaysFound lacks_memory (⟦<SampleAir as SampleFindings>⟧.finding (command_of (map string_bytes words.now))) (R.remaining reader.old) result (W.contents writer.old) (W.contents writer.new) }
+    ensures silent { result ≡ RunEnd.InputFailed → writer.new ≡ writer.old }
+    ensures input_failed { (result ≡ RunEnd.InputFailed) ↔ (R.has_failed reader.new ≡ true) }
+    ensures output_failed { (result ≡ RunEnd.OutputFailed) ↔ (W.has_failed writer.new ≡ true) }
+    ensures unread { command_of (map string_bytes words.now) ≡ None → reader.new ≡ reader.old }
+    ensures other_words { command_of (map string_bytes words.now) ≡ None → Says result (Finding.Verdict Verdict.BadInput) (W.contents writer.old) (W.contents writer.new) }
+{
+    match find(alloc, words, reader) {
+        Ok(finding) => tell(&finding, writer),
+        Err(end) => end,
+    }
+}
+
+/// Runs the program on the words after its name.
+pub fn run<R: Source, W: Sink>(
+    alloc: Global,
+    words: &[String],
+    reader: &mut R,
+    writer: &mut W,
+) -> RunEnd
+    requires fresh_reader { R.has_failed reader.old ≡ false }
+    requires fresh_writer { W.has_failed writer.old ≡ false }
+    // What is written, and how the run ends.
+    ensures says { IfSome (R.remaining reader.old) (λ input. SaysFinding (⟦<SampleAir as VerifiedInput>⟧.verified) (⟦<SampleAir as VerifiedInput>⟧.sound) (⟦<SampleAir as ProvedInput>⟧.proved) (command_of (map string_bytes words.now)) input result (W.contents writer.old) (W.contents writer.new)) }
+    // With other words it says `bad input`, and nothing is read.
+    ensures other_words { command_of (map string_bytes words.now) ≡ None → Says result (Finding.Verdict Verdict.BadInput) (W.contents writer.old) (W.contents writer.new) }
+    ensures unread { command_of (map string_bytes words.now) ≡ None → reader.new ≡ reader.old }
+    // These two ends come from a failed read and a failed write, and from nothing else.
+    ensures input_failed { (result ≡ RunEnd.InputFailed) ↔ (R.has_failed reader.new ≡ true) }
+    ensures output_failed { (result ≡ RunEnd.OutputFailed) ↔ (W.has_failed writer.new ≡ true) }
+    // Where neither failed, the end is that of what is found.
+    ensures ends { R.has_failed reader.new ≡ false → W.has_failed writer.new ≡ false → IsFindingEnd result }
+    // After a failed read nothing is written.
+    ensures silent { result ≡ RunEnd.InputFailed → writer.new ≡ writer.old }
+    // In every run `accepted` is written only where the checks hold.
+    ensures accepted { WhereAccepted (R.remaining reader.old) (W.contents writer.old) (W.contents writer.new) (λ input. IsFinding (⟦<SampleAir as VerifiedInput>⟧.verified) (⟦<SampleAir as VerifiedInput>⟧.sound) (⟦<SampleAir as ProvedInput>⟧.proved) (command_of (map string_bytes words.now)) input (Finding.Verdict Verdict.Accepted)) }
+    // So the named AIR's check holds of the numbers that the bytes spell, or its verifier accepts the proof that they spell.
+    ensures holds { WhereAccepted (R.remaining reader.old) (W.contents writer.old) (W.contents writer.new) (λ input. HoldsOf (⟦<SampleAir as VerifiedInput>⟧.verified) (⟦<SampleAir as VerifiedInput>⟧.sound) (⟦<SampleAir as ProvedInput>⟧.proved) (command_of (map string_bytes words.now)) input) }
+    // In every run in which a verifier writes `accepted`, the columns that the read proof's commitments list break no constraint on H,
+    // or alpha is bad for them, or zeta is bad for them, alpha and the listed chunks.
+    ensures sound { WhereAccepted (R.remaining reader.old) (W.contents writer.old) (W.contents writer.new) (λ input. OfVerified (⟦<SampleAir as VerifiedInput>⟧.sound) (command_of (map string_bytes words.now)) input) }
+    // In every run what begins as an object does is the front of the line of a proof of the trace that was read.
+    ensures proved { WhereObject (R.remaining reader.old) (W.contents writer.old) (W.contents writer.new) (ProvesTrace (⟦<SampleAir as ProvedInput>⟧.proof_line) (command_of (map string_bytes words.now))) }
+    // A run ends so only where they hold of an input, and wrote `accepted`, or it wrote the line of a proof of the trace that an input
+    // spells, whether or not the reader tells its bytes.
+    ensures accepted_end { result ≡ RunEnd.Accepted
+        → (AcceptsInput (⟦<SampleAir as VerifiedInput>⟧.verified) (⟦<SampleAir as VerifiedInput>⟧.sound) (⟦<SampleAir as ProvedInput>⟧.proved) (command_of (map string_bytes words.now)) (R.remaining reader.old) × Appends (W.contents writer.old) (W.contents writer.new) (line_of Verdict.Accepted))
+        ⊎ WritesProof (⟦<SampleAir as ProvedInput>⟧.proof_line) (command_of (map string_bytes words.now)) (R.remaining reader.old) (W.contents writer.old) (W.contents writer.new) }
+{
+    ran(alloc, words, reader, writer)
+}

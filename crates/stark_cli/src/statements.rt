@@ -1,0 +1,168 @@
+//! A run of `voskligan`, from the bytes of a statement and of a proof or a trace to bytes.
+
+ghost use Rattle.std.specs.Prelude.{◌≡◌, ◌↔◌, ◌⊎◌, ℕ, List, true, false, IfErr, IfOk, IfSome, is_err};
+ghost use Rattle.std.specs.Io.KnownBytes.{Appends};
+ghost use Rattle.stark_cli.specs.Running.{Found, IsFindingEnd, IsFoundOrLacksMemory, SaysFound, SaysOf, WhereAccepted, WhereObject, both};
+ghost use Rattle.stark_cli.specs.Shown.{IsShowing};
+ghost use Rattle.stark_cli.specs.StatementRun.{Accepts, AcceptsInput, IsFinding, ProvesTrace, WritesProof, WritesText, no_memory};
+ghost use Rattle.stark_cli.specs.declared.statements.Verb.{Verb};
+ghost use Rattle.stark_commands.specs.Verdict.{line_of};
+ghost use Rattle.stark_commands.specs.declared.finding.Finding.{Finding};
+ghost use Rattle.stark_commands.specs.declared.verdict.Verdict.{Verdict};
+
+use crate::outcome::{tell, unread_input};
+use crate::show::show_statement;
+use crate::streams::{InputFault, Sink, Source, read_to_end};
+use stark_bench::F12289;
+use stark_commands::{
+    Finding, Report, RunEnd, StatementAnswers, Verdict, prove_statement, verify_statement,
+};
+use stark_statement::Statement;
+use stark_support::PrimeField64;
+use std::alloc::Global;
+
+/// What is asked for a statement.
+#[derive(Clone, Copy, Debug, PartialEq, Eq)]
+pub enum Verb {
+    /// To verify a proof.
+    Verify,
+    /// To prove a trace.
+    Prove,
+    /// To show its AIR.
+    Show,
+}
+
+/// How a run ended, and in words what an input was refused for, where there is something to say.
+#[derive(Debug, Drop)]
+pub struct Ended {
+    pub end: RunEnd,
+    pub reason: Option<String>,
+}
+
+/// What is found of a statement and a second input. It has no code.
+pub trait StatementFindings {
+    ghost finding: { Verb → List ℕ × List ℕ → Finding → Type 0 };
+
+    ghost shown: { List ℕ → Finding → Type 0 };
+}
+
+impl StatementFindings for Statement<F12289> {
+    ghost finding = { IsFinding (⟦<Statement<F12289> as StatementAnswers>⟧.verdict) (⟦<Statement<F12289> as StatementAnswers>⟧.sound) (⟦<Statement<F12289> as StatementAnswers>⟧.found) (IsShowing (⟦<F12289 as PrimeField64>⟧.number_of)) };
+
+    ghost shown = { IsShowing (⟦<F12289 as PrimeField64>⟧.number_of) };
+}
+
+/// What is found of the bytes of both.
+#[tactic(auto, unfolding(crate::specs::StatementRun::IsFinding))]
+fn answer(alloc: Global, verb: Verb, statement: &[u8], second: &[u8]) -> Report<Finding>
+    ensures { IsFoundOrLacksMemory no_memory (⟦<Statement<F12289> as StatementFindings>⟧.finding verb) (statement.now, second.now) result.answer }
+{
+    match verb {
+        Verb::Verify => verify_statement(alloc, statement, second).as_finding(),
+        Verb::Prove => prove_statement(alloc, statement, second),
+        Verb::Show => show_statement(alloc, statement),
+    }
+}
+
+/// What is found of inputs of which one wasn't read.
+fn unread(fault: InputFault) -> Result<Report<Finding>, RunEnd>
+    ensures memory { IfOk result (λ report. report.answer ≡ no_memory) }
+    ensures kind { IfErr result (λ e. e ≡ RunEnd.InputFailed) }
+    ensures failed { (is_err result ≡ true) ↔ (fault ≡ InputFault.Failed) }
+{
+    match unread_input(fault, Verdict::OutOfMemory) {
+        Ok(answer) => Ok(Report {
+            answer,
+            reason: None,
+        }),
+        Err(end) => Err(end),
+    }
+}
+
+/// Finds something of what the readers have, or fails by one of them alone. The second is read behind the first.
+fn find<S: Source, R: Source>(
+    alloc: Global,
+    verb: Verb,
+    statement: &mut S,
+    second: &mut R,
+) -> Result<Report<Finding>, RunEnd>
+    requires first { S.has_failed statement.old ≡ false }
+    requires behind { R.has_failed second.old ≡ false }
+    ensures found { IfOk result (λ report. Found no_memory (⟦<Statement<F12289> as StatementFindings>⟧.finding verb) (both (S.remaining statement.old) (R.remaining second.old)) report.answer) }
+    ensures kind { IfErr result (λ e. e ≡ RunEnd.InputFailed) }
+    ensures failed { (is_err result ≡ true) ↔ ((S.has_failed statement.new ≡ true) ⊎ (R.has_failed second.new ≡ true)) }
+{
+    let first = match read_to_end(alloc, statement) {
+        Ok(bytes) => bytes,
+        Err(fault) => return unread(fault),
+    };
+    let other = match read_to_end(alloc, second) {
+        Ok(bytes) => bytes,
+        Err(fault) => return unread(fault),
+    };
+    Ok(answer(alloc, verb, &first, &other))
+}
+
+/// A run, by its exact clauses alone.
+fn ran<S: Source, R: Source, W: Sink>(
+    alloc: Global,
+    verb: Verb,
+    statement: &mut S,
+    second: &mut R,
+    writer: &mut W,
+) -> Ended
+    requires first { S.has_failed statement.old ≡ false }
+    requires behind { R.has_failed second.old ≡ false }
+    requires fresh_writer { W.has_failed writer.old ≡ false }
+    ensures says { (result.end ≡ RunEnd.InputFailed) ⊎ SaysFound no_memory (⟦<Statement<F12289> as StatementFindings>⟧.finding verb) (both (S.remaining statement.old) (R.remaining second.old)) result.end (W.contents writer.old) (W.contents writer.new) }
+    ensures silent { result.end ≡ RunEnd.InputFailed → writer.new ≡ writer.old }
+    ensures input_failed { (result.end ≡ RunEnd.InputFailed) ↔ ((S.has_failed statement.new ≡ true) ⊎ (R.has_failed second.new ≡ true)) }
+    ensures output_failed { (result.end ≡ RunEnd.OutputFailed) ↔ (W.has_failed writer.new ≡ true) }
+{
+    match find(alloc, verb, statement, second) {
+        Ok(report) => Ended {
+            end: tell(&report.answer, writer),
+            reason: report.reason,
+        },
+        Err(end) => Ended { end, reason: None },
+    }
+}
+
+/// Runs the program on a statement and a second input: the proof that is verified, or the trace that is proved; to show takes none.
+///
+/// Both are read to their ends, and one line is written, or the text that shows. The reason, in words, is for standard error; no clause
+/// speaks of it.
+pub fn run<S: Source, R: Source, W: Sink>(
+    alloc: Global,
+    verb: Verb,
+    statement: &mut S,
+    second: &mut R,
+    writer: &mut W,
+) -> Ended
+    requires first { S.has_failed statement.old ≡ false }
+    requires behind { R.has_failed second.old ≡ false }
+    requires fresh_writer { W.has_failed writer.old ≡ false }
+    // What is written, and how the run ends.
+    ensures says { IfSome (both (S.remaining statement.old) (R.remaining second.old)) (λ input. SaysOf no_memory (⟦<Statement<F12289> as StatementFindings>⟧.finding verb) input result.end (W.contents writer.old) (W.contents writer.new)) }
+    // These two ends come from a failed read and a failed write, and from nothing else.
+    ensures input_failed { (result.end ≡ RunEnd.InputFailed) ↔ ((S.has_failed statement.new ≡ true) ⊎ (R.has_failed second.new ≡ true)) }
+    ensures output_failed { (result.end ≡ RunEnd.OutputFailed) ↔ (W.has_failed writer.new ≡ true) }
+    // Where none failed, the end is that of what is found.
+    ensures ends { S.has_failed statement.new ≡ false → R.has_failed second.new ≡ false → W.has_failed writer.new ≡ false → IsFindingEnd result.end }
+    // After a failed read nothing is written.
+    ensures silent { result.end ≡ RunEnd.InputFailed → writer.new ≡ writer.old }
+    // In every run `accepted` is written only where a verifier is asked that accepts the proof for the statement.
+    ensures accepted { WhereAccepted (both (S.remaining statement.old) (R.remaining second.old)) (W.contents writer.old) (W.contents writer.new) (Accepts (⟦<Statement<F12289> as StatementAnswers>⟧.verdict) verb) }
+    // Then the columns that the proof lists break no constraint of the statement's AIR, or alpha is bad for them, or zeta is.
+    ensures sound { WhereAccepted (both (S.remaining statement.old) (R.remaining second.old)) (W.contents writer.old) (W.contents writer.new) (λ input. ⟦<Statement<F12289> as StatementAnswers>⟧.sound input.0 input.1) }
+    // In every run what begins as an object does is the front of the line of a proof, for the statement, of the trace.
+    ensures proved { WhereObject (both (S.remaining statement.old) (R.remaining second.old)) (W.contents writer.old) (W.contents writer.new) (ProvesTrace (⟦<Statement<F12289> as StatementAnswers>⟧.proof_line) verb) }
+    // A run ends so only where it wrote `accepted` for inputs that are accepted, a proof's line, or a text that shows a statement,
+    // whether or not the readers tell their bytes.
+    ensures accepted_end { result.end ≡ RunEnd.Accepted
+        → (AcceptsInput (⟦<Statement<F12289> as StatementAnswers>⟧.verdict) verb (both (S.remaining statement.old) (R.remaining second.old)) × Appends (W.contents writer.old) (W.contents writer.new) (line_of Verdict.Accepted))
+        ⊎ (WritesProof (⟦<Statement<F12289> as StatementAnswers>⟧.proof_line) verb (both (S.remaining statement.old) (R.remaining second.old)) (W.contents writer.old) (W.contents writer.new)
+        ⊎ WritesText (⟦<Statement<F12289> as StatementFindings>⟧.shown) verb (both (S.remaining statement.old) (R.remaining second.old)) (W.contents writer.old) (W.contents writer.new)) }
+{
+    ran(alloc, verb, statement, second, writer)
+}

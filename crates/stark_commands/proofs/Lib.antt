@@ -1,0 +1,17 @@
+pub mod CheckMeaning
+pub mod EquationFaults
+pub mod EquationParts
+pub mod Heights
+pub mod Parts
+pub mod PointSteps
+pub mod Proved
+pub mod FoundRows
+pub mod SameColumns
+pub mod Sizes
+pub mod SoundSteps
+pub mod Soundly
+pub mod StatementSteps
+pub mod TakenColumns
+pub mod TraceShapes
+pub mod TraceSteps
+pub mod VerdictSteps

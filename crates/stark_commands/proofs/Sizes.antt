@@ -1,0 +1,57 @@
+-- How many chunks the quotients of AIRs are cut into.
+use Rattle.std.proofs.Common.{◌≡◌, ◌⊎◌, List, ap, arith, inl, inr, subst, sym, ℕ, zero, suc, ◌+◌, ◌^◌, ◌<◌, ◌≤◌, if◌then◌else◌}
+use Rattle.std.proofs.lemmas.Bool.{le-leb, lt-leb}
+use Rattle.stark_support.specs.Logarithm.{IsCeilingOfLog}
+use Rattle.stark_support.specs.LogarithmFacts.{at_most_or_above, ceiling_of_one, ceiling_between, exponent_below}
+use Rattle.stark_protocol.specs.QuotientFacts.{below_power}
+use Rattle.stark_protocol.specs.Sizes.{log_ceiling, log_ceiling_from, log_parts_of}
+use Rattle.stark_commands.specs.Airs.{CheckedAir, IsCutInto, log_chunks_of, sample, shape_of}
+use Rattle.stark_commands.specs.Input.{numbers_in}
+use Rattle.stark_commands.specs.Check.{check_verdict}
+use Rattle.stark_commands.specs.declared.verdict.Verdict.{Verdict}
+use Rattle.stark_commands.specs.declared.verdict.Verdict.TheVariants.{Refused}
+use Rattle.stark_commands.specs.declared.verdict.Refusal.TheVariants.{OutOfMemory}
+use Rattle.stark_commands.specs.declared.sample.SampleAir.{SampleAir}
+use Rattle.stark_commands.specs.declared.sample.SampleAir.TheVariants.{Counter, Cubic, Fibonacci, Periodic, Preprocessed, Pair}
+
+ceiling_found : (more j n : ℕ) → n ≤ 2 ^ (j + more) → ((i : ℕ) → n ≤ 2 ^ i → j ≤ i) → IsCeilingOfLog (log_ceiling_from more j n) n
+unfolding log_ceiling_from
+ceiling_found zero j n within least = record { covers = subst (λ (k : ℕ). n ≤ 2 ^ k) (omega arith) within; least = least }
+ceiling_found (suc more) j n within least = elim (at_most_or_above n (2 ^ j)) [
+  | inl covers ↦ subst (λ k. IsCeilingOfLog k n) (sym (ap (λ b. if b then j else log_ceiling_from more (suc j) n) (le-leb n (2 ^ j) covers))) (record { covers = covers; least = least })
+  | inr past ↦
+      subst (λ k. IsCeilingOfLog k n) (sym (ap (λ b. if b then j else log_ceiling_from more (suc j) n) (lt-leb n (2 ^ j) past)))
+      (ceiling_found more (suc j) n (subst (λ (k : ℕ). n ≤ 2 ^ k) (omega arith) within) (λ i covers. let beyond : j < i = exponent_below j i (omega arith) in omega arith))
+]
+
+is_log_ceiling : (n : ℕ) → IsCeilingOfLog (log_ceiling n) n
+unfolding log_ceiling
+is_log_ceiling n =
+    let covers : n ≤ 2 ^ n = omega (arith, below_power n) in
+    ceiling_found n 0 n (subst (λ (k : ℕ). n ≤ 2 ^ k) (omega arith) covers) (λ i h. omega arith)
+
+-- The quotient of each AIR is cut into some number of chunks, which the verifier asks of a proof too.
+pub cut_of : (air : CheckedAir) → IsCutInto air (log_parts_of air.constraints air.degree_hint 0)
+unfolding log_parts_of
+cut_of air = is_log_ceiling _
+
+one_chunk : IsCeilingOfLog 0 1
+one_chunk = ceiling_of_one 1 (omega arith)
+
+two_chunks : IsCeilingOfLog 1 2
+two_chunks = ceiling_between 0 2 (omega arith) (omega arith)
+
+pub cut_of_sample : (air : SampleAir) → IsCutInto (sample air) (log_chunks_of air)
+cut_of_sample Counter = one_chunk
+cut_of_sample Cubic = two_chunks
+cut_of_sample Fibonacci = one_chunk
+cut_of_sample Periodic = one_chunk
+cut_of_sample Preprocessed = one_chunk
+cut_of_sample Pair = one_chunk
+
+-- What the check finds of an AIR that declares what a sample AIR does, it finds of the sample's name.
+pub found_for_sample : (air : CheckedAir) (name : SampleAir) (bytes : List ℕ) (v : Verdict) → air ≡ sample name
+    → ((log_chunks : ℕ) → IsCutInto air log_chunks → (v ≡ check_verdict air log_chunks (numbers_in (shape_of air) bytes)) ⊎ (v ≡ Refused OutOfMemory))
+    → (v ≡ check_verdict (sample name) (log_chunks_of name) (numbers_in (shape_of (sample name)) bytes)) ⊎ (v ≡ Refused OutOfMemory)
+found_for_sample air name bytes v is found =
+    subst (λ a. (log_chunks : ℕ) → IsCutInto a log_chunks → (v ≡ check_verdict a log_chunks (numbers_in (shape_of a) bytes)) ⊎ (v ≡ Refused OutOfMemory)) is found (log_chunks_of name) (cut_of_sample name)

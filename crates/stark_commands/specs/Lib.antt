@@ -1,0 +1,17 @@
+pub mod Airs
+pub mod Input
+pub mod Numbers
+pub mod ProofInput
+pub mod TraceInput
+pub mod Refusals
+pub mod Verdict
+pub mod Finding
+pub mod Check
+pub mod Point
+pub mod Verify
+pub mod SoundRun
+pub mod Prove
+pub mod ProveFacts
+pub mod Spelled
+pub mod Statements
+pub mod StatementFacts

@@ -1,0 +1,167 @@
+//! The command `check`: the equation of a proof at one point, of numbers that are read.
+
+ghost use Rattle.std.specs.Prelude.{◌≡◌, ◌≢◌, ◌≤◌, ◌+◌, ◌^◌, ◌⊎◌, ℕ, true, length, map};
+ghost use Rattle.stark_support.specs.Coset.{coset_size, coset_vanishing};
+ghost use Rattle.stark_fields.specs.Residues.{residue, residue_ring};
+ghost use Rattle.stark_commands.specs.Airs.{IsCutInto, log_chunks_of, sample, shape_of};
+ghost use Rattle.stark_commands.specs.Check.{IsBalanced, check_verdict, checked, found_at_point, trace_coset, vanishing};
+ghost use Rattle.stark_commands.specs.Input.{elements, has_shape, numbers_in};
+ghost use Rattle.stark_commands.specs.Numbers.{numbers};
+ghost use Rattle.stark_protocol.specs.Sizes.{quotient_coset};
+ghost use Rattle.stark_commands.specs.Point.{TellsEquation};
+
+use crate::airs::DeclaredAir;
+use crate::input::{CheckInput, CheckShape, Extension, numbers_from, zeros};
+use crate::point::{equation_over, quotient_domain_of, vanishes_at};
+use crate::sample::{SampleAir, sample_air};
+use crate::verdict::{Refusal, Verdict};
+use stark_air::{Air, AirLayout};
+use stark_bench::{Coset, F12289, Sha256Challenger};
+use stark_parts::get_log_num_quotient_chunks;
+use stark_support::{DomainShape, JsonFault, PeriodicColumns, PolynomialSpace};
+use std::alloc::{AllocError, Global};
+
+/// What is found of the equation, at a zeta outside H and with periodic columns that fit H.
+fn check_columns<A: Air<F12289>>(
+    alloc: Global,
+    air: &A,
+    input: &CheckInput,
+    trace_domain: Coset<F12289>,
+    quotient_domain: Coset<F12289>,
+    log_chunks: usize,
+    columns: &PeriodicColumns<'_, F12289>,
+) -> Verdict
+    requires shape { has_shape (shape_of (⟦<A as DeclaredAir>⟧.declared air.now)) (numbers input.now) ≡ true }
+    requires trace { ⟦<Coset<F12289> as PolynomialSpace>⟧.coset_of trace_domain ≡ trace_coset input.now.log_height }
+    requires quotient { ⟦<Coset<F12289> as PolynomialSpace>⟧.coset_of quotient_domain ≡ quotient_coset residue_ring (residue 11) (trace_coset input.now.log_height) log_chunks }
+    requires chunks { length (numbers input.now).chunks ≡ 2 ^ log_chunks }
+    requires outside { vanishing (numbers input.now) ≢ elements.zero }
+    requires columns { map (λ column. column.items) columns.now.columns.now ≡ A.periodic_columns air.now }
+    requires trace_len { columns.now.trace_len ≡ 2 ^ input.now.log_height }
+    ensures { TellsEquation (IsBalanced (⟦<A as DeclaredAir>⟧.declared air.now) log_chunks (numbers input.now)) result }
+{
+    let Ok(preprocessed_next) = zeros(alloc, air.preprocessed_width()) else {
+        return Verdict::Refused(Refusal::OutOfMemory);
+    };
+    equation_over::<F12289, Extension, Sha256Challenger<F12289>, A>(
+        alloc,
+        air,
+        &input.local,
+        &input.next,
+        &input.preprocessed_local,
+        &preprocessed_next,
+        &input.publics,
+        columns,
+        trace_domain,
+        quotient_domain,
+        log_chunks,
+        &input.chunks,
+        input.zeta,
+        input.alpha,
+    )
+}
+
+/// What is found at zeta: whether it is a point of H, whether a periodic column doesn't fit H, and whether the equation
+/// holds.
+fn check_point<A: Air<F12289>>(
+    alloc: Global,
+    air: &A,
+    input: &CheckInput,
+    trace_domain: Coset<F12289>,
+    quotient_domain: Coset<F12289>,
+    log_chunks: usize,
+) -> Verdict
+    requires shape { has_shape (shape_of (⟦<A as DeclaredAir>⟧.declared air.now)) (numbers input.now) ≡ true }
+    requires trace { ⟦<Coset<F12289> as PolynomialSpace>⟧.coset_of trace_domain ≡ trace_coset input.now.log_height }
+    requires quotient { ⟦<Coset<F12289> as PolynomialSpace>⟧.coset_of quotient_domain ≡ quotient_coset residue_ring (residue 11) (trace_coset input.now.log_height) log_chunks }
+    requires chunks { length (numbers input.now).chunks ≡ 2 ^ log_chunks }
+    ensures { (result ≡ found_at_point (⟦<A as DeclaredAir>⟧.declared air.now) log_chunks (numbers input.now)) ⊎ (result ≡ Verdict.Refused Refusal.OutOfMemory) }
+{
+    if vanishes_at(&trace_domain, input.zeta) {
+        return Verdict::Refused(Refusal::OodPointInDomain);
+    }
+    match PeriodicColumns::new(air.periodic_columns(), trace_domain.size()) {
+        Ok(columns) => {
+            check_columns(
+                alloc,
+                air,
+                input,
+                trace_domain,
+                quotient_domain,
+                log_chunks,
+                &columns,
+            )
+        }
+        Err(_) => Verdict::Refused(Refusal::PeriodicColumn),
+    }
+}
+
+/// What is found where the quotient is cut into `2^log_chunks` chunks.
+fn check_cut<A: Air<F12289>>(
+    alloc: Global,
+    air: &A,
+    input: &CheckInput,
+    log_chunks: usize,
+) -> Verdict
+    requires shape { has_shape (shape_of (⟦<A as DeclaredAir>⟧.declared air.now)) (numbers input.now) ≡ true }
+    requires height { input.now.log_height ≤ 12 }
+    ensures { (result ≡ checked (⟦<A as DeclaredAir>⟧.declared air.now) log_chunks (numbers input.now)) ⊎ (result ≡ Verdict.Refused Refusal.OutOfMemory) }
+{
+    let log_height = input.log_height as usize;
+    let trace_domain: Coset<F12289> = Coset::subgroup(log_height);
+    let Some(quotient_domain) = quotient_domain_of(&trace_domain, log_height, log_chunks) else {
+        return Verdict::Refused(Refusal::QuotientDomainTooLarge);
+    };
+    if input.chunks.len() != 1 << log_chunks {
+        return Verdict::BadInput;
+    }
+    check_point(alloc, air, input, trace_domain, quotient_domain, log_chunks)
+}
+
+/// What is found of numbers in the AIR's widths and counts.
+fn check<A: Air<F12289>>(alloc: Global, air: &A, input: &CheckInput) -> Verdict
+    requires shape { has_shape (shape_of (⟦<A as DeclaredAir>⟧.declared air.now)) (numbers input.now) ≡ true }
+    requires height { input.now.log_height ≤ 12 }
+    ensures { (log_chunks : ℕ) → IsCutInto (⟦<A as DeclaredAir>⟧.declared air.now) log_chunks
+        → (result ≡ checked (⟦<A as DeclaredAir>⟧.declared air.now) log_chunks (numbers input.now)) ⊎ (result ≡ Verdict.Refused Refusal.OutOfMemory) }
+{
+    let layout = AirLayout::from_air(air);
+    let trace_len = 1 << input.log_height;
+    match get_log_num_quotient_chunks(alloc, air, layout, trace_len, 0) {
+        Ok(log_chunks) => check_cut(alloc, air, input, log_chunks),
+        Err(AllocError) => Verdict::Refused(Refusal::OutOfMemory),
+    }
+}
+
+/// What the check of an AIR finds of the bytes of an input.
+fn check_air<A: Air<F12289>>(alloc: Global, air: &A, bytes: &[u8]) -> Verdict
+    ensures { (log_chunks : ℕ) → IsCutInto (⟦<A as DeclaredAir>⟧.declared air.now) log_chunks
+        → (result ≡ check_verdict (⟦<A as DeclaredAir>⟧.declared air.now) log_chunks
+        (numbers_in (shape_of (⟦<A as DeclaredAir>⟧.declared air.now)) bytes.now))
+        ⊎ (result ≡ Verdict.Refused Refusal.OutOfMemory) }
+{
+    let Ok(shape) = CheckShape::from_air(alloc, air) else {
+        return Verdict::Refused(Refusal::OutOfMemory);
+    };
+    match numbers_from(alloc, shape, bytes) {
+        Ok(input) => {
+            if input.has_shape(shape) {
+                check(alloc, air, &input)
+            } else {
+                Verdict::BadInput
+            }
+        }
+        Err(JsonFault::Invalid) => Verdict::BadInput,
+        Err(JsonFault::OutOfMemory) => Verdict::Refused(Refusal::OutOfMemory),
+    }
+}
+
+/// What the check of a sample AIR finds of the bytes of an input.
+pub fn check_sample(alloc: Global, air: SampleAir, bytes: &[u8]) -> Verdict
+    ensures { (result ≡ check_verdict (sample air) (log_chunks_of air) (numbers_in (shape_of (sample air)) bytes.now)) ⊎ (result ≡ Verdict.Refused Refusal.OutOfMemory) }
+{
+    match sample_air(alloc, air) {
+        Ok(sample) => check_air(alloc, &sample, bytes),
+        Err(AllocError) => Verdict::Refused(Refusal::OutOfMemory),
+    }
+}

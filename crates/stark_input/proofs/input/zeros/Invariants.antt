@@ -1,6 +1,0 @@
-use Rattle.std.proofs.Common.{◌≡◌}
-use Rattle.stark_input.specs.Input.{zeros}
-use Rattle.stark_input.proofs.input.zeros.Given as goal
-
-abbrev pub invariant-loop-column : goal.invariant-loop-column
-invariant-loop-column l = l.row.items ≡ zeros l._column

@@ -1,2 +1,0 @@
-pub mod ReadAirs
-pub mod Rows

@@ -1,9 +1,0 @@
-use Rattle.stark_tree_air.specs.TreeJson.{tree_fault}
-use Rattle.stark_tree_judge.proofs.ReadAirs.{found_for_air, without_air}
-use Rattle.stark_tree_judge.proofs.verify.verify_input.Goals as goal
-
-pub returns-in-Ok : goal.returns-in-Ok
-returns-in-Ok c = found_for_air _ _ _ c.in-Ok.air.declaration c.in-Ok.air.list _ _ c.in-Ok.ensures c.verify_over.ensures
-
-pub returns-in-Err : goal.returns-in-Err
-returns-in-Err c = without_air (λ v. v) _ (tree_fault c.in-Err.error) _ _ c.in-Err.ensures c.verdict_without_air.ensures

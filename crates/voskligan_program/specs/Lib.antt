@@ -1,4 +1,0 @@
-pub mod Words
-pub mod Run
-pub mod Showing
-pub mod Shown

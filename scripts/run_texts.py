@@ -1,4 +1,4 @@
-"""The named texts of crates/program_rows/src/texts.rt, for the scripts beside this one."""
+"""The named texts of crates/cli_tests/src/texts.rt, for the scripts beside this one."""
 import os
 import re
 
@@ -7,7 +7,7 @@ TOP = os.path.dirname(os.path.dirname(os.path.abspath(__file__)))
 
 def named_texts():
     """Each text by its name, with the texts that it names in place of their names."""
-    with open(os.path.join(TOP, "crates/program_rows/src/texts.rt")) as file:
+    with open(os.path.join(TOP, "crates/cli_tests/src/texts.rt")) as file:
         table = re.search(r'r#"(.*)"#;', file.read(), re.S).group(1)
     texts = {}
     for line in table.splitlines():

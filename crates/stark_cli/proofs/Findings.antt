@@ -1,5 +1,5 @@
 -- What a run found of its input.
-use Rattle.std.proofs.Common.{◌≡◌, ◌⊎◌, ◌∙◌, ℕ, List, [], Option, None, Some, IfOk, IfSome, Result, Ok, Err, refl, sym, subst, ap, inl, inr, arith}
+use Rattle.std.proofs.Common.{◌≡◌, ◌⊎◌, ◌∙◌, ℕ, List, Option, None, Some, IfOk, IfSome, Result, Ok, Err, refl, sym, subst, ap, inl, inr, arith}
 use Rattle.std.specs.Io.KnownBytes.{Appends, Keeps}
 use Rattle.stark_commands.specs.Finding.{finding_end, finding_line}
 use Rattle.stark_commands.specs.Verdict.{line_of, end_of}
@@ -11,7 +11,7 @@ use Rattle.stark_commands.specs.declared.verdict.Verdict.TheVariants as verdict
 use Rattle.stark_commands.specs.declared.verdict.Refusal.TheVariants as refusal
 use Rattle.stark_commands.specs.declared.verdict.RunEnd.{RunEnd}
 use Rattle.stark_commands.specs.declared.verdict.RunEnd.TheVariants.{Accepted, Refused, NotJudged, InputFailed, OutputFailed}
-use Rattle.stark_cli.specs.Running.{AcceptsOrTells, FindsSome, Found, IsFoundOrLacksMemory, IsInput, IsNoAnswer, Says, SaysFound, SaysOf, both, first_of}
+use Rattle.stark_cli.specs.Running.{AcceptsOrTells, FindsSome, Found, IsFoundOrLacksMemory, IsInput, IsNoAnswer, Says, SaysFound, SaysOf, both}
 
 -- an input that is the readers'
 abbrev pub some_of : {I : Type 0} → I → Option I → I

@@ -1,5 +1,5 @@
 -- What numbers mean that a check accepts.
-use Rattle.std.proofs.Common.{◌≡◌, inl, inr, sym, subst, ◌∙◌, ap, ℕ, ◌-◌, ◌+◌, ◌^◌, ◌≢◌, ◌==◌, length, nat_le, List, Option, Some, None, IfSome, Bool, true, false, if◌then◌else◌, arith, refl}
+use Rattle.std.proofs.Common.{◌≡◌, inl, inr, sym, ◌∙◌, ap, ℕ, ◌-◌, ◌+◌, ◌^◌, ◌≢◌, ◌==◌, length, nat_le, Option, Some, None, Bool, true, false, if◌then◌else◌, arith, refl}
 use Rattle.std.proofs.lemmas.Bool.{eqb-true, leb-true}
 use Rattle.stark_support.specs.Ring.{RingOps, FieldLaws, difference}
 use Rattle.stark_support.specs.FieldFacts.{if_same}

@@ -13,7 +13,7 @@ use Rattle.stark_commands.specs.declared.sample.SampleAir.{SampleAir}
 use Rattle.stark_commands.specs.Input.{Base, Extension}
 use Rattle.stark_commands.specs.ProofInput.{NamedChallenger, ProofNumbers, hashing, scripted}
 use Rattle.stark_commands.specs.Verify.{Answers, IsAnswerWithKey, IsKey, IsVerdict, IsVerdictBy, IsVerified, TellsProof, instance_of}
-use Rattle.stark_commands.specs.Refusals.{refusal_of, verdict_of_answer}
+use Rattle.stark_commands.specs.Refusals.{verdict_of_answer}
 use Rattle.stark_commands.specs.declared.verdict.Verdict.{Verdict}
 use Rattle.stark_commands.specs.declared.verdict.Verdict.TheVariants as verdict
 use Rattle.stark_commands.specs.declared.verdict.Refusal.TheVariants as refusal

@@ -1,5 +1,5 @@
 -- AIRs that are data, and what each declares.
-use Rattle.std.specs.Prelude.{ℕ, List, filter_map, Option, None}
+use Rattle.std.specs.Prelude.{List, filter_map, None}
 use Rattle.stark_tree_air.specs.Faults.{main_next_column, preprocessed_next_column}
 use Rattle.stark_tree_air.specs.Nodes.{spelled}
 use Rattle.stark_tree_air.specs.TreeJson.{AirView, ColumnsView, view_layout}

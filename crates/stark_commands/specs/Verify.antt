@@ -16,7 +16,6 @@ use Rattle.stark_commands.specs.ProofInput.{NamedChallenger, ProofNumbers, hashi
 use Rattle.stark_commands.specs.Refusals.{refusal_of}
 use Rattle.stark_commands.specs.declared.verdict.Verdict.{Verdict}
 use Rattle.stark_commands.specs.declared.verdict.Verdict.TheVariants as verdict
-use Rattle.stark_commands.specs.declared.verdict.Refusal.TheVariants as refusal
 
 -- An AIR, as a verifier is given it.
 abbrev pub instance_of : {S C K : Type 0} → CheckedAir → S → C → ℕ → ℕ → List Base → Option (PreprocessedVerifierKey K) → Instance S Base C K

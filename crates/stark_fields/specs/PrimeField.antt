@@ -1,5 +1,5 @@
 -- The residues are a field, by the powers of the generator: what the modulus brings was computed.
-use Rattle.std.specs.Prelude.{◌≡◌, ◌≢◌, ◌⊎◌, ℕ, suc, zero, ◌+◌, ◌-◌, ◌*◌, ◌/◌, ◌%◌, ◌^◌, true, ◌<◌}
+use Rattle.std.specs.Prelude.{◌≡◌, ◌≢◌, ◌⊎◌, ℕ, suc, zero, ◌+◌, ◌-◌, ◌*◌, ◌/◌, ◌%◌, ◌^◌, true, ◌<◌, ◌≤◌}
 use Rattle.std.proofs.Common.{sym, ◌∙◌, ap, inl, inr, arith, pow-suc}
 use Rattle.std.proofs.lemmas.Nat.{mod_below}
 use Rattle.std.proofs.Math.Nat.{mod-eq_of_lt, div-le_self}
@@ -51,6 +51,9 @@ squared_mod_below : (p x k : ℕ) → 0 < p → squared_mod p x k < p
 unfolding squared_mod
 squared_mod_below p x zero h = mod_below x p h
 squared_mod_below p x (suc k) h = mod_below _ p h
+
+pub number_fits : (p : ℕ) → p < 2 ^ 31 → p ≤ 2 ^ 64
+number_fits p h = omega (arith, h)
 
 exponent_below : (p n : ℕ) → p < 2 ^ 31 → n < p → n < 2 ^ 32
 exponent_below p n h below = omega (arith, h, below)

@@ -4,7 +4,7 @@ pub mod Coordinates
 pub mod Places
 pub mod Sums
 pub mod InterpolationSteps
-pub mod Repeated
+mod FoldingSteps
 pub mod LaneSteps
 pub mod CombinationSteps
 pub mod CellSteps

@@ -44,6 +44,8 @@ pub mod Periodic
 pub mod PeriodicFacts
 pub mod Interpolation
 pub mod InterpolationFacts
+pub mod Folding
+pub mod FoldingFacts
 pub mod PeriodicValueFacts
 pub mod Sponge
 pub mod SpongeFacts

@@ -32,10 +32,6 @@ first_fault trace_len column (length ∷ lengths) = option_or (column_fault trac
 abbrev pub column_polynomial : {K : Type 0} → RingOps K → (K → K) → K → ℕ → List K → List K
 column_polynomial ring inverse generator height column = interpolation ring inverse (powers_from ring (power ring generator (height / length column)) 0 (length column)) column
 
--- That polynomial, and the power of a point at which it is taken.
-abbrev pub folded_column : {K : Type 0} → RingOps K → (K → K) → K → ℕ → List K → List K × ℕ
-folded_column ring inverse generator height column = (column_polynomial ring inverse generator height column, height / length column)
-
 -- A column's value at x: that of its polynomial at x ^ (height / length).
 abbrev pub periodic_value : {K : Type 0} {E : Type 0} → RingOps K → (K → K) → K → ℕ → RingOps E → (K → E) → List K → E → E
 periodic_value ring inverse generator height extension embed column x =

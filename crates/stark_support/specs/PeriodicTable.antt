@@ -1,24 +1,8 @@
 -- Tables of periodic columns' values on a domain.
-use Rattle.std.specs.Prelude.{◌≡◌, ℕ, ◌+◌, ◌*◌, ◌%◌, ◌<◌, List, map, length, Option, Some, slice_get}
-use Rattle.std.specs.declared.vec.Vec.{Vec}
+use Rattle.std.specs.Prelude.{◌≡◌, ℕ, ◌+◌, ◌*◌, ◌%◌, ◌<◌, List, length, Option, Some, slice_get}
 use Rattle.stark_support.specs.Ring.{RingOps}
 use Rattle.stark_support.specs.Coset.{TwoAdicCoset, coset_size, coset_point}
 use Rattle.stark_support.specs.Periodic.{periodic_value}
-use Rattle.stark_support.specs.Polynomial.{value}
-use Rattle.stark_support.specs.Powers.{power}
-
--- A column's polynomial, with the power of a point at which it is taken.
-abbrev pub folded_view : {F A : Type 0} → Vec F A × ℕ → List F × ℕ
-folded_view folded = (folded.0.items, folded.1)
-
--- The values at x of polynomials that are taken at its powers.
-abbrev pub folded_row : {F : Type 0} → RingOps F → F → List (List F × ℕ) → List F
-folded_row ring x folded = map (λ q. value ring q.0 (power ring x q.1)) folded
-
--- So many rows, one after the other: row r has the values at point r of the coset.
-pub record AreFoldedRows {F : Type 0} (field : RingOps F) (root : ℕ → F) (coset : TwoAdicCoset F) (folded : List (List F × ℕ)) (count : ℕ) (values : List F) : Type 0 where
-  pub number : length values ≡ count * length folded
-  pub value : (r c : ℕ) (x : F) → r < count → slice_get (folded_row field (coset_point field root coset r) folded) c ≡ Some x → slice_get values (r * length folded + c) ≡ Some x
 
 -- What a table says of column c at point r: its rows, each of `width` values, begin again after `period` of them.
 abbrev pub table_at : {F : Type 0} → List F → ℕ → ℕ → ℕ → ℕ → Option F

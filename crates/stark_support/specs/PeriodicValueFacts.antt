@@ -52,7 +52,7 @@ module _ {K : Type 0} {ring : RingOps K} (laws : RingLaws ring) (generator : K) 
   pub period_without_repeats : IsWithoutRepeats (powers_from ring (power ring generator d) 0 p)
   period_without_repeats = powers_without_repeats laws (power ring generator d) p order_of_period
 
-powers_at : {K : Type 0} (ring : RingOps K) (g : K) (m n i : ℕ) (d : K) → i < n → get_or (powers_from ring g m n) i d ≡ power ring g (m + i)
+pub powers_at : {K : Type 0} (ring : RingOps K) (g : K) (m n i : ℕ) (d : K) → i < n → get_or (powers_from ring g m n) i d ≡ power ring g (m + i)
 powers_at ring g m zero i d h = absurd (omega arith)
 powers_at ring g m (suc n) zero d h = let same : m ≡ m + 0 = omega arith in ap (power ring g) same
 powers_at ring g m (suc n) (suc i) d h = powers_at ring g (suc m) n i d (omega arith) ∙ (let moved : suc m + i ≡ m + suc i = omega arith in ap (power ring g) moved)
@@ -69,12 +69,12 @@ mapped_get f (x ∷ xs) zero a e = ap (λ t. Some (f t)) (same_Some x a e)
 mapped_get f (x ∷ xs) (suc i) a e = mapped_get f xs i a e
 
 module _ {K : Type 0} {ring : RingOps K} (laws : RingLaws ring) where
-  power_round : (h : K) (p i : ℕ) → power ring h p ≡ ring.one → power ring h i ≡ power ring h (i % p)
+  pub power_round : (h : K) (p i : ℕ) → power ring h p ≡ ring.one → power ring h i ≡ power ring h (i % p)
   power_round h p i round =
       ap (power ring h) (sym (mod-add-div i p)) ∙ power-add laws h (i % p) (p * (i / p))
       ∙ ap (ring.mul (power ring h (i % p))) (sym (power-power laws h p (i / p)) ∙ ap (λ t. power ring t (i / p)) round ∙ power-one laws (i / p)) ∙ laws.mul_one _
 
-  powers_swapped : (g : K) (i d : ℕ) → power ring (power ring g i) d ≡ power ring (power ring g d) i
+  pub powers_swapped : (g : K) (i d : ℕ) → power ring (power ring g i) d ≡ power ring (power ring g d) i
   powers_swapped g i d = power-power laws g i d ∙ (let turned : i * d ≡ d * i = omega arith in ap (power ring g) turned) ∙ sym (power-power laws g d i)
 
 module _ {K : Type 0} {E : Type 0} {ring : RingOps K} {inverse : K → K} (laws : FieldLaws ring inverse) {extension : RingOps E} {embed : K → E} (keeps : KeepsRing ring extension embed)

@@ -22,24 +22,6 @@ module _ {K : Type 0} {ring : RingOps K} (laws : RingLaws ring) (inverse : K →
   factor_append [] after s x = sym (one_mul laws _)
   factor_append (o ∷ before) after s x = ap (ring.mul _) (factor_append before after s x) ∙ sym (laws.mul_assoc _ _ _)
 
-  -- one more coset in the product, from what is computed of it
-  pub next_factor : {D : Type 0} (shift : D → K) (s x done whole z v w p next : K) (m i : ℕ) (others : List D) (o : D) → i < length others → o ≡ get_or others i o → m ≡ n
-      → ring.mul done (lagrange_factor ring ring (λ c. c) inverse n (map shift (drop i others)) s x) ≡ whole
-      → z ≡ coset_vanishing ring (λ c. c) inverse m (shift o) x → v ≡ coset_vanishing ring (λ c. c) inverse m (shift o) s → w ≡ inverse v
-      → p ≡ ring.mul z w → next ≡ ring.mul done p
-      → ring.mul next (lagrange_factor ring ring (λ c. c) inverse n (map shift (drop (i + 1) others)) s x) ≡ whole
-  next_factor shift s x done whole z v w p next m i others o within read size before ez ev ew ep en =
-      let rest : K = lagrange_factor ring ring (λ c. c) inverse n (map shift (drop (i + 1) others)) s x in
-      let at = λ (k : ℕ) (y : K). coset_vanishing ring (λ c. c) inverse k (shift o) y in
-      let product : p ≡ ring.mul (at n x) (inverse (at n s))
-      = ep ∙ ap (λ t. ring.mul t w) (ez ∙ ap (λ k. at k x) size) ∙ ap (ring.mul (at n x)) (ew ∙ ap inverse (ev ∙ ap (λ k. at k s) size)) in
-      ap (λ t. ring.mul t rest) (en ∙ ap (ring.mul done) product) ∙
-      laws.mul_assoc done (ring.mul (at n x) (inverse (at n s))) rest ∙
-      ap (λ k. ring.mul done (ring.mul (ring.mul (at n x) (inverse (at n s))) (lagrange_factor ring ring (λ c. c) inverse n (map shift (drop k others)) s x))) (add-one i) ∙
-      ap (λ q. ring.mul done (lagrange_factor ring ring (λ c. c) inverse n (map shift q) s x))
-      (ap (λ t. t ∷ drop (suc i) others) read ∙ sym (drop-cons others i o within)) ∙
-      before
-
   -- one more chunk in the sum
   pub next_chunk : {D V : Type 0} (shift : D → K) (values : V → List K) (basis : List K) (x done whole front back value both product next : K) (m i : ℕ) (cosets : List D) (chunks : List V) (d : D) (v : V)
       → m ≡ n → i < length cosets → i < length chunks → d ≡ get_or cosets i d → v ≡ get_or chunks i v

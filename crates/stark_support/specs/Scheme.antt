@@ -123,6 +123,15 @@ handed round = (round.prover_data, round.points)
 
 -- ---- the scheme
 
+-- By which call a commitment was made: it is one, with the prover's data, that the call answers of this domain, these values and
+-- their width. A scheme may commit otherwise to a trace than to what is known, and by no other call to its own choice.
+pub record CommittingCalls (S F K T : Type 0) : Type 1 where
+  pub Commits : S → TwoAdicCoset F → List F → ℕ → K × T → Type 0
+  pub CommitsPreprocessing : S → TwoAdicCoset F → List F → ℕ → K × T → Type 0
+  -- the last number is that of the chunks
+  pub CommitsQuotient : S → TwoAdicCoset F → List F → ℕ → ℕ → K × T → Type 0
+  pub Randomizes : S → TwoAdicCoset F → K × T → Type 0
+
 -- S is the scheme, F the base field, E the extension, C the challenger, K the commitment, T the prover's data, P the opening
 -- proof, X the verifier's error and Y the prover's. Domains are seen as cosets, a matrix as its values and its width.
 pub record SchemeOps (S F E C K T P X Y : Type 0) : Type 1 where
@@ -132,6 +141,8 @@ pub record SchemeOps (S F E C K T P X Y : Type 0) : Type 1 where
   pub Whole : S → Type 0
   -- The commitment, with the prover's data, stands for these matrices.
   pub Stands : S → K → T → List (CommittedMatrix F) → Type 0
+  -- This call made the commitment.
+  pub calls : CommittingCalls S F K T
   -- The claims hold, by this proof, from this state; the number is the place of the preprocessed round.
   pub Accepts : S → List (RoundClaim F E K) → P → C → Option ℕ → Type 0
   -- This error may be answered of them.

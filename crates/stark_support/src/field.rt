@@ -1,5 +1,5 @@
 //! Fields, and the algebras over them, with their laws.
-ghost use Rattle.std.specs.Prelude.{◌≡◌, ◌≢◌, ◌<◌, ◌≤◌, ℕ, true, Bool, List, map, Option, Some, None, length, refl, slice_index_or};
+ghost use Rattle.std.specs.Prelude.{◌≡◌, ◌≢◌, ◌<◌, ◌≤◌, ◌^◌, ℕ, true, Bool, List, map, Option, Some, None, length, refl, slice_index_or};
 ghost use Rattle.std.specs.List.{slice_get};
 ghost use Rattle.stark_support.specs.Ring.{RingOps, FieldLaws, IsQuarticConstant, difference};
 ghost use Rattle.stark_support.specs.Operations.{AreExact, Operations, exact_binary, exact_unary, ring_operations};
@@ -210,6 +210,9 @@ pub trait PrimeField64: Field {
         ensures { result ≡ of_number number };
 
     ghost above: { 255 < ORDER };
+
+    /// Each number below the modulus is one of 64 bits, so that the bytes of different elements differ.
+    ghost fits: { ORDER ≤ 2 ^ 64 };
 
     ghost below: { (x : Self) → number_of x < ORDER };
 

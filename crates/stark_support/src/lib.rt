@@ -6,6 +6,7 @@ mod challenger;
 mod claims;
 mod domain;
 mod field;
+mod folding;
 mod interpolation;
 mod json;
 mod matrix;
@@ -41,7 +42,7 @@ pub use matrix::{RowMajorMatrix, RowMajorMatrixView, VerticalPair, ViewPair};
 pub use packed::{PackedValue, PairedValue, packed_from_fn};
 pub use pattern::{DomainSeparator, Hierarchy, Interaction, InteractionPattern, Kind, Length};
 pub use periodic::{PeriodicColumnShapeError, PeriodicColumns};
-pub use periodic_table::{PeriodicLdeTable, periodic_lde_table};
+pub use periodic_table::PeriodicLdeTable;
 pub use polynomial::{
     all_roots_are_few, interpolation_is_unique, polynomial_value, polynomial_value_in,
     roots_are_few, vanishing_divides,

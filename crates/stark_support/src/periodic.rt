@@ -2,15 +2,12 @@
 ghost use Rattle.std.specs.Prelude.{◌≡◌, ◌≤◌, ◌%◌, ℕ, None, Some, All, IfOk, MatchResult, length, map, slice_index_or, vec_len};
 ghost use Rattle.std.specs.List.{slice_get};
 ghost use Rattle.std.specs.Int.{IsPowerOfTwo};
-ghost use Rattle.stark_support.specs.Periodic.{ColumnFits, column_fault, column_polynomial, first_fault, folded_column, periodic_value};
-ghost use Rattle.stark_support.specs.PeriodicTable.{folded_view};
-ghost use Rattle.stark_support.specs.Points.{powers_from};
+ghost use Rattle.stark_support.specs.Periodic.{ColumnFits, column_fault, first_fault, periodic_value};
 ghost use Rattle.stark_support.specs.Powers.{power};
 ghost use Rattle.stark_support.specs.TwoAdic.{HasOrder};
 
 use crate::field::{ExtensionField, Field};
-use crate::interpolation::interpolate;
-use crate::polynomial::polynomial_value_in;
+use crate::folding::value_through;
 use crate::powers::power_of;
 use std::alloc::{AllocError, Global};
 use thiserror::Error;
@@ -37,9 +34,6 @@ pub struct PeriodicColumns<'a, F> {
     pub trace_len: usize,
     pub ghost fit: { All (λ column. ColumnFits trace_len (vec_len column)) columns.now },
 }
-
-/// A column's polynomial, and the power of a point at which it is taken.
-pub(crate) type FoldedColumn<F> = (Vec<F>, usize);
 
 /// What is wrong with a column of this number and length.
 fn column_fault(trace_len: usize, column: usize, length: usize) -> Option<PeriodicColumnShapeError>
@@ -91,40 +85,8 @@ impl<'a, F> PeriodicColumns<'a, F> {
     }
 }
 
-/// The first `count` powers of `generator`, from the zeroth on.
-fn first_powers<F: Field>(alloc: Global, generator: F, count: usize) -> Result<Vec<F>, AllocError>
-    ensures { IfOk result (λ powers. powers.items ≡ powers_from F.ring generator 0 count) }
-{
-    let mut powers = Vec::new(alloc);
-    let mut power = F::ONE;
-    for _index in 0..count {
-        powers.push(power)?;
-        power = generator * power;
-    }
-    Ok(powers)
-}
-
-/// The polynomial of degree below the column's length that takes the column on the group of as many points, beside `height`
-/// rows whose domain `generator` generates.
-fn column_polynomial<F: Field>(
-    alloc: Global,
-    column: &[F],
-    generator: F,
-    height: usize,
-) -> Result<Vec<F>, AllocError>
-    requires order { HasOrder F.ring generator height }
-    requires height { IsPowerOfTwo height }
-    requires power { IsPowerOfTwo (length column.now) }
-    requires within { length column.now ≤ height }
-    ensures { IfOk result (λ p. p.items ≡ column_polynomial F.ring F.inverse_of generator height column.now) }
-{
-    let repeats = height / column.len();
-    let group = first_powers(alloc, power_of(generator, repeats as u64), column.len())?;
-    let polynomial = interpolate(alloc, &group, column)?;
-    Ok(polynomial)
-}
-
-/// The value at `point` of a column that repeats down `height` rows, whose domain `generator` generates.
+/// The value at `point` of a column that repeats down `height` rows, whose domain `generator`
+/// generates. It takes a time that grows with the column's length.
 fn periodic_value<F: Field, EF: ExtensionField<F>>(
     alloc: Global,
     column: &[F],
@@ -138,16 +100,21 @@ fn periodic_value<F: Field, EF: ExtensionField<F>>(
     requires within { length column.now ≤ height }
     ensures { IfOk result (λ value. value ≡ periodic_value F.ring F.inverse_of generator height EF.ring EF.embed column.now point) }
 {
-    let polynomial = column_polynomial(alloc, column, generator, height)?;
-    let repeats = height / column.len();
-    let folded_point = power_of(point, repeats as u64);
-    Ok(polynomial_value_in(&polynomial, folded_point))
+    let repeats = (height / column.len()) as u64;
+    let value = value_through(
+        alloc,
+        power_of(generator, repeats),
+        column,
+        power_of(point, repeats),
+    )?;
+    Ok(value)
 }
 
 impl<F: Field> PeriodicColumns<'_, F> {
     /// The columns' values at `point`, where `generator` generates the domain of the trace: of a column of length `P` beside
     /// `N` rows that is the value at `point^(N/P)` of the polynomial of degree below `P` that takes the column on the group of
     /// `P` points. So at the point of row `i` it is the column's entry `i`, counted round its end.
+    /// It takes a time that grows with the columns' lengths, and as much memory as the longest.
     pub fn values_at<EF: ExtensionField<F>>(
         &self,
         alloc: Global,
@@ -166,25 +133,5 @@ impl<F: Field> PeriodicColumns<'_, F> {
             values.push(periodic_value(alloc, column, generator, self.trace_len, point)?)?;
         }
         Ok(values)
-    }
-
-    /// For each column its polynomial, and how often it repeats: the value at a point is that of the polynomial at the
-    /// point's power by that number.
-    pub(crate) fn folded(
-        &self,
-        alloc: Global,
-        generator: F,
-    ) -> Result<Vec<FoldedColumn<F>>, AllocError>
-        requires order { HasOrder F.ring generator self.now.trace_len }
-        requires height { IsPowerOfTwo self.now.trace_len }
-        ensures { IfOk result (λ folded. map folded_view folded.items
-            ≡ map (λ column. folded_column F.ring F.inverse_of generator self.now.trace_len column.items) self.now.columns.now) }
-    {
-        let mut folded = Vec::new(alloc);
-        for column in self.columns {
-            let polynomial = column_polynomial(alloc, column, generator, self.trace_len)?;
-            folded.push((polynomial, self.trace_len / column.len()))?;
-        }
-        Ok(folded)
     }
 }

@@ -1,15 +1,6 @@
 //! Tables of periodic columns' values on a domain.
-ghost use Rattle.std.specs.Prelude.{◌≡◌, ◌≤◌, ◌<◌, ◌+◌, ◌*◌, ◌++◌, ◌==◌, ℕ, Some, IfOk, OnOk, length, map};
-ghost use Rattle.stark_support.specs.Coset.{coset_size};
-ghost use Rattle.stark_support.specs.PeriodicTable.{AreFoldedRows, HasPeriodicValues, folded_row, folded_view, table_at};
-
-use crate::domain::PolynomialSpace;
-use crate::field::{Field, TwoAdicField};
-use crate::periodic::{FoldedColumn, PeriodicColumns};
-use crate::polynomial::polynomial_value;
-use crate::powers::power_of;
-use crate::util::log2_strict_usize;
-use std::alloc::{AllocError, Global};
+ghost use Rattle.std.specs.Prelude.{◌≡◌, ◌≤◌, ◌<◌, ◌+◌, ◌*◌, ◌==◌, ℕ, Some, length};
+ghost use Rattle.stark_support.specs.PeriodicTable.{table_at};
 
 /// Values of columns at the points of a domain, a row a point. The rows begin again after `period` of them, and no more
 /// are kept.
@@ -76,55 +67,4 @@ impl<F: Copy> PeriodicLdeTable<F> {
     {
         self.values[row % self.period * self.width + column]
     }
-}
-
-/// Appends the values at a point.
-fn push_row<F: Field>(
-    values: &mut Vec<F>,
-    folded: &[FoldedColumn<F>],
-    point: F,
-) -> Result<(), AllocError>
-    ensures { OnOk result (values.new.items ≡ values.old.items ++ folded_row F.ring point (map folded_view folded.now)) }
-{
-    for (polynomial, repeats) in folded {
-        let folded_point = power_of(point, *repeats as u64);
-        values.push(polynomial_value(polynomial, folded_point))?;
-    }
-    Ok(())
-}
-
-/// The values at each point of a domain, a row a point.
-fn rows_on<D: PolynomialSpace>(
-    alloc: Global,
-    folded: &[FoldedColumn<D::Val>],
-    domain: &D,
-) -> Result<Vec<D::Val>, AllocError>
-    ensures { IfOk result (λ values. AreFoldedRows D.Val.ring D.Val.root (D.coset_of domain.now) (map folded_view folded.now) (coset_size (D.coset_of domain.now)) values.items) }
-{
-    let step = D::Val::two_adic_generator(log2_strict_usize(domain.size()));
-    let mut point = domain.first_point();
-    let mut values = Vec::new(alloc);
-    for _row in 0..domain.size() {
-        push_row(&mut values, folded, point)?;
-        point = point * step;
-    }
-    Ok(values)
-}
-
-/// The values of the columns, which repeat down a trace on `trace_domain`, at each point of `quotient_domain`. Err only
-/// where memory was refused.
-pub fn periodic_lde_table<D: PolynomialSpace>(
-    alloc: Global,
-    columns: &PeriodicColumns<'_, D::Val>,
-    trace_domain: &D,
-    quotient_domain: &D,
-) -> Result<PeriodicLdeTable<D::Val>, AllocError>
-    requires { columns.now.trace_len ≡ coset_size (D.coset_of trace_domain.now) }
-    ensures { IfOk result (λ table. HasPeriodicValues D.Val.ring D.Val.inverse_of D.Val.root (D.coset_of trace_domain.now) (D.coset_of quotient_domain.now)
-        (map (λ column. column.items) columns.now.columns.now) table.values.items table.width table.period) }
-{
-    let generator = D::Val::two_adic_generator(log2_strict_usize(trace_domain.size()));
-    let folded = columns.folded(alloc, generator)?;
-    let values = rows_on(alloc, &folded, quotient_domain)?;
-    Ok(PeriodicLdeTable::new(values, columns.columns.len(), quotient_domain.size()))
 }

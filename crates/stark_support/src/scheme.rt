@@ -14,7 +14,7 @@ use crate::field::ExtensionField;
 use crate::matrix::RowMajorMatrix;
 use crate::periodic::PeriodicColumns;
 use crate::periodic_table::PeriodicLdeTable;
-use std::alloc::{AllocError, Global};
+use std::alloc::{AllocError, AllocFailed, Global};
 use thiserror::Error;
 
 /// Why a scheme's call gave no answer.
@@ -32,6 +32,14 @@ impl<E> From<AllocError> for SchemeFault<E> {
     ghost from_gives = { λ _ fault. fault ≡ OutOfMemory };
 
     fn from(_error: AllocError) -> Self {
+        SchemeFault::OutOfMemory
+    }
+}
+
+impl<T: Drop, E> From<AllocFailed<T>> for SchemeFault<E> {
+    ghost from_gives = { λ _ fault. fault ≡ OutOfMemory };
+
+    fn from(_failed: AllocFailed<T>) -> Self {
         SchemeFault::OutOfMemory
     }
 }
@@ -79,7 +87,8 @@ where
     ) -> Result<Self::Commitment, AllocError>
         ensures { IfOk result (λ copy. copy ≡ commitment.now) };
 
-    /// Commits to a matrix whose columns take its rows on the natural domain of its height.
+    /// Commits to a matrix whose columns take its rows on the natural domain of its height (`stands`), as this call does, with
+    /// the masks that a scheme has (`made`).
     fn commit(
         &self,
         alloc: Global,
@@ -92,6 +101,7 @@ where
         ensures stands { IfOk result (λ made. (columns : List (List Self.Domain.Val)) × scheme.Stands self.now made.0 made.1 (record { domain = Self.Domain.coset_of domain; columns = columns } ∷ [])
             × ((log_height : ℕ) → 2 ^ log_height ≡ length matrix.values.items / matrix.width
             → TakesRows Self.Domain.Val.ring Self.Domain.Val.root (natural_coset Self.Domain.Val.ring log_height) matrix.width (matrix_row matrix.values.items matrix.width) columns)) }
+        ensures made { IfOk result (scheme.calls.Commits self.now (Self.Domain.coset_of domain) matrix.values.items matrix.width) }
         ensures refused { IfErr result (λ fault. IfRefused fault (scheme.RefusesCommit self.now (Self.Domain.coset_of domain) matrix.values.items matrix.width)) };
 
     /// The committed columns' values at the domain's points, a row a point; `index` is the matrix's place in the commitment.
@@ -120,7 +130,7 @@ where
     fn log_max_trace_height(&self) -> usize
         ensures { result ≡ Self.scheme.log_max_trace_height self.now };
 
-    /// Commits to a matrix that is known to prover and verifier, as `commit` does.
+    /// Commits to a matrix that is known to prover and verifier, and so wants no mask, on the terms of `commit`.
     fn commit_preprocessing(
         &self,
         alloc: Global,
@@ -133,6 +143,7 @@ where
         ensures stands { IfOk result (λ made. (columns : List (List Self.Domain.Val)) × Self.scheme.Stands self.now made.0 made.1 (record { domain = Self.Domain.coset_of domain; columns = columns } ∷ [])
             × ((log_height : ℕ) → 2 ^ log_height ≡ length matrix.values.items / matrix.width
             → TakesRows Self.Domain.Val.ring Self.Domain.Val.root (natural_coset Self.Domain.Val.ring log_height) matrix.width (matrix_row matrix.values.items matrix.width) columns)) }
+        ensures made { IfOk result (Self.scheme.calls.CommitsPreprocessing self.now (Self.Domain.coset_of domain) matrix.values.items matrix.width) }
         ensures refused { IfErr result (λ fault. IfRefused fault (Self.scheme.RefusesPreprocessing self.now (Self.Domain.coset_of domain) matrix.values.items matrix.width)) };
 
     /// Commits to a quotient's values on a domain, a row a point, in `num_chunks` chunks: chunk `i` takes the rows `i`,
@@ -152,6 +163,7 @@ where
             × Self.scheme.Stands self.now made.0 made.1 (map (committed_chunk Self.Domain.Val.ring Self.ZK) chunks)
             × ((log_parts : ℕ) → 2 ^ log_parts ≡ num_chunks
             → AreQuotientChunks Self.Domain.Val.ring Self.Domain.Val.root EF.ring EF.inverse_of EF.embed Self.ZK (Self.Domain.coset_of domain) log_parts flat.width (matrix_row flat.values.items flat.width) chunks)) }
+        ensures made { IfOk result (Self.scheme.calls.CommitsQuotient self.now (Self.Domain.coset_of domain) flat.values.items flat.width num_chunks) }
         ensures refused { IfErr result (λ fault. IfRefused fault (Self.scheme.RefusesQuotient self.now (Self.Domain.coset_of domain) flat.values.items flat.width num_chunks)) };
 
     /// Commits to as many columns as the extension has coordinates, of the scheme's own choice. There is one exactly where
@@ -166,6 +178,7 @@ where
         ensures stands { IfOk result (λ made. IfSome made (λ made. (columns : List (List Self.Domain.Val))
             × Self.scheme.Stands self.now made.0 made.1 (record { domain = Self.Domain.coset_of domain; columns = columns } ∷ [])
             × (length columns ≡ EF.DIMENSION))) }
+        ensures made { IfOk result (λ made. IfSome made (Self.scheme.calls.Randomizes self.now (Self.Domain.coset_of domain))) }
         ensures refused { IfErr result (λ fault. IfRefused fault (Self.scheme.RefusesRandomization self.now (Self.Domain.coset_of domain))) };
 
     /// As `get_evaluations_on_domain`, of what `commit_preprocessing` made; the same call where a scheme doesn't say otherwise.

@@ -7,7 +7,7 @@ ghost use Rattle.stark_support.specs.Operations.{exact};
 ghost use Rattle.std.specs.Cmp.Rules.{comparing};
 ghost use Rattle.std.proofs.Common.{rules, lit<};
 ghost use Rattle.stark_fields.specs.Residues.{residue, residue_ring, residue_inverse, eq_gives_same, residue_of_value, value_of_residue};
-ghost use Rattle.stark_fields.specs.PrimeField.{residue_laws, quartic_constant, root, two_adic_laws};
+ghost use Rattle.stark_fields.specs.PrimeField.{number_fits, residue_laws, quartic_constant, root, two_adic_laws};
 
 use crate::modulus::Modulus;
 use crate::residue::Residue;
@@ -331,6 +331,8 @@ impl<M: Modulus, Kind> PrimeField64 for Residue<M, Kind> {
     }
 
     ghost above = { M.prime.above };
+
+    ghost fits = { number_fits M.MODULUS M.prime.below };
 
     ghost below = { λ x. x.in_range };
 

@@ -106,7 +106,7 @@ pub fn evaluate_columns<F: TwoAdicField>(
 }
 
 /// A matrix that lies in a list, row after row: row `r` has the `width` values from `first + r * step` on.
-fn picked_rows<F: Copy>(
+pub(crate) fn picked_rows<F: Copy>(
     alloc: Global,
     values: &[F],
     first: usize,

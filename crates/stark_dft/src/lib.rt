@@ -10,14 +10,18 @@
 //! calculation of complex Fourier series", Mathematics of Computation 19 (1965), at a power of two. The way back takes the
 //! same steps from the last to the first. No list of roots is kept, and rows come out in the order of the points.
 //!
-//! Each call allocates what it answers and a buffer as large, and is `Err` only where memory is wanting.
+//! Each transform allocates what it answers and a buffer as large. By transforms
+//! `periodic_lde_table` makes the table of a trace's periodic columns at the points of another
+//! domain. Each call is `Err` only where memory is wanting.
 #![tactic(auto)]
 
 mod columns;
 mod passes;
+mod periodic;
 mod transform;
 
 pub use columns::{
     columns_fit, evaluate_columns, evaluate_on_coset, interpolate_columns, interpolate_on_coset,
 };
+pub use periodic::periodic_lde_table;
 pub use transform::{evaluate_rows, interpolate_rows};

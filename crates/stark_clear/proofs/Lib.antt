@@ -7,4 +7,6 @@ pub mod MaskedColumns
 pub mod MaskedQuotient
 pub mod MaskedRows
 pub mod PartWeights
+pub mod PowerSums
 pub mod Ranges
+pub mod Repeated

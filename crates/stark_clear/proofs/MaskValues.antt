@@ -2,7 +2,7 @@
 use Rattle.std.proofs.Common.{◌≡◌, ◌≢◌, ◌∙◌, ℕ, zero, suc, List, [], ◌∷◌, ◌++◌, length, map, replicate, refl, sym, ap}
 use Rattle.std.proofs.lemmas.List.{length-map, map-append}
 use Rattle.stark_support.specs.Ring.{RingOps, RingLaws, FieldLaws, difference}
-use Rattle.stark_support.specs.RingSolver.{solve, nothing, unit, ◌⊕◌, ◌⊖◌, ◌⊗◌, v0, v1, v2, v3, v4}
+use Rattle.stark_support.specs.RingSolver.{solve, nothing, unit, ◌⊕◌, ◌⊖◌, ◌⊗◌, v0, v1, v2, v3}
 use Rattle.stark_support.specs.FieldFacts.{cancel_left}
 use Rattle.stark_support.specs.KeepsRing.{KeepsRing, kept_power}
 use Rattle.stark_support.specs.Powers.{power}
@@ -10,6 +10,7 @@ use Rattle.stark_support.specs.PowerFacts.{power-mul}
 use Rattle.stark_support.specs.Polynomial.{polynomial_opposite, polynomial_ring, polynomial_sum, scaled, value, value_over}
 use Rattle.stark_support.specs.PolynomialFacts.{value_of_difference, value_of_scaled}
 use Rattle.stark_support.specs.Coset.{TwoAdicCoset, coset_size, coset_vanishing}
+use Rattle.stark_clear.proofs.PowerSums.{value_of_append}
 use Rattle.stark_clear.specs.Masks.{less_all, masked_polynomial, vanishing_scale}
 
 -- the sum of a list
@@ -18,19 +19,12 @@ total ring [] = ring.zero
 total ring (v ∷ vs) = ring.add v (total ring vs)
 
 module _ {K : Type 0} {ring : RingOps K} (laws : RingLaws ring) where
-  value_of_append : (p q : List K) (x : K) → value ring (p ++ q) x ≡ ring.add (value ring p x) (ring.mul (power ring x (length p)) (value ring q x))
-  unfolding power
-  value_of_append [] q x = solve laws (value ring q x ∷ []) v0 (nothing ⊕ unit ⊗ v0) refl
-  value_of_append (c ∷ p) q x =
-      ap (λ w. ring.add c (ring.mul w x)) (value_of_append p q x) ∙
-      solve laws (c ∷ x ∷ value ring p x ∷ power ring x (length p) ∷ value ring q x ∷ []) (v0 ⊕ (v2 ⊕ v3 ⊗ v4) ⊗ v1) (v0 ⊕ v2 ⊗ v1 ⊕ v1 ⊗ v3 ⊗ v4) refl
-
   -- plain + mask * (scale x ^ n - 1)
   pub masked_value : (scale : K) (n : ℕ) (plain mask : List K) (x : K) → length plain ≡ n
       → value ring (masked_polynomial ring scale plain mask) x ≡ ring.add (value ring plain x) (ring.mul (value ring mask x) (difference ring (ring.mul (power ring x n) scale) ring.one))
   masked_value scale n plain mask x number =
       value_of_difference laws (plain ++ scaled ring scale mask) mask x ∙
-      ap (λ w. difference ring w (value ring mask x)) (value_of_append plain (scaled ring scale mask) x) ∙
+      ap (λ w. difference ring w (value ring mask x)) (value_of_append laws (λ c. c) x plain (scaled ring scale mask)) ∙
       ap (λ w. difference ring (ring.add (value ring plain x) (ring.mul (power ring x (length plain)) w)) (value ring mask x)) (value_of_scaled laws scale mask x) ∙
       ap (λ k. difference ring (ring.add (value ring plain x) (ring.mul (power ring x k) (ring.mul scale (value ring mask x)))) (value ring mask x)) number ∙
       solve laws (value ring plain x ∷ power ring x n ∷ scale ∷ value ring mask x ∷ []) ((v0 ⊕ v1 ⊗ (v2 ⊗ v3)) ⊖ v3) (v0 ⊕ v3 ⊗ (v1 ⊗ v2 ⊖ unit)) refl

@@ -7,7 +7,7 @@ use Rattle.stark_support.specs.Ring.{RingOps}
 use Rattle.stark_support.specs.Coset.{coset_size}
 use Rattle.stark_support.specs.Claims.{RoundClaim}
 use Rattle.stark_support.specs.Polynomial.{HasDegreeBelow}
-use Rattle.stark_support.specs.Scheme.{CommittedMatrix, HasDegreesBelowSize, OpenedRound, RoundStands, SchemeLaws, handed, row_at, true_claim, true_matrices, true_matrix_claims, true_values}
+use Rattle.stark_support.specs.Scheme.{CommittedMatrix, CommittingCalls, HasDegreesBelowSize, OpenedRound, RoundStands, SchemeLaws, handed, row_at, true_claim, true_matrices, true_matrix_claims, true_values}
 use Rattle.stark_clear.specs.ClearClaims.{ClaimsAreTrue, ClaimsFault, HasValue, HasValues, IsFirstFault, MatrixHasShape, MatrixIsTrue, PlaceByPlace, RoundHasShape, RoundIsTrue}
 use Rattle.stark_clear.specs.ClearScheme.{IsFull, RefusesClaims, clear_scheme, columns_of}
 use Rattle.stark_clear.specs.Stops.{StopsAt}
@@ -88,9 +88,9 @@ module _ {F E : Type 0} (ring : RingOps E) (embed : F → E) where
   opened_are_true (m ∷ matrices) [] = refl
   opened_are_true (m ∷ matrices) (xs ∷ points) = ap (λ t. map (row_at ring embed m.columns) xs ∷ t) (opened_are_true matrices points)
 
-  module _ {S : Type 0} (C : Type 0) (adicity : ℕ) (is_zk : Bool) (stops : S → Option ClearCall) (s : S) where
+  module _ {S : Type 0} (C : Type 0) (adicity : ℕ) (stops : S → Option ClearCall) (calls : CommittingCalls S F (List (List (List F))) (List (List (List F)))) (s : S) where
     -- What is claimed of rounds that stand is true.
-    pub true_claims : (made : List (OpenedRound F E (List (List (List F))) (List (List (List F))))) → AllByRecursion (RoundStands (clear_scheme {C = C} ring embed adicity is_zk stops) s) made → ClaimsAreTrue ring embed (map (true_claim ring embed) made)
+    pub true_claims : (made : List (OpenedRound F E (List (List (List F))) (List (List (List F))))) → AllByRecursion (RoundStands (clear_scheme {C = C} ring embed adicity stops calls) s) made → ClaimsAreTrue ring embed (map (true_claim ring embed) made)
     true_claims [] all = (tt, tt)
     true_claims (round ∷ made) all =
         let rest = true_claims made all.1 in
@@ -100,7 +100,7 @@ module _ {F E : Type 0} (ring : RingOps E) (embed : F → E) where
         )
 
     -- What is opened of rounds that stand are the true values.
-    pub true_openings : (made : List (OpenedRound F E (List (List (List F))) (List (List (List F))))) → AllByRecursion (RoundStands (clear_scheme {C = C} ring embed adicity is_zk stops) s) made
+    pub true_openings : (made : List (OpenedRound F E (List (List (List F))) (List (List (List F))))) → AllByRecursion (RoundStands (clear_scheme {C = C} ring embed adicity stops calls) s) made
         → map (opened_round ring embed) (map handed made) ≡ map (true_values ring embed) made
     true_openings [] all = refl
     true_openings (round ∷ made) all =
@@ -108,9 +108,9 @@ module _ {F E : Type 0} (ring : RingOps E) (embed : F → E) where
         ∙ ap (λ t. t ∷ map (opened_round ring embed) (map handed made)) (opened_are_true round.matrices round.points)
         ∙ ap (λ t. true_values ring embed round ∷ t) (true_openings made all.1)
 
-pub clear_laws : {S F E C : Type 0} (ring : RingOps E) (embed : F → E) (adicity : ℕ) (is_zk : Bool) (stops : S → Option ClearCall) → adicity < 64
-    → SchemeLaws (clear_scheme {S = S} {C = C} ring embed adicity is_zk stops)
-clear_laws ring embed adicity is_zk stops bound = record {
+pub clear_laws : {S F E C : Type 0} (ring : RingOps E) (embed : F → E) (adicity : ℕ) (stops : S → Option ClearCall) (calls : CommittingCalls S F (List (List (List F))) (List (List (List F)))) → adicity < 64
+    → SchemeLaws (clear_scheme {S = S} {C = C} ring embed adicity stops calls)
+clear_laws ring embed adicity stops calls bound = record {
   excludes = λ s claims proof state index error accepted refused. accepted_or_refused ring embed (stops s) claims error accepted refused;
   degrees = λ s commitment prover_data matrices stands. full_is_within matrices stands.2;
   least_height = λ s. omega arith;

@@ -4,7 +4,7 @@ use Rattle.std.specs.List.{AllByRecursion}
 use Rattle.stark_support.specs.Ring.{RingOps}
 use Rattle.stark_support.specs.Coset.{coset_size}
 use Rattle.stark_support.specs.Claims.{RoundClaim}
-use Rattle.stark_support.specs.Scheme.{CommittedMatrix, SchemeOps}
+use Rattle.stark_support.specs.Scheme.{CommittedMatrix, CommittingCalls, SchemeOps}
 use Rattle.stark_clear.specs.ClearClaims.{ClaimsAreTrue, ClaimsFault}
 use Rattle.stark_clear.specs.Stops.{StopsAt}
 use Rattle.stark_clear.specs.declared.clear.call.ClearCall.{ClearCall}
@@ -37,18 +37,20 @@ RefusesClaims ring embed stops claims (Shape round) = (StopsAt stops Verify → 
 RefusesClaims ring embed stops claims (Value round) = (StopsAt stops Verify → ⊥) × ClaimsFault ring embed claims (Value round)
 
 -- The commitment and the prover's data are the matrices' columns. Of the prover's calls one that the scheme stops at may answer an error, of which there is one
--- alone; a scheme that masks nothing has no random commitment to refuse. One that stops at verifying accepts nothing, and is not whole.
-abbrev pub clear_scheme : {S F E C : Type 0} → RingOps E → (F → E) → ℕ → Bool → (S → Option ClearCall) → SchemeOps S F E C (List (List (List F))) (List (List (List F))) ClearProof ClearError ClearProverError
-clear_scheme ring embed adicity is_zk stops = record {
+-- alone. One that stops at verifying accepts nothing, and is not whole.
+abbrev pub clear_scheme : {S F E C : Type 0} → RingOps E → (F → E) → ℕ → (S → Option ClearCall) → CommittingCalls S F (List (List (List F))) (List (List (List F)))
+    → SchemeOps S F E C (List (List (List F))) (List (List (List F))) ClearProof ClearError ClearProverError
+clear_scheme ring embed adicity stops calls = record {
   log_min_trace_height = λ s. 0;
   log_max_trace_height = λ s. adicity;
   Whole = λ s. StopsAt (stops s) Verify → ⊥;
   Stands = λ s commitment prover_data matrices. (commitment ≡ columns_of matrices) × (prover_data ≡ columns_of matrices) × AllByRecursion IsFull matrices;
+  calls = calls;
   Accepts = λ s claims proof state index. ClaimsAreTrue ring embed claims × (StopsAt (stops s) Verify → ⊥);
   Refuses = λ s claims proof state index error. RefusesClaims ring embed (stops s) claims error;
   RefusesCommit = λ s domain values width error. StopsAt (stops s) Commit;
   RefusesPreprocessing = λ s domain values width error. StopsAt (stops s) CommitPreprocessing;
   RefusesQuotient = λ s domain values width chunks error. StopsAt (stops s) CommitQuotient;
-  RefusesRandomization = λ s domain error. (is_zk ≡ true) × StopsAt (stops s) Randomization;
+  RefusesRandomization = λ s domain error. StopsAt (stops s) Randomization;
   RefusesOpening = λ s rounds state index error. StopsAt (stops s) Open;
 }

@@ -11,7 +11,7 @@ use Rattle.stark_support.specs.PointFacts.{powers_length}
 use Rattle.stark_support.specs.Powers.{power}
 use Rattle.stark_clear.specs.ColumnPoints.{points_of}
 
-power_at : {K : Type 0} (ring : RingOps K) (g : K) (m n r : ℕ) → r < n → slice_get (powers_from ring g m n) r ≡ Some (power ring g (m + r))
+pub power_at : {K : Type 0} (ring : RingOps K) (g : K) (m n r : ℕ) → r < n → slice_get (powers_from ring g m n) r ≡ Some (power ring g (m + r))
 power_at ring g m zero r h = absurd (omega arith)
 power_at ring g m (suc n) zero h = ap (λ k. Some (power ring g k)) (omega arith)
 power_at ring g m (suc n) (suc r) h = power_at ring g (suc m) n r (omega arith) ∙ ap (λ k. Some (power ring g k)) (omega arith)

@@ -7,6 +7,7 @@ mod commit;
 mod json;
 mod opening;
 mod pcs;
+mod powers;
 
 pub use call::ClearCall;
 pub use check::ClearError;

@@ -6,10 +6,10 @@ ghost use Rattle.stark_support.specs.Scheme.{row_at};
 ghost use Rattle.stark_clear.specs.ClearClaims.{ClaimsAreTrue, ClaimsFault, FindsFirstFault, HasValue, HasValues, MatrixHasShape, PlaceByPlace, RoundHasShape, RoundIsTrue, MatrixIsTrue};
 ghost use Rattle.stark_clear.specs.Columns.{column_list, columns_list};
 
+use crate::clear::powers::{column_value, powers_or_none};
 use stark_bench::ClearCommitment;
-use stark_support::{
-    ExtensionField, Field, MatrixClaim, OpeningClaim, PolynomialSpace, polynomial_value_in,
-};
+use stark_support::{ExtensionField, Field, MatrixClaim, OpeningClaim, PolynomialSpace};
+use std::alloc::Global;
 use thiserror::Error;
 
 /// Why the scheme in the clear refuses claims. Rounds count from 0, in the order of the claims.
@@ -70,14 +70,20 @@ fn round_has_shape<D: PolynomialSpace, EF>(
     true
 }
 
-fn has_values<F: Field, EF: ExtensionField<F>>(columns: &[Vec<F>], point: EF, values: &[EF]) -> bool
+fn has_values<F: Field, EF: ExtensionField<F>>(
+    alloc: Global,
+    columns: &[Vec<F>],
+    point: EF,
+    values: &[EF],
+) -> bool
     ensures { IsTrue result ↔ PlaceByPlace (HasValue EF.ring EF.embed point) (map column_list columns.now) (map (λ v. v) values.now) }
 {
     if values.len() != columns.len() {
         return false;
     }
+    let powers = powers_or_none::<F, EF>(alloc, columns, point);
     for i in 0..columns.len() {
-        if values[i] != polynomial_value_in::<F, EF>(&columns[i], point) {
+        if values[i] != column_value::<F, EF>(&columns[i], point, &powers) {
             return false;
         }
     }
@@ -85,13 +91,14 @@ fn has_values<F: Field, EF: ExtensionField<F>>(columns: &[Vec<F>], point: EF, va
 }
 
 fn matrix_is_true<F: Field, EF: ExtensionField<F>>(
+    alloc: Global,
     columns: &[Vec<F>],
     points: &[(EF, &[EF])],
 ) -> bool
     ensures { IsTrue result ↔ AllByRecursion (HasValues EF.ring EF.embed (map column_list columns.now)) (map point_view points.now) }
 {
     for point in points {
-        if !has_values::<F, EF>(columns, point.0, point.1) {
+        if !has_values::<F, EF>(alloc, columns, point.0, point.1) {
             return false;
         }
     }
@@ -99,6 +106,7 @@ fn matrix_is_true<F: Field, EF: ExtensionField<F>>(
 }
 
 fn round_is_true<D: PolynomialSpace, EF: ExtensionField<D::Val>>(
+    alloc: Global,
     matrices: &[Vec<Vec<D::Val>>],
     claims: &[MatrixClaim<'_, EF, D>],
 ) -> bool
@@ -109,7 +117,7 @@ fn round_is_true<D: PolynomialSpace, EF: ExtensionField<D::Val>>(
     }
     for i in 0..matrices.len() {
         let claim = &claims[i];
-        if !matrix_is_true::<D::Val, EF>(&matrices[i], &claim.1) {
+        if !matrix_is_true::<D::Val, EF>(alloc, &matrices[i], &claim.1) {
             return false;
         }
     }
@@ -132,6 +140,7 @@ fn first_wrong_shape<D: PolynomialSpace, EF>(
 }
 
 fn first_wrong_value<D: PolynomialSpace, EF: ExtensionField<D::Val>>(
+    alloc: Global,
     claims: &[OpeningClaim<'_, EF, ClearCommitment<D::Val>, D>],
 ) -> Option<usize>
     ensures { FindsFirstFault (RoundIsTrue EF.ring EF.embed) (map (claim_view D.coset_of) claims.now) result }
@@ -139,16 +148,18 @@ fn first_wrong_value<D: PolynomialSpace, EF: ExtensionField<D::Val>>(
     for i in 0..claims.len() {
         let claim = &claims[i];
         let commitment = claim.0;
-        if !round_is_true::<D, EF>(commitment.matrices(), &claim.1) {
+        if !round_is_true::<D, EF>(alloc, commitment.matrices(), &claim.1) {
             return Some(i);
         }
     }
     None
 }
 
-/// Whether all claims are true: each commitment has as many matrices as are claimed, each column as many coefficients as
-/// the claimed domain has points, and each claimed value is the column's.
+/// Whether all claims are true: each commitment has as many matrices as are claimed, each column
+/// as many coefficients as the claimed domain has points, and each claimed value is the column's.
+/// Where memory is refused, it takes longer.
 pub fn check_claims<D: PolynomialSpace, EF: ExtensionField<D::Val>>(
+    alloc: Global,
     claims: &[OpeningClaim<'_, EF, ClearCommitment<D::Val>, D>],
 ) -> Result<(), ClearError>
     ensures accepted { IfOk result (λ _. ClaimsAreTrue EF.ring EF.embed (map (claim_view D.coset_of) claims.now)) }
@@ -157,7 +168,7 @@ pub fn check_claims<D: PolynomialSpace, EF: ExtensionField<D::Val>>(
     if let Some(round) = first_wrong_shape::<D, EF>(claims) {
         return Err(ClearError::Shape { round });
     }
-    if let Some(round) = first_wrong_value::<D, EF>(claims) {
+    if let Some(round) = first_wrong_value::<D, EF>(alloc, claims) {
         return Err(ClearError::Value { round });
     }
     Ok(())

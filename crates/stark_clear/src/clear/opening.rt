@@ -7,11 +7,12 @@ ghost use Rattle.stark_clear.specs.Columns.{column_list, columns_list};
 ghost use Rattle.stark_clear.specs.Opened.{opened_round, matrices_at};
 
 use crate::clear::columns::domain_points;
+use crate::clear::powers::{column_value, point_powers};
 use stark_bench::{ClearCommitment, Coset};
 use stark_dft::{columns_fit, evaluate_columns};
 use stark_support::{
     DomainShape, ExtensionField, Field, OpenedRounds, OpeningRound, PolynomialSpace,
-    RowMajorMatrix, TwoAdicField, polynomial_value, polynomial_value_in,
+    RowMajorMatrix, TwoAdicField, polynomial_value,
 };
 use std::alloc::{AllocError, Global};
 
@@ -23,9 +24,10 @@ fn row_at<F: Field, EF: ExtensionField<F>>(
 ) -> Result<Vec<EF>, AllocError>
     ensures { IfOk result (λ row. row.items ≡ row_at EF.ring EF.embed (map column_list columns.now) point) }
 {
+    let powers = point_powers::<F, EF>(alloc, columns, point)?;
     let mut row = Vec::new(alloc);
     for column in columns {
-        row.push(polynomial_value_in::<F, EF>(column, point))?;
+        row.push(column_value::<F, EF>(column, point, &powers))?;
     }
     Ok(row)
 }

@@ -1,5 +1,5 @@
 //! The scheme in the clear.
-ghost use Rattle.std.specs.Prelude.{◌≡◌, ◌≢◌, ◌≤◌, ◌↔◌, ◌/◌, ◌*◌, ◌^◌, IsTrue, false, map, length, Result, IfErr, IfOk};
+ghost use Rattle.std.specs.Prelude.{◌≡◌, ◌≢◌, ◌≤◌, ◌↔◌, ◌/◌, ◌*◌, ◌^◌, IsTrue, None, false, map, length, Result, IfErr, IfOk};
 ghost use Rattle.std.specs.Int.{IsPowerOfTwo};
 ghost use Rattle.std.specs.List.{AllByRecursion};
 ghost use Rattle.stark_support.specs.Claims.{IfRefused, claim_view, opened_view, round_view};
@@ -8,6 +8,7 @@ ghost use Rattle.stark_support.specs.PeriodicTable.{HasPeriodicValues};
 ghost use Rattle.stark_support.specs.Scheme.{zk_bits};
 ghost use Rattle.stark_support.specs.Polynomial.{value};
 ghost use Rattle.stark_clear.specs.ClearFacts.{clear_laws};
+ghost use Rattle.stark_clear.specs.ClearCalls.{clear_calls};
 ghost use Rattle.stark_clear.specs.ClearScheme.{clear_pcs, clear_scheme, stopping_pcs};
 ghost use Rattle.stark_clear.specs.ColumnPoints.{IsPolynomialBelow};
 ghost use Rattle.stark_clear.specs.Stops.{StopsAt};
@@ -18,10 +19,11 @@ use crate::clear::check::{ClearError, check_claims};
 use crate::clear::commit::{chunks_of, columns_of, committed, committed_alone, copied};
 use crate::clear::opening::{open_rounds, rows_on};
 use stark_bench::{ClearCommitment, Coset};
+use stark_dft::periodic_lde_table;
 use stark_support::{
     ExtensionField, OpenedRounds, OpeningClaim, OpeningRound, Pcs, PeriodicColumns,
     PeriodicLdeTable, PolynomialSpace, RowMajorMatrix, SchemeFault, TwoAdicField,
-    UnivariateStarkPcs, log2_strict_usize, periodic_lde_table,
+    UnivariateStarkPcs, log2_strict_usize,
 };
 use std::alloc::{AllocError, Global};
 use std::marker::PhantomData;
@@ -42,7 +44,8 @@ pub struct ClearProof;
 /// A scheme that commits to columns by listing their coefficients, so that it hides nothing and needs no proof of an opening.
 /// Each committed column has as many coefficients as its domain has points. It commits to traces of 1 to `2^TWO_ADICITY` rows,
 /// by transforms in a time of n log n, and leaves the challenger alone. Verifying is Ok exactly where all claims are true of
-/// the listed columns; else it names the first round at fault.
+/// the listed columns; else it names the first round at fault. It is never refused for want of
+/// memory: it takes some for the powers of a point, and where that is refused it takes longer.
 /// It may be made to stop at one call, which then refuses, for tests of the layers above.
 #[derive(Clone, Debug, Drop)]
 pub struct ClearPcs<F> {
@@ -68,7 +71,7 @@ impl<F> ClearPcs<F> {
     }
 
     /// The scheme that stops at this call: the call refuses with `Stopped` whatever it is handed, and each other call
-    /// answers as ever. There is no random commitment, so that stopping at `Randomization` changes no answer.
+    /// answers as ever.
     pub fn stopping_at(call: ClearCall) -> ClearPcs<F>
         ensures { result ≡ stopping_pcs call }
     {
@@ -114,7 +117,7 @@ impl<F: TwoAdicField, EF: ExtensionField<F>, C> Pcs<EF, C> for ClearPcs<F> {
 
     ghost ZK = { false };
 
-    ghost scheme = { clear_scheme EF.ring EF.embed F.TWO_ADICITY false (λ s. s.stops_at) };
+    ghost scheme = { clear_scheme EF.ring EF.embed F.TWO_ADICITY (λ s. s.stops_at) (clear_calls F.ring F.root) };
 
     const ZK: bool = false;
 
@@ -137,7 +140,7 @@ impl<F: TwoAdicField, EF: ExtensionField<F>, C> Pcs<EF, C> for ClearPcs<F> {
         requires room { length matrix.values.items / matrix.width ≤ coset_size (⟦<Coset<F> as PolynomialSpace>⟧.coset_of domain) }
         ensures stands { IfOk result (CommitsRows ⟦<ClearPcs<F> as Pcs<EF, C>>⟧.scheme F.ring F.root self.now (⟦<Coset<F> as PolynomialSpace>⟧.coset_of domain) matrix.values.items matrix.width) }
         ensures refused { IfErr result (λ fault. IfRefused fault (⟦<ClearPcs<F> as Pcs<EF, C>>⟧.scheme.RefusesCommit self.now (⟦<Coset<F> as PolynomialSpace>⟧.coset_of domain) matrix.values.items matrix.width)) }
-        ensures plain { IfOk result (λ made. AllByRecursion (AllByRecursion (λ column. IsPolynomialBelow F.ring (length matrix.values.items / matrix.width) (value F.ring column))) made.0) }
+        ensures made { IfOk result (⟦<ClearPcs<F> as Pcs<EF, C>>⟧.scheme.calls.Commits self.now (⟦<Coset<F> as PolynomialSpace>⟧.coset_of domain) matrix.values.items matrix.width) }
         ensures stops { StopsAt self.now.stops_at ClearCall.Commit → result ≡ Result.Err (SchemeFault.Refused ClearProverError.Stopped) }
     {
         self.pass(ClearCall::Commit, ClearProverError::Stopped)?;
@@ -178,7 +181,7 @@ impl<F: TwoAdicField, EF: ExtensionField<F>, C> UnivariateStarkPcs<EF, C> for Cl
         requires room { length matrix.values.items / matrix.width ≤ coset_size (⟦<Coset<F> as PolynomialSpace>⟧.coset_of domain) }
         ensures stands { IfOk result (CommitsRows ⟦<ClearPcs<F> as Pcs<EF, C>>⟧.scheme F.ring F.root self.now (⟦<Coset<F> as PolynomialSpace>⟧.coset_of domain) matrix.values.items matrix.width) }
         ensures refused { IfErr result (λ fault. IfRefused fault (⟦<ClearPcs<F> as Pcs<EF, C>>⟧.scheme.RefusesPreprocessing self.now (⟦<Coset<F> as PolynomialSpace>⟧.coset_of domain) matrix.values.items matrix.width)) }
-        ensures plain { IfOk result (λ made. AllByRecursion (AllByRecursion (λ column. IsPolynomialBelow F.ring (length matrix.values.items / matrix.width) (value F.ring column))) made.0) }
+        ensures made { IfOk result (⟦<ClearPcs<F> as Pcs<EF, C>>⟧.scheme.calls.CommitsPreprocessing self.now (⟦<Coset<F> as PolynomialSpace>⟧.coset_of domain) matrix.values.items matrix.width) }
         ensures stops { StopsAt self.now.stops_at ClearCall.CommitPreprocessing → result ≡ Result.Err (SchemeFault.Refused ClearProverError.Stopped) }
     {
         self.pass(ClearCall::CommitPreprocessing, ClearProverError::Stopped)?;
@@ -199,6 +202,7 @@ impl<F: TwoAdicField, EF: ExtensionField<F>, C> UnivariateStarkPcs<EF, C> for Cl
         requires parts { num_chunks ≤ coset_size (⟦<Coset<F> as PolynomialSpace>⟧.coset_of domain) }
         requires within { coset_size (⟦<Coset<F> as PolynomialSpace>⟧.coset_of domain) * 2 ^ zk_bits false ≤ num_chunks * 2 ^ F.TWO_ADICITY }
         ensures stands { IfOk result (CommitsChunks ⟦<ClearPcs<F> as Pcs<EF, C>>⟧.scheme F.ring F.root EF.ring EF.inverse_of EF.embed false self.now (⟦<Coset<F> as PolynomialSpace>⟧.coset_of domain) flat.values.items flat.width num_chunks) }
+        ensures made { IfOk result (⟦<ClearPcs<F> as Pcs<EF, C>>⟧.scheme.calls.CommitsQuotient self.now (⟦<Coset<F> as PolynomialSpace>⟧.coset_of domain) flat.values.items flat.width num_chunks) }
         ensures refused { IfErr result (λ fault. IfRefused fault (⟦<ClearPcs<F> as Pcs<EF, C>>⟧.scheme.RefusesQuotient self.now (⟦<Coset<F> as PolynomialSpace>⟧.coset_of domain) flat.values.items flat.width num_chunks)) }
         ensures stops { StopsAt self.now.stops_at ClearCall.CommitQuotient → result ≡ Result.Err (SchemeFault.Refused ClearProverError.Stopped) }
     {
@@ -212,7 +216,12 @@ impl<F: TwoAdicField, EF: ExtensionField<F>, C> UnivariateStarkPcs<EF, C> for Cl
         &self,
         _alloc: Global,
         _domain: Coset<F>,
-    ) -> Result<Option<(ClearCommitment<F>, ClearCommitment<F>)>, SchemeFault<ClearProverError>> {
+    ) -> Result<Option<(ClearCommitment<F>, ClearCommitment<F>)>, SchemeFault<ClearProverError>>
+        ensures none { IfOk result (λ made. made ≡ None) }
+        ensures refused { IfErr result (λ fault. IfRefused fault (⟦<ClearPcs<F> as Pcs<EF, C>>⟧.scheme.RefusesRandomization self.now (⟦<Coset<F> as PolynomialSpace>⟧.coset_of _domain))) }
+        ensures stops { StopsAt self.now.stops_at ClearCall.Randomization → result ≡ Result.Err (SchemeFault.Refused ClearProverError.Stopped) }
+    {
+        self.pass(ClearCall::Randomization, ClearProverError::Stopped)?;
         Ok(None)
     }
 
@@ -250,7 +259,7 @@ impl<F: TwoAdicField, EF: ExtensionField<F>, C> UnivariateStarkPcs<EF, C> for Cl
 
     fn verify_with_preprocessing(
         &self,
-        _alloc: Global,
+        alloc: Global,
         claims: Vec<OpeningClaim<'_, EF, ClearCommitment<F>, Coset<F>>>,
         _proof: &ClearProof,
         _challenger: &mut C,
@@ -262,11 +271,11 @@ impl<F: TwoAdicField, EF: ExtensionField<F>, C> UnivariateStarkPcs<EF, C> for Cl
         ensures stops { StopsAt self.now.stops_at ClearCall.Verify → result ≡ Result.Err (SchemeFault.Refused ClearError.Stopped) }
     {
         self.pass(ClearCall::Verify, ClearError::Stopped)?;
-        match check_claims::<Coset<F>, EF>(&claims) {
+        match check_claims::<Coset<F>, EF>(alloc, &claims) {
             Ok(()) => Ok(()),
             Err(error) => Err(SchemeFault::Refused(error)),
         }
     }
 
-    ghost scheme_laws = { clear_laws EF.ring EF.embed F.TWO_ADICITY false (λ s. s.stops_at) F.two_adic.bounded };
+    ghost scheme_laws = { clear_laws EF.ring EF.embed F.TWO_ADICITY (λ s. s.stops_at) (clear_calls F.ring F.root) F.two_adic.bounded };
 }

@@ -7,6 +7,7 @@ ghost use Rattle.stark_support.specs.Coset.{coset_size};
 ghost use Rattle.stark_support.specs.Scheme.{matrix_row, zk_bits};
 ghost use Rattle.stark_support.specs.Polynomial.{value};
 ghost use Rattle.stark_clear.specs.ClearFacts.{clear_laws};
+ghost use Rattle.stark_clear.specs.ClearCalls.{masked_calls};
 ghost use Rattle.stark_clear.specs.ClearScheme.{clear_scheme};
 ghost use Rattle.stark_clear.specs.ColumnPoints.{IsPolynomialBelow};
 ghost use Rattle.stark_clear.specs.Stops.{StopsAt};
@@ -90,7 +91,7 @@ impl<F: TwoAdicField, EF: ExtensionField<F>, C> Pcs<EF, C> for MaskedClearPcs<F>
 
     ghost ZK = { true };
 
-    ghost scheme = { clear_scheme EF.ring EF.embed F.TWO_ADICITY true (λ s. s.stops_at) };
+    ghost scheme = { clear_scheme EF.ring EF.embed F.TWO_ADICITY (λ s. s.stops_at) (masked_calls F.ring F.inverse_of F.root EF.DIMENSION) };
 
     const ZK: bool = true;
 
@@ -112,8 +113,7 @@ impl<F: TwoAdicField, EF: ExtensionField<F>, C> Pcs<EF, C> for MaskedClearPcs<F>
         requires room { length matrix.values.items / matrix.width ≤ coset_size (⟦<Coset<F> as PolynomialSpace>⟧.coset_of domain) }
         ensures stands { IfOk result (CommitsRows ⟦<MaskedClearPcs<F> as Pcs<EF, C>>⟧.scheme F.ring F.root self.now (⟦<Coset<F> as PolynomialSpace>⟧.coset_of domain) matrix.values.items matrix.width) }
         ensures refused { IfErr result (λ fault. IfRefused fault (⟦<MaskedClearPcs<F> as Pcs<EF, C>>⟧.scheme.RefusesCommit self.now (⟦<Coset<F> as PolynomialSpace>⟧.coset_of domain) matrix.values.items matrix.width)) }
-        ensures masked { IfOk result (λ made. AllByRecursion (AreMaskedBy F.ring (length matrix.values.items / matrix.width)
-            (mask_lists F.ring self.now.masks 0 matrix.width (coset_size (⟦<Coset<F> as PolynomialSpace>⟧.coset_of domain) - length matrix.values.items / matrix.width))) made.0) }
+        ensures made { IfOk result (⟦<MaskedClearPcs<F> as Pcs<EF, C>>⟧.scheme.calls.Commits self.now (⟦<Coset<F> as PolynomialSpace>⟧.coset_of domain) matrix.values.items matrix.width) }
         ensures stops { StopsAt self.now.stops_at ClearCall.Commit → result ≡ Result.Err (SchemeFault.Refused ClearProverError.Stopped) }
     {
         self.plain
@@ -160,7 +160,7 @@ impl<F: TwoAdicField, EF: ExtensionField<F>, C> UnivariateStarkPcs<EF, C> for Ma
         requires room { length matrix.values.items / matrix.width ≤ coset_size (⟦<Coset<F> as PolynomialSpace>⟧.coset_of domain) }
         ensures stands { IfOk result (CommitsRows ⟦<MaskedClearPcs<F> as Pcs<EF, C>>⟧.scheme F.ring F.root self.now (⟦<Coset<F> as PolynomialSpace>⟧.coset_of domain) matrix.values.items matrix.width) }
         ensures refused { IfErr result (λ fault. IfRefused fault (⟦<MaskedClearPcs<F> as Pcs<EF, C>>⟧.scheme.RefusesPreprocessing self.now (⟦<Coset<F> as PolynomialSpace>⟧.coset_of domain) matrix.values.items matrix.width)) }
-        ensures plain { IfOk result (λ made. AllByRecursion (AllByRecursion (λ column. IsPolynomialBelow F.ring (length matrix.values.items / matrix.width) (value F.ring column))) made.0) }
+        ensures made { IfOk result (⟦<MaskedClearPcs<F> as Pcs<EF, C>>⟧.scheme.calls.CommitsPreprocessing self.now (⟦<Coset<F> as PolynomialSpace>⟧.coset_of domain) matrix.values.items matrix.width) }
         ensures stops { StopsAt self.now.stops_at ClearCall.CommitPreprocessing → result ≡ Result.Err (SchemeFault.Refused ClearProverError.Stopped) }
     {
         <ClearPcs<F> as UnivariateStarkPcs<EF, C>>::commit_preprocessing(
@@ -184,9 +184,7 @@ impl<F: TwoAdicField, EF: ExtensionField<F>, C> UnivariateStarkPcs<EF, C> for Ma
         requires within { coset_size (⟦<Coset<F> as PolynomialSpace>⟧.coset_of domain) * 2 ^ zk_bits true ≤ num_chunks * 2 ^ F.TWO_ADICITY }
         ensures stands { IfOk result (CommitsChunks ⟦<MaskedClearPcs<F> as Pcs<EF, C>>⟧.scheme F.ring F.root EF.ring EF.inverse_of EF.embed true self.now (⟦<Coset<F> as PolynomialSpace>⟧.coset_of domain) flat.values.items flat.width num_chunks) }
         ensures refused { IfErr result (λ fault. IfRefused fault (⟦<MaskedClearPcs<F> as Pcs<EF, C>>⟧.scheme.RefusesQuotient self.now (⟦<Coset<F> as PolynomialSpace>⟧.coset_of domain) flat.values.items flat.width num_chunks)) }
-        ensures masked { IfOk result (λ made. (plain : List (List (List F))) × ((log_parts : ℕ) → 2 ^ log_parts ≡ num_chunks
-            → AreMaskedChunks F.ring F.inverse_of F.root (⟦<Coset<F> as PolynomialSpace>⟧.coset_of domain) log_parts flat.width (matrix_row flat.values.items flat.width)
-            (quotient_masks F.ring self.now.masks (num_chunks - 1) flat.width (2 ^ ((⟦<Coset<F> as PolynomialSpace>⟧.coset_of domain).log_size - log_parts))) plain made.0)) }
+        ensures made { IfOk result (⟦<MaskedClearPcs<F> as Pcs<EF, C>>⟧.scheme.calls.CommitsQuotient self.now (⟦<Coset<F> as PolynomialSpace>⟧.coset_of domain) flat.values.items flat.width num_chunks) }
         ensures stops { StopsAt self.now.stops_at ClearCall.CommitQuotient → result ≡ Result.Err (SchemeFault.Refused ClearProverError.Stopped) }
     {
         self.plain
@@ -207,7 +205,7 @@ impl<F: TwoAdicField, EF: ExtensionField<F>, C> UnivariateStarkPcs<EF, C> for Ma
             × ⟦<MaskedClearPcs<F> as Pcs<EF, C>>⟧.scheme.Stands self.now made.0 made.1 (record { domain = ⟦<Coset<F> as PolynomialSpace>⟧.coset_of domain; columns = columns } ∷ [])
             × (length columns ≡ EF.DIMENSION))) }
         ensures refused { IfErr result (λ fault. IfRefused fault (⟦<MaskedClearPcs<F> as Pcs<EF, C>>⟧.scheme.RefusesRandomization self.now (⟦<Coset<F> as PolynomialSpace>⟧.coset_of domain))) }
-        ensures numbers { IfOk result (λ made. IfSome made (λ made. made.0 ≡ mask_lists F.ring self.now.masks 0 EF.DIMENSION (coset_size (⟦<Coset<F> as PolynomialSpace>⟧.coset_of domain)) ∷ [])) }
+        ensures made { IfOk result (λ made. IfSome made (⟦<MaskedClearPcs<F> as Pcs<EF, C>>⟧.scheme.calls.Randomizes self.now (⟦<Coset<F> as PolynomialSpace>⟧.coset_of domain))) }
         ensures stops { StopsAt self.now.stops_at ClearCall.Randomization → result ≡ Result.Err (SchemeFault.Refused ClearProverError.Stopped) }
     {
         self.plain
@@ -278,5 +276,5 @@ impl<F: TwoAdicField, EF: ExtensionField<F>, C> UnivariateStarkPcs<EF, C> for Ma
         )
     }
 
-    ghost scheme_laws = { clear_laws EF.ring EF.embed F.TWO_ADICITY true (λ s. s.stops_at) F.two_adic.bounded };
+    ghost scheme_laws = { clear_laws EF.ring EF.embed F.TWO_ADICITY (λ s. s.stops_at) (masked_calls F.ring F.inverse_of F.root EF.DIMENSION) F.two_adic.bounded };
 }

@@ -12,8 +12,8 @@ pub returns-then-ne : goal.returns-then-ne
 returns-then-ne g c =
     let ring = g.EF.Field.ring in
     let embed = g.EF.ExtensionField.embed in
-    let is_value : c.polynomial_value_in.result ≡ value_over ring embed c.index-columns-i.result.items c.args.point = c.polynomial_value_in.ensures ∙ ap (λ p. value_over ring embed p c.args.point) c.deref.ensures.value in
-    let differ : c.index-values-i.result ≡ c.polynomial_value_in.result → ⊥ = search rules in
+    let is_value : c.column_value.result ≡ value_over ring embed c.index-columns-i.result.items c.args.point = c.column_value.ensures ∙ ap (λ p. value_over ring embed p c.args.point) c.deref.ensures.value in
+    let differ : c.index-values-i.result ≡ c.column_value.result → ⊥ = search rules in
     let n : length c.args.values.now ≡ length c.args.columns.now = search rules in
     refuted (both_stop column_list (λ v. v) (HasValue ring embed c.args.point) c.args.columns.now c.args.values.now c.loop-i.i c.index-columns-i.result c.index-values-i.result c.loop-i-test.true (omega arith) c.index-columns-i.is c.index-values-i.is
     (λ w. differ (w ∙ sym is_value)) c.loop-i.invariant)
@@ -22,8 +22,8 @@ pub loop-i-preserved : goal.loop-i-preserved
 loop-i-preserved g c =
     let ring = g.EF.Field.ring in
     let embed = g.EF.ExtensionField.embed in
-    let is_value : c.polynomial_value_in.result ≡ value_over ring embed c.index-columns-i.result.items c.args.point = c.polynomial_value_in.ensures ∙ ap (λ p. value_over ring embed p c.args.point) c.deref.ensures.value in
-    let same : c.index-values-i.result ≡ c.polynomial_value_in.result = search rules in
+    let is_value : c.column_value.result ≡ value_over ring embed c.index-columns-i.result.items c.args.point = c.column_value.ensures ∙ ap (λ p. value_over ring embed p c.args.point) c.deref.ensures.value in
+    let same : c.index-values-i.result ≡ c.column_value.result = search rules in
     let n : length c.args.values.now ≡ length c.args.columns.now = search rules in
     both_step column_list (λ v. v) (HasValue ring embed c.args.point) c.args.columns.now c.args.values.now c.loop-i.i c.index-columns-i.result c.index-values-i.result c.loop-i-test.true (omega arith) c.index-columns-i.is c.index-values-i.is (same ∙ is_value) c.loop-i.invariant
 

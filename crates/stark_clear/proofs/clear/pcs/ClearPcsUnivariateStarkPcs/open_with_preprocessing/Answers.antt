@@ -9,8 +9,8 @@ returns-clause-true_values g c = λ made stand same.
     let ring = g.EF.Field.ring in
     let embed = g.EF.ExtensionField.embed in
     c.in_ok-opened.ensures ∙ ap (λ t. map (opened_round ring embed) (map round_view t)) c.deref.ensures.value ∙ ap (map (opened_round ring embed)) same
-    ∙ true_openings ring embed g.row.C.Denot g.F.TwoAdicField.TWO_ADICITY false (λ s. s.stops_at) c.args.self.now made stand
+    ∙ true_openings ring embed g.row.C.Denot g.F.TwoAdicField.TWO_ADICITY (λ s. s.stops_at) _ c.args.self.now made stand
 
 pub returns-clause-whole : goal.returns-clause-whole
 returns-clause-whole g c = λ made stand same whole.
-    (true_claims g.EF.Field.ring g.EF.ExtensionField.embed g.row.C.Denot g.F.TwoAdicField.TWO_ADICITY false (λ s. s.stops_at) c.args.self.now made stand, whole)
+    (true_claims g.EF.Field.ring g.EF.ExtensionField.embed g.row.C.Denot g.F.TwoAdicField.TWO_ADICITY (λ s. s.stops_at) _ c.args.self.now made stand, whole)

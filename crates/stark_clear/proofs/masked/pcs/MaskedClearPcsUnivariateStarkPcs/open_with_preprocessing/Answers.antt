@@ -10,4 +10,4 @@ of_every_answer (Err e) P h = tt
 pub returns-clause-whole : goal.returns-clause-whole
 returns-clause-whole g c =
     of_every_answer c.open_with_preprocessing.result _
-    (λ opened made stand same whole. (true_claims g.EF.Field.ring g.EF.ExtensionField.embed g.row.C.Denot g.F.TwoAdicField.TWO_ADICITY true (λ s. s.stops_at) c.args.self.now made stand, whole))
+    (λ opened made stand same whole. (true_claims g.EF.Field.ring g.EF.ExtensionField.embed g.row.C.Denot g.F.TwoAdicField.TWO_ADICITY (λ s. s.stops_at) _ c.args.self.now made stand, whole))

@@ -1,10 +1,9 @@
 -- How many chunks the quotients of AIRs are cut into.
 use Rattle.std.proofs.Common.{◌≡◌, ◌⊎◌, List, ap, arith, inl, inr, subst, sym, ℕ, zero, suc, ◌+◌, ◌^◌, ◌<◌, ◌≤◌, if◌then◌else◌}
-use Rattle.std.proofs.lemmas.Bool.{le-leb, lt-leb}
 use Rattle.stark_support.specs.Logarithm.{IsCeilingOfLog}
-use Rattle.stark_support.specs.LogarithmFacts.{at_most_or_above, ceiling_of_one, ceiling_between, exponent_below}
-use Rattle.stark_protocol.specs.QuotientFacts.{below_power}
-use Rattle.stark_protocol.specs.Sizes.{log_ceiling, log_ceiling_from, log_parts_of}
+use Rattle.stark_support.specs.LogarithmFacts.{ceiling_of_one, ceiling_between}
+use Rattle.stark_protocol.specs.QuotientFacts.{is_log_ceiling}
+use Rattle.stark_protocol.specs.Sizes.{log_parts_of}
 use Rattle.stark_commands.specs.Airs.{CheckedAir, IsCutInto, log_chunks_of, sample, shape_of}
 use Rattle.stark_commands.specs.Input.{numbers_in}
 use Rattle.stark_commands.specs.Check.{check_verdict}
@@ -13,22 +12,6 @@ use Rattle.stark_commands.specs.declared.verdict.Verdict.TheVariants.{Refused}
 use Rattle.stark_commands.specs.declared.verdict.Refusal.TheVariants.{OutOfMemory}
 use Rattle.stark_commands.specs.declared.sample.SampleAir.{SampleAir}
 use Rattle.stark_commands.specs.declared.sample.SampleAir.TheVariants.{Counter, Cubic, Fibonacci, Periodic, Preprocessed, Pair}
-
-ceiling_found : (more j n : ℕ) → n ≤ 2 ^ (j + more) → ((i : ℕ) → n ≤ 2 ^ i → j ≤ i) → IsCeilingOfLog (log_ceiling_from more j n) n
-unfolding log_ceiling_from
-ceiling_found zero j n within least = record { covers = subst (λ (k : ℕ). n ≤ 2 ^ k) (omega arith) within; least = least }
-ceiling_found (suc more) j n within least = elim (at_most_or_above n (2 ^ j)) [
-  | inl covers ↦ subst (λ k. IsCeilingOfLog k n) (sym (ap (λ b. if b then j else log_ceiling_from more (suc j) n) (le-leb n (2 ^ j) covers))) (record { covers = covers; least = least })
-  | inr past ↦
-      subst (λ k. IsCeilingOfLog k n) (sym (ap (λ b. if b then j else log_ceiling_from more (suc j) n) (lt-leb n (2 ^ j) past)))
-      (ceiling_found more (suc j) n (subst (λ (k : ℕ). n ≤ 2 ^ k) (omega arith) within) (λ i covers. let beyond : j < i = exponent_below j i (omega arith) in omega arith))
-]
-
-is_log_ceiling : (n : ℕ) → IsCeilingOfLog (log_ceiling n) n
-unfolding log_ceiling
-is_log_ceiling n =
-    let covers : n ≤ 2 ^ n = omega (arith, below_power n) in
-    ceiling_found n 0 n (subst (λ (k : ℕ). n ≤ 2 ^ k) (omega arith) covers) (λ i h. omega arith)
 
 -- The quotient of each AIR is cut into some number of chunks, which the verifier asks of a proof too.
 pub cut_of : (air : CheckedAir) → IsCutInto air (log_parts_of air.constraints air.degree_hint 0)

@@ -1,2 +1,3 @@
 pub mod SetUpSteps
 pub mod Carried
+pub mod LagrangeFactors

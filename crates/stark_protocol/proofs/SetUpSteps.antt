@@ -31,16 +31,19 @@ pub is_set_up : {S F E C K T P X Y : Type 0} (scheme : SchemeOps S F E C K T P X
     (width degree_bits : ℕ) (commitment copy : K) (prover_data : T) (coset : TwoAdicCoset F)
     → width ≡ trace.width → degree_bits ≡ log_height + zk_bits is_zk → copy ≡ commitment → coset ≡ natural_coset field (log_height + zk_bits is_zk)
     → 0 < trace.width → length trace.values ≡ 2 ^ log_height * trace.width → held ≡ s
+    → scheme.calls.CommitsPreprocessing held coset trace.values trace.width (commitment, prover_data)
     → ((columns : List (List F)) × scheme.Stands held commitment prover_data (record { domain = coset; columns = columns } ∷ [])
     × ((n : ℕ) → 2 ^ n ≡ length trace.values / trace.width → TakesRows field root (natural_coset field n) trace.width (matrix_row trace.values trace.width) columns))
     → IsSetUp scheme s field root is_zk log_height trace (record { width = width; degree_bits = degree_bits; commitment = commitment; prover_data = prover_data })
     (record { width = width; degree_bits = degree_bits; commitment = copy })
-is_set_up scheme s held field root is_zk log_height trace width degree_bits commitment copy prover_data coset w d same natural some height is stands = record {
+is_set_up scheme s held field root is_zk log_height trace width degree_bits commitment copy prover_data coset w d same natural some height is made stands = record {
   prover_width = w;
   key_width = w;
   prover_degree = d;
   key_degree = d;
   same = same;
+  made = subst (λ t. scheme.calls.CommitsPreprocessing t (natural_coset field (log_height + zk_bits is_zk)) trace.values trace.width (commitment, prover_data)) is
+      (subst (λ c. scheme.calls.CommitsPreprocessing held c trace.values trace.width (commitment, prover_data)) natural made);
   columns = stands.0;
   stands = subst (λ t. scheme.Stands t commitment prover_data (record { domain = natural_coset field (log_height + zk_bits is_zk); columns = stands.0 } ∷ [])) is
       (subst (λ c. scheme.Stands held commitment prover_data (record { domain = c; columns = stands.0 } ∷ [])) natural stands.1);

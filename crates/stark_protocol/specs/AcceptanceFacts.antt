@@ -1,5 +1,5 @@
 -- What follows of a test that finds no fault, of challenges that are drawn, and of a declared next row.
-use Rattle.std.specs.Prelude.{◌≡◌, ◌≤◌, ℕ, Bool, true, false, List, [], ◌∷◌, Option, None, Result, Ok, Err, refl}
+use Rattle.std.specs.Prelude.{◌≡◌, ◌≤◌, ℕ, Bool, true, false, List, [], ◌∷◌, None, Result, Ok, Err, refl}
 use Rattle.std.proofs.Common.{ap, sym, ◌∙◌, arith}
 use Rattle.stark_air.specs.Declaration.{next_width}
 use Rattle.stark_protocol.specs.ShapeFaults.{fault_if}

@@ -5,6 +5,7 @@ pub mod Challenges
 pub mod Acceptance
 pub mod FirstFault
 pub mod Equation
+pub mod ChunkFactors
 pub mod ShapeFaults
 pub mod Preprocessing
 pub mod QuotientFacts

@@ -23,7 +23,8 @@ abbrev pub IsCommittedWithin : {F : Type 0} → ℕ → ℕ → Option (Trace F)
 IsCommittedWithin {F = F} log_height greatest declared = (trace : Trace F) → declared ≡ Some trace → 0 < trace.width → log_height ≤ greatest
 
 -- Prover's data and verifier's key of a trace of 2 ^ log_height rows: both hold its width, the committed height's logarithm
--- and the same commitment, which stands, with the prover's data, for columns that take the trace's rows.
+-- and the same commitment, which the scheme's call for what is known made of the trace, and which stands, with the prover's data,
+-- for columns that take the trace's rows.
 pub record IsSetUp {S F E C K T P X Y : Type 0} (scheme : SchemeOps S F E C K T P X Y) (s : S) (field : RingOps F) (root : ℕ → F) (is_zk : Bool) (log_height : ℕ)
     (trace : Trace F) (prover : PreprocessedProverData K T) (key : PreprocessedVerifierKey K) : Type 0 where
   pub prover_width : prover.width ≡ trace.width
@@ -31,6 +32,7 @@ pub record IsSetUp {S F E C K T P X Y : Type 0} (scheme : SchemeOps S F E C K T 
   pub prover_degree : prover.degree_bits ≡ log_height + zk_bits is_zk
   pub key_degree : key.degree_bits ≡ log_height + zk_bits is_zk
   pub same : key.commitment ≡ prover.commitment
+  pub made : scheme.calls.CommitsPreprocessing s (natural_coset field (log_height + zk_bits is_zk)) trace.values trace.width (prover.commitment, prover.prover_data)
   pub columns : List (List F)
   pub stands : scheme.Stands s prover.commitment prover.prover_data (record { domain = natural_coset field (log_height + zk_bits is_zk); columns = columns } ∷ [])
   pub takes : TakesRows field root (natural_coset field log_height) trace.width (matrix_row trace.values trace.width) columns

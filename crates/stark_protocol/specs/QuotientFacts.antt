@@ -46,9 +46,30 @@ pub below_power : (n : ℕ) → n < 2 ^ n
 below_power zero = omega arith
 below_power (suc n) = omega (arith, below_power n, pow-suc 2 n)
 
+ceiling_found : (more j n : ℕ) → n ≤ 2 ^ (j + more) → ((i : ℕ) → n ≤ 2 ^ i → j ≤ i) → IsCeilingOfLog (log_ceiling_from more j n) n
+unfolding log_ceiling_from
+ceiling_found zero j n within least = record { covers = subst (λ (k : ℕ). n ≤ 2 ^ k) (omega arith) within; least = least }
+ceiling_found (suc more) j n within least = elim (at_most_or_above n (2 ^ j)) [
+  | inl covers ↦ subst (λ k. IsCeilingOfLog k n) (sym (ap (λ b. if b then j else log_ceiling_from more (suc j) n) (le-leb n (2 ^ j) covers))) (record { covers = covers; least = least })
+  | inr past ↦
+      subst (λ k. IsCeilingOfLog k n) (sym (ap (λ b. if b then j else log_ceiling_from more (suc j) n) (lt-leb n (2 ^ j) past)))
+      (ceiling_found more (suc j) n (subst (λ (k : ℕ). n ≤ 2 ^ k) (omega arith) within) (λ i covers. let beyond : j < i = exponent_below j i (omega arith) in omega arith))
+]
+
+pub is_log_ceiling : (n : ℕ) → IsCeilingOfLog (log_ceiling n) n
+unfolding log_ceiling
+is_log_ceiling n =
+    let covers : n ≤ 2 ^ n = omega (arith, below_power n) in
+    ceiling_found n 0 n (subst (λ (k : ℕ). n ≤ 2 ^ k) (omega arith) covers) (λ i h. omega arith)
+
 pub ceiling_is : (k n : ℕ) → IsCeilingOfLog k n → k ≡ log_ceiling n
 unfolding log_ceiling
 ceiling_is k n log = let within : k ≤ n = log.least n (omega (arith, below_power n)) in ceiling_from k n n 0 log (omega arith) (omega arith)
+
+-- the number of parts is enough for the degrees, and the least
+pub log_parts_ceiling : {F : Type 0} (constraints : List (Constraint F)) (hint : Option ℕ) (is_zk : ℕ) → IsCeilingOfLog (log_parts_of constraints hint is_zk) (quotient_multiple (constraint_degree 0 constraints hint) is_zk)
+unfolding log_parts_of
+log_parts_ceiling constraints hint is_zk = is_log_ceiling _
 
 -- the number of parts, over a domain whose transition selector adds nothing to a degree
 pub log_parts_is : {F : Type 0} (constraints : List (Constraint F)) (hint : Option ℕ) (log d is_zk : ℕ) → d ≡ 0 → IsCeilingOfLog log (quotient_multiple (constraint_degree d constraints hint) is_zk) → log ≡ log_parts_of constraints hint is_zk

@@ -17,4 +17,4 @@ commit_preprocessing-requires-clause-room g c = room g.SC.Pcs.Domain.Val.Field.r
 pub returns-clause-set_up : goal.returns-clause-set_up
 returns-clause-set_up g c =
     is_set_up g.SC.Pcs.Pcs.scheme _ _ g.SC.Pcs.Domain.Val.Field.ring _ _ _ _ _ _ _ _ _ _ c.width-width.ensures c.committed_domain-degree_bits.ensures.bits c.in_ok-copy_commitment.ensures c.committed_domain-degree_bits.ensures.domain
-    c.requires.columns c.requires.height c.pcs-pcs.ensures c.in-Ok.ensures.stands
+    c.requires.columns c.requires.height c.pcs-pcs.ensures c.in-Ok.ensures.made c.in-Ok.ensures.stands

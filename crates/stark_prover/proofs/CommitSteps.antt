@@ -20,12 +20,15 @@ trace_room field coset count width is_zk degree_bits some e natural =
 
 module _ {S F E C K T P X Y : Type 0} (scheme : SchemeOps S F E C K T P X Y) (held s : S) (base : RingOps F) (root : ℕ → F) (same : held ≡ s) where
   pub trace_committed : (height degree_bits : ℕ) (trace : Trace F) (coset : TwoAdicCoset F) (commitment : K) (prover_data : T) → coset ≡ natural_coset base degree_bits → 0 < trace.width → length trace.values ≡ 2 ^ height * trace.width
+      → scheme.calls.Commits held coset trace.values trace.width (commitment, prover_data)
       → ((columns : List (List F)) × scheme.Stands held commitment prover_data (record { domain = coset; columns = columns } ∷ [])
       × ((n : ℕ) → 2 ^ n ≡ length trace.values / trace.width → TakesRows base root (natural_coset base n) trace.width (matrix_row trace.values trace.width) columns))
       → (columns : List (List F)) × IsTraceCommitment scheme s base root height degree_bits trace columns commitment prover_data
-  trace_committed height degree_bits trace coset commitment prover_data natural some counted stands = (
+  trace_committed height degree_bits trace coset commitment prover_data natural some counted made stands = (
     stands.0,
     record {
+      made = subst (λ t. scheme.calls.Commits t (natural_coset base degree_bits) trace.values trace.width (commitment, prover_data)) same
+          (subst (λ c. scheme.calls.Commits held c trace.values trace.width (commitment, prover_data)) natural made);
       stands = subst (λ t. scheme.Stands t commitment prover_data (record { domain = natural_coset base degree_bits; columns = stands.0 } ∷ [])) same
           (subst (λ c. scheme.Stands held commitment prover_data (record { domain = c; columns = stands.0 } ∷ [])) natural stands.1);
       takes = stands.2 height (sym (height_is (length trace.values) trace.width (2 ^ height) some counted));

@@ -98,7 +98,8 @@ flat_height coordinates dimension each values flat width size is_flat is_width n
 module _ {S F E C K T P X Y : Type 0} (scheme : SchemeOps S F E C K T P X Y) (s : S) (air : AirInstance F E) (root : ℕ → F) (coordinates : E → List F) (dimension : ℕ) (coset : TwoAdicCoset F) (log_chunks : ℕ)
     (rows : RowsOnCoset F) (alpha : E) (values : List E) (flat : List F) (width : ℕ) (is_flat : flat ≡ flat_map coordinates values) (is_width : width ≡ dimension) (pointwise : ArePointwiseQuotients air rows alpha values) where
   pub quotient_committed : (is_zk : Bool) (commitment : K) (prover_data : T) → ((chunks : List (QuotientChunk F)) × scheme.Stands s commitment prover_data (map (committed_chunk air.base is_zk) chunks)
-      × AreQuotientChunks air.base root air.ring air.inverse air.embed is_zk coset log_chunks width (matrix_row flat width) chunks)
+      × AreQuotientChunks air.base root air.ring air.inverse air.embed is_zk coset log_chunks width (matrix_row flat width) chunks
+      × scheme.calls.CommitsQuotient s coset flat width (2 ^ log_chunks) (commitment, prover_data))
       → (chunks : List (QuotientChunk F)) × IsQuotientCommitment scheme s air root coordinates dimension is_zk coset log_chunks rows alpha chunks commitment prover_data
   quotient_committed is_zk commitment prover_data made = (
     made.0,
@@ -107,6 +108,8 @@ module _ {S F E C K T P X Y : Type 0} (scheme : SchemeOps S F E C K T P X Y) (s 
       pointwise = pointwise;
       chunked = subst (λ w. AreQuotientChunks air.base root air.ring air.inverse air.embed is_zk coset log_chunks w (matrix_row (flat_map coordinates values) w) made.0) is_width
           (subst (λ f. AreQuotientChunks air.base root air.ring air.inverse air.embed is_zk coset log_chunks width (matrix_row f width) made.0) is_flat made.2);
+      made = subst (λ w. scheme.calls.CommitsQuotient s coset (flat_map coordinates values) w (2 ^ log_chunks) (commitment, prover_data)) is_width
+          (subst (λ f. scheme.calls.CommitsQuotient s coset f width (2 ^ log_chunks) (commitment, prover_data)) is_flat made.3);
       stands = made.1;
     },
   )

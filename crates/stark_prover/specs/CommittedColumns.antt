@@ -26,8 +26,10 @@ module _ {S F E C K T P X Y : Type 0} (scheme : SchemeOps S F E C K T P X Y) (s 
   abbrev pub StandsForColumns : RingOps F → ℕ → List (List F) → K → T → Type 0
   StandsForColumns base degree_bits columns commitment prover_data = scheme.Stands s commitment prover_data (record { domain = natural_coset base degree_bits; columns = columns } ∷ [])
 
-  -- The commitment to a trace of 2 ^ log_height rows stands for columns that take these rows.
+  -- The commitment to a trace of 2 ^ log_height rows is one that the scheme's call for a trace made of it, and stands for columns that
+  -- take these rows.
   pub record IsTraceCommitment (base : RingOps F) (root : ℕ → F) (log_height degree_bits : ℕ) (trace : Trace F) (columns : List (List F)) (commitment : K) (prover_data : T) : Type 0 where
+    pub made : scheme.calls.Commits s (natural_coset base degree_bits) trace.values trace.width (commitment, prover_data)
     pub stands : StandsForColumns base degree_bits columns commitment prover_data
     pub takes : TakesRows base root (natural_coset base log_height) trace.width (matrix_row trace.values trace.width) columns
 
@@ -36,13 +38,14 @@ module _ {S F E C K T P X Y : Type 0} (scheme : SchemeOps S F E C K T P X Y) (s 
   IsPreprocessedCommitment base columns None = columns ≡ []
   IsPreprocessedCommitment base columns (Some held) = StandsForColumns base held.degree_bits columns held.commitment held.prover_data × (length columns ≡ held.width)
 
-  -- The commitment to the chunks of the pointwise quotient over columns: its values on a coset, each flattened in the
-  -- extension's coordinates, are cut in 2 ^ log_chunks chunks.
+  -- The commitment to the chunks of the pointwise quotient over columns, by the scheme's call for a quotient: its values on a coset,
+  -- each flattened in the extension's coordinates, are cut in 2 ^ log_chunks chunks.
   pub record IsQuotientCommitment (air : AirInstance F E) (root : ℕ → F) (coordinates : E → List F) (dimension : ℕ) (is_zk : Bool) (coset : TwoAdicCoset F) (log_chunks : ℕ)
       (rows : RowsOnCoset F) (alpha : E) (chunks : List (QuotientChunk F)) (commitment : K) (prover_data : T) : Type 0 where
     pub values : List E
     pub pointwise : ArePointwiseQuotients air rows alpha values
     pub chunked : AreQuotientChunks air.base root air.ring air.inverse air.embed is_zk coset log_chunks dimension (matrix_row (flat_map coordinates values) dimension) chunks
+    pub made : scheme.calls.CommitsQuotient s coset (flat_map coordinates values) dimension (2 ^ log_chunks) (commitment, prover_data)
     pub stands : scheme.Stands s commitment prover_data (map (committed_chunk air.base is_zk) chunks)
 
   -- The scheme refuses to commit to the pointwise quotient over columns.
@@ -51,7 +54,8 @@ module _ {S F E C K T P X Y : Type 0} (scheme : SchemeOps S F E C K T P X Y) (s 
     pub pointwise : ArePointwiseQuotients air rows alpha values
     pub refused : IsSchemeFault (codes "quotient commitment") (scheme.RefusesQuotient s coset (flat_map coordinates values) dimension (2 ^ log_chunks)) error
 
-  -- A random commitment stands for as many columns as the extension has coordinates.
+  -- A random commitment is one that the scheme answered, and stands for as many columns as the extension has coordinates.
   pub record IsRandomCommitment (base : RingOps F) (degree_bits dimension : ℕ) (columns : List (List F)) (commitment : K) (prover_data : T) : Type 0 where
+    pub made : scheme.calls.Randomizes s (natural_coset base degree_bits) (commitment, prover_data)
     pub stands : StandsForColumns base degree_bits columns commitment prover_data
     pub number : length columns ≡ dimension

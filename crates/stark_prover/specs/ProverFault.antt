@@ -1,5 +1,5 @@
 -- Why there is no proof of a trace: the first cause, in the order of the work.
-use Rattle.std.specs.Prelude.{◌≡◌, ℕ, ◌+◌, ◌^◌, false, List, codes, map, length, Option, None, option_map, Ok}
+use Rattle.std.specs.Prelude.{◌≡◌, ℕ, ◌+◌, ◌^◌, false, true, List, codes, map, length, Option, None, option_map, Ok}
 use Rattle.stark_support.specs.Periodic.{first_fault}
 use Rattle.stark_support.specs.Scheme.{QuotientChunk, natural_coset, zk_bits}
 use Rattle.stark_support.specs.Seed.{shape_seed}
@@ -78,7 +78,7 @@ module _ {S F E C K T P X Y : Type 0} (ops : ProtocolOps S F E C K T P X Y) (i :
 
   -- The first cause: the sizes; the scheme, which refuses the trace; the work before alpha, of which no element is a witness; the
   -- scheme, which refuses the quotient or the randomization; the work before zeta, of which no element is a witness; the scheme,
-  -- which refuses to open. Each comes where what is before it was done.
+  -- which refuses to open. Randomization is asked for in zero knowledge alone. Each comes where what is before it was done.
   pub data ProverFault : ProvingError Y → Type 0 where
     in_sizes : {error : ProvingError Y} → SizesFault columns_fault domain_fault error → ProverFault error
     in_trace : {error : ProvingError Y} → columns_fault ≡ None → domain_fault ≡ None
@@ -90,7 +90,7 @@ module _ {S F E C K T P X Y : Type 0} (ops : ProtocolOps S F E C K T P X Y) (i :
         → IsQuotientRefusal ops.opening.scheme i.scheme (air_of ops i height) coordinates ops.opening.fields.dimension (quotient_domain ops i degree_bits) (log_chunks_of ops i degree_bits) (quotient_rows ops i degree_bits columns fixed) alpha error → ProverFault error
     in_randomization : {error : ProvingError Y} {columns fixed : List (List F)} {commitment : K} {prover_data : T} {alpha : E} {alpha_witness : F} {state : C} {chunks : List (QuotientChunk F)} {quotient : K} {quotient_data : T}
         → HasQuotient columns fixed commitment prover_data alpha alpha_witness state chunks quotient quotient_data
-        → IsSchemeFault (codes "randomization commitment") (ops.opening.scheme.RefusesRandomization i.scheme (natural_coset ops.opening.fields.base degree_bits)) error → ProverFault error
+        → ops.opening.is_zk ≡ true → IsSchemeFault (codes "randomization commitment") (ops.opening.scheme.RefusesRandomization i.scheme (natural_coset ops.opening.fields.base degree_bits)) error → ProverFault error
     in_work : {columns fixed : List (List F)} {commitment : K} {prover_data : T} {alpha : E} {alpha_witness : F} {state : C} {chunks : List (QuotientChunk F)} {quotient : K} {quotient_data : T}
         {random : Option K} {random_data : Option T} {random_columns : Option (List (List F))}
         → HasQuotient columns fixed commitment prover_data alpha alpha_witness state chunks quotient quotient_data → IsRandomization ops i degree_bits random random_data random_columns

@@ -1,5 +1,5 @@
 //! The commitments of a proof.
-ghost use Rattle.std.specs.Prelude.{◌≡◌, ◌⊎◌, ◌*◌, ◌^◌, ◌<◌, ◌≤◌, List, IfErr, IfOk, IfSome, Ok, codes, is_some, length, map};
+ghost use Rattle.std.specs.Prelude.{◌≡◌, ◌⊎◌, ◌*◌, ◌^◌, ◌<◌, ◌≤◌, List, IfErr, IfOk, IfSome, Ok, codes, is_some, length, map, true};
 ghost use Rattle.stark_support.specs.Coset.{coset_size};
 ghost use Rattle.stark_support.specs.Scheme.{AreQuotientChunks, QuotientChunk, committed_chunk, matrix_row, natural_coset, zk_bits};
 ghost use Rattle.stark_protocol.specs.Instance.{log_height};
@@ -75,8 +75,12 @@ pub(crate) fn commit_random<SC: StarkGenericConfig>(
     ensures there { IfOk result (λ made. is_some made ≡ SC.Pcs.ZK) }
     ensures stands { IfOk result (λ made. IfSome made (λ made. (columns : List (List SC.Pcs.Domain.Val)) × IsRandomCommitment SC.Pcs.scheme (SC.config.scheme config.now) SC.Pcs.Domain.Val.ring degree_bits SC.Challenge.DIMENSION columns made.commitment made.prover_data)) }
     ensures fault { IfErr result (λ error. (error ≡ ProvingError.OutOfMemory)
-        ⊎ IsSchemeFault (codes "randomization commitment") (SC.Pcs.scheme.RefusesRandomization (SC.config.scheme config.now) (natural_coset SC.Pcs.Domain.Val.ring degree_bits)) error) }
+        ⊎ ((SC.Pcs.ZK ≡ true) × IsSchemeFault (codes "randomization commitment") (SC.Pcs.scheme.RefusesRandomization (SC.config.scheme config.now) (natural_coset SC.Pcs.Domain.Val.ring degree_bits)) error)) }
 {
+    // A scheme without masks isn't asked, so that it can't stop a proof here.
+    if !SC::Pcs::ZK {
+        return Ok(None);
+    }
     let pcs = scheme_with_room(config, committed, degree_bits);
     match pcs.get_opt_randomization_poly_commitment(alloc, committed) {
         Ok(Some((commitment, prover_data))) => Ok(Some(Committed {
@@ -103,7 +107,7 @@ pub(crate) fn commit_random_behind<SC: StarkGenericConfig>(
     ensures random { IfOk result (λ made. IfSome made.1 (λ random. (columns : List (List SC.Pcs.Domain.Val)) × IsRandomCommitment SC.Pcs.scheme (SC.config.scheme config.now) SC.Pcs.Domain.Val.ring degree_bits SC.Challenge.DIMENSION columns random.commitment random.prover_data)) }
     ensures first { IfErr result (λ error. IfErr quotient (λ fault. error ≡ fault)) }
     ensures second { IfErr result (λ error. IfOk quotient (λ _. (error ≡ ProvingError.OutOfMemory)
-        ⊎ IsSchemeFault (codes "randomization commitment") (SC.Pcs.scheme.RefusesRandomization (SC.config.scheme config.now) (natural_coset SC.Pcs.Domain.Val.ring degree_bits)) error)) }
+        ⊎ ((SC.Pcs.ZK ≡ true) × IsSchemeFault (codes "randomization commitment") (SC.Pcs.scheme.RefusesRandomization (SC.config.scheme config.now) (natural_coset SC.Pcs.Domain.Val.ring degree_bits)) error))) }
 {
     let quotient = quotient?;
     let random = commit_random(alloc, config, committed, degree_bits)?;
@@ -124,7 +128,8 @@ pub(crate) fn commit_flat<SC: StarkGenericConfig>(
     requires within { coset_size (SC.Pcs.Domain.coset_of quotient) * 2 ^ zk_bits SC.Pcs.ZK ≤ 2 ^ log_chunks * 2 ^ SC.Pcs.scheme.log_max_trace_height (SC.config.scheme config.now) }
     ensures stands { IfOk result (λ made. (chunks : List (QuotientChunk SC.Pcs.Domain.Val))
         × SC.Pcs.scheme.Stands (SC.config.scheme config.now) made.commitment made.prover_data (map (committed_chunk SC.Pcs.Domain.Val.ring SC.Pcs.ZK) chunks)
-        × AreQuotientChunks SC.Pcs.Domain.Val.ring SC.Pcs.Domain.Val.root SC.Challenge.ring SC.Challenge.inverse_of SC.Challenge.embed SC.Pcs.ZK (SC.Pcs.Domain.coset_of quotient) log_chunks flat.width (matrix_row flat.values.items flat.width) chunks) }
+        × AreQuotientChunks SC.Pcs.Domain.Val.ring SC.Pcs.Domain.Val.root SC.Challenge.ring SC.Challenge.inverse_of SC.Challenge.embed SC.Pcs.ZK (SC.Pcs.Domain.coset_of quotient) log_chunks flat.width (matrix_row flat.values.items flat.width) chunks
+        × SC.Pcs.scheme.calls.CommitsQuotient (SC.config.scheme config.now) (SC.Pcs.Domain.coset_of quotient) flat.values.items flat.width (2 ^ log_chunks) (made.commitment, made.prover_data)) }
     ensures fault { IfErr result (λ error. (error ≡ ProvingError.OutOfMemory)
         ⊎ IsSchemeFault (codes "quotient commitment") (SC.Pcs.scheme.RefusesQuotient (SC.config.scheme config.now) (SC.Pcs.Domain.coset_of quotient) flat.values.items flat.width (2 ^ log_chunks)) error) }
 {

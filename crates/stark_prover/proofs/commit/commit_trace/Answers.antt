@@ -19,7 +19,7 @@ commit-requires-clause-room g c = trace_room g.SC.Pcs.Domain.Val.Field.ring _ _ 
 
 pub returns-in-Ok-clause-stands : goal.returns-in-Ok-clause-stands
 returns-in-Ok-clause-stands g c =
-    trace_committed g.SC.Pcs.Pcs.scheme _ _ g.SC.Pcs.Domain.Val.Field.ring _ c.pcs.ensures _ _ (record { width = c.args.trace.width; values = c.args.trace.values.items }) _ _ _ c.requires.domain c.requires.columns c.requires.height c.in-Ok.ensures.stands
+    trace_committed g.SC.Pcs.Pcs.scheme _ _ g.SC.Pcs.Domain.Val.Field.ring _ c.pcs.ensures _ _ (record { width = c.args.trace.width; values = c.args.trace.values.items }) _ _ _ c.requires.domain c.requires.columns c.requires.height c.in-Ok.ensures.made c.in-Ok.ensures.stands
 
 pub returns-in-Err-clause-fault : goal.returns-in-Err-clause-fault
 returns-in-Err-clause-fault g c =

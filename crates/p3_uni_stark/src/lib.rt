@@ -2,9 +2,12 @@
 #![tactic(auto)]
 
 mod completeness;
+mod sizing;
 
 pub use completeness::{StarkCompleteness, VerifiedProof, prove_and_verify};
+pub use sizing::degrees_fit_the_quotient;
 pub use stark_air::{AirLayout, SubAirBuilder, SubSliced};
+pub use stark_honest::satisfaction_is_row_by_row;
 pub use stark_parts::{
     Com, Domain, PackedChallenge, PackedVal, PcsError, PcsProverError, StarkConfig,
     StarkGenericConfig, StarkOpeningLayout, Val, VerifierConstraintFolder,
@@ -23,7 +26,9 @@ pub use stark_prover::{StarkProving, prove, prove_with_preprocessed};
 pub use stark_prover_folder::{
     ProverConstraintFolder, VectorizedChallenge, VectorizedConstraintFolder, VectorizedVal,
 };
-pub use stark_quotient::{QUOTIENT_ILP, QuotientAir, quotient_values};
+pub use stark_quotient::{
+    QUOTIENT_ILP, QuotientAir, QuotientOperations, folded_pairs, folded_row, quotient_values,
+};
 pub use stark_security::{
     OpeningShape, StarkSecurityParams, num_batched_openings, ood_error_bound,
 };

@@ -9,4 +9,5 @@ mod row;
 mod vectorized_eval;
 
 pub use quotient::{QuotientAir, QuotientOperations, quotient_values};
-pub use vectorized_eval::QUOTIENT_ILP;
+pub use row::folded_row;
+pub use vectorized_eval::{QUOTIENT_ILP, folded_pairs};

@@ -73,7 +73,7 @@ where
 /// The constraints of an AIR over the folder's rows, folded with the powers of alpha that the folder holds: in each lane
 /// `alpha^(n - 1 - j)` times constraint `j` for each of the `n`. The folder keeps no value yet, and its rows and values
 /// have at least the lengths that the AIR declares. Err only where memory was refused.
-fn folded_pairs<'a, SC: StarkGenericConfig, A: Air<Val<SC>>>(
+pub fn folded_pairs<'a, SC: StarkGenericConfig, A: Air<Val<SC>>>(
     air: &A,
     folder: &mut VectorizedConstraintFolder<'a, SC, 2>,
     scratch: &mut Vec<PackedVal<SC>>,

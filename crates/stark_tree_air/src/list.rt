@@ -39,18 +39,24 @@ impl<F: Copy> TreeList<F> {
         Ok(place)
     }
 
-    /// Adds a constant and a node that is it, and answers the node's place. Err only where memory was refused, and then no
-    /// node was added.
+    /// Adds a constant and a node that is it, and answers the node's place. Err only where memory was refused, and then the list
+    /// is as before.
     pub fn constant(&mut self, constant: F) -> Result<usize, AllocError>
         ensures place { IfOk result (λ place. place ≡ length self.old.nodes.items) }
         ensures nodes { OnOk result (self.new.nodes.items ≡ self.old.nodes.items ++ TreeNode.Constant (length self.old.constants.items) ∷ []) }
         ensures constants { OnOk result (self.new.constants.items ≡ self.old.constants.items ++ constant ∷ []) }
         ensures refused { OnErr result (self.new.nodes.items ≡ self.old.nodes.items) }
+        ensures kept { OnErr result (self.new.constants.items ≡ self.old.constants.items) }
         ensures constraints { self.new.constraints.items ≡ self.old.constraints.items }
     {
         let index = self.constants.len();
         self.constants.push(constant)?;
-        self.node(TreeNode::Constant(index))
+        let place = self.node(TreeNode::Constant(index));
+        if place.is_err() {
+            // No node names it.
+            self.constants.truncate(index);
+        }
+        place
     }
 
     /// Makes the node at a place a constraint over the base field. Err only where memory was refused, and then the list is as

@@ -1,8 +1,10 @@
-//! The answers to rows: over one field, and over each where they ask for lanes.
+//! The answers to rows: over two fields, and over each packing of the smaller where they ask for
+//! lanes.
 use crate::elements::elements_in;
 use crate::{challengers, clear_scheme, fields, lanes, numbers, polynomials, seeds, transcripts};
 use stark_bench::{
-    ClearCommitment, Ext4, F12289, P12289, S12289, ScriptChallenger, Sha256Challenger,
+    BabyBearField, ClearCommitment, Ext4, F12289, P12289, S12289, ScriptChallenger,
+    Sha256Challenger,
 };
 use stark_parts::StarkChallenger;
 use stark_support::{NeverNull, PackedExtensionField, PackedField, PrimeField64, TwoAdicField};
@@ -24,7 +26,8 @@ where
     }
 }
 
-/// The answer to a subject's row, with a challenger that no other row has seen. What asks for no lanes is asked over one field.
+/// The answer to a subject's row, with a challenger that no other row has seen. What asks for no
+/// lanes is asked over fields of one lane.
 fn answer<F, EF, C>(alloc: Global, challenger: C, subject: &str, row: &str) -> Result<String, Fail>
 where
     F: PrimeField64 + TwoAdicField + PackedField + NeverNull + Debug,
@@ -43,12 +46,12 @@ where
 }
 
 /// The challenger that hands out the numbers behind a row's first word, where that is `script`.
-fn script(alloc: Global, row: &str) -> Result<Option<ScriptChallenger<S12289>>, Fail> {
+fn script<F: PrimeField64>(alloc: Global, row: &str) -> Result<Option<ScriptChallenger<F>>, Fail> {
     let Some(rest) = row.strip_prefix("script ") else {
         return Ok(None);
     };
     let (numbers, _rest) = rest.split_once(" | ").ok_or("no bar")?;
-    let elements = elements_in::<S12289>(alloc, numbers)?;
+    let elements = elements_in::<F>(alloc, numbers)?;
     if elements.is_empty() {
         return Err(Fail::new("a script of no elements"));
     }
@@ -56,11 +59,27 @@ fn script(alloc: Global, row: &str) -> Result<Option<ScriptChallenger<S12289>>, 
 }
 
 pub fn scalar(alloc: Global, subject: &str, row: &str) -> Result<String, Fail> {
-    match script(alloc, row)? {
+    match script::<S12289>(alloc, row)? {
         Some(challenger) => answer::<S12289, Ext4<S12289>, ScriptChallenger<S12289>>(
             alloc, challenger, subject, row,
         ),
         None => answer::<S12289, Ext4<S12289>, Sha256Challenger<S12289>>(
+            alloc,
+            Sha256Challenger::new(),
+            subject,
+            row,
+        ),
+    }
+}
+
+pub fn baby_bear(alloc: Global, subject: &str, row: &str) -> Result<String, Fail> {
+    match script::<BabyBearField>(alloc, row)? {
+        Some(challenger) => answer::<
+            BabyBearField,
+            Ext4<BabyBearField>,
+            ScriptChallenger<BabyBearField>,
+        >(alloc, challenger, subject, row),
+        None => answer::<BabyBearField, Ext4<BabyBearField>, Sha256Challenger<BabyBearField>>(
             alloc,
             Sha256Challenger::new(),
             subject,

@@ -61,6 +61,24 @@ periodic | 5 6 | 7 => Some([[12234, 7], [66, 7], [12234, 7], [66, 7]])
 configuration | sha256 => ([0, 12, 0], [9721, 9721])
 "#;
 
+// The same over 2013265921, computed in Python by Lagrange's interpolation: the line through 5 and
+// 6 on the points 1 and -1, and the one that is 4 at 3 and 7 at 12286. The domains beside the
+// subgroups have the shift 31. The draw is this challenger's first one in `stark_fields_rows`.
+pub const OVER_BABY_BEAR: &str = r#"
+committed | 1 | 5 6 => [[[1006632966, 1006632960]]] [[[1006632966, 1006632960]]]
+committed | 2 | 5 6 => [[[1006632966, 1006632960, 0, 0]]] [[[1006632966, 1006632960, 0, 0]]]
+opened | 1006632966 1006632960 | 1 2 3 4, 2013265918 0 0 0 => Some([[[[Ext4 { c0: 5, c1: 2013265920, c2: 1006632959, c3: 2013265919 }], [Ext4 { c0: 7, c1: 0, c2: 0, c3: 0 }]]]])
+claims | 1222416127 1605793880 | 4 7 | 1222416127 1605793880 => Ok(())
+claims | 1222416127 1605793880 | 4 6 | 1222416127 1605793880 => Err(Refused(Value { round: 0 }))
+claims | 1222416127 1605793880 | 4 7 | 1222416127 1605793881 => Err(Refused(Value { round: 1 }))
+commitment | [[[12289,2013265920]]] => [[[12289,2013265920]]] is ClearCommitment { matrices: [[[12289, 2013265920]]] }
+commitment | [[[12289,2013265921]]] => Invalid
+beside | 1006632966 1006632960 => Some(RowMajorMatrix { values: [2013265911, 21], width: 1 })
+again | 5 2013265920 => Some(RowMajorMatrix { values: [5, 2013265920], width: 1 })
+periodic | 5 6 | 7 => Some([[2013265446, 7], [486, 7], [2013265446, 7], [486, 7]])
+configuration | sha256 => ([0, 27, 0], [1340248034, 1340248034])
+"#;
+
 /// The answer to a row of these tables.
 pub fn answer<F, EF, C>(alloc: Global, challenger: C, row: &str) -> Result<String, Fail>
 where

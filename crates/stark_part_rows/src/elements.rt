@@ -4,10 +4,14 @@ use stark_support::{ExtensionField, PrimeField64};
 use std::alloc::Global;
 use std::test::Fail;
 
-/// The element of a number below 2^16.
+/// The element of a number.
 pub fn element<F: PrimeField64>(number: u32) -> F {
-    let [_, _, high, low] = number.to_be_bytes();
-    F::from_u8(high) * (F::from_u8(16) * F::from_u8(16)) + F::from_u8(low)
+    let base: F = F::from_u8(16) * F::from_u8(16);
+    let mut found = F::ZERO;
+    for digit in number.to_be_bytes() {
+        found = found * base + F::from_u8(digit);
+    }
+    found
 }
 
 /// The elements of a text's numbers.

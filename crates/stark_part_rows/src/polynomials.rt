@@ -26,6 +26,14 @@ line | 1 12288 | 5 6 => [6150, 6144]
 subgroup | 1 2 => its laws are called
 "#;
 
+// The same over 2013265921, computed in Python: powers of the point, and Lagrange's interpolation.
+pub const OVER_BABY_BEAR: &str = r#"
+value | 2013265920 1234567890 987654321 2000000000 | 1789456123 => 1877140676
+value above | 2013265920 1234567890 987654321 2000000000 | 5 2013265920 7 16777216 => Ext4 { c0: 1227938419, c1: 1935742442, c2: 1030001014, c3: 604547011 }
+line | 1234567890 987654321 | 2013265920 2000000000 => [23249618, 1966536029]
+subgroup | 10 1024 => its laws are called
+"#;
+
 /// The answer to a row of these tables.
 pub fn answer<F, EF>(alloc: Global, row: &str) -> Result<String, Fail>
 where

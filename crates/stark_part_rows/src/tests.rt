@@ -1,5 +1,5 @@
 //! The rows of all subjects; those of fields and lanes over each field.
-use crate::answers::{lockstep, packed, scalar};
+use crate::answers::{baby_bear, lockstep, packed, scalar};
 use crate::rows::all_rows;
 use crate::{challengers, clear_scheme, fields, lanes, numbers, polynomials, seeds, transcripts};
 use stark_bench::S12289;
@@ -40,6 +40,21 @@ fn over_lanes_in_lockstep(rt: HostRuntime) -> Result<(), Fail> {
     all_rows(&rt, rt.alloc(), "fields", fields::ROWS, lockstep)?;
     all_rows(&rt, rt.alloc(), "fields", fields::LOCKSTEP_ROWS, lockstep)?;
     all_rows(&rt, rt.alloc(), "lanes", lanes::WIDE_ROWS, lockstep)
+}
+
+// What is said of no field in particular is asked again: packs of one lane, and transcripts.
+#[test]
+fn over_baby_bear(rt: HostRuntime) -> Result<(), Fail> {
+    for (subject, rows) in [
+        ("clear scheme", clear_scheme::OVER_BABY_BEAR),
+        ("fields", fields::SCALAR_ROWS),
+        ("lanes", lanes::SCALAR_ROWS),
+        ("polynomials", polynomials::OVER_BABY_BEAR),
+        ("transcripts", transcripts::ROWS),
+    ] {
+        all_rows(&rt, rt.alloc(), subject, rows, baby_bear)?;
+    }
+    Ok(())
 }
 
 // Elements by their inherent calls, and what is not asked of any field.

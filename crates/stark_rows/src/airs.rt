@@ -65,6 +65,18 @@ part | 0 | 1 2 3 | 4 5 6 => Some(((Some(Ext4 { c0: 1, c1: 0, c2: 0, c3: 0 }), No
 part | 1 | 1 2 3 | 4 5 6 => Some(((Some(Ext4 { c0: 2, c1: 0, c2: 0, c3: 0 }), None), (Some(Ext4 { c0: 6, c1: 0, c2: 0, c3: 0 }), None)))
 "#;
 
+// The same over 2013265921, with numbers past 12289, computed in Python: the selectors as sums over
+// the subgroup's points, each constraint as it is written, the sum by powers of 4.
+pub const OVER_BABY_BEAR: &str = r#"
+folded | counter | 1234567890 | 987654321 | empty | empty | 2013265920 => Ext4 { c0: 646038687, c1: 0, c2: 0, c3: 0 }
+folded | mixed | 2000000000 | empty | empty | empty | empty => Ext4 { c0: 1734681553, c1: 0, c2: 0, c3: 0 }
+folded | pair | 1234567890 987654321 | 2000000000 1789456123 | empty | empty | 16777216 => Ext4 { c0: 989315256, c1: 0, c2: 0, c3: 0 }
+folded | fibonacci | 1234567890 987654321 | 2000000000 1789456123 | empty | empty | 2013265920 16777216 1073741824 => Ext4 { c0: 88331926, c1: 0, c2: 0, c3: 0 }
+folded | cubic | 1234567890 | empty | empty | empty | empty => Ext4 { c0: 1323332739, c1: 0, c2: 0, c3: 0 }
+folded | preprocessed | 5 | empty | 1234567890 | empty | empty => Ext4 { c0: 778698036, c1: 0, c2: 0, c3: 0 }
+folded | periodic | 987654321 | empty | empty | 2013265920 | empty => Ext4 { c0: 987654322, c1: 0, c2: 0, c3: 0 }
+"#;
+
 /// The answer to a row of these tables.
 pub fn answer<F, EF, C>(alloc: Global, row: &str) -> Result<String, Fail>
 where

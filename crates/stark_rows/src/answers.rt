@@ -1,4 +1,5 @@
-//! The answers to rows: over one field, and over each where they ask for lanes.
+//! The answers to rows: over two fields, and over each packing of the smaller where they ask for
+//! lanes.
 use crate::elements::elements_in;
 use crate::rows::apart;
 use crate::{
@@ -6,8 +7,8 @@ use crate::{
     security, sizing, trees, verdicts,
 };
 use stark_bench::{
-    ClearCommitment, Ext4, F12289, Lockstep, M12289, P12289, Packed, Residue, S12289, Scalar,
-    ScriptChallenger, Sha256Challenger,
+    BabyBearField, ClearCommitment, Ext4, F12289, P12289, S12289, ScriptChallenger,
+    Sha256Challenger,
 };
 use stark_parts::StarkChallenger;
 use stark_support::{
@@ -36,7 +37,7 @@ where
     }
 }
 
-/// The same of each subject. What asks for no lanes is asked over one field.
+/// The same of each subject. What asks for no lanes is asked over fields of one lane.
 fn answer<F, EF, C>(alloc: Global, challenger: C, subject: &str, row: &str) -> Result<String, Fail>
 where
     F: PrimeField64 + TwoAdicField + QuarticBase + PackedField + NeverNull + Debug,
@@ -63,10 +64,7 @@ const NUMBERS: &str = "4 0 0 0 3 0 0 0";
 
 /// The challenger that hands out the numbers behind a row's first word `script`, or some where a row names no challenger; none where the
 /// first word is `sha256`.
-fn script<Kind>(
-    alloc: Global,
-    row: &str,
-) -> Result<Option<ScriptChallenger<Residue<M12289, Kind>>>, Fail> {
+fn script<F: PrimeField64>(alloc: Global, row: &str) -> Result<Option<ScriptChallenger<F>>, Fail> {
     if row.starts_with("sha256 | ") {
         return Ok(None);
     }
@@ -74,7 +72,7 @@ fn script<Kind>(
         Some(rest) => apart(rest)?.0,
         None => NUMBERS,
     };
-    let elements = elements_in::<Residue<M12289, Kind>>(alloc, numbers)?;
+    let elements = elements_in::<F>(alloc, numbers)?;
     if elements.is_empty() {
         return Err(Fail::new("a script of no elements"));
     }
@@ -82,7 +80,7 @@ fn script<Kind>(
 }
 
 pub fn scalar(alloc: Global, subject: &str, row: &str) -> Result<String, Fail> {
-    match script::<Scalar>(alloc, row)? {
+    match script::<S12289>(alloc, row)? {
         Some(challenger) => answer::<S12289, Ext4<S12289>, ScriptChallenger<S12289>>(
             alloc, challenger, subject, row,
         ),
@@ -94,15 +92,30 @@ pub fn scalar(alloc: Global, subject: &str, row: &str) -> Result<String, Fail> {
     }
 }
 
+pub fn baby_bear(alloc: Global, subject: &str, row: &str) -> Result<String, Fail> {
+    match script::<BabyBearField>(alloc, row)? {
+        Some(challenger) => answer::<
+            BabyBearField,
+            Ext4<BabyBearField>,
+            ScriptChallenger<BabyBearField>,
+        >(alloc, challenger, subject, row),
+        None => provers::answer::<
+            BabyBearField,
+            Ext4<BabyBearField>,
+            Sha256Challenger<BabyBearField>,
+        >(alloc, Sha256Challenger::new(), row),
+    }
+}
+
 pub fn packed(alloc: Global, subject: &str, row: &str) -> Result<String, Fail> {
-    let challenger = script::<Packed>(alloc, row)?.ok_or("hashing in lanes")?;
+    let challenger = script::<P12289>(alloc, row)?.ok_or("hashing in lanes")?;
     answer_in_lanes::<P12289, Ext4<P12289>, ScriptChallenger<P12289>>(
         alloc, challenger, subject, row,
     )
 }
 
 pub fn lockstep(alloc: Global, subject: &str, row: &str) -> Result<String, Fail> {
-    let challenger = script::<Lockstep>(alloc, row)?.ok_or("hashing in lanes")?;
+    let challenger = script::<F12289>(alloc, row)?.ok_or("hashing in lanes")?;
     answer_in_lanes::<F12289, Ext4<F12289>, ScriptChallenger<F12289>>(
         alloc, challenger, subject, row,
     )

@@ -24,6 +24,14 @@ pub const ROWS: &str = r#"
 4 12288 | 1 => Some(Err(InvalidProofShape(PreprocessedTraceWidthMismatch { expected_local: 1, expected_next: 1, got_local: 1, got_next: 0 })))
 "#;
 
+// The same over 2013265921, where -1 is 2013265920: 12288 is another number there.
+pub const OVER_BABY_BEAR: &str = r#"
+4 2013265920 | none => Some(Ok(()))
+4 12288 | none => Some(Err(OodEvaluationMismatch { index: None }))
+5 2013265920 | none => Some(Err(OodEvaluationMismatch { index: None }))
+4 2013265919 | none => Some(Err(OodEvaluationMismatch { index: None }))
+"#;
+
 /// What is answered at one point of the counter, whose public value is 5 and whose next row has 7. The preprocessed values are given
 /// where they are there.
 fn equation_text<F, EF, C>(

@@ -51,11 +51,33 @@ fitting | 4 1 => Ok(())
 # The logarithm of a subgroup's size, and a point | the columns beside it: their values there.
 periodic | 2 3 | 0 1 | 7 => Some([Ext4 { c0: 12285, c1: 0, c2: 0, c3: 0 }, Ext4 { c0: 7, c1: 0, c2: 0, c3: 0 }])
 
-# The logarithms of the size of a coset with shift 11 and of the number of chunks | the chunks: the value at 3. On the cosets of
-# size 2 with shifts 11 and 3980; then the chunks of the counter's proof with masks of ones, which cancel.
+# The logarithms of the size of the coset of the field's generator and of the number of chunks | the
+# chunks: the value at 3. On the cosets of size 2 with shifts 11 and 3980; then the chunks of the
+# counter's proof with masks of ones, which cancel.
 recomposed | 2 1 | 121 0 0 0, 12168 0 0 0 => Some(Ext4 { c0: 9, c1: 0, c2: 0, c3: 0 })
 recomposed | 2 1 | 7684 0 0 0, 7684 0 0 0 => Some(Ext4 { c0: 7684, c1: 0, c2: 0, c3: 0 })
 recomposed | 3 2 | 9603 9340 9340 9340, 6903 5345 5345 5345, 2720 2941 2941 2941, 2254 3770 3770 3770 => Some(Ext4 { c0: 39, c1: 0, c2: 0, c3: 0 })
+"#;
+
+// The same over 2013265921, computed in Python: the selectors as sums over the subgroup's points,
+// the columns by Lagrange's interpolation, the chunks' weights as products of quotients, on parts
+// of the coset of 31. What else there is of cosets over this field stands in `stark_fields_rows`.
+pub const OVER_BABY_BEAR: &str = r#"
+size | 27 => 134217728 0
+
+selectors | 1 3 => Ext4 { c0: 4, c1: 0, c2: 0, c3: 0 } Ext4 { c0: 2, c1: 0, c2: 0, c3: 0 } Ext4 { c0: 4, c1: 0, c2: 0, c3: 0 } Ext4 { c0: 1761607681, c1: 0, c2: 0, c3: 0 }
+selectors | 3 2013265918 => Ext4 { c0: 2013264281, c1: 0, c2: 0, c3: 0 } Ext4 { c0: 98267453, c1: 0, c2: 0, c3: 0 } Ext4 { c0: 211723191, c1: 0, c2: 0, c3: 0 } Ext4 { c0: 1914750927, c1: 0, c2: 0, c3: 0 }
+selectors | 10 1234567890 => Ext4 { c0: 1782665506, c1: 0, c2: 0, c3: 0 } Ext4 { c0: 1794706478, c1: 0, c2: 0, c3: 0 } Ext4 { c0: 460054628, c1: 0, c2: 0, c3: 0 } Ext4 { c0: 111510941, c1: 0, c2: 0, c3: 0 }
+
+periodic | 2 3 | 0 1 | 7 => Some([Ext4 { c0: 2013265917, c1: 0, c2: 0, c3: 0 }, Ext4 { c0: 7, c1: 0, c2: 0, c3: 0 }])
+periodic | 3 1234567890 | 5 6 7 2013265920 | 1 2 3 4 5 6 7 8 => Some([Ext4 { c0: 628071188, c1: 0, c2: 0, c3: 0 }, Ext4 { c0: 1716241788, c1: 0, c2: 0, c3: 0 }])
+
+# One number on both cosets, and the square of their points: 961 and -961. Then four chunks, and one
+# alone, whose coordinates are the value's.
+recomposed | 2 1 | 7684 0 0 0, 7684 0 0 0 => Some(Ext4 { c0: 7684, c1: 0, c2: 0, c3: 0 })
+recomposed | 2 1 | 961 0 0 0, 2013264960 0 0 0 => Some(Ext4 { c0: 9, c1: 0, c2: 0, c3: 0 })
+recomposed | 5 2 | 2013265920 1234567890 987654321 2000000000, 1789456123 16777216 1073741824 8, 9 10 11 12, 987654321 1073741824 2013265920 1234567890 => Some(Ext4 { c0: 51146942, c1: 718793661, c2: 1316424382, c3: 1213316112 })
+recomposed | 4 0 | 2013265920 1234567890 987654321 2000000000 => Some(Ext4 { c0: 2013265920, c1: 1234567890, c2: 987654321, c3: 2000000000 })
 "#;
 
 /// The answer to a row of these tables.
@@ -258,7 +280,8 @@ where
     shown(alloc, &found)
 }
 
-/// The value at 3 that is recomposed from chunks on the parts of the coset with shift 11; none where it has fewer parts.
+/// The value at 3 that is recomposed from chunks on the parts of the coset whose shift is the
+/// field's generator; none where it has fewer parts.
 fn recomposed_at<F, EF, C>(
     alloc: Global,
     log_size: usize,
@@ -270,7 +293,7 @@ where
     EF: ExtensionField<F>,
     C: FieldChallenger<F> + CanObserve<ClearCommitment<F>> + ExtensionChallenger<F, EF> + Clone,
 {
-    let Some(domain) = coset::<F>(element(11), log_size) else {
+    let Some(domain) = coset::<F>(F::GENERATOR, log_size) else {
         return Ok(None);
     };
     if log_chunks > 12 || log_chunks > domain.log_size {

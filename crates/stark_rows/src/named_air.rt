@@ -3,12 +3,14 @@ ghost use Rattle.std.specs.Prelude.{⊤};
 ghost use Rattle.stark_rows.specs.NamedAirs.{named_constraints, named_declared, named_degree_hint, named_layout, named_next_columns, named_num_constraints, named_periodic_columns, named_preprocessed_next_columns, named_preprocessed_trace, named_within};
 
 use crate::kinds::{BoundedCubic, DeclaringAir, NamedAir};
+use crate::proofs::value_of;
 use stark_air::{Air, BaseAir, ExtensionBuilder};
 use stark_samples::{
     AnySampleAir, Asked, CounterAir, CubicAir, FibonacciAir, PairAir, PeriodicAir, PreprocessedAir,
     SmallAir,
 };
-use stark_support::{PrimeField64, RowMajorMatrix};
+use stark_support::{Field, JsonCodec, PrimeField64, RowMajorMatrix};
+use stark_tree_air::TreeAir;
 use std::alloc::{AllocError, Global};
 use std::test::Fail;
 
@@ -177,6 +179,23 @@ fn sample_air<F: PrimeField64>(
         "preprocessed" => AnySampleAir::Preprocessed(PreprocessedAir),
         _ => return Ok(None),
     }))
+}
+
+/// The AIR that a JSON text spells.
+pub fn tree_of<F: Field + JsonCodec>(alloc: Global, text: &str) -> Result<TreeAir<F>, Fail> {
+    let value = value_of(alloc, text)?;
+    match TreeAir::from_json(alloc, &value) {
+        Ok(air) => Ok(air),
+        Err(_) => Err(Fail::new("no AIR")),
+    }
+}
+
+/// The AIR that a JSON text spells, or that of a name.
+pub fn air_in<F: PrimeField64 + JsonCodec>(alloc: Global, text: &str) -> Result<NamedAir<F>, Fail> {
+    if text.starts_with('{') {
+        return Ok(NamedAir::Tree(tree_of::<F>(alloc, text)?));
+    }
+    named_air(alloc, text)
 }
 
 /// The AIR of a name; a number is the author's bound of a counter, `bounded cubic` has one past all domains.

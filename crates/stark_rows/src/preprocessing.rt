@@ -37,6 +37,14 @@ empty trace | 0 => nothing
 empty trace | 3 => nothing
 "#;
 
+// The same over 2013265921, computed in Python by Lagrange's interpolation; the scheme's greatest
+// height is 27.
+pub const OVER_BABY_BEAR: &str = r#"
+preprocessed | 2 => 1 2 1 2 [[[1006632963, 864202256, 1006632960, 1149063664]]] [[[1006632963, 864202256, 1006632960, 1149063664]]] [[[1006632963, 864202256, 1006632960, 1149063664]]]
+masked | 2 => Some((1, 3))
+counter | 28 => nothing
+"#;
+
 /// The answer to a row of this table.
 pub fn answer<F, EF, C>(alloc: Global, challenger: C, row: &str) -> Result<String, Fail>
 where

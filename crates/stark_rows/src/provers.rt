@@ -5,7 +5,7 @@
 use crate::calls::ClearConfig;
 use crate::elements::elements_in;
 use crate::kinds::NamedAir;
-use crate::named_air::named_air;
+use crate::named_air::{air_in, named_air};
 use crate::proving::{MaskedConfig, TraceProver, masked, masked_reread};
 use crate::rows::{apart, numbers_in};
 use stark_air::Air;
@@ -51,6 +51,33 @@ script 4 0 0 0 3 0 0 0 | made | masked by 1 2 3 | 0 | cubic | 1 | 0 0 | empty =>
 pub const WITH_WORK: &str = r#"
 sha256 | made | clear | 2 3 | counter | 3 | 5 6 7 8 9 10 11 12 | 5 => accepted
 sha256 | made | masked by 1 2 3 | 2 3 | fibonacci | 2 | 1 1 1 2 2 3 3 5 | 1 1 5 => accepted
+"#;
+
+// The same over 2013265921. The proofs were computed in Python: columns and chunks by Lagrange's
+// interpolation, the quotient point by point, masks as the definitions say. Alpha and zeta lie in
+// the extension where the script has other numbers than zeros. The AIR as data has base constraints
+// and one over the extension, a preprocessed and a periodic column: with a trace that satisfies it,
+// and with one whose last but one row is false.
+pub const OVER_BABY_BEAR: &str = r#"
+script 4 0 0 0 3 0 0 0 | made | clear | 0 | counter | 1 | 5 6 | 5 => {"commitments":{"quotient_chunks":[[[2013265920,0],[0,0],[0,0],[0,0]]],"random":null,"trace":[[[1006632966,1006632960]]]},"degree_bits":1,"ood_pow_witness":0,"opened_values":{"preprocessed_local":null,"preprocessed_next":null,"quotient_chunks":[[[2013265920,0,0,0],[0,0,0,0],[0,0,0,0],[0,0,0,0]]],"random":null,"trace_local":[[4,0,0,0]],"trace_next":[[7,0,0,0]]},"opening_proof":null} Ok(())
+script 2013265919 5 1234567890 7 3 987654321 2 2000000000 | made | clear | 0 | fibonacci | 2 | 1 1 1 2 2 3 3 5 | 1 1 5 => {"commitments":{"quotient_chunks":[[[868511159,1320416533,1008890819,0],[1631120617,1659453093,1416126794,0],[640556120,1368021042,493635179,0],[470626906,899567869,1839940596,0]]],"random":null,"trace":[[[503316482,360885776,503316480,645747184],[503316483,792986904,1509949440,1220279016]]]},"degree_bits":2,"ood_pow_witness":0,"opened_values":{"preprocessed_local":null,"preprocessed_next":null,"quotient_chunks":[[[167594138,1959888722,1425128919,1392434837],[526341281,1668215528,860985150,1396313019],[4821857,1554681749,1156217975,695173232],[1137884663,1760603565,1290190859,1397796958]]],"random":null,"trace_local":[[552775249,956704516,678655037,206653638],[726280877,353849726,161931401,154059489]],"trace_next":[[321333016,773531464,327829147,819314094],[67080889,1038364323,124274533,14959245]]},"opening_proof":null} Ok(())
+script 2013265919 5 1234567890 7 3 987654321 2 2000000000 | made | clear | 0 | {"width":2,"publics":1,"periodic":[[0,1]],"preprocessed":{"width":1,"rows":[[1],[2],[3],[4]]},"constants":[],"nodes":[["main",0],["main",1],["next",0],["preprocessed",0],["public",0],["periodic",0],["first"],["transition"],["sub",0,4],["mul",6,8],["sub",2,0],["sub",10,3],["mul",7,11],["mul",0,0],["mul",13,5],["sub",1,14]],"constraints":[{"base":9},{"ext":12},{"base":15}]} | 2 | 5 0 6 36 8 0 11 121 | 5 => {"commitments":{"quotient_chunks":[[[229234332,1309367291,827845423,147239721],[287883998,1099292649,1975751115,0],[361642096,280731363,1382258130,0],[389514758,159366770,425450116,0]],[[521593425,1309367291,827845423,147239721],[287883998,1099292649,1975751115,0],[361642096,280731363,1382258130,0],[389514758,159366770,425450116,0]]],"random":null,"trace":[[[1006632968,1153872680,2013265920,1866026200],[1509949480,1999758764,503316441,13507157]]]},"degree_bits":2,"ood_pow_witness":0,"opened_values":{"preprocessed_local":[[1128360392,1465403121,1210038798,1830322581]],"preprocessed_next":null,"quotient_chunks":[[[1196579427,1682506269,472164306,1166140980],[1665249334,1930369187,83296544,1902622750],[665342027,1412064120,484547930,1113021670],[798999617,893142201,654609518,1212908348]],[[1488938520,1682506269,472164306,1166140980],[1665249334,1930369187,83296544,1902622750],[665342027,1412064120,484547930,1113021670],[798999617,893142201,654609518,1212908348]]],"random":null,"trace_local":[[1279056129,1310554242,840586438,360713127],[105915916,618166684,1272976020,1245433162]],"trace_next":[[388413908,1811895787,452103680,834273339],[526102135,29620624,546684558,1767747050]]},"opening_proof":null} Ok(())
+script 2013265919 5 1234567890 7 3 987654321 2 2000000000 | made | clear | 0 | {"width":2,"publics":1,"periodic":[[0,1]],"preprocessed":{"width":1,"rows":[[1],[2],[3],[4]]},"constants":[],"nodes":[["main",0],["main",1],["next",0],["preprocessed",0],["public",0],["periodic",0],["first"],["transition"],["sub",0,4],["mul",6,8],["sub",2,0],["sub",10,3],["mul",7,11],["mul",0,0],["mul",13,5],["sub",1,14]],"constraints":[{"base":9},{"ext":12},{"base":15}]} | 2 | 5 0 6 36 8 1 11 121 | 5 => {"commitments":{"quotient_chunks":[[[1057979426,480622197,1656590517,1331760548],[287883998,1099292649,1975751115,0],[361642096,280731363,1382258130,0],[389514758,159366770,425450116,0]],[[328277086,1502683630,634529084,340556060],[287883998,1099292649,1975751115,0],[361642096,280731363,1382258130,0],[389514758,159366770,425450116,0]]],"random":null,"trace":[[[1006632968,1153872680,2013265920,1866026200],[1006633000,489809323,2013265882,516823637]]]},"degree_bits":2,"ood_pow_witness":0,"opened_values":{"preprocessed_local":[[1128360392,1465403121,1210038798,1830322581]],"preprocessed_next":null,"quotient_chunks":[[[1675398630,1955736790,954749890,481841084],[1665249334,1930369187,83296544,1902622750],[665342027,1412064120,484547930,1113021670],[798999617,893142201,654609518,1212908348]],[[492203411,319064859,120034547,1639909333],[1665249334,1930369187,83296544,1902622750],[665342027,1412064120,484547930,1113021670],[798999617,893142201,654609518,1212908348]]],"random":null,"trace_local":[[1279056129,1310554242,840586438,360713127],[1462850194,1784712069,21314009,778081142]],"trace_next":[[388413908,1811895787,452103680,834273339],[146832515,483327239,1364571806,1508499263]]},"opening_proof":null} Err(OodEvaluationMismatch { index: None })
+script 2013265919 5 1234567890 7 3 987654321 2 2000000000 | made | masked by 2013265918 2 1234567890 | 0 | counter | 1 | 5 6 | 5 => {"commitments":{"quotient_chunks":[[[2013258244,2013265917,1552372578,978350869],[1785340584,2013265919,1731729676,1552372578],[917773867,1557396062,978350869,1731729676],[1006646393,2013265912,1552372578,978350869]],[[359880695,1,1210433741,1360841066],[1530154621,778698026,1777127184,1210433741],[1499906924,778698029,1360841066,1777127184],[504995398,2013265917,1210433741,1360841066]],[[7694,778698029,1034915052,281536245],[1006623336,2013265914,460893343,1034915052],[1285278537,778698034,281536245,460893343],[1006619480,778698024,1034915052,281536245]],[[1653385241,1234567887,321870149,321870149],[1717679152,1234567884,321870149,321870149],[1159015343,2013265920,321870149,321870149],[1508270473,1234567882,321870149,321870149]]],"random":[[[2013265918,2,1234567890,2013265918],[2,1234567890,2013265918,2],[1234567890,2013265918,2,1234567890],[2013265918,2,1234567890,2013265918]]],"trace":[[[1006632969,1006632958,2013265918,2]]]},"degree_bits":2,"ood_pow_witness":0,"opened_values":{"preprocessed_local":null,"preprocessed_next":null,"quotient_chunks":[[[724499524,1187777653,1325581526,907701376],[688714557,1833053547,1080507370,1694873080],[1605002549,1747053821,360308245,788603152],[1731153579,276037890,1325581516,974030981]],[[1599745550,172860039,1389111718,1131772565],[293113480,376737778,473481501,1281928611],[1018204000,742533613,1077389453,35522786],[1744860238,1274386197,1389111708,1198102170]],[[281263522,109165899,285348095,1452221636],[282116102,27620342,687684373,1251489676],[691466818,1102865535,476888694,1714313209],[1287875293,1210692057,285348085,1518551241]],[[206021524,423566031,281060413,195133253],[270315426,1487134910,281060407,234931016],[34479804,320607592,1838456479,1577787700],[60906741,1525092189,281060403,261462858]]],"random":[[1093736426,1693927893,1535637103,689724760],[1351860778,1534497325,1955661961,498405876],[920266279,1028255164,385678390,286056826],[1093736426,1693927893,1535637103,689724760]],"trace_local":[[1674688949,6993323,1499792097,934124007]],"trace_next":[[1028716968,151909001,1777363878,2012202418]]},"opening_proof":null} Ok(())
+
+# The broken trace again: X over Z_H is 2011168769 X.
+script 4 0 0 0 3 0 0 0 | made | clear | 0 | first row | 1 | 0 0 | empty => {"commitments":{"quotient_chunks":[[[0,2011168769],[0,0],[0,0],[0,0]]],"random":null,"trace":[[[0,0]]]},"degree_bits":1,"ood_pow_witness":0,"opened_values":{"preprocessed_local":null,"preprocessed_next":null,"quotient_chunks":[[[2006974465,0,0,0],[0,0,0,0],[0,0,0,0],[0,0,0,0]]],"random":null,"trace_local":[[0,0,0,0]],"trace_next":null},"opening_proof":null} Err(OodEvaluationMismatch { index: None })
+
+# By hashing; under `verdict` the verifier's answer stands alone. A false trace makes a proof that is
+# refused: of the counter, of Fibonacci by its public value, and of the AIR as data against the
+# constraint over the extension and against one over the field.
+sha256 | made | clear | 0 | counter | 4 | 5 6 7 8 9 10 11 12 13 14 15 16 17 18 19 20 | 5 => accepted
+sha256 | made | clear | 0 | {"width":2,"publics":1,"periodic":[[0,1]],"preprocessed":{"width":1,"rows":[[1],[2],[3],[4]]},"constants":[],"nodes":[["main",0],["main",1],["next",0],["preprocessed",0],["public",0],["periodic",0],["first"],["transition"],["sub",0,4],["mul",6,8],["sub",2,0],["sub",10,3],["mul",7,11],["mul",0,0],["mul",13,5],["sub",1,14]],"constraints":[{"base":9},{"ext":12},{"base":15}]} | 2 | 5 0 6 36 8 0 11 121 | 5 => accepted
+sha256 | made | masked by 2013265918 2 1234567890 | 0 | {"width":2,"publics":1,"periodic":[[0,1]],"preprocessed":{"width":1,"rows":[[1],[2],[3],[4]]},"constants":[],"nodes":[["main",0],["main",1],["next",0],["preprocessed",0],["public",0],["periodic",0],["first"],["transition"],["sub",0,4],["mul",6,8],["sub",2,0],["sub",10,3],["mul",7,11],["mul",0,0],["mul",13,5],["sub",1,14]],"constraints":[{"base":9},{"ext":12},{"base":15}]} | 2 | 5 0 6 36 8 0 11 121 | 5 => accepted
+sha256 | verdict | clear | 0 | counter | 1 | 5 7 | 5 => Err(OodEvaluationMismatch { index: None })
+sha256 | verdict | clear | 0 | fibonacci | 2 | 1 1 1 2 2 3 3 5 | 1 1 6 => Err(OodEvaluationMismatch { index: None })
+sha256 | verdict | clear | 0 | {"width":2,"publics":1,"periodic":[[0,1]],"preprocessed":{"width":1,"rows":[[1],[2],[3],[4]]},"constants":[],"nodes":[["main",0],["main",1],["next",0],["preprocessed",0],["public",0],["periodic",0],["first"],["transition"],["sub",0,4],["mul",6,8],["sub",2,0],["sub",10,3],["mul",7,11],["mul",0,0],["mul",13,5],["sub",1,14]],"constraints":[{"base":9},{"ext":12},{"base":15}]} | 2 | 5 0 6 36 8 0 12 144 | 5 => Err(OodEvaluationMismatch { index: None })
+sha256 | verdict | clear | 0 | {"width":2,"publics":1,"periodic":[[0,1]],"preprocessed":{"width":1,"rows":[[1],[2],[3],[4]]},"constants":[],"nodes":[["main",0],["main",1],["next",0],["preprocessed",0],["public",0],["periodic",0],["first"],["transition"],["sub",0,4],["mul",6,8],["sub",2,0],["sub",10,3],["mul",7,11],["mul",0,0],["mul",13,5],["sub",1,14]],"constraints":[{"base":9},{"ext":12},{"base":15}]} | 2 | 5 0 6 36 8 1 11 121 | 5 => Err(OodEvaluationMismatch { index: None })
 "#;
 
 // Satisfying traces of one, two, four and eight rows; the periodic column has two, the preprocessed one four. At these heights
@@ -131,6 +158,7 @@ where
     match table {
         "made" => made::<F, EF, C>(alloc, challenger, text),
         "stopped" => without_proof(alloc, made::<F, EF, C>(alloc, challenger, text)?),
+        "verdict" => without_proof(alloc, made::<F, EF, C>(alloc, challenger, text)?),
         "not made" => not_made::<F, EF, C>(alloc, challenger, text),
         "changed" => changed::<F, EF, C>(alloc, challenger, text),
         _ => Err(Fail::new("no such table")),
@@ -170,16 +198,17 @@ where
     Ok(text.ok_or("a trace that doesn't fit")?)
 }
 
-/// The same of a named AIR: its name | the logarithm of the height | the rest.
+/// The same of a named AIR, or of one as data: its name or its JSON | the logarithm of the height |
+/// the rest.
 fn text_by_name<F, P>(alloc: Global, prover: &P, text: &str) -> Result<String, Fail>
 where
-    F: PrimeField64,
+    F: PrimeField64 + JsonCodec,
     P: TraceProver<F>,
 {
     let (name, rest) = apart(text)?;
     let (number, rest) = apart(rest)?;
     let [log_height] = numbers_in::<1>(number)?;
-    let air = named_air::<F>(alloc, name)?;
+    let air = air_in::<F>(alloc, name)?;
     text_at::<F, P, NamedAir<F>>(alloc, prover, &air, log_height as usize, rest)
 }
 

@@ -31,6 +31,17 @@ counter | 0 | 5 | 5 => Some([Ext4 { c0: 12288, c1: 0, c2: 0, c3: 0 }])
 mixed | 0 | 5 | empty => Some([Ext4 { c0: 9839, c1: 0, c2: 0, c3: 0 }])
 "#;
 
+// The same over 2013265921, on the coset of 31, computed in Python point by point: the folded sum
+// with the selectors as sums, over x^n - 1. First the line again, then columns of no trace.
+pub const OVER_BABY_BEAR: &str = r#"
+counter | 1 | 2013265911 21 | 5 => Some([Ext4 { c0: 2013265920, c1: 0, c2: 0, c3: 0 }, Ext4 { c0: 2013265920, c1: 0, c2: 0, c3: 0 }])
+counter | 1 | 2013265911 1395452948 21 617812984 | 5 => Some([Ext4 { c0: 2013265920, c1: 0, c2: 0, c3: 0 }, Ext4 { c0: 2013265920, c1: 0, c2: 0, c3: 0 }, Ext4 { c0: 2013265920, c1: 0, c2: 0, c3: 0 }, Ext4 { c0: 2013265920, c1: 0, c2: 0, c3: 0 }])
+counter | 1 | 2013265920 1234567890 987654321 2000000000 | 1789456123 => Some([Ext4 { c0: 129871981, c1: 0, c2: 0, c3: 0 }, Ext4 { c0: 1640895520, c1: 0, c2: 0, c3: 0 }, Ext4 { c0: 445662223, c1: 0, c2: 0, c3: 0 }, Ext4 { c0: 736437077, c1: 0, c2: 0, c3: 0 }])
+counter | 2 | 2013265920 1234567890 987654321 2000000000 2000000000 1789456123 16777216 1073741824 | 2013265920 => Some([Ext4 { c0: 1781178577, c1: 0, c2: 0, c3: 0 }, Ext4 { c0: 204076970, c1: 0, c2: 0, c3: 0 }, Ext4 { c0: 1063139564, c1: 0, c2: 0, c3: 0 }, Ext4 { c0: 337021566, c1: 0, c2: 0, c3: 0 }, Ext4 { c0: 1706050674, c1: 0, c2: 0, c3: 0 }, Ext4 { c0: 1940866677, c1: 0, c2: 0, c3: 0 }, Ext4 { c0: 1104228301, c1: 0, c2: 0, c3: 0 }, Ext4 { c0: 1370227589, c1: 0, c2: 0, c3: 0 }])
+mixed | 0 | 5 | empty => Some([Ext4 { c0: 805306371, c1: 0, c2: 0, c3: 0 }])
+cubic | 1 | 2013265920 1234567890 | empty => Some([Ext4 { c0: 2097152, c1: 0, c2: 0, c3: 0 }, Ext4 { c0: 800393384, c1: 0, c2: 0, c3: 0 }])
+"#;
+
 /// A matrix of one column, for an AIR that has one, where there are so many rows.
 fn only_column<F: Field, A: BaseAir<F>>(
     air: &A,

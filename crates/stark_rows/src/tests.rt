@@ -1,5 +1,5 @@
 //! The rows of all subjects; those of quotients and of proofs over each field.
-use crate::answers::{lockstep, packed, scalar};
+use crate::answers::{baby_bear, lockstep, packed, scalar};
 use crate::rows::{agreeing_rows, all_rows, proof_rows};
 use crate::{
     airs, constraints, domains, preprocessing, proofs, provers, quotients, security, sizing, trees,
@@ -84,4 +84,27 @@ fn satisfying_traces_under_masks(rt: HostRuntime) -> Result<(), Fail> {
     )?;
     let front = "script 4 0 0 0 3 0 0 0 | made | masked by 1 2 3 | 0 | ";
     agreeing_rows(&rt, alloc, front, rows, scalar, packed, lockstep)
+}
+
+// What is said of no field in particular is asked again: how quotients are sized, bounds, and
+// traces that satisfy their AIRs.
+#[test]
+fn over_baby_bear(rt: HostRuntime) -> Result<(), Fail> {
+    let alloc = rt.alloc();
+    for (subject, rows) in [
+        ("airs", airs::OVER_BABY_BEAR),
+        ("constraints", constraints::OVER_BABY_BEAR),
+        ("domains", domains::OVER_BABY_BEAR),
+        ("preprocessing", preprocessing::OVER_BABY_BEAR),
+        ("quotients", quotients::OVER_BABY_BEAR),
+        ("security", security::ROWS),
+        ("sizing", sizing::ROWS),
+        ("trees", trees::OVER_BABY_BEAR),
+        ("verdicts", verdicts::OVER_BABY_BEAR),
+    ] {
+        all_rows(&rt, alloc, subject, rows, baby_bear)?;
+    }
+    proof_rows(&rt, alloc, "", provers::OVER_BABY_BEAR, baby_bear)?;
+    let front = "sha256 | made | clear | 0 | ";
+    proof_rows(&rt, alloc, front, provers::SATISFYING, baby_bear)
 }

@@ -9,7 +9,7 @@ ghost use Rattle.stark_samples.specs.Samples.{counter_constraints, fibonacci_con
 use crate::airs::folded;
 use crate::calls::ClearConfig;
 use crate::kinds::NamedAir;
-use crate::named_air::named_air;
+use crate::named_air::{named_air, tree_of};
 use crate::proofs::value_of;
 use crate::provers::text_at;
 use crate::proving::TraceProver;
@@ -102,6 +102,12 @@ same | preprocessed | 2 | null | 1 2 3 4 | empty => accepted
 same | periodic | 2 | null | 0 1 0 1 | empty => accepted
 "#;
 
+// The same over 2013265921, computed in Python. The AIR has base constraints and one over the
+// extension, a preprocessed and a periodic column.
+pub const OVER_BABY_BEAR: &str = r#"
+folded | {"width":2,"publics":1,"periodic":[[0,1]],"preprocessed":{"width":1,"rows":[[1],[2],[3],[4]]},"constants":[],"nodes":[["main",0],["main",1],["next",0],["preprocessed",0],["public",0],["periodic",0],["first"],["transition"],["sub",0,4],["mul",6,8],["sub",2,0],["sub",10,3],["mul",7,11],["mul",0,0],["mul",13,5],["sub",1,14]],"constraints":[{"base":9},{"ext":12},{"base":15}]} | 1234567890 987654321 | 2000000000 1789456123 | 16777216 | 1073741824 | 2013265920 => Ext4 { c0: 728324374, c1: 0, c2: 0, c3: 0 }
+"#;
+
 // The JSON of AIRs that are written in another way, or the error.
 pub const BY_NAME: &str = r#"
 places => {"constants":[1],"constraints":[{"base":4},{"ext":10}],"nodes":[["main",0],["public",0],["first"],["sub",0,1],["mul",2,3],["next",0],["constant",0],["transition"],["sub",5,0],["sub",8,6],["mul",7,9]],"periodic":[],"preprocessed":null,"publics":1,"width":1}
@@ -134,15 +140,6 @@ where
             same_by_name::<F, ClearConfig<F, EF, C>>(alloc, &config, text)
         }
         _ => Err(Fail::new("no such table")),
-    }
-}
-
-/// The AIR that a JSON text spells.
-fn tree_of<F: Field + JsonCodec>(alloc: Global, text: &str) -> Result<TreeAir<F>, Fail> {
-    let value = value_of(alloc, text)?;
-    match TreeAir::from_json(alloc, &value) {
-        Ok(air) => Ok(air),
-        Err(_) => Err(Fail::new("no AIR")),
     }
 }
 

@@ -86,6 +86,23 @@ script 4 0 0 0 3 0 0 0 | counter | 4 12288 1 0 0 | 6150 6144 | 7 | 5 | 0 1 | non
 script 4 0 0 0 3 0 0 0 | counter | 4 12288 1 0 0 | 6150 6144 | 7 | 5 | 1 1 | 1 | none => Err(InvalidProofShape(PreprocessedVerifierKeyInconsistency))
 "#;
 
+// The same over 2013265921: the line through 5 and 6 on the points 1 and -1 has the coefficients
+// 11/2 and -1/2, in Python 1006632966 and 1006632960; its quotient is -1. Behind the accepted proof
+// an opened value is altered, then the next one, the quotient, the public value and the point; then
+// the height, which is at most 27, and once the point is one of order 2^27.
+pub const OVER_BABY_BEAR: &str = r#"
+script 4 0 0 0 3 0 0 0 | counter | 4 2013265920 1 0 0 | 1006632966 1006632960 | 7 | 5 | none | none | none => Ok(())
+script 4 0 0 0 3 0 0 0 | counter | 5 2013265920 1 0 0 | 1006632966 1006632960 | 7 | 5 | none | none | none => Err(InvalidOpeningArgument(Value { round: 0 }))
+script 4 0 0 0 3 0 0 0 | counter | 4 2013265920 1 0 0 | 1006632966 1006632960 | 6 | 5 | none | none | none => Err(InvalidOpeningArgument(Value { round: 0 }))
+script 4 0 0 0 3 0 0 0 | counter | 4 2013265919 1 0 0 | 1006632966 1006632960 | 7 | 5 | none | none | none => Err(OodEvaluationMismatch { index: None })
+script 4 0 0 0 3 0 0 0 | counter | 4 2013265920 1 0 0 | 1006632966 1006632960 | 7 | 6 | none | none | none => Err(OodEvaluationMismatch { index: None })
+script 4 0 0 0 1 0 0 0 | counter | 4 2013265920 1 0 0 | 1006632966 1006632960 | 7 | 5 | none | none | none => Err(OodPointInDomain)
+script 4 0 0 0 3 0 0 0 | counter | 4 2013265920 27 0 0 | 1006632966 1006632960 | 7 | 5 | none | none | none => Err(InvalidOpeningArgument(Shape { round: 0 }))
+script 4 0 0 0 440564289 0 0 0 | counter | 4 2013265920 27 0 0 | 1006632966 1006632960 | 7 | 5 | none | none | none => Err(OodPointInDomain)
+script 4 0 0 0 3 0 0 0 | counter | 4 2013265920 28 0 0 | 1006632966 1006632960 | 7 | 5 | none | none | none => Err(InvalidProofShape(DegreeBitsTooLarge { air: None, maximum: 27, got: 28 }))
+script 4 0 0 0 3 0 0 0 | cubic | 0 0 27 0 0 | 0 | none | empty | none | none | none => Err(InvalidProofShape(QuotientDomainTooLarge { air: None, maximum: 27, got: 28 }))
+"#;
+
 /// The answer to a row of this table.
 pub fn answer<F, EF, C>(alloc: Global, challenger: C, row: &str) -> Result<String, Fail>
 where

@@ -1,0 +1,63 @@
+//! An honest proof that is accepted, with nothing to assume of its trace.
+ghost use Rattle.std.specs.Prelude.{◌≡◌, ◌+◌, ◌≤◌, [], ◌∷◌, None, IfErr, IfOk};
+ghost use Rattle.stark_support.specs.Scheme.{zk_bits};
+ghost use Rattle.stark_proof.specs.ProofView.{proof_view};
+ghost use Rattle.guide_tests.specs.Counting.{IsDrawnOutside, counted_from};
+
+use p3_uni_stark::{
+    Com, PcsProverError, PreprocessedProverData, PreprocessedVerifierKey, ProvingError,
+    StarkGenericConfig, StarkInstance, StarkOperations, Val, VerificationError, VerifiedProof,
+    prove_and_verify,
+};
+use stark_protocol::{PcsProverData, power_of_two};
+use stark_samples::CounterAir;
+use stark_support::{
+    Element, Field, GrindingChallenger, PackedExtensionField, PackedField, Pcs, PolynomialSpace,
+    RowMajorMatrix, TwoAdicField, UnivariateStarkPcs,
+};
+use std::alloc::{AllocError, Global};
+
+/// The numbers `start`, `start + 1`, .., as many as are asked for.
+fn numbers_from<F: Field>(alloc: Global, start: F, count: usize) -> Result<Vec<F>, AllocError>
+    ensures { IfOk result (λ numbers. numbers.items ≡ counted_from F.ring start 0 count) }
+{
+    let mut numbers = Vec::new(alloc);
+    let mut number = start;
+    for _index in 0..count {
+        numbers.push(number)?;
+        number = number + F::ONE;
+    }
+    Ok(numbers)
+}
+
+/// A proof that a column counted from `start` on, through `2^log_height` rows, and the verifier's verdict on it. Over a scheme
+/// that refuses no true opening, from its least height on, the proof is refused for want of memory alone, unless the zeta that
+/// was drawn lies in H. Nothing is asked of the trace, whose rows satisfy the AIR, nor of degrees.
+pub fn count<'p, SC: StarkGenericConfig>(
+    alloc: Global,
+    config: &'p SC,
+    start: Val<SC>,
+    log_height: usize,
+) -> Result<VerifiedProof<SC>, ProvingError<PcsProverError<SC>>>
+where
+    Val<SC>: PackedField,
+    SC::Challenge: PackedExtensionField<Val<SC>>,
+    SC::Challenger: GrindingChallenger<Witness = Val<SC>>,
+    requires group { log_height ≤ SC.Pcs.Domain.Val.TWO_ADICITY }
+    requires within { log_height + zk_bits SC.Pcs.ZK
+        ≤ SC.Pcs.scheme.log_max_trace_height (SC.config.scheme config.now) }
+    ensures accepted { IfOk result (λ made.
+        SC.Pcs.scheme.log_min_trace_height (SC.config.scheme config.now) ≤ log_height
+        → SC.Pcs.scheme.Whole (SC.config.scheme config.now)
+        → IsDrawnOutside ⟦<SC as StarkOperations>⟧.operations
+        (⟦<SC as StarkInstance<CounterAir>>⟧.instance config.now (record {}) (start ∷ []) None)
+        (proof_view made.0)
+        → IfErr made.1 (λ error. error ≡ VerificationError.OutOfMemory)) }
+{
+    let publics = numbers_from(alloc, start, 1)?;
+    let numbers = numbers_from(alloc, start, power_of_two(log_height))?;
+    let trace = RowMajorMatrix::new_col(numbers);
+    let data: Option<&'p PreprocessedProverData<Com<SC>, PcsProverData<SC>>> = None;
+    let key: Option<&'p PreprocessedVerifierKey<Com<SC>>> = None;
+    prove_and_verify(alloc, config, &CounterAir, trace, &publics, data, key)
+}

@@ -1,5 +1,5 @@
 //! Builders, which an AIR is evaluated on.
-ghost use Rattle.std.specs.Prelude.{◌≡◌, IfOk, OnErr, List, [], ◌∷◌};
+ghost use Rattle.std.specs.Prelude.{◌≡◌, IfOk, IsTrue, OnErr, List, [], ◌∷◌};
 ghost use Rattle.std.specs.List.{slice_get};
 ghost use Rattle.stark_air.specs.Emission.{EmissionLaws};
 ghost use Rattle.stark_air.specs.Layout.{Layout};
@@ -77,6 +77,14 @@ pub trait BaseAirBuilder {
     /// The periodic columns' values in the row.
     fn periodic_values(&self) -> &[Self::PeriodicVar]
         ensures { Shows ⟦<Self::Expr as From<Self::PeriodicVar>>⟧.from_gives Self.Expr.stands (environment self.now).periodic_value (layout self.now).periodics (slice_get result.now) };
+
+    /// Whether it is seen at once that memory for `x` was refused, so that what is made of `x` is
+    /// refused too. It looks at the root alone and takes no memory; `false` promises nothing.
+    fn is_refused(&self, _x: &Self::Expr) -> bool
+        ensures { IsTrue result → may_refuse }
+    {
+        false
+    }
 
     /// Asserts `x`, as a constraint over the base field.
     fn assert_zero(&mut self, x: Self::Expr) -> Result<(), AllocError>

@@ -86,6 +86,10 @@ impl<AB: BaseAirBuilder> BaseAirBuilder for FilteredAirBuilder<'_, AB> {
         self.inner.public_values()
     }
 
+    fn is_refused(&self, x: &AB::Expr) -> bool {
+        self.inner.is_refused(x)
+    }
+
     fn assert_zero(&mut self, x: AB::Expr) -> Result<(), AllocError> {
         self.inner.assert_zero(self.condition.dup() * x)
     }

@@ -182,6 +182,10 @@ impl<AB: BaseAirBuilder, SubAir: BaseAir<AB::F>, T> BaseAirBuilder
         self.inner.periodic_values()
     }
 
+    fn is_refused(&self, x: &AB::Expr) -> bool {
+        self.inner.is_refused(x)
+    }
+
     fn assert_zero(&mut self, x: AB::Expr) -> Result<(), AllocError> {
         self.inner.assert_zero(x)
     }

@@ -1,32 +1,34 @@
 -- Steps of the loops over symbolic constraints, and over the places of constraints.
-use Rattle.std.proofs.Common.{◌≡◌, ℕ, ◌+◌, ◌<◌, ◌≤◌, ◌⊎◌, inl, inr, List, [], ◌∷◌, ◌++◌, Option, Some, map, length, drop, get_or, sym, ◌∙◌, ap, subst, arith, add-one, append-nil}
+use Rattle.std.proofs.Common.{◌≡◌, ℕ, ◌+◌, ◌<◌, ◌≤◌, ◌⊎◌, inl, inr, List, [], ◌∷◌, ◌++◌, Some, map, length, drop, get_or, sym, ◌∙◌, ap, subst, arith, add-one, append-nil}
 use Rattle.std.specs.List.{slice_get}
 use Rattle.std.proofs.Math.Seq.{drop-cons}
 use Rattle.std.proofs.lemmas.Bool.{cases_lt}
 use Rattle.std.proofs.lemmas.List.{append_assoc, drop_all, map_push, length_push, get_or_append_left, get_or_push}
 use Rattle.std.proofs.lemmas.Option.{slice_get_within, slice_get-get_or, get_or_from_slice_get}
-use Rattle.stark_air.specs.Tree.{Tree}
 use Rattle.stark_symbolic.specs.Places.{AreCoordinateRows, marked_base_places, marked_extension_places}
-use Rattle.stark_symbolic.specs.declared.builder.SymbolicConstraint.{SymbolicConstraint}
-use Rattle.stark_symbolic.specs.declared.builder.SymbolicConstraint.TheVariants.{Base, Extension}
+use Rattle.stark_symbolic.specs.declared.degree_expression.DegreePair.{DegreePair}
+use Rattle.stark_symbolic.specs.declared.degree_builder.ConstraintDegrees.{ConstraintDegrees}
+use Rattle.stark_symbolic.specs.declared.degree_builder.ConstraintDegrees.TheVariants.{Base, Extension}
 
-module _ {F : Type 0} (xs : List (SymbolicConstraint F)) (i : ℕ) (c : SymbolicConstraint F) (x : Option (Tree F)) (within : i < length xs) (read : c ≡ get_or xs i c) where
-  rest : drop i xs ≡ c ∷ drop (i + 1) xs
-  rest = drop-cons xs i c within ∙ ap (λ (n : ℕ). get_or xs i c ∷ drop n xs) (sym (add-one i)) ∙ ap (λ (d : SymbolicConstraint F). d ∷ drop (i + 1) xs) (sym read)
+module _ (xs : List ConstraintDegrees) (i : ℕ) (d : ConstraintDegrees) (within : i < length xs) (x : DegreePair) (before after others same base extension : List ℕ) where
+  rest : (c : ConstraintDegrees) → get_or xs i d ≡ c → drop i xs ≡ c ∷ drop (i + 1) xs
+  rest c read = drop-cons xs i d within ∙ ap (λ (n : ℕ). get_or xs i d ∷ drop n xs) (sym (add-one i)) ∙ ap (λ (e : ConstraintDegrees). e ∷ drop (i + 1) xs) read
 
   -- The places of the base constraints and of the others, one base constraint further.
-  pub one_base_place : (before after others same : List ℕ) (base extension : List ℕ) → c ≡ Base x → after ≡ before ++ i ∷ [] → same ≡ others → before ++ marked_base_places i (drop i xs) ≡ base → others ++ marked_extension_places i (drop i xs) ≡ extension → (after ++ marked_base_places (i + 1) (drop (i + 1) xs) ≡ base) × (same ++ marked_extension_places (i + 1) (drop (i + 1) xs) ≡ extension)
-  one_base_place before after others same base extension is pushed kept so_far rest_so_far =
-      let left : drop i xs ≡ Base x ∷ drop (i + 1) xs = rest ∙ ap (λ (d : SymbolicConstraint F). d ∷ drop (i + 1) xs) is in (
-        ap (λ (l : List ℕ). l ++ marked_base_places (i + 1) (drop (i + 1) xs)) pushed ∙ append_assoc before (i ∷ []) _ ∙ ap (λ (l : List (SymbolicConstraint F)). before ++ marked_base_places i l) (sym left) ∙ so_far,
-        ap (λ (l : List ℕ). l ++ marked_extension_places (i + 1) (drop (i + 1) xs)) kept ∙ ap (λ (l : List (SymbolicConstraint F)). others ++ marked_extension_places i l) (sym left) ∙ rest_so_far,
+  pub one_base_place : get_or xs i d ≡ Base x → after ≡ before ++ i ∷ [] → same ≡ others → before ++ marked_base_places i (drop i xs) ≡ base → others ++ marked_extension_places i (drop i xs) ≡ extension
+      → (after ++ marked_base_places (i + 1) (drop (i + 1) xs) ≡ base) × (same ++ marked_extension_places (i + 1) (drop (i + 1) xs) ≡ extension)
+  one_base_place is pushed kept so_far rest_so_far =
+      let left : drop i xs ≡ Base x ∷ drop (i + 1) xs = rest (Base x) is in (
+        ap (λ (l : List ℕ). l ++ marked_base_places (i + 1) (drop (i + 1) xs)) pushed ∙ append_assoc before (i ∷ []) _ ∙ ap (λ (l : List ConstraintDegrees). before ++ marked_base_places i l) (sym left) ∙ so_far,
+        ap (λ (l : List ℕ). l ++ marked_extension_places (i + 1) (drop (i + 1) xs)) kept ∙ ap (λ (l : List ConstraintDegrees). others ++ marked_extension_places i l) (sym left) ∙ rest_so_far,
       )
 
-  pub one_extension_place : (before after others same : List ℕ) (base extension : List ℕ) → c ≡ Extension x → after ≡ before ++ i ∷ [] → same ≡ others → others ++ marked_base_places i (drop i xs) ≡ base → before ++ marked_extension_places i (drop i xs) ≡ extension → (same ++ marked_base_places (i + 1) (drop (i + 1) xs) ≡ base) × (after ++ marked_extension_places (i + 1) (drop (i + 1) xs) ≡ extension)
-  one_extension_place before after others same base extension is pushed kept rest_so_far so_far =
-      let left : drop i xs ≡ Extension x ∷ drop (i + 1) xs = rest ∙ ap (λ (d : SymbolicConstraint F). d ∷ drop (i + 1) xs) is in (
-        ap (λ (l : List ℕ). l ++ marked_base_places (i + 1) (drop (i + 1) xs)) kept ∙ ap (λ (l : List (SymbolicConstraint F)). others ++ marked_base_places i l) (sym left) ∙ rest_so_far,
-        ap (λ (l : List ℕ). l ++ marked_extension_places (i + 1) (drop (i + 1) xs)) pushed ∙ append_assoc before (i ∷ []) _ ∙ ap (λ (l : List (SymbolicConstraint F)). before ++ marked_extension_places i l) (sym left) ∙ so_far,
+  pub one_extension_place : get_or xs i d ≡ Extension x → after ≡ before ++ i ∷ [] → same ≡ others → others ++ marked_base_places i (drop i xs) ≡ base → before ++ marked_extension_places i (drop i xs) ≡ extension
+      → (same ++ marked_base_places (i + 1) (drop (i + 1) xs) ≡ base) × (after ++ marked_extension_places (i + 1) (drop (i + 1) xs) ≡ extension)
+  one_extension_place is pushed kept rest_so_far so_far =
+      let left : drop i xs ≡ Extension x ∷ drop (i + 1) xs = rest (Extension x) is in (
+        ap (λ (l : List ℕ). l ++ marked_base_places (i + 1) (drop (i + 1) xs)) kept ∙ ap (λ (l : List ConstraintDegrees). others ++ marked_base_places i l) (sym left) ∙ rest_so_far,
+        ap (λ (l : List ℕ). l ++ marked_extension_places (i + 1) (drop (i + 1) xs)) pushed ∙ append_assoc before (i ∷ []) _ ∙ ap (λ (l : List ConstraintDegrees). before ++ marked_extension_places i l) (sym left) ∙ so_far,
       )
 
 -- The items of a list by another name, one more or as they were.
@@ -56,8 +58,8 @@ one_more_pushed_row coordinates d values items old new row pushed h is =
     subst (AreCoordinateRows coordinates (d + 1) values) (sym (ap (map items) pushed ∙ map_push items old row)) (one_more_row coordinates d values (map items old) (items row) h is)
 
 -- The loops' end: nothing is left.
-pub base_places_end : {F : Type 0} (xs : List (SymbolicConstraint F)) (i : ℕ) (places all : List ℕ) → length xs ≤ i → places ++ marked_base_places i (drop i xs) ≡ all → places ≡ all
-base_places_end {F} xs i places all past h = sym (append-nil places) ∙ ap (λ (l : List (SymbolicConstraint F)). places ++ marked_base_places i l) (sym (drop_all i xs past)) ∙ h
+pub base_places_end : (xs : List ConstraintDegrees) (i : ℕ) (places all : List ℕ) → length xs ≤ i → places ++ marked_base_places i (drop i xs) ≡ all → places ≡ all
+base_places_end xs i places all past h = sym (append-nil places) ∙ ap (λ (l : List ConstraintDegrees). places ++ marked_base_places i l) (sym (drop_all i xs past)) ∙ h
 
-pub extension_places_end : {F : Type 0} (xs : List (SymbolicConstraint F)) (i : ℕ) (places all : List ℕ) → length xs ≤ i → places ++ marked_extension_places i (drop i xs) ≡ all → places ≡ all
-extension_places_end {F} xs i places all past h = sym (append-nil places) ∙ ap (λ (l : List (SymbolicConstraint F)). places ++ marked_extension_places i l) (sym (drop_all i xs past)) ∙ h
+pub extension_places_end : (xs : List ConstraintDegrees) (i : ℕ) (places all : List ℕ) → length xs ≤ i → places ++ marked_extension_places i (drop i xs) ≡ all → places ≡ all
+extension_places_end xs i places all past h = sym (append-nil places) ∙ ap (λ (l : List ConstraintDegrees). places ++ marked_extension_places i l) (sym (drop_all i xs past)) ∙ h

@@ -5,6 +5,9 @@ pub mod TreeCode
 pub mod SymbolicView
 pub mod SymbolicRow
 pub mod SymbolicTrees
-pub mod GreatestDegree
 pub mod Places
 pub mod SymbolicBuilder
+pub mod Fitting
+pub mod LeafDegrees
+pub mod DegreePair
+pub mod DegreeBuilder

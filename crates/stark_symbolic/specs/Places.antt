@@ -6,9 +6,10 @@ use Rattle.std.proofs.lemmas.List.Elements.{All-nil, All-cons}
 use Rattle.stark_support.specs.Ring.{RingOps}
 use Rattle.stark_support.specs.Powers.{power}
 use Rattle.stark_air.specs.Tree.{Constraint, base, extension}
-use Rattle.stark_symbolic.specs.SymbolicTrees.{marked_tree}
-use Rattle.stark_symbolic.specs.declared.builder.SymbolicConstraint.{SymbolicConstraint}
-use Rattle.stark_symbolic.specs.declared.builder.SymbolicConstraint.TheVariants.{Base, Extension}
+use Rattle.stark_symbolic.specs.DegreePair.{marked_degrees}
+use Rattle.stark_symbolic.specs.declared.leaf_degrees.LeafDegrees.{LeafDegrees}
+use Rattle.stark_symbolic.specs.declared.degree_builder.ConstraintDegrees.{ConstraintDegrees}
+use Rattle.stark_symbolic.specs.declared.degree_builder.ConstraintDegrees.TheVariants.{Base, Extension}
 
 -- The places of the base constraints, where the first constraint has place n.
 abbrev pub base_places : {F : Type 0} → ℕ → List (Constraint F) → List ℕ
@@ -35,42 +36,42 @@ pub record AreCoordinateRows {F : Type 0} {E : Type 0} (coordinates : E → List
   pub number : length rows ≡ dimension
   pub each : (d : ℕ) (row : List F) → slice_get rows d ≡ Some row → map (λ (c : F). Some c) row ≡ map (λ (x : E). slice_get (coordinates x) d) values
 
--- The same of symbolic constraints.
-abbrev pub marked_base_places : {F : Type 0} → ℕ → List (SymbolicConstraint F) → List ℕ
+-- The same of constraints that are known by their degrees.
+abbrev pub marked_base_places : ℕ → List ConstraintDegrees → List ℕ
 marked_base_places n [] = []
 marked_base_places n (Base x ∷ xs) = n ∷ marked_base_places (n + 1) xs
 marked_base_places n (Extension x ∷ xs) = marked_base_places (n + 1) xs
 
-abbrev pub marked_extension_places : {F : Type 0} → ℕ → List (SymbolicConstraint F) → List ℕ
+abbrev pub marked_extension_places : ℕ → List ConstraintDegrees → List ℕ
 marked_extension_places n [] = []
 marked_extension_places n (Base x ∷ xs) = marked_extension_places (n + 1) xs
 marked_extension_places n (Extension x ∷ xs) = n ∷ marked_extension_places (n + 1) xs
 
-pub base_places_are : {F : Type 0} (ring : RingOps F) (n : ℕ) (cs : List (Constraint F)) → marked_base_places n (map (marked_tree ring) cs) ≡ base_places n cs
-base_places_are ring n [] = refl
-base_places_are ring n (base t ∷ cs) = ap (λ (l : List ℕ). n ∷ l) (base_places_are ring (n + 1) cs)
-base_places_are ring n (extension t ∷ cs) = base_places_are ring (n + 1) cs
+pub base_places_are : {F : Type 0} (one other : LeafDegrees) (n : ℕ) (cs : List (Constraint F)) → marked_base_places n (map (marked_degrees one other) cs) ≡ base_places n cs
+base_places_are one other n [] = refl
+base_places_are one other n (base t ∷ cs) = ap (λ (l : List ℕ). n ∷ l) (base_places_are one other (n + 1) cs)
+base_places_are one other n (extension t ∷ cs) = base_places_are one other (n + 1) cs
 
-pub extension_places_are : {F : Type 0} (ring : RingOps F) (n : ℕ) (cs : List (Constraint F)) → marked_extension_places n (map (marked_tree ring) cs) ≡ extension_places n cs
-extension_places_are ring n [] = refl
-extension_places_are ring n (base t ∷ cs) = extension_places_are ring (n + 1) cs
-extension_places_are ring n (extension t ∷ cs) = ap (λ (l : List ℕ). n ∷ l) (extension_places_are ring (n + 1) cs)
+pub extension_places_are : {F : Type 0} (one other : LeafDegrees) (n : ℕ) (cs : List (Constraint F)) → marked_extension_places n (map (marked_degrees one other) cs) ≡ extension_places n cs
+extension_places_are one other n [] = refl
+extension_places_are one other n (base t ∷ cs) = extension_places_are one other (n + 1) cs
+extension_places_are one other n (extension t ∷ cs) = ap (λ (l : List ℕ). n ∷ l) (extension_places_are one other (n + 1) cs)
 
 -- Each constraint has one place.
-pub marked_count : {F : Type 0} (n m : ℕ) (xs : List (SymbolicConstraint F)) → length (marked_base_places n xs) + length (marked_extension_places m xs) ≡ length xs
+pub marked_count : (n m : ℕ) (xs : List ConstraintDegrees) → length (marked_base_places n xs) + length (marked_extension_places m xs) ≡ length xs
 marked_count n m [] = refl
 marked_count n m (Base x ∷ xs) = let e = marked_count (n + 1) (m + 1) xs in omega (arith, e)
 marked_count n m (Extension x ∷ xs) = let e = marked_count (n + 1) (m + 1) xs in omega (arith, e)
 
-pub marked_total : {F : Type 0} (xs : List (SymbolicConstraint F)) → length xs < 2 ^ 64 → total_of (marked_base_places 0 xs) (marked_extension_places 0 xs) ≡ length xs
+pub marked_total : (xs : List ConstraintDegrees) → length xs < 2 ^ 64 → total_of (marked_base_places 0 xs) (marked_extension_places 0 xs) ≡ length xs
 marked_total xs fits = let e = marked_count 0 0 xs in omega (arith, e)
 
-pub marked_base_within : {F : Type 0} (n m : ℕ) (xs : List (SymbolicConstraint F)) → n + length xs ≤ m → All (λ i. i < m) (marked_base_places n xs)
+pub marked_base_within : (n m : ℕ) (xs : List ConstraintDegrees) → n + length xs ≤ m → All (λ i. i < m) (marked_base_places n xs)
 marked_base_within n m [] h = All-nil (λ i. i < m)
 marked_base_within n m (Base x ∷ xs) h = All-cons (λ i. i < m) n (marked_base_places (n + 1) xs) (omega arith) (marked_base_within (n + 1) m xs (omega arith))
 marked_base_within n m (Extension x ∷ xs) h = marked_base_within (n + 1) m xs (omega arith)
 
-pub marked_extension_within : {F : Type 0} (n m : ℕ) (xs : List (SymbolicConstraint F)) → n + length xs ≤ m → All (λ i. i < m) (marked_extension_places n xs)
+pub marked_extension_within : (n m : ℕ) (xs : List ConstraintDegrees) → n + length xs ≤ m → All (λ i. i < m) (marked_extension_places n xs)
 marked_extension_within n m [] h = All-nil (λ i. i < m)
 marked_extension_within n m (Base x ∷ xs) h = marked_extension_within (n + 1) m xs (omega arith)
 marked_extension_within n m (Extension x ∷ xs) h = All-cons (λ i. i < m) n (marked_extension_places (n + 1) xs) (omega arith) (marked_extension_within (n + 1) m xs (omega arith))

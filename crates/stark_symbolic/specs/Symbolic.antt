@@ -51,6 +51,12 @@ abbrev pub is_leaf : {F : Type 0} → Option (Tree F) → Bool
 is_leaf (Some t) = one_node t
 is_leaf None = false
 
+-- A node of two expressions is no leaf.
+pub pair_no_leaf : {F : Type 0} (node : Tree F → Tree F → Tree F) → ((t u : Tree F) → one_node (node t u) ≡ false) → (x y : Option (Tree F)) → is_leaf (pair_node node x y) ≡ false
+pair_no_leaf node inner (Some t) (Some u) = inner t u
+pair_no_leaf node inner (Some t) None = refl
+pair_no_leaf node inner None y = refl
+
 -- What an operator gives: the constant of constants, else the node or a refusal.
 abbrev pub GivesNode : {F : Type 0} {K : Type 0} → (K → F) → Option K → Option (Tree F) → Option (Tree F) → Type 0
 GivesNode operation (Some p) w z = z ≡ Some (constant (operation p))

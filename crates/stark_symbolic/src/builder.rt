@@ -1,5 +1,5 @@
 //! The builder that keeps the constraints' trees.
-ghost use Rattle.std.specs.Prelude.{◌≡◌, [], ◌∷◌, All, IfOk, OnErr, IsSome, length};
+ghost use Rattle.std.specs.Prelude.{◌≡◌, [], ◌∷◌, All, IfOk, OnErr, IsNone, IsSome, IsTrue, length};
 ghost use Rattle.std.specs.List.{slice_get};
 ghost use Rattle.std.proofs.Common.{subst, sym};
 ghost use Rattle.stark_symbolic.specs.Symbolic.{Stands, symbolic_operations, pair_stands};
@@ -9,6 +9,7 @@ ghost use Rattle.stark_symbolic.specs.SymbolicRow.{AreVariables, variable_gives}
 ghost use Rattle.stark_air.specs.Value.{Shows, value};
 
 use crate::expression::SymbolicExpression;
+use crate::node::is_refused;
 use crate::variable::{BaseEntry, SymbolicVariable};
 use crate::window::{SymbolicWindow, variables};
 use stark_air::{AirLayout, BaseAirBuilder, ExtensionBuilder};
@@ -145,6 +146,14 @@ impl<F: Field, EF> BaseAirBuilder for SymbolicAirBuilder<F, EF> {
 
     fn periodic_values(&self) -> &[SymbolicVariable<F>] {
         self.periodic_values.as_slice()
+    }
+
+    /// Whether the expression's root was refused.
+    fn is_refused(&self, x: &SymbolicExpression<F>) -> bool
+        ensures memory { IsTrue result → Unit {0} }
+        ensures refused { IsTrue result → IsNone x.now }
+    {
+        is_refused(&x.node)
     }
 
     /// Err also where memory for a node of the expression was refused.

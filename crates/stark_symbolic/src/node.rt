@@ -1,5 +1,5 @@
 //! Nodes of symbolic expressions, put together and read.
-ghost use Rattle.std.specs.Prelude.{◌≡◌, IfSome, IsSome, IsTrue, ◌↔◌, true};
+ghost use Rattle.std.specs.Prelude.{◌≡◌, IfSome, IsNone, IsSome, IsTrue, ◌↔◌, true};
 ghost use Rattle.stark_support.specs.Ring.{difference as ring_difference};
 ghost use Rattle.stark_air.specs.Tree.{sum, difference, product, negation};
 ghost use Rattle.stark_symbolic.specs.Degree.{degree};
@@ -50,6 +50,13 @@ fn allocator_of<F>(node: &SymbolicNode<F>) -> Option<Global> {
     }
 }
 
+/// Whether memory for the node itself was refused.
+pub fn is_refused<F>(node: &SymbolicNode<F>) -> bool
+    ensures { IsTrue result → IsNone (tree_of node.now) }
+{
+    matches!(node, SymbolicNode::Refused)
+}
+
 /// Two nodes in boxes; None where memory was refused.
 fn boxed_in<F: Field>(
     alloc: Global,
@@ -67,13 +74,17 @@ fn boxed_in<F: Field>(
     }
 }
 
-/// Two nodes in boxes of the allocator that one of them keeps; None where memory was refused, or none keeps one.
+/// Two nodes in boxes of the allocator that one of them keeps; None where memory was refused, also
+/// for one of the two, or none keeps one.
 fn boxed_pair<F: Field>(
     left: SymbolicNode<F>,
     right: SymbolicNode<F>,
 ) -> Option<(Box<SymbolicNode<F>>, Box<SymbolicNode<F>>)>
     ensures { IfSome result (λ p. (p.0.value ≡ left) × (p.1.value ≡ right)) }
 {
+    if is_refused(&left) || is_refused(&right) {
+        return None;
+    }
     match allocator_of(&left) {
         Some(alloc) => boxed_in(alloc, left, right),
         None => match allocator_of(&right) {
@@ -138,12 +149,20 @@ pub fn negation_of<F: Field>(inner: SymbolicNode<F>) -> SymbolicNode<F>
     }
 }
 
-/// A second copy, refused where memory for it was. A leaf takes none.
-pub fn copy_of<F: Field>(node: &SymbolicNode<F>) -> SymbolicNode<F>
-    ensures copied { Stands (tree_of node.now) (tree_of result) }
-    ensures leaf { is_leaf (tree_of node.now) ≡ true → tree_of result ≡ tree_of node.now }
+/// A node in a box; None where memory was refused.
+fn boxed<F: Field>(alloc: Global, node: SymbolicNode<F>) -> Option<Box<SymbolicNode<F>>>
+    ensures { IfSome result (λ x. x.value ≡ node) }
 {
-    match node {
+    Box::new(alloc, node).ok()
+}
+
+/// A second copy; None where memory for a node of the tree was refused, or for one of the copy. The
+/// first such refusal ends the work. A leaf takes no memory.
+fn copied<F: Field>(node: &SymbolicNode<F>) -> Option<SymbolicNode<F>>
+    ensures copied { IfSome result (λ x. tree_of x ≡ tree_of node.now) }
+    ensures leaf { is_leaf (tree_of node.now) ≡ true → IsSome result }
+{
+    Some(match node {
         SymbolicNode::Constant(k) => SymbolicNode::Constant(*k),
         SymbolicNode::Variable(v) => SymbolicNode::Variable(*v),
         SymbolicNode::IsFirstRow(alloc) => SymbolicNode::IsFirstRow(*alloc),
@@ -151,30 +170,32 @@ pub fn copy_of<F: Field>(node: &SymbolicNode<F>) -> SymbolicNode<F>
         SymbolicNode::IsTransition(alloc) => SymbolicNode::IsTransition(*alloc),
         SymbolicNode::Sum(left, right) => {
             let alloc = *Box::allocator(left);
-            match boxed_in(alloc, copy_of(left), copy_of(right)) {
-                Some((l, r)) => SymbolicNode::Sum(l, r),
-                None => SymbolicNode::Refused,
-            }
+            SymbolicNode::Sum(boxed(alloc, copied(left)?)?, boxed(alloc, copied(right)?)?)
         }
         SymbolicNode::Difference(left, right) => {
             let alloc = *Box::allocator(left);
-            match boxed_in(alloc, copy_of(left), copy_of(right)) {
-                Some((l, r)) => SymbolicNode::Difference(l, r),
-                None => SymbolicNode::Refused,
-            }
+            SymbolicNode::Difference(boxed(alloc, copied(left)?)?, boxed(alloc, copied(right)?)?)
         }
         SymbolicNode::Product(left, right) => {
             let alloc = *Box::allocator(left);
-            match boxed_in(alloc, copy_of(left), copy_of(right)) {
-                Some((l, r)) => SymbolicNode::Product(l, r),
-                None => SymbolicNode::Refused,
-            }
+            SymbolicNode::Product(boxed(alloc, copied(left)?)?, boxed(alloc, copied(right)?)?)
         }
-        SymbolicNode::Negation(inner) => match Box::new(*Box::allocator(inner), copy_of(inner)) {
-            Ok(x) => SymbolicNode::Negation(x),
-            Err(_) => SymbolicNode::Refused,
-        },
-        SymbolicNode::Refused => SymbolicNode::Refused,
+        SymbolicNode::Negation(inner) => {
+            let alloc = *Box::allocator(inner);
+            SymbolicNode::Negation(boxed(alloc, copied(inner)?)?)
+        }
+        SymbolicNode::Refused => return None,
+    })
+}
+
+/// A second copy, refused where memory for it was. A leaf takes none.
+pub fn copy_of<F: Field>(node: &SymbolicNode<F>) -> SymbolicNode<F>
+    ensures copied { Stands (tree_of node.now) (tree_of result) }
+    ensures leaf { is_leaf (tree_of node.now) ≡ true → tree_of result ≡ tree_of node.now }
+{
+    match copied(node) {
+        Some(copy) => copy,
+        None => SymbolicNode::Refused,
     }
 }
 

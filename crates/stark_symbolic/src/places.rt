@@ -6,8 +6,8 @@ ghost use Rattle.stark_air.specs.Layout.{Covers};
 ghost use Rattle.stark_symbolic.specs.Places.{AreCoordinateRows, base_places, extension_places, marked_base_places, marked_extension_places, place_powers, total_of};
 ghost use Rattle.stark_air.specs.SymbolicLayout.{symbolic_layout};
 
-use crate::builder::SymbolicConstraint;
-use crate::constraints::symbolic_constraints;
+use crate::degree_builder::{ConstraintDegrees, constraint_degrees};
+use crate::leaf_degrees::LeafDegrees;
 use stark_air::{Air, AirLayout};
 use stark_support::{ExtensionField, Field, power_of};
 use std::alloc::{AllocError, Global};
@@ -101,9 +101,9 @@ fn coordinate_rows<F: Field, EF: ExtensionField<F>>(
 }
 
 /// The places of the base and of the extension constraints in a list.
-fn places_of<F: Field>(
+fn places_of(
     alloc: Global,
-    constraints: &[SymbolicConstraint<F>],
+    constraints: &[ConstraintDegrees],
 ) -> Result<ConstraintLayout, AllocError>
     ensures base { IfOk result (λ layout. layout.base_indices.items ≡ marked_base_places 0 constraints.now) }
     ensures extension { IfOk result (λ layout. layout.ext_indices.items ≡ marked_extension_places 0 constraints.now) }
@@ -115,8 +115,8 @@ fn places_of<F: Field>(
     let mut ext_indices = Vec::new(alloc);
     for (index, constraint) in constraints.iter().enumerate() {
         match constraint {
-            SymbolicConstraint::Base(_) => base_indices.push(index)?,
-            SymbolicConstraint::Extension(_) => ext_indices.push(index)?,
+            ConstraintDegrees::Base(_) => base_indices.push(index)?,
+            ConstraintDegrees::Extension(_) => ext_indices.push(index)?,
         }
     }
     Ok(ConstraintLayout {
@@ -139,6 +139,7 @@ pub fn get_constraint_layout<F: Field, EF, A: Air<F>>(
     ensures base_within { IfOk result (λ places. All (λ i. i < length (A.constraints air.now)) places.base_indices.items) }
     ensures ext_within { IfOk result (λ places. All (λ i. i < length (A.constraints air.now)) places.ext_indices.items) }
 {
-    let constraints = symbolic_constraints::<F, EF, A>(alloc, air, layout)?;
+    let multiples = LeafDegrees::trace_multiples(0);
+    let constraints = constraint_degrees::<F, EF, A>(alloc, air, layout, multiples, multiples)?;
     places_of(alloc, &constraints)
 }

@@ -1,6 +1,6 @@
 use Rattle.std.proofs.Common.{◌≡◌, drop}
-use Rattle.stark_symbolic.specs.GreatestDegree.{greatest_from}
-use Rattle.stark_symbolic.proofs.degree.greatest_degree_of.Given as goal
+use Rattle.stark_symbolic.specs.DegreePair.{fitting_pair, greatest_from}
+use Rattle.stark_symbolic.proofs.degree.greatest_of.Given as goal
 
 abbrev pub invariant-loop-constraint : goal.invariant-loop-constraint
-invariant-loop-constraint g l = greatest_from l.transition_degree l.greatest (drop l.constraint-index l.constraints) ≡ greatest_from l.transition_degree 0 l.constraints
+invariant-loop-constraint l = greatest_from l.greatest (drop l.constraint-index l.constraints) ≡ greatest_from (fitting_pair 0 0) l.constraints

@@ -111,8 +111,9 @@ fn with_read<AB: AirBuilder>(
     }
 }
 
-/// The values of the nodes, in their order. A window is asked for where the first needed node reads it. In place of a node that isn't
-/// needed stands a selector, which takes no memory.
+/// The values of the nodes, in their order. A window is asked for where the first needed node reads
+/// it. In place of a node that isn't needed stands a selector, which takes no memory. The first
+/// value that the builder knows to be refused memory ends the work.
 pub(crate) fn node_values<AB: AirBuilder>(
     alloc: Global,
     constants: &[AB::F],
@@ -134,6 +135,9 @@ pub(crate) fn node_values<AB: AirBuilder>(
         if needed[place] {
             windows = with_read::<AB>(*node, windows, builder)?;
             let value = node_value(*node, constants, &values, &windows, builder);
+            if builder.is_refused(&value) {
+                return Err(AllocError);
+            }
             values.push(value)?;
         } else {
             values.push(builder.is_first_row())?;

@@ -14,6 +14,6 @@ pub use config::{
 };
 pub use folder::{VerifierConstraintFolder, fold_constraints};
 pub use symbolic::{
-    get_log_num_quotient_chunks, get_log_num_quotient_chunks_for_domain,
-    get_log_quotient_degree_extension,
+    get_log_num_quotient_chunks, get_log_num_quotient_chunks_for_degree,
+    get_log_num_quotient_chunks_for_domain, get_log_quotient_degree_extension,
 };

@@ -27,6 +27,21 @@ fn log_chunks_of_degree(degree: usize, is_zk: usize) -> usize
     log2_ceil_usize(degree.saturating_add(is_zk).max(2) - 1)
 }
 
+/// The logarithm of the number of chunks that a quotient is cut into where this is the greatest
+/// degree multiple of the AIR's constraints: `log2_ceil(max(d + is_zk, 2) - 1)`, where `d` is the
+/// greater of the degree and the author's own bound, and a sum above the greatest `usize` counts as
+/// that.
+pub fn get_log_num_quotient_chunks_for_degree<F, A: BaseAir<F>>(
+    air: &A,
+    degree: usize,
+    is_zk: usize,
+) -> usize
+    ensures { IsCeilingOfLog result
+        (quotient_multiple (max degree (unwrap_or (A.degree_hint air.now) 0)) is_zk) }
+{
+    log_chunks_of_degree(at_least_the_hint(air, degree), is_zk)
+}
+
 /// The logarithm of the number of chunks that the quotient of the AIR's constraints, base and extension, is cut into over a
 /// two-adic domain: `log2_ceil(max(degree + is_zk, 2) - 1)`, where the degree is the greater of the greatest degree multiple
 /// and the author's own bound, and a sum above the greatest `usize` counts as that. The trace's length decides nothing.
@@ -43,7 +58,7 @@ pub fn get_log_quotient_degree_extension<F: Field, EF, A: Air<F>>(
     ensures { IfOk result (λ log. IsCeilingOfLog log (quotient_multiple (constraint_degree 0 (A.constraints air.now) (A.degree_hint air.now)) is_zk)) }
 {
     let degree = get_max_constraint_degree_extension::<F, EF, A>(alloc, air, layout, trace_len)?;
-    Ok(log_chunks_of_degree(at_least_the_hint(air, degree), is_zk))
+    Ok(get_log_num_quotient_chunks_for_degree(air, degree, is_zk))
 }
 
 /// `get_log_quotient_degree_extension` where the constraints over the extension are over the field itself.
@@ -84,5 +99,5 @@ pub fn get_log_num_quotient_chunks_for_domain<F: Field, A: Air<F>, D: DomainShap
         layout,
         transition_degree,
     )?;
-    Ok(log_chunks_of_degree(at_least_the_hint(air, degree), is_zk))
+    Ok(get_log_num_quotient_chunks_for_degree(air, degree, is_zk))
 }

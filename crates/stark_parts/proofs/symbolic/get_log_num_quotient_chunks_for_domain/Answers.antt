@@ -1,4 +1,4 @@
-use Rattle.std.proofs.Common.{◌∙◌, ◌≤◌, ◌^◌, ap, subst, ℕ, max, unwrap_or}
+use Rattle.std.proofs.Common.{◌≤◌, ◌^◌, ap, subst, ℕ, max, unwrap_or}
 use Rattle.stark_parts.specs.Sizing.{quotient_multiple}
 use Rattle.stark_parts.proofs.SizingSteps.{sized_enough}
 use Rattle.stark_parts.proofs.symbolic.get_log_num_quotient_chunks_for_domain.Goals as goal
@@ -6,6 +6,7 @@ use Rattle.stark_parts.proofs.symbolic.get_log_num_quotient_chunks_for_domain.Go
 pub returns-clause-enough : goal.returns-clause-enough
 returns-clause-enough g c sizable height =
     let hint = g.A.BaseAir.degree_hint c.args.air.now in
-    sized_enough (g.A.Air.constraints c.args.air.now) sizable hint height c.log_chunks_of_degree.result c.transition_degree_multiple-transition_degree.result c.args.is_zk c.requires.flag
-    (subst (λ (degree : ℕ). quotient_multiple degree c.args.is_zk ≤ 2 ^ c.log_chunks_of_degree.result)
-    (c.at_least_the_hint.ensures ∙ ap (λ (degree : ℕ). max degree (unwrap_or hint 0)) c.in_ok-degree.ensures) c.log_chunks_of_degree.ensures.covers)
+    let log = c.get_log_num_quotient_chunks_for_degree.result in
+    sized_enough (g.A.Air.constraints c.args.air.now) sizable hint height log c.transition_degree_multiple-transition_degree.result c.args.is_zk c.requires.flag
+    (subst (λ (degree : ℕ). quotient_multiple degree c.args.is_zk ≤ 2 ^ log)
+    (ap (λ (degree : ℕ). max degree (unwrap_or hint 0)) c.in_ok-degree.ensures) c.get_log_num_quotient_chunks_for_degree.ensures.covers)

@@ -10,7 +10,8 @@ use Rattle.stark_support.specs.Polynomial.{HoldsOfAtMost}
 use Rattle.stark_air.specs.Tree.{Constraint}
 use Rattle.stark_parts.specs.Sizing.{constraint_degree, quotient_multiple}
 use Rattle.stark_security.specs.ConstraintPolynomial.{AirInstance, height}
-use Rattle.stark_security.specs.DegreeBound.{alpha_bound, zeta_bound, fitting}
+use Rattle.stark_symbolic.specs.Fitting.{fitting}
+use Rattle.stark_security.specs.DegreeBound.{alpha_bound, zeta_bound}
 use Rattle.stark_security.specs.BadValues.{IsBadAlpha, IsBalanced, IsBadZeta}
 use Rattle.stark_security.specs.ErrorBound.{FewBadDraws, IsChunkCount, IsErrorBound}
 use Rattle.stark_security.proofs.BadValueSteps.{first_broken_row, bad_or_not, few_bad_alphas, few_bad_zetas, few_balanced}

@@ -1,6 +1,7 @@
 -- How many draws can be bad, by the degrees of the constraints.
 use Rattle.std.specs.Prelude.{ℕ, ◌+◌, ◌-◌, ◌*◌, ◌^◌, List, max, length, Option, Some, None, nat_lt, if◌then◌else◌}
 use Rattle.stark_air.specs.Tree.{Constraint}
+use Rattle.stark_symbolic.specs.declared.leaf_degrees.LeafDegrees.{LeafDegrees}
 use Rattle.stark_parts.specs.ConstraintBound.{greatest_bound}
 
 -- How many alphas can be bad: one less than there are constraints, 0 without constraints.
@@ -12,9 +13,9 @@ alpha_bound constraints = length constraints - 1
 abbrev pub zeta_bound : {F : Type 0} → ℕ → ℕ → ℕ → List (Constraint F) → ℕ
 zeta_bound m n chunks constraints = max (greatest_bound m n constraints) (n + (chunks - 1) * n + (m - 1))
 
--- a number that 64 bits hold, None for any other
-abbrev pub fitting : ℕ → Option ℕ
-fitting n = if nat_lt n (2 ^ 64) then Some n else None
+-- The degrees of leaves over columns of degree below m, on a subgroup of n points.
+abbrev pub bound_leaves : ℕ → ℕ → LeafDegrees
+bound_leaves m n = record { column = m - 1; periodic = n - 1; boundary = n - 1; transition = 1 }
 
 -- The two bounds, None where the second is above the greatest number of 64 bits.
 abbrev pub error_bound : ℕ → ℕ → Option (ℕ × ℕ)

@@ -3,18 +3,11 @@ use Rattle.std.specs.Prelude.{◌≡◌, ◌⊎◌, ℕ, ◌+◌, ◌-◌, ◌*�
 use Rattle.stark_support.specs.Logarithm.{IsCeilingOfLog}
 use Rattle.stark_support.specs.Polynomial.{IsWithoutRepeats, HoldsOfAtMost}
 use Rattle.stark_support.specs.RecompositionPolynomial.{ChunksFit}
-use Rattle.stark_air.specs.Tree.{Tree, Constraint}
-use Rattle.stark_symbolic.specs.declared.builder.SymbolicConstraint.{SymbolicConstraint}
-use Rattle.stark_symbolic.specs.declared.builder.SymbolicConstraint.TheVariants.{Base, Extension}
+use Rattle.stark_air.specs.Tree.{Constraint}
 use Rattle.stark_parts.specs.Sizing.{constraint_degree, quotient_multiple}
 use Rattle.stark_security.specs.ConstraintPolynomial.{AirInstance, Columns}
 use Rattle.stark_security.specs.DegreeBound.{alpha_bound, zeta_bound, error_bound}
 use Rattle.stark_security.specs.BadValues.{ColumnsFit, Satisfies, IsBadAlpha, IsBalanced, IsBadZeta, count_pairs}
-
--- a kept constraint's tree, None where memory was refused
-abbrev pub marked_expression : {F : Type 0} → SymbolicConstraint F → Option (Tree F)
-marked_expression (Base x) = x
-marked_expression (Extension x) = x
 
 -- The quotient of these constraints is cut into so many chunks, where the transition selector has degree d in multiples of the
 -- domain's size, 0 on a two-adic one.

@@ -3,17 +3,14 @@ ghost use Rattle.std.specs.Prelude.{◌≡◌, ◌+◌, ◌-◌, ◌^◌, ◌≤
 ghost use Rattle.stark_support.specs.TwoAdic.{HasOrder};
 ghost use Rattle.stark_air.specs.Layout.{Covers};
 ghost use Rattle.stark_air.specs.SymbolicLayout.{symbolic_layout};
-ghost use Rattle.stark_symbolic.specs.SymbolicTrees.{marked_tree};
-ghost use Rattle.stark_symbolic.specs.SymbolicView.{tree_of};
-ghost use Rattle.stark_air.specs.Tree.{Constraint};
-ghost use Rattle.stark_parts.specs.ConstraintBound.{tree_bound, greatest_bound};
-ghost use Rattle.stark_security.specs.DegreeBound.{fitting, zeta_bound};
-ghost use Rattle.stark_security.specs.ErrorBound.{IsChunkCount, IsErrorBound, FewBadDraws, marked_expression};
+ghost use Rattle.stark_symbolic.specs.Fitting.{fitting};
+ghost use Rattle.stark_security.specs.DegreeBound.{bound_leaves};
+ghost use Rattle.stark_security.specs.ErrorBound.{IsChunkCount, IsErrorBound, FewBadDraws};
 
 use stark_air::{Air, AirLayout};
-use stark_parts::get_log_quotient_degree_extension;
+use stark_parts::get_log_num_quotient_chunks_for_degree;
 use stark_support::{ExtensionField, Field, checked_log_size_sum};
-use stark_symbolic::{BaseEntry, SymbolicConstraint, SymbolicNode, symbolic_constraints};
+use stark_symbolic::{LeafDegrees, greatest_degrees};
 use std::alloc::{AllocError, Global};
 
 /// The greater of two numbers, None where one of them is none.
@@ -21,78 +18,6 @@ fn greater(left: Option<usize>, right: Option<usize>) -> Option<usize>
     ensures { (a b : ℕ) → left ≡ fitting a → right ≡ fitting b → result ≡ fitting (max a b) }
 {
     Some(left?.max(right?))
-}
-
-/// The sum of two numbers, None where one of them is none or the sum doesn't fit.
-fn total(left: Option<usize>, right: Option<usize>) -> Option<usize>
-    ensures { (a b : ℕ) → left ≡ fitting a → right ≡ fitting b → result ≡ fitting (a + b) }
-{
-    left?.checked_add(right?)
-}
-
-/// The degree bound of a whole tree over columns of degree below `committed`, on a subgroup of `height` points; None where it
-/// doesn't fit.
-fn tree_bound<F: Field>(node: &SymbolicNode<F>, committed: usize, height: usize) -> Option<usize>
-    requires columns { 1 ≤ committed }
-    requires rows { 1 ≤ height }
-    ensures { IfSome (tree_of node.now) (λ t. result ≡ fitting (tree_bound committed height t)) }
-{
-    match node {
-        SymbolicNode::Constant(_) | SymbolicNode::Refused => Some(0),
-        SymbolicNode::Variable(v) => match v.entry {
-            BaseEntry::Public => Some(0),
-            BaseEntry::Periodic => Some(height - 1),
-            _ => Some(committed - 1),
-        },
-        SymbolicNode::IsFirstRow(_) | SymbolicNode::IsLastRow(_) => Some(height - 1),
-        SymbolicNode::IsTransition(_) => Some(1),
-        SymbolicNode::Sum(left, right) => greater(
-            tree_bound(left, committed, height),
-            tree_bound(right, committed, height),
-        ),
-        SymbolicNode::Difference(left, right) => greater(
-            tree_bound(left, committed, height),
-            tree_bound(right, committed, height),
-        ),
-        SymbolicNode::Product(left, right) => total(
-            tree_bound(left, committed, height),
-            tree_bound(right, committed, height),
-        ),
-        SymbolicNode::Negation(inner) => tree_bound(inner, committed, height),
-    }
-}
-
-/// The degree bound of a constraint that was kept.
-fn constraint_bound<F: Field>(
-    constraint: &SymbolicConstraint<F>,
-    committed: usize,
-    height: usize,
-) -> Option<usize>
-    requires columns { 1 ≤ committed }
-    requires rows { 1 ≤ height }
-    ensures { IfSome (marked_expression constraint.now) (λ t. result ≡ fitting (tree_bound committed height t)) }
-{
-    match constraint {
-        SymbolicConstraint::Base(x) => tree_bound(&x.node, committed, height),
-        SymbolicConstraint::Extension(x) => tree_bound(&x.node, committed, height),
-    }
-}
-
-/// The greatest degree bound of constraints, 0 without any; None where it doesn't fit.
-fn greatest_bound<F: Field>(
-    constraints: &[SymbolicConstraint<F>],
-    committed: usize,
-    height: usize,
-) -> Option<usize>
-    requires columns { 1 ≤ committed }
-    requires rows { 1 ≤ height }
-    ensures { (cs : List (Constraint F)) → constraints.now ≡ map (marked_tree F.ring) cs → result ≡ fitting (greatest_bound committed height cs) }
-{
-    let mut greatest = Some(0);
-    for constraint in constraints {
-        greatest = greater(greatest, constraint_bound(constraint, committed, height));
-    }
-    greatest
 }
 
 fn two_power(bits: usize) -> usize
@@ -113,23 +38,19 @@ fn recomposed_bound(log_parts: usize, degree_bits: usize) -> Option<usize>
     quotient_size.checked_add(two_power(degree_bits) - 1)
 }
 
-/// How many zetas can be bad, with `2 ^ (log_parts + is_zk)` chunks; None where the number doesn't fit.
-fn zeta_bound<F: Field>(
-    constraints: &[SymbolicConstraint<F>],
-    log_parts: usize,
-    degree_bits: usize,
-    is_zk: usize,
-) -> Option<usize>
+/// The degrees of leaves over committed columns of `2 ^ degree_bits` coefficients.
+fn bound_leaves(degree_bits: usize, is_zk: usize) -> LeafDegrees
     requires masked { is_zk ≤ degree_bits }
     requires fits { degree_bits ≤ 63 }
-    ensures { (cs : List (Constraint F)) → constraints.now ≡ map (marked_tree F.ring) cs
-        → result ≡ fitting (zeta_bound (2 ^ degree_bits) (2 ^ (degree_bits - is_zk)) (2 ^ (log_parts + is_zk)) cs) }
+    ensures { result ≡ bound_leaves (2 ^ degree_bits) (2 ^ (degree_bits - is_zk)) }
 {
     let (committed, height) = (two_power(degree_bits), two_power(degree_bits - is_zk));
-    greater(
-        greatest_bound(constraints, committed, height),
-        recomposed_bound(log_parts, degree_bits),
-    )
+    LeafDegrees {
+        column: committed - 1,
+        periodic: height - 1,
+        boundary: height - 1,
+        transition: 1,
+    }
 }
 
 /// How many of a verifier's two draws can be bad for a trace that breaks a constraint: at most the first number of alphas, and
@@ -170,13 +91,13 @@ pub fn ood_error_bound<F: Field, EF: ExtensionField<F>, A: Air<F>>(
           periodic = A.periodic_columns air.now;
         }) (2 ^ degree_bits) chunks bounds.0 bounds.1)) }
 {
-    let height = two_power(degree_bits - is_zk);
-    let log_parts = get_log_quotient_degree_extension::<F, EF, A>(
-        alloc, air, layout, height, is_zk,
-    )?;
-    let constraints = symbolic_constraints::<F, EF, A>(alloc, air, layout)?;
-    match zeta_bound(&constraints, log_parts, degree_bits, is_zk) {
-        Some(zetas) => Ok(Some((constraints.len().saturating_sub(1), zetas))),
+    let multiples = LeafDegrees::trace_multiples(0);
+    let bounds = bound_leaves(degree_bits, is_zk);
+    let degrees = greatest_degrees::<F, EF, A>(alloc, air, layout, multiples, bounds)?;
+    let degree = degrees.first.unwrap_or(usize::MAX);
+    let log_parts = get_log_num_quotient_chunks_for_degree(air, degree, is_zk);
+    match greater(degrees.second, recomposed_bound(log_parts, degree_bits)) {
+        Some(zetas) => Ok(Some((degrees.num_constraints.saturating_sub(1), zetas))),
         None => Ok(None),
     }
 }

@@ -13,7 +13,7 @@ use crate::openings::{OpeningShape, num_batched_openings};
 use stark_air::{Air, AirLayout};
 use stark_parts::get_log_num_quotient_chunks_for_domain;
 use stark_support::{DomainShape, ExtensionField, Field, FriRegime, GrindingSites};
-use stark_symbolic::{get_max_constraint_degree_with_transition, symbolic_constraints};
+use stark_symbolic::{LeafDegrees, get_max_constraint_degree_with_transition, greatest_degrees};
 use std::alloc::{AllocError, Global};
 
 /// The low-degree test's parameters, the AIR's shape and the hash's strength.
@@ -221,8 +221,9 @@ fn count_constraints<F: Field, EF, A: Air<F>>(
     requires { Covers (symbolic_layout layout) (A.layout air.now) }
     ensures { IfOk result (λ count. count ≡ length (A.constraints air.now)) }
 {
-    let constraints = symbolic_constraints::<F, EF, A>(alloc, air, layout)?;
-    Ok(constraints.len())
+    let multiples = LeafDegrees::trace_multiples(0);
+    let degrees = greatest_degrees::<F, EF, A>(alloc, air, layout, multiples, multiples)?;
+    Ok(degrees.num_constraints)
 }
 
 /// How many chunks of the quotient are committed.

@@ -3,7 +3,7 @@
 use crate::elements::elements_in;
 use crate::rows::apart;
 use crate::{
-    airs, constraints, domains, hostile_inputs, preprocessing, proofs, provers, quotients,
+    airs, chains, constraints, domains, hostile_inputs, preprocessing, proofs, provers, quotients,
     security, sizing, trees, verdicts,
 };
 use stark_bench::{
@@ -46,6 +46,7 @@ where
 {
     match subject {
         "airs" => airs::answer::<F, EF, C>(alloc, row),
+        "chains" => chains::answer::<F, EF>(alloc, row),
         "constraints" => constraints::answer::<F, EF, C>(alloc, row),
         "domains" => domains::answer::<F, EF, C>(alloc, row),
         "hostile inputs" => hostile_inputs::answer::<F, EF, C>(alloc, challenger, row),

@@ -10,6 +10,8 @@ mod answers;
 #[cfg(test)]
 mod calls;
 #[cfg(test)]
+mod chains;
+#[cfg(test)]
 mod constraints;
 #[cfg(test)]
 mod declaring_air;

@@ -2,8 +2,8 @@
 use crate::answers::{baby_bear, lockstep, packed, scalar};
 use crate::rows::{agreeing_rows, all_rows, proof_rows};
 use crate::{
-    airs, constraints, domains, preprocessing, proofs, provers, quotients, security, sizing, trees,
-    verdicts,
+    airs, chains, constraints, domains, preprocessing, proofs, provers, quotients, security,
+    sizing, trees, verdicts,
 };
 use std::test::Fail;
 
@@ -21,6 +21,12 @@ fn all_parts(rt: HostRuntime) -> Result<(), Fail> {
         all_rows(&rt, rt.alloc(), subject, rows, scalar)?;
     }
     Ok(())
+}
+
+#[test]
+fn long_chains(rt: HostRuntime) -> Result<(), Fail> {
+    all_rows(&rt, rt.alloc(), "chains", chains::ROWS, scalar)?;
+    all_rows(&rt, rt.alloc(), "chains", chains::ROWS, baby_bear)
 }
 
 #[test]

@@ -8,7 +8,7 @@ use Rattle.std.proofs.lemmas.Simd.{map-map}
 use Rattle.stark_support.specs.Ring.{RingOps, RingLaws, FieldLaws, difference}
 use Rattle.stark_support.specs.RingFacts.{one_mul, mul_zero}
 use Rattle.stark_support.specs.RingSolver.{solve, ◌⊖◌, ◌⊗◌, v0, v1, v2, v3}
-use Rattle.stark_support.specs.FieldFacts.{cancel_left, nonzero_product}
+use Rattle.stark_support.specs.FieldFacts.{nonzero_product}
 use Rattle.stark_support.specs.KeepsRing.{KeepsRing, kept_difference}
 use Rattle.stark_support.specs.Powers.{power, squarings}
 use Rattle.stark_support.specs.PowerFacts.{power-mul, power-one, squarings_is_power}
@@ -19,10 +19,10 @@ use Rattle.stark_support.specs.TwoAdic.{TwoAdicLaws}
 use Rattle.stark_support.specs.Coset.{TwoAdicCoset, IsTwoAdicCoset, AreDisjoint, AreDisjointCosets, coset_size, coset_vanishing}
 use Rattle.stark_support.specs.CosetListFacts.{size_of_one, sizes_before, sizes_after, disjoint_before, disjoint_after}
 use Rattle.stark_support.specs.SubgroupFacts.{embedded_nonzero}
-use Rattle.stark_support.specs.RecompositionFacts.{vanishing_apart}
+use Rattle.stark_support.specs.RecompositionFacts.{factor_append, vanishing_apart}
 use Rattle.stark_support.specs.PointFacts.{all_mapped}
 use Rattle.stark_support.proofs.Places.{from_place}
-use Rattle.stark_protocol.specs.ChunkFactors.{chunk_factor, difference_product}
+use Rattle.stark_protocol.specs.ChunkFactors.{difference_product, node_weight}
 
 module _ {K : Type 0} {ring : RingOps K} {inverse : K → K} (laws : FieldLaws ring inverse) (n : ℕ) where
   -- (x / o) ^ n - 1 is x ^ n - o ^ n over o ^ n
@@ -53,7 +53,8 @@ module _ {K : Type 0} {ring : RingOps K} {inverse : K → K} (laws : FieldLaws r
     abbrev pub IsApart : K → Type 0
     IsApart o = (o ≢ ring.zero) × (coset_vanishing ring (λ c. c) inverse n o s ≢ ring.zero)
 
-    factor_times : (os : List K) (x : K) → AllByRecursion IsApart os
+    -- the product at s times the factor is the product at x
+    pub factor_times : (os : List K) (x : K) → AllByRecursion IsApart os
         → ring.mul (difference_product ring (power ring s n) (map (λ o. power ring o n) os)) (lagrange_factor ring ring (λ c. c) inverse n os s x) ≡ difference_product ring (power ring x n) (map (λ o. power ring o n) os)
     factor_times [] x apart = laws.of_ring.mul_one ring.one
     factor_times (o ∷ os) x apart =
@@ -67,12 +68,6 @@ module _ {K : Type 0} {ring : RingOps K} {inverse : K → K} (laws : FieldLaws r
     pub differences_nonzero : (os : List K) → AllByRecursion IsApart os → difference_product ring (power ring s n) (map (λ o. power ring o n) os) ≢ ring.zero
     differences_nonzero [] apart = laws.one_not_zero
     differences_nonzero (o ∷ os) apart = nonzero_product laws _ _ (difference_nonzero o s apart.0.0 apart.0.1) (differences_nonzero os apart.1)
-
-    -- the factor is what times the product at s gives the product at x
-    pub factor_is : (os : List K) (x f : K) → AllByRecursion IsApart os
-        → ring.mul (difference_product ring (power ring s n) (map (λ o. power ring o n) os)) f ≡ difference_product ring (power ring x n) (map (λ o. power ring o n) os)
-        → f ≡ lagrange_factor ring ring (λ c. c) inverse n os s x
-    factor_is os x f apart is = cancel_left laws _ f (lagrange_factor ring ring (λ c. c) inverse n os s x) (differences_nonzero os apart) (is ∙ sym (factor_times os x apart))
 
 module _ {K : Type 0} {ring : RingOps K} (laws : RingLaws ring) where
   pub differences_append : (x : K) (us vs : List K) → difference_product ring x (us ++ vs) ≡ ring.mul (difference_product ring x us) (difference_product ring x vs)
@@ -112,13 +107,21 @@ pub first_log_size : {F D : Type 0} (view : D → TwoAdicCoset F) (domains : Lis
 first_log_size view [] d r e h = absurd (cc)
 first_log_size view (o ∷ os) d r e h = same_exponent r (view d).log_size h ∙ ap (λ x. (view x).log_size) (sym (same_Some o d e))
 
--- the factor of one of some domains, by its shift and the others'
-pub factor_of_shifts : {K D : Type 0} (ring : RingOps K) (inverse : K → K) (n : ℕ) (shift : D → K) (domains : List D) (i : ℕ) (d : D) (x : K) → i < length domains → d ≡ get_or domains i d
-    → chunk_factor ring inverse n (map shift domains) i x ≡ lagrange_factor ring ring (λ c. c) inverse n (map shift (take i domains) ++ map shift (drop (i + 1) domains)) (shift d) x
-factor_of_shifts ring inverse n shift domains i d x within read =
-    ap (λ t. lagrange_factor ring ring (λ c. c) inverse n (t ++ drop (i + 1) (map shift domains)) (get_or (map shift domains) i ring.zero) x) (take-map shift i domains)
-    ∙ ap (λ t. lagrange_factor ring ring (λ c. c) inverse n (map shift (take i domains) ++ t) (get_or (map shift domains) i ring.zero) x) (drop-map shift (i + 1) domains)
-    ∙ ap (λ s. lagrange_factor ring ring (λ c. c) inverse n (map shift (take i domains) ++ map shift (drop (i + 1) domains)) s x) (get_or-map shift domains i d ring.zero within ∙ ap shift (sym read))
+-- the node of one of some domains
+pub node_is : {K D : Type 0} (node : D → K) (domains : List D) (i : ℕ) (d : D) (none : K) → i < length domains → d ≡ get_or domains i d → get_or (map node domains) i none ≡ node d
+node_is node domains i d none within read = get_or-map node domains i d none within ∙ ap node (sym read)
+
+-- the weight that is computed
+pub weight_computed : {K D : Type 0} {ring : RingOps K} (laws : RingLaws ring) (node : D → K) (domains : List D) (i : ℕ) (d : D) (here before after result : K) → i < length domains → d ≡ get_or domains i d → here ≡ node d
+    → before ≡ difference_product ring here (map node (take i domains)) → after ≡ difference_product ring here (map node (take (length domains - (i + 1)) (drop (i + 1) domains))) → result ≡ ring.mul before after
+    → result ≡ node_weight ring (map node domains) i
+weight_computed {ring = ring} laws node domains i d here before after result within read is_here is_before is_after is =
+    is ∙ ap (λ t. ring.mul t after) is_before
+    ∙ ap (ring.mul (difference_product ring here (map node (take i domains)))) (is_after ∙ ap (λ t. difference_product ring here (map node t)) (take_rest domains (i + 1)))
+    ∙ sym (differences_append laws here (map node (take i domains)) (map node (drop (i + 1) domains)))
+    ∙ ap (λ x. difference_product ring x (map node (take i domains) ++ map node (drop (i + 1) domains))) (is_here ∙ sym (node_is node domains i d ring.zero within read))
+    ∙ ap (λ t. difference_product ring (get_or (map node domains) i ring.zero) (t ++ map node (drop (i + 1) domains))) (sym (take-map node i domains))
+    ∙ ap (λ t. difference_product ring (get_or (map node domains) i ring.zero) (take i (map node domains) ++ t)) (sym (drop-map node (i + 1) domains))
 
 both_hold : {A : Type 0} (P : A → Type 0) (xs ys : List A) → AllByRecursion P xs → AllByRecursion P ys → AllByRecursion P (xs ++ ys)
 both_hold P [] ys h k = k
@@ -168,40 +171,31 @@ module _ {F E D : Type 0} {base : RingOps F} {base_inverse : F → F} {ring : Ri
       (subst (AllByRecursion P) rest (recursion_from_All P (take (length domains - (i + 1)) (drop (i + 1) domains))
       (λ j o h. apart_one _ (sizes_after view k domains disjoint i d within read (length domains - (i + 1)) j o h) (disjoint_after view k domains disjoint i d within read (length domains - (i + 1)) j o h)))))
 
-  module _ (here before after : F) (is_here : here ≡ node d) (is_before : before ≡ difference_product base here (map node (take i domains)))
-      (is_after : after ≡ difference_product base here (map node (take (length domains - (i + 1)) (drop (i + 1) domains)))) where
-    below_is : embed (base.mul before after) ≡ difference_product ring (raised (shift d)) (map raised (map shift others))
-    below_is =
-        ap embed (ap (λ t. base.mul t after) is_before ∙ ap (base.mul (difference_product base here (map node (take i domains)))) (is_after ∙ ap (λ t. difference_product base here (map node t)) (take_rest domains (i + 1)))
-        ∙ sym (differences_append base_laws.of_ring here (map node (take i domains)) (map node (drop (i + 1) domains)))
-        ∙ ap (difference_product base here) (sym (map-append node (take i domains) (drop (i + 1) domains))))
-        ∙ differences_kept embeds.keeps here (map node others)
-        ∙ ap (difference_product ring (embed here)) (map-map embed node others ∙ nodes_above others)
-        ∙ ap (λ t. difference_product ring t (map raised (map shift others))) (ap embed is_here ∙ node_above d)
+  weights_above : embed (node_weight base (map node domains) i) ≡ difference_product ring (raised (shift d)) (map raised (map shift others))
+  weights_above =
+      differences_kept embeds.keeps (get_or (map node domains) i base.zero) (take i (map node domains) ++ drop (i + 1) (map node domains))
+      ∙ ap (λ x. difference_product ring (embed x) (map embed (take i (map node domains) ++ drop (i + 1) (map node domains)))) (node_is node domains i d base.zero within read)
+      ∙ ap (λ x. difference_product ring x (map embed (take i (map node domains) ++ drop (i + 1) (map node domains)))) (node_above d)
+      ∙ ap (λ t. difference_product ring (raised (shift d)) (map embed (t ++ drop (i + 1) (map node domains)))) (take-map node i domains)
+      ∙ ap (λ t. difference_product ring (raised (shift d)) (map embed (map node (take i domains) ++ t))) (drop-map node (i + 1) domains)
+      ∙ ap (λ t. difference_product ring (raised (shift d)) (map embed t)) (sym (map-append node (take i domains) (drop (i + 1) domains)))
+      ∙ ap (difference_product ring (raised (shift d))) (map-map embed node others ∙ nodes_above others)
 
-    pub below_nonzero : base.mul before after ≢ base.zero
-    below_nonzero e = differences_nonzero laws n (shift d) (map shift others) all_apart (sym below_is ∙ ap embed e ∙ embeds.keeps.zero)
+  -- a weight isn't zero
+  pub weight_nonzero : node_weight base (map node domains) i ≢ base.zero
+  weight_nonzero e = differences_nonzero laws n (shift d) (map shift others) all_apart (sym weights_above ∙ ap embed e ∙ embeds.keeps.zero)
 
-    -- the factor that is computed
-    pub factor_computed : (zeta power_of_zeta above behind both lifted result : E) (weight : F) → power_of_zeta ≡ squarings ring zeta k
-        → above ≡ difference_product ring power_of_zeta (map (λ o. embed (node o)) (take i domains))
-        → behind ≡ difference_product ring power_of_zeta (map (λ o. embed (node o)) (take (length domains - (i + 1)) (drop (i + 1) domains)))
-        → both ≡ ring.mul above behind → weight ≡ base_inverse (base.mul before after) → lifted ≡ embed weight → result ≡ ring.mul both lifted
-        → result ≡ chunk_factor ring inverse n (map shift domains) i zeta
-    factor_computed zeta power_of_zeta above behind both lifted result weight is_power is_above is_behind is_both is_weight is_lifted is_result =
-        let lift : D → E = λ o. embed (node o) in
-        let above_all : both ≡ difference_product ring (raised zeta) (map raised (map shift others))
-        = is_both ∙ ap (λ t. ring.mul t behind) is_above
-        ∙ ap (ring.mul (difference_product ring power_of_zeta (map lift (take i domains)))) (is_behind ∙ ap (λ t. difference_product ring power_of_zeta (map lift t)) (take_rest domains (i + 1)))
-        ∙ sym (differences_append laws.of_ring power_of_zeta (map lift (take i domains)) (map lift (drop (i + 1) domains)))
-        ∙ ap (difference_product ring power_of_zeta) (sym (map-append lift (take i domains) (drop (i + 1) domains)) ∙ nodes_above others)
-        ∙ ap (λ t. difference_product ring t (map raised (map shift others))) (is_power ∙ squarings_is_power laws.of_ring zeta k) in
-        let one : ring.mul (embed (base.mul before after)) lifted ≡ ring.one
-        = ap (ring.mul (embed (base.mul before after))) (is_lifted ∙ ap embed is_weight) ∙ sym (embeds.keeps.mul (base.mul before after) (base_inverse (base.mul before after)))
-        ∙ ap embed (base_laws.mul_inverse (base.mul before after) below_nonzero) ∙ embeds.keeps.one in
-        factor_is laws n (shift d) (map shift others) zeta result all_apart
-        (ap (λ t. ring.mul t result) (sym below_is) ∙ ap (ring.mul (embed (base.mul before after))) is_result
-        ∙ solve laws.of_ring (embed (base.mul before after) ∷ both ∷ lifted ∷ []) (v0 ⊗ (v1 ⊗ v2)) (v1 ⊗ (v0 ⊗ v2)) refl
-        ∙ ap (ring.mul both) one ∙ laws.of_ring.mul_one both ∙ above_all)
-        ∙ ap (λ t. lagrange_factor ring ring (λ c. c) inverse n t (shift d) zeta) (map-append shift (take i domains) (drop (i + 1) domains))
-        ∙ sym (factor_of_shifts ring inverse n shift domains i d zeta within read)
+  -- the weight times the factor is the product of the differences at zeta
+  pub weight_times : (zeta : E) → ring.mul (embed (node_weight base (map node domains) i))
+      (ring.mul (lagrange_factor ring ring (λ c. c) inverse n (map shift (take i domains)) (shift d) zeta) (lagrange_factor ring ring (λ c. c) inverse n (map shift (drop (i + 1) domains)) (shift d) zeta))
+      ≡ ring.mul (difference_product ring (squarings ring zeta k) (map (λ o. embed (node o)) (take i domains))) (difference_product ring (squarings ring zeta k) (map (λ o. embed (node o)) (drop (i + 1) domains)))
+  weight_times zeta =
+      let before = take i domains in
+      let after = drop (i + 1) domains in
+      ap (ring.mul (embed (node_weight base (map node domains) i))) (sym (factor_append laws.of_ring inverse n (map shift before) (map shift after) (shift d) zeta)
+      ∙ ap (λ t. lagrange_factor ring ring (λ c. c) inverse n t (shift d) zeta) (sym (map-append shift before after)))
+      ∙ ap (λ t. ring.mul t (lagrange_factor ring ring (λ c. c) inverse n (map shift others) (shift d) zeta)) weights_above
+      ∙ factor_times laws n (shift d) (map shift others) zeta all_apart
+      ∙ ap (difference_product ring (raised zeta)) (sym (nodes_above others) ∙ map-append (λ o. embed (node o)) before after)
+      ∙ ap (λ x. difference_product ring x (map (λ o. embed (node o)) before ++ map (λ o. embed (node o)) after)) (sym (squarings_is_power laws.of_ring zeta k))
+      ∙ differences_append laws.of_ring (squarings ring zeta k) (map (λ o. embed (node o)) before) (map (λ o. embed (node o)) after)

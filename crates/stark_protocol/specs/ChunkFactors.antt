@@ -1,13 +1,18 @@
--- The factor by which a chunk's value is multiplied in the recomposition of a quotient.
-use Rattle.std.specs.Prelude.{ℕ, ◌+◌, List, [], ◌∷◌, ◌++◌, take, drop, slice_index_or}
+-- What the sum over chunks is made of: differences of nodes, where a chunk's node is what x ^ n is on its domain of n points.
+use Rattle.std.specs.Prelude.{◌≡◌, ℕ, ◌+◌, ◌%◌, ◌<◌, List, [], ◌∷◌, ◌++◌, length, take, drop, slice_index_or}
 use Rattle.stark_support.specs.Ring.{RingOps, difference}
-use Rattle.stark_support.specs.Recomposition.{lagrange_factor}
 
 -- The product of x - a over the elements a of a list.
 abbrev pub difference_product : {K : Type 0} → RingOps K → K → List K → K
 difference_product ring x [] = ring.one
 difference_product ring x (a ∷ others) = ring.mul (difference ring x a) (difference_product ring x others)
 
--- Over the cosets with these shifts but the one at place i: the product of Z_j(x) / Z_j(shift i).
-abbrev pub chunk_factor : {K : Type 0} → RingOps K → (K → K) → ℕ → List K → ℕ → K → K
-chunk_factor ring inverse n shifts i x = lagrange_factor ring ring (λ c. c) inverse n (take i shifts ++ drop (i + 1) shifts) (slice_index_or shifts i ring.zero) x
+-- The product of the differences of the node at a place from all others.
+abbrev pub node_weight : {K : Type 0} → RingOps K → List K → ℕ → K
+node_weight ring nodes i = difference_product ring (slice_index_or nodes i ring.zero) (take i nodes ++ drop (i + 1) nodes)
+
+-- Each node is the one before it times the second over the first, and the first so comes after the last: a geometric progression that closes.
+abbrev pub IsCycle : {K : Type 0} → RingOps K → List K → Type 0
+IsCycle ring nodes = (i : ℕ) → i < length nodes
+    → ring.mul (slice_index_or nodes ((i + 1) % length nodes) ring.zero) (slice_index_or nodes 0 ring.zero)
+    ≡ ring.mul (slice_index_or nodes i ring.zero) (slice_index_or nodes (1 % length nodes) ring.zero)

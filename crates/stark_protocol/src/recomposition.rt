@@ -1,5 +1,5 @@
 //! The quotient's value at a point, from its chunks'.
-ghost use Rattle.std.specs.Prelude.{◌≡◌, ◌-◌, ◌^◌, ◌<◌, ◌≤◌, All, IfOk, List, length, map, vec_len};
+ghost use Rattle.std.specs.Prelude.{◌≡◌, ◌-◌, ◌^◌, ◌<◌, ◌≤◌, All, IfOk, IsTrue, List, length, map, vec_len};
 ghost use Rattle.stark_support.specs.Coset.{AreDisjointCosets};
 ghost use Rattle.stark_support.specs.Extension.{basis_sum};
 ghost use Rattle.stark_support.specs.Polynomial.{value};
@@ -7,7 +7,7 @@ ghost use Rattle.stark_support.specs.Powers.{squarings};
 ghost use Rattle.stark_support.specs.Recomposition.{common_log_size, common_size, recomposition};
 ghost use Rattle.stark_support.specs.RecompositionLaw.{AreChunksOf};
 ghost use Rattle.stark_support.specs.RecompositionPolynomial.{chunk_values};
-ghost use Rattle.stark_protocol.specs.ChunkFactors.{chunk_factor, difference_product};
+ghost use Rattle.stark_protocol.specs.ChunkFactors.{IsCycle, difference_product, node_weight};
 ghost use Rattle.stark_protocol.specs.Sizes.{chunk_shifts};
 
 use stark_parts::{Domain, StarkGenericConfig, Val};
@@ -26,61 +26,56 @@ fn common_log_size<D: PolynomialSpace>(domains: &[D]) -> usize
     }
 }
 
-/// The products over domains of `x - s_j^N`, with `s_j` the first point of domain j: for an `x` of
-/// the extension, and for one of the base field.
-#[derive(Clone, Copy)]
-struct DifferenceProducts<F, EF> {
-    above: EF,
-    below: F,
+/// The node of a chunk's domain: what `x^N` is at each of its points.
+fn node_of<D: PolynomialSpace>(domain: &D, log_size: usize) -> D::Val
+    ensures { result ≡ squarings D.Val.ring (D.coset_of domain.now).shift log_size }
+{
+    squared_times(domain.first_point(), log_size)
 }
 
-fn differences<D: PolynomialSpace, EF: ExtensionField<D::Val>>(
-    domains: &[D],
-    log_size: usize,
-    above: EF,
-    below: D::Val,
-) -> DifferenceProducts<D::Val, EF>
-    ensures above { result.above ≡ difference_product EF.ring above
-        (map (λ d. EF.embed (squarings D.Val.ring (D.coset_of d).shift log_size)) domains.now) }
-    ensures below { result.below ≡ difference_product D.Val.ring below
+/// The product of the differences of `x` from the nodes of domains.
+fn differences<D: PolynomialSpace>(domains: &[D], log_size: usize, x: D::Val) -> D::Val
+    ensures { result ≡ difference_product D.Val.ring x
         (map (λ d. squarings D.Val.ring (D.coset_of d).shift log_size) domains.now) }
 {
-    let mut products = DifferenceProducts {
-        above: EF::ONE,
-        below: D::Val::ONE,
-    };
+    let mut product = D::Val::ONE;
     for domain in domains {
-        let power = squared_times(domain.first_point(), log_size);
-        products = DifferenceProducts {
-            above: products.above * (above - EF::from_base(power)),
-            below: products.below * (below - power),
-        };
+        product = product * (x - node_of(domain, log_size));
     }
-    products
+    product
 }
 
-/// The product of `Z_j(zeta) / Z_j(s_i)` over the domains but domain i, with `s_i` the first point
-/// of domain i. Since `Z_j(x)` is `x^N / s_j^N - 1`, that is the product of `zeta^N - s_j^N` over
-/// that of `s_i^N - s_j^N`.
-fn lagrange_factor<D: PolynomialSpace, EF: ExtensionField<D::Val>>(
-    domains: &[D],
-    index: usize,
-    log_size: usize,
-    zeta: EF,
-    power_of_zeta: EF,
-) -> EF
+/// The product of the differences of a domain's node from those of the others.
+fn weight_of<D: PolynomialSpace>(domains: &[D], index: usize, log_size: usize) -> D::Val
     requires place { index < length domains.now }
-    requires disjoint { AreDisjointCosets D.Val.ring D.Val.root log_size
-        (map D.coset_of domains.now) }
-    requires power { power_of_zeta ≡ squarings EF.ring zeta log_size }
-    ensures { result ≡ chunk_factor EF.ring EF.inverse_of (2 ^ log_size)
-        (map (λ d. EF.embed (D.coset_of d).shift) domains.now) index zeta }
+    ensures { result ≡ node_weight D.Val.ring
+        (map (λ d. squarings D.Val.ring (D.coset_of d).shift log_size) domains.now) index }
 {
-    let power = squared_times(domains[index].first_point(), log_size);
-    let before = differences(&domains[..index], log_size, power_of_zeta, power);
-    let after = differences(&domains[index + 1..], log_size, power_of_zeta, power);
-    let weight = (before.below * after.below).inverse();
-    before.above * after.above * EF::from_base(weight)
+    let node = node_of(&domains[index], log_size);
+    differences(&domains[..index], log_size, node)
+        * differences(&domains[index + 1..], log_size, node)
+}
+
+/// Whether the domains' nodes are a geometric progression that closes, as those of the parts of one
+/// coset are.
+fn are_cyclic<D: PolynomialSpace>(domains: &[D], log_size: usize) -> bool
+    ensures some { IsTrue result → 0 < length domains.now }
+    ensures cycle { IsTrue result → IsCycle D.Val.ring
+        (map (λ d. squarings D.Val.ring (D.coset_of d).shift log_size) domains.now) }
+{
+    if domains.is_empty() {
+        return false;
+    }
+    let first = node_of(&domains[0], log_size);
+    let second = node_of(&domains[1 % domains.len()], log_size);
+    for i in 0..domains.len() {
+        let next = node_of(&domains[(i + 1) % domains.len()], log_size);
+        let goes_round = next * first == node_of(&domains[i], log_size) * second;
+        if !goes_round {
+            return false;
+        }
+    }
+    true
 }
 
 /// The element whose coefficients over the basis are a chunk's values.
@@ -94,12 +89,77 @@ fn chunk_value<F: Field, EF: ExtensionField<F>>(chunk: &[EF]) -> EF
     }
 }
 
+/// The recomposition on domains whose nodes are a cycle. Each node times its weight is then the
+/// same element `c`, and so `L_i(zeta)` is node i times the product of `zeta^N - a_j` over the other
+/// nodes `a_j`, over `c`.
+fn recompose_on_cycle<D: PolynomialSpace, EF: ExtensionField<D::Val>>(
+    domains: &[D],
+    chunks: &[Vec<EF>],
+    log_size: usize,
+    zeta: EF,
+) -> EF
+    requires counts { length domains.now ≡ length chunks.now }
+    requires dimensions { All (λ chunk. vec_len chunk ≡ EF.DIMENSION) chunks.now }
+    requires some { 0 < length domains.now }
+    requires disjoint { AreDisjointCosets D.Val.ring D.Val.root log_size
+        (map D.coset_of domains.now) }
+    requires cycle { IsCycle D.Val.ring
+        (map (λ d. squarings D.Val.ring (D.coset_of d).shift log_size) domains.now) }
+    ensures { result ≡ recomposition EF.ring EF.ring (λ c. c) EF.inverse_of (2 ^ log_size) EF.basis
+        (map (λ d. EF.embed (D.coset_of d).shift) domains.now)
+        (map (λ chunk. chunk.items) chunks.now) zeta }
+{
+    let power_of_zeta = squared_times(zeta, log_size);
+    let weight = node_of(&domains[0], log_size) * weight_of(domains, 0, log_size);
+    let mut sum = EF::ZERO;
+    let mut product = EF::ONE;
+    for (i, chunk) in chunks.iter().enumerate() {
+        let node = EF::from_base(node_of(&domains[i], log_size));
+        let apart = power_of_zeta - node;
+        sum = sum * apart + product * node * chunk_value::<D::Val, EF>(chunk);
+        product = product * apart;
+    }
+    sum * EF::from_base(weight.inverse())
+}
+
+/// The recomposition on any domains: `L_i(zeta)` is the product of `zeta^N - a_j` over the other
+/// nodes `a_j`, over the weight of node i. The sum is kept over the product of the weights so far.
+fn recompose_by_weights<D: PolynomialSpace, EF: ExtensionField<D::Val>>(
+    domains: &[D],
+    chunks: &[Vec<EF>],
+    log_size: usize,
+    zeta: EF,
+) -> EF
+    requires counts { length domains.now ≡ length chunks.now }
+    requires dimensions { All (λ chunk. vec_len chunk ≡ EF.DIMENSION) chunks.now }
+    requires disjoint { AreDisjointCosets D.Val.ring D.Val.root log_size
+        (map D.coset_of domains.now) }
+    ensures { result ≡ recomposition EF.ring EF.ring (λ c. c) EF.inverse_of (2 ^ log_size) EF.basis
+        (map (λ d. EF.embed (D.coset_of d).shift) domains.now)
+        (map (λ chunk. chunk.items) chunks.now) zeta }
+{
+    let power_of_zeta = squared_times(zeta, log_size);
+    let mut sum = EF::ZERO;
+    let mut product = EF::ONE;
+    let mut weights = D::Val::ONE;
+    for (i, chunk) in chunks.iter().enumerate() {
+        let weight = weight_of(domains, i, log_size);
+        let apart = power_of_zeta - EF::from_base(node_of(&domains[i], log_size));
+        let term = product * EF::from_base(weights) * chunk_value::<D::Val, EF>(chunk);
+        sum = sum * apart * EF::from_base(weight) + term;
+        product = product * apart;
+        weights = weights * weight;
+    }
+    sum * EF::from_base(weights.inverse())
+}
+
 /// The quotient's value at `zeta`, from the values there of its chunks' coordinates: the sum over the chunks of
 /// `L_i(zeta)` times the element with those coordinates, where `L_i` is the product over the other domains of
 /// `Z_j(zeta) / Z_j(first point of domain i)`, and one where there is a single domain. Where the chunks are those of a
-/// polynomial, the result is its value at `zeta`, wherever that lies. It takes no memory. A chunk
-/// costs an inversion in the base field and, for each other chunk, a product in the extension and
-/// as many squares in the base field as the logarithm of a domain's size.
+/// polynomial, the result is its value at `zeta`, wherever that lies. It takes no memory, and one
+/// inversion in the base field. Where the domains are the parts of one coset, in the order in which
+/// it is split, a chunk takes a few products, and some four times as many squares in the base field
+/// as the logarithm of a domain's size; of other domains it takes that for each other chunk.
 pub fn recompose_quotient_from_chunks<SC: StarkGenericConfig>(
     quotient_chunks_domains: &[Domain<SC>],
     quotient_chunks: &[Vec<SC::Challenge>],
@@ -116,13 +176,11 @@ pub fn recompose_quotient_from_chunks<SC: StarkGenericConfig>(
         → map (λ chunk. chunk.items) quotient_chunks.now ≡ chunk_values SC.Challenge.ring chunks zeta → result ≡ value SC.Challenge.ring p zeta }
 {
     let log_size = common_log_size(quotient_chunks_domains);
-    let power_of_zeta = squared_times(zeta, log_size);
-    let mut quotient = SC::Challenge::ZERO;
-    for (i, chunk) in quotient_chunks.iter().enumerate() {
-        let factor = lagrange_factor(quotient_chunks_domains, i, log_size, zeta, power_of_zeta);
-        quotient = quotient + factor * chunk_value::<Val<SC>, SC::Challenge>(chunk);
+    if are_cyclic(quotient_chunks_domains, log_size) {
+        recompose_on_cycle(quotient_chunks_domains, quotient_chunks, log_size, zeta)
+    } else {
+        recompose_by_weights(quotient_chunks_domains, quotient_chunks, log_size, zeta)
     }
-    quotient
 }
 
 /// The quotient's value at a point, from the values there of its chunks' coordinates: the chunks stand on the parts of

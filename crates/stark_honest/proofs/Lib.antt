@@ -1,7 +1,8 @@
 -- FoldedQuotient: folded_divides, quotient_degree. PartPoints, ChunkPolynomials: plain_recomposes, committed_recomposes. OpenedColumns:
 -- opened_leaves. HonestEquation: recomposed, honest_equation. RowSatisfactionSteps: satisfied_by_rows, rows_of_satisfied. SelectorRows:
 -- first_elsewhere, last_elsewhere, transition_at_end. HonestBalance:
--- satisfied_by_trace, trace_of_satisfied, row_by_row, honest_is_balanced.
+-- satisfied_by_trace, trace_of_satisfied, row_by_row, honest_is_balanced. HeightSteps: rows_are, rows_power, height_of. RowCheckSteps:
+-- same_leaves, first_of_all, rows_grow.
 pub mod FoldedQuotient
 pub mod PartPoints
 pub mod ChunkPolynomials
@@ -10,3 +11,5 @@ pub mod HonestEquation
 pub mod RowSatisfactionSteps
 pub mod SelectorRows
 pub mod HonestBalance
+pub mod HeightSteps
+pub mod RowCheckSteps

@@ -80,6 +80,10 @@ module _ {S F E C K T P X Y : Type 0} (ops : ProtocolOps S F E C K T P X Y) (i :
         quotient = ap (λ o. o.quotient_chunks) opened;
       }
 
+  -- The field has a domain of as many points as the trace has rows.
+  pub within_field : height ≤ ops.opening.fields.adicity
+  within_field = let within = in_group (log_parts ops i p) (zk_bits ops.opening.is_zk) p.degree_bits ops.opening.fields.adicity _ made.sized in let bits = made.degree_bits in omega (arith, within, bits)
+
   -- The proof is balanced at its own challenges, where the columns satisfy the AIR.
   pub proof_of_trace_is_balanced : AreLawful ops.opening.fields coordinates → SchemeLaws ops.opening.scheme → LeavesWithin i.layout i.constraints
       → (declared_fixed : Option (Trace F)) → IsDeclared i.layout declared_fixed i.periodic_columns i.main_next_columns i.preprocessed_next_columns
@@ -116,7 +120,7 @@ module _ {S F E C K T P X Y : Type 0} (ops : ProtocolOps S F E C K T P X Y) (i :
       let fits : All (λ column. ColumnFits (2 ^ height) (length column)) i.periodic_columns =
       all_fit (λ column. length column) (2 ^ height) 0 i.periodic_columns (ap (λ (k : ℕ). first_fault (2 ^ k) 0 (map (λ column. length column) i.periodic_columns)) same ∙ made.fitting) in
       satisfied_by_trace fields coordinates lawful i.constraints i.periodic_columns height (rows_of_trace fixed_rows) trace.width fixed_width made.columns fixed made.committed.takes takes i.layout leaves
-      (let within = in_group (log_parts ops i p) (zk_bits ops.opening.is_zk) p.degree_bits fields.adicity _ made.sized in let bits = made.degree_bits in omega (arith, within, bits)) fits holds
+      within_field fits holds
 
   -- It is accepted where the rest of acceptance holds, and zeta lies outside H.
   pub accepted_of_balanced : (acceptable : IsAcceptable ops i p) → (IsPointOfH ops.opening.fields (log_height ops.opening.is_zk p.degree_bits) made.zeta → ⊥) → IsBalanced ops i p made.alpha made.zeta → Accepted ops i p

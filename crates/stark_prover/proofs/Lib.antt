@@ -13,7 +13,6 @@ pub mod BehindClaims
 pub mod FinishSteps
 pub mod PartsSteps
 pub mod SizedSteps
-pub mod HeightSteps
 pub mod AcceptableSteps
 pub mod HonestSteps
 pub mod HonestAnswer

@@ -4,7 +4,6 @@
 mod bind;
 mod commit;
 mod finish;
-mod height;
 mod instance;
 mod opened;
 mod opening;

@@ -3,7 +3,7 @@ ghost use Rattle.std.specs.Prelude.{None, [], ◌≡◌, ◌⊎◌, ℕ, ◌+◌
 ghost use Rattle.stark_support.specs.Scheme.{zk_bits};
 ghost use Rattle.stark_prover.specs.CommittedColumns.{IsPreprocessedCommitment};
 
-use crate::height::log_height_of;
+use stark_honest::log_height_of;
 use crate::instance::ProverInstance;
 use crate::operations::StarkProving;
 use crate::sized::prove_sized;

@@ -1,5 +1,5 @@
-use Rattle.stark_prover.proofs.HeightSteps.{height_of, rows_power}
-use Rattle.stark_prover.proofs.height.log_height_of.Goals as goal
+use Rattle.stark_honest.proofs.HeightSteps.{height_of, rows_power}
+use Rattle.stark_honest.proofs.height.log_height_of.Goals as goal
 
 pub log2_strict_usize-requires : goal.log2_strict_usize-requires
 log2_strict_usize-requires g c = rows_power _ _ _ c.height-rows.ensures c.requires.columns c.requires.height

@@ -1,1 +1,2 @@
 pub mod HonestVerdict
+pub mod CheckedSteps

@@ -5,7 +5,6 @@ use Rattle.stark_proof.specs.ProofView.{ProofView}
 use Rattle.stark_protocol.specs.Acceptance.{IsPointOfH, challenges}
 use Rattle.stark_protocol.specs.Instance.{Instance, ProtocolOps, log_height}
 use Rattle.stark_protocol.specs.declared.preprocessed.PreprocessedProverData.{PreprocessedProverData}
-use Rattle.stark_protocol.specs.declared.preprocessed.PreprocessedVerifierKey.{PreprocessedVerifierKey}
 use Rattle.stark_prover.specs.Honest.{AreSetUp, HasSizedDegrees, IsSatisfied}
 
 -- Prover's data and key are the two parts of one set-up, or there is neither; the trace satisfies the AIR, whose constraints'

@@ -1,6 +1,6 @@
 //! A proof of a trace, and the verifier's answer for it.
 ghost use Rattle.std.specs.Option.{option_copied};
-ghost use Rattle.std.specs.Prelude.{◌≡◌, ◌⊎◌, ◌+◌, ◌*◌, ◌^◌, ◌<◌, ◌≤◌, ℕ, List, Option, IfErr, IfOk, IfSome, OnOk, is_some, length, ltb, option_map};
+ghost use Rattle.std.specs.Prelude.{◌≡◌, ◌⊎◌, ◌+◌, ◌*◌, ◌^◌, ◌<◌, ◌≤◌, ℕ, List, [], Option, None, IfErr, IfOk, IfSome, OnOk, is_some, length, ltb, option_map};
 ghost use Rattle.stark_support.specs.Scheme.{zk_bits};
 ghost use Rattle.stark_air.specs.Declaration.{Trace};
 ghost use Rattle.stark_proof.specs.ProofView.{proof_view};
@@ -9,6 +9,8 @@ ghost use Rattle.stark_protocol.specs.FirstFault.{IsOutOfMemoryOr};
 ghost use Rattle.stark_protocol.specs.declared.preprocessed.PreprocessedProverData.{PreprocessedProverData};
 ghost use Rattle.stark_protocol.specs.declared.preprocessed.PreprocessedVerifierKey.{PreprocessedVerifierKey};
 ghost use Rattle.stark_prover.specs.CommittedColumns.{IsPreprocessedCommitment};
+ghost use Rattle.stark_prover.specs.Honest.{HasSizedDegrees};
+ghost use Rattle.p3_uni_stark.specs.Checked.{IsAcceptedIfSetUp};
 ghost use Rattle.p3_uni_stark.specs.Completeness.{IsHonest};
 
 use stark_air::Air;
@@ -26,10 +28,15 @@ use stark_verifier::{StarkVerdict, verify_with_preprocessed};
 use std::alloc::Global;
 
 /// Which proofs are honest: with a configuration, an AIR, public values, what a prover holds of the preprocessed columns and a
-/// verifier's key, of a trace of so many rows.
+/// verifier's key, of a trace of so many rows; and which are accepted with the key that is set up.
 pub trait StarkCompleteness<A>: StarkGenericConfig {
     ghost is_honest: { Self → A → List Self.Pcs.Domain.Val → Option (PreprocessedProverData Self.Pcs.Commitment Self.Pcs.ProverData) → Option (PreprocessedVerifierKey Self.Pcs.Commitment) → ℕ → Trace Self.Pcs.Domain.Val
         → Proof Self.Pcs.Commitment Self.Challenge Self.Pcs.Proof Self.Pcs.Domain.Val → Type 0 };
+
+    ghost accepted_if_set_up: { Self → A → List Self.Pcs.Domain.Val → Option (PreprocessedProverData Self.Pcs.Commitment Self.Pcs.ProverData) → ℕ
+        → Proof Self.Pcs.Commitment Self.Challenge Self.Pcs.Proof Self.Pcs.Domain.Val → Type 0 };
+
+    ghost has_sized_degrees: { Self → A → ℕ → Type 0 };
 }
 
 impl<SC, A> StarkCompleteness<A> for SC
@@ -39,6 +46,11 @@ where
     A: Air<Val<SC>>,
 {
     ghost is_honest = { λ config air public_values held key height trace proof. IsHonest ⟦<SC as StarkOperations>⟧.operations (⟦<SC as StarkInstance<A>>⟧.instance config air public_values key) (A.preprocessed_trace air) held height trace (proof_view proof) };
+
+    ghost accepted_if_set_up = { λ config air public_values held height proof. IsAcceptedIfSetUp ⟦<SC as StarkOperations>⟧.operations
+        (⟦<SC as StarkInstance<A>>⟧.instance config air public_values) (A.preprocessed_trace air) held height (proof_view proof) };
+
+    ghost has_sized_degrees = { λ config air height. HasSizedDegrees ⟦<SC as StarkOperations>⟧.operations (⟦<SC as StarkInstance<A>>⟧.instance config air [] None) height };
 }
 
 /// A proof, and the verifier's verdict on it.

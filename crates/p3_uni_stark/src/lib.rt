@@ -1,13 +1,18 @@
 //! The univariate STARK of Plonky3's `p3-uni-stark`, with its contracts proved.
 #![tactic(auto)]
 
+mod checked;
 mod completeness;
 mod sizing;
 
+pub use checked::{CheckedProvingError, prove_checked};
 pub use completeness::{StarkCompleteness, VerifiedProof, prove_and_verify};
 pub use sizing::degrees_fit_the_quotient;
 pub use stark_air::{AirLayout, SubAirBuilder, SubSliced};
-pub use stark_honest::satisfaction_is_row_by_row;
+pub use stark_honest::{
+    ConstraintCheckError, ConstraintViolation, RowChecks, check_constraints, check_declared,
+    satisfaction_is_row_by_row,
+};
 pub use stark_parts::{
     Com, Domain, PackedChallenge, PackedVal, PcsError, PcsProverError, StarkConfig,
     StarkGenericConfig, StarkOpeningLayout, Val, VerifierConstraintFolder,

@@ -1,12 +1,8 @@
-use Rattle.std.proofs.Common.{◌≤◌, ℕ, Bool, true, false, arith}
 use Rattle.stark_support.specs.Scheme.{zk_bits}
 use Rattle.stark_parts.proofs.SizingSteps.{sized_enough}
 use Rattle.stark_protocol.specs.QuotientFacts.{log_parts_ceiling}
+use Rattle.p3_uni_stark.proofs.HonestVerdict.{one_bit}
 use Rattle.p3_uni_stark.proofs.sizing.degrees_fit_the_quotient.Goals as goal
-
-one_bit : (is_zk : Bool) → zk_bits is_zk ≤ 1
-one_bit true = omega arith
-one_bit false = omega arith
 
 pub returns : goal.returns
 returns g c = λ public_values key height.

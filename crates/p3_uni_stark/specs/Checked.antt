@@ -1,0 +1,35 @@
+-- What is proved of a trace that was checked first.
+use Rattle.std.specs.Prelude.{◌≡◌, ℕ, ◌*◌, ◌^◌, ◌≤◌, Option, length}
+use Rattle.stark_support.specs.Scheme.{SchemeOps}
+use Rattle.stark_air.specs.Declaration.{Trace}
+use Rattle.stark_honest.specs.declared.violation.ConstraintViolation.{ConstraintViolation}
+use Rattle.stark_honest.specs.declared.violation.ConstraintCheckError.{ConstraintCheckError}
+use Rattle.stark_honest.specs.declared.violation.ConstraintCheckError.TheVariants.{OutOfMemory, Violation}
+use Rattle.stark_proof.specs.ProofView.{ProofView}
+use Rattle.stark_protocol.specs.Instance.{Instance, ProtocolOps}
+use Rattle.stark_protocol.specs.declared.preprocessed.PreprocessedProverData.{PreprocessedProverData}
+use Rattle.stark_protocol.specs.declared.preprocessed.PreprocessedVerifierKey.{PreprocessedVerifierKey}
+use Rattle.stark_prover.specs.Honest.{AreSetUp, IsAcceptedOutside}
+use Rattle.stark_transcript.specs.declared.error.ProvingError.{ProvingError}
+use Rattle.p3_uni_stark.specs.declared.checked.CheckedProvingError.{CheckedProvingError}
+use Rattle.p3_uni_stark.specs.declared.checked.CheckedProvingError.TheVariants.{Proving, Violation as Broken}
+
+-- The trace has 2 ^ height rows, as many as the scheme takes, and the scheme refuses no true opening.
+pub record IsProvable {S F E C K T P X Y : Type 0} (scheme : SchemeOps S F E C K T P X Y) (s : S) (trace : Trace F) (height : ℕ) : Type 0 where
+  pub rows : length trace.values ≡ 2 ^ height * trace.width
+  pub least : scheme.log_min_trace_height s ≤ height
+  pub whole : scheme.Whole s
+
+-- With the key that is set up beside what the prover holds, the proof is accepted, unless zeta lies in H.
+abbrev pub IsAcceptedIfSetUp : {S F E C K T P X Y : Type 0} → ProtocolOps S F E C K T P X Y → (Option (PreprocessedVerifierKey K) → Instance S F C K) → Option (Trace F) → Option (PreprocessedProverData K T) → ℕ → ProofView K E P F → Type 0
+IsAcceptedIfSetUp {K = K} ops i declared held height p = (key : Option (PreprocessedVerifierKey K)) → AreSetUp ops.opening (i key).scheme height declared held key → IsAcceptedOutside ops (i key) p
+
+-- What a check's error is to a prover.
+abbrev pub checked_error : {F Y : Type 0} → ConstraintCheckError F → CheckedProvingError F Y
+checked_error (Violation violation) = Broken violation
+checked_error OutOfMemory = Proving ProvingError.OutOfMemory
+
+-- The one holds of a violation, or the other of a prover's error.
+abbrev pub IsViolationOr : {F Y : Type 0} → (ConstraintViolation F → Type 0) → (ProvingError Y → Type 0) → CheckedProvingError F Y → Type 0
+IsViolationOr broken fault (Broken violation) = broken violation
+IsViolationOr broken fault (Proving error) = fault error

@@ -1,0 +1,45 @@
+//! What a prover that checks first answers, and the verifier's verdict on its proof.
+ghost use Rattle.std.specs.Prelude.{None};
+
+use crate::checking::{Rows, elements, fits, matrix_of, spelled};
+use p3_uni_stark::{
+    CheckedProvingError, PreprocessedProverData, StarkConfig, prove_checked, verify,
+};
+use stark_air::BaseAir;
+use stark_bench::Sha256Challenger;
+use stark_clear::ClearPcs;
+use stark_fields::{Ext4, F12289};
+use stark_parts::Com;
+use stark_protocol::PcsProverData;
+use std::alloc::Global;
+use std::test::Fail;
+
+pub type Config = StarkConfig<ClearPcs<F12289>, Ext4<F12289>, Sha256Challenger<F12289>>;
+
+/// The scheme in the clear and the challenger that hashes, without work.
+pub fn configuration() -> Config {
+    StarkConfig::new(ClearPcs::new(), Sha256Challenger::new())
+}
+
+/// The verdict on a proof of rows that are checked first, of an AIR without preprocessed columns:
+/// `accepted` or `refused`; or the row, the constraint and its value for which there is none.
+pub fn proved<'p>(alloc: Global, config: &'p Config, rows: &Rows) -> Result<String, Fail> {
+    let air = spelled(alloc, rows.air)?;
+    let trace = matrix_of(&air, elements(alloc, rows.trace)?)?;
+    let publics = elements(alloc, rows.public_values)?;
+    if !fits(&air, rows.log_height, &trace, &publics) || air.preprocessed_width() != 0 {
+        return Err(Fail::new("other rows"));
+    }
+    let held: Option<&'p PreprocessedProverData<Com<Config>, PcsProverData<Config>>> = None;
+    match prove_checked(alloc, config, &air, trace, &publics, held) {
+        Ok(proof) => match verify(alloc, config, &air, &proof, &publics) {
+            Ok(()) => Ok(String::from_str(alloc, "accepted")?),
+            Err(_) => Ok(String::from_str(alloc, "refused")?),
+        },
+        Err(CheckedProvingError::Violation(violation)) => {
+            let (row, constraint) = (violation.row, violation.constraint);
+            Ok(format!(in alloc; "row {row}: constraint {constraint}")?)
+        }
+        Err(CheckedProvingError::Proving(_)) => Err(Fail::new("no proof")),
+    }
+}

@@ -3,7 +3,6 @@ use Rattle.std.proofs.Common.{◌≡◌, ◌≢◌, ◌∙◌, ap, sym, subst, a
 use Rattle.std.specs.Prelude.{drop, slice_index_or, take}
 use Rattle.std.proofs.Math.Nat.{mod-eq_of_lt}
 use Rattle.std.proofs.lemmas.Bool.{cases_lt}
-use Rattle.std.proofs.lemmas.List.{append_assoc}
 use Rattle.stark_support.specs.Ring.{RingOps, FieldLaws, difference}
 use Rattle.stark_support.specs.RingFacts.{mul_zero, zero_mul, neg_add_cancel}
 use Rattle.stark_support.specs.Powers.{power}
@@ -12,15 +11,14 @@ use Rattle.stark_support.specs.Scheme.{matrix_row, zk_bits}
 use Rattle.stark_support.specs.Selectors.{first_row_selector, transition_selector}
 use Rattle.stark_support.specs.Subgroup.{group_of}
 use Rattle.stark_samples.specs.Samples.{counter_constraints}
-use Rattle.stark_parts.proofs.SizingSteps.{sized_enough}
 use Rattle.stark_parts.specs.SizingLaw.{AreSizable, HasSmallBound}
 use Rattle.stark_proof.specs.ProofView.{ProofView}
 use Rattle.stark_protocol.specs.Instance.{FieldsOps, Instance, ProtocolOps}
-use Rattle.stark_protocol.specs.QuotientFacts.{log_parts_ceiling}
 use Rattle.stark_protocol.specs.Sizes.{log_parts_of}
 use Rattle.stark_honest.specs.RowSatisfaction.{HoldsInEachRow}
 use Rattle.stark_honest.specs.TrueOpenings.{air_over}
 use Rattle.stark_honest.proofs.SelectorRows.{first_elsewhere, transition_at_end}
+use Rattle.p3_uni_stark.proofs.SizedDegrees.{sizable_degrees_fit}
 use Rattle.guide_tests.specs.Counting.{IsDrawnOutside, count_at, counted_from}
 
 module _ {K : Type 0} (ring : RingOps K) (start : K) where
@@ -41,21 +39,8 @@ module _ {K : Type 0} (ring : RingOps K) (start : K) where
   counted_length m zero = refl
   counted_length m (suc n) = ap suc (counted_length (suc m) n)
 
-  -- The list while it is made.
-  pub none_yet : (n : ℕ) (list : List K) → list ≡ [] → list ++ counted_from ring start 0 (n - 0) ≡ counted_from ring start 0 n
-  none_yet n list e = let all : n - 0 ≡ n = omega arith in ap (λ m. list ++ counted_from ring start 0 m) all ∙ ap (λ t. t ++ counted_from ring start 0 n) e
-
   pub next_number : (i : ℕ) (x one : K) → one ≡ ring.one → x ≡ count_at ring start i → ring.add x one ≡ count_at ring start (i + 1)
   next_number i x one is_one e = ap (ring.add x) is_one ∙ ap (λ t. ring.add t ring.one) e ∙ ap (count_at ring start) (sym (add-one i))
-
-  pub one_more : (n i : ℕ) (before after whole : List K) (x : K) → i < n → x ≡ count_at ring start i → after ≡ before ++ x ∷ [] → before ++ counted_from ring start i (n - i) ≡ whole
-      → after ++ counted_from ring start (i + 1) (n - (i + 1)) ≡ whole
-  one_more n i before after whole x below is pushed so_far =
-      let left : n - i ≡ suc (n - (i + 1)) = omega arith in
-      ap (λ t. t ++ counted_from ring start (i + 1) (n - (i + 1))) pushed ∙ append_assoc before (x ∷ []) (counted_from ring start (i + 1) (n - (i + 1)))
-      ∙ ap (λ t. before ++ (t ∷ counted_from ring start (i + 1) (n - (i + 1)))) is
-      ∙ ap (λ m. before ++ (count_at ring start i ∷ counted_from ring start m (n - (i + 1)))) (add-one i)
-      ∙ ap (λ m. before ++ counted_from ring start i m) (sym left) ∙ so_far
 
 module _ {K : Type 0} {ring : RingOps K} {inverse : K → K} (laws : FieldLaws ring inverse) (g : K) (log_size : ℕ) (order : HasOrder ring g (2 ^ log_size)) (nonzero : g ≢ ring.zero)
     (start one : K) (is_one : one ≡ ring.one) where
@@ -110,13 +95,8 @@ holds_in_each_row fields laws n order nonzero start one is_one fixed numbers pub
 sizable : {F : Type 0} (one : F) → AreSizable (counter_constraints one)
 sizable one = record { single = (omega arith, (omega arith, tt)); unsaturated = omega arith }
 
-one_bit : (is_zk : Bool) → zk_bits is_zk ≤ 1
-one_bit true = omega arith
-one_bit false = omega arith
-
 pub degrees_fit : {F : Type 0} (one : F) (is_zk : Bool) (height : ℕ) → HasSmallBound (counter_constraints one) height (height + zk_bits is_zk) (log_parts_of (counter_constraints one) None (zk_bits is_zk))
-degrees_fit one is_zk height =
-    sized_enough (counter_constraints one) (sizable one) None height _ 0 (zk_bits is_zk) (one_bit is_zk) (log_parts_ceiling (counter_constraints one) None (zk_bits is_zk)).covers
+degrees_fit one is_zk height = sizable_degrees_fit (counter_constraints one) (sizable one) None is_zk height
 
 -- The public values under another name.
 pub drawn_with : {S F E C K T P X Y : Type 0} (ops : ProtocolOps S F E C K T P X Y) (i : Instance S F C K) (p : ProofView K E P F) (publics : List F) → publics ≡ i.public_values → IsDrawnOutside ops i p

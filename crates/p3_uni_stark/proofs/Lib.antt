@@ -1,2 +1,3 @@
 pub mod HonestVerdict
 pub mod CheckedSteps
+pub mod SizedDegrees

@@ -9,4 +9,3 @@ pub mod MaskedRows
 pub mod PartWeights
 pub mod PowerSums
 pub mod Ranges
-pub mod Repeated

@@ -1,5 +1,5 @@
 -- Sums of coefficients times powers, and their coordinates.
-use Rattle.std.proofs.Common.{◌≡◌, ◌∙◌, ℕ, zero, suc, ◌+◌, ◌-◌, ◌<◌, ◌≤◌, List, [], ◌∷◌, ◌++◌, length, map, take, drop, get_or, Some, refl, sym, ap, arith}
+use Rattle.std.proofs.Common.{◌≡◌, ◌∙◌, ℕ, zero, suc, ◌+◌, ◌-◌, ◌<◌, ◌≤◌, List, [], ◌∷◌, ◌++◌, length, map, take, drop, get_or, Some, refl, sym, ap, arith, add-one}
 use Rattle.std.specs.List.{slice_get}
 use Rattle.std.specs.Prelude.{option_map}
 use Rattle.std.proofs.lemmas.List.{append-nil, length-map, length-drop, length-take-le, drop-drop, take-append-drop}
@@ -15,6 +15,15 @@ use Rattle.stark_support.specs.Powers.{power}
 use Rattle.stark_support.specs.Polynomial.{polynomial_sum, scaled, value_over}
 use Rattle.stark_support.proofs.Places.{from_place}
 use Rattle.stark_clear.specs.ColumnFacts.{power_at}
+
+module _ {K : Type 0} (ring : RingOps K) (g : K) where
+  pub zeroth_power : (x : K) → x ≡ ring.one → x ≡ power ring g 0
+  unfolding power
+  zeroth_power x e = e
+
+  pub next_power : (i : ℕ) (x : K) → x ≡ power ring g i → ring.mul g x ≡ power ring g (i + 1)
+  unfolding power
+  next_power i x e = ap (ring.mul g) e ∙ ap (power ring g) (sym (add-one i))
 
 -- a part of a list, and what is behind it
 part_length : {A : Type 0} (xs : List A) (start end : ℕ) → end ≤ length xs → length (take (end - start) (drop start xs)) ≡ end - start

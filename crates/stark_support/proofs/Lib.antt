@@ -9,3 +9,4 @@ pub mod LaneSteps
 pub mod CombinationSteps
 pub mod CellSteps
 pub mod InverseSteps
+pub mod InOrder

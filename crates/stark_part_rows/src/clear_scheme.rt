@@ -7,7 +7,7 @@ ghost use Rattle.stark_support.specs.Scheme.{matrix_row};
 use crate::elements::{above, all_above_in, elements_in};
 use crate::rows::{apart, numbers_in, shown};
 use stark_bench::{ClearCommitment, Coset};
-use stark_clear::{ClearError, ClearPcs, ClearProof};
+use stark_clear::{ClearCall, ClearError, ClearPcs, ClearProof};
 use stark_parts::{StarkConfig, StarkGenericConfig, Val};
 use stark_support::{
     CanObserve, CanSample, DomainShape, DomainVal, ExtensionChallenger, ExtensionField,
@@ -38,6 +38,11 @@ claims | 6150 6144 | 4 7 | 6150 6145 => Err(Refused(Value { round: 1 }))
 claims | 6150 6144 0 | 4 7 | 6150 6144 => Err(Refused(Shape { round: 0 }))
 claims | 6150 6144 | 5 7 | 6150 6144 0 => Err(Refused(Shape { round: 1 }))
 claims | 6150 | 5 7 | 6150 6144 0 => Err(Refused(Shape { round: 0 }))
+
+# Where the scheme stops. Without masks it commits to nothing; it refuses where it stops here.
+randomization | nowhere => Ok(None)
+randomization | Randomization => Err(Refused(Stopped))
+randomization | Open => Ok(None)
 
 # A commitment is written as it was read, and so is a proof.
 commitment | [[[6150,6144]]] => [[[6150,6144]]] is ClearCommitment { matrices: [[[6150, 6144]]] }
@@ -71,6 +76,8 @@ opened | 1006632966 1006632960 | 1 2 3 4, 2013265918 0 0 0 => Some([[[[Ext4 { c0
 claims | 1222416127 1605793880 | 4 7 | 1222416127 1605793880 => Ok(())
 claims | 1222416127 1605793880 | 4 6 | 1222416127 1605793880 => Err(Refused(Value { round: 0 }))
 claims | 1222416127 1605793880 | 4 7 | 1222416127 1605793881 => Err(Refused(Value { round: 1 }))
+randomization | nowhere => Ok(None)
+randomization | Randomization => Err(Refused(Stopped))
 commitment | [[[12289,2013265920]]] => [[[12289,2013265920]]] is ClearCommitment { matrices: [[[12289, 2013265920]]] }
 commitment | [[[12289,2013265921]]] => Invalid
 beside | 1006632966 1006632960 => Some(RowMajorMatrix { values: [2013265911, 21], width: 1 })
@@ -91,6 +98,7 @@ where
         "committed" => committed_text::<F, EF>(alloc, text),
         "opened" => opened_text::<F, EF>(alloc, text),
         "claims" => claims_text::<F, EF>(alloc, text),
+        "randomization" => randomization_text::<F, EF>(alloc, text),
         "commitment" => json_text::<ClearCommitment<F>>(alloc, text),
         "proof" => json_text::<ClearProof>(alloc, text),
         "beside" => beside_text::<F, EF>(alloc, text),
@@ -261,6 +269,30 @@ where
     }
     let answer = refusal(alloc, &first, &second, &values)?;
     shown(alloc, &answer)
+}
+
+/// The scheme that stops at a call, or nowhere.
+fn stopping_scheme<F: PrimeField64>(text: &str) -> Result<ClearPcs<F>, Fail> {
+    match text {
+        "nowhere" => Ok(ClearPcs::new()),
+        "Randomization" => Ok(ClearPcs::stopping_at(ClearCall::Randomization)),
+        "Open" => Ok(ClearPcs::stopping_at(ClearCall::Open)),
+        _ => Err(Fail::new("no such call")),
+    }
+}
+
+fn randomization_text<F, EF>(alloc: Global, text: &str) -> Result<String, Fail>
+where
+    F: PrimeField64 + TwoAdicField + Debug,
+    EF: ExtensionField<F>,
+{
+    let scheme = stopping_scheme::<F>(text)?;
+    let domain: Coset<F> = Coset::subgroup(0);
+    let made = <ClearPcs<F> as UnivariateStarkPcs<
+        EF,
+        AnyChallenger,
+    >>::get_opt_randomization_poly_commitment(&scheme, alloc, domain);
+    shown(alloc, &made)
 }
 
 /// What is read of a text, as it is written, or the fault.

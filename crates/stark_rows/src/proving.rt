@@ -2,12 +2,14 @@
 //! over the scheme in the clear and the masked one, where the field, its extension and the challenger are left open.
 ghost use Rattle.std.specs.Prelude.{◌≡◌, ◌+◌, ◌*◌, ◌^◌, ◌≤◌, ◌<◌, IfOk, IsTrue, length};
 ghost use Rattle.stark_support.specs.Scheme.{zk_bits};
+ghost use Rattle.stark_proof.specs.ProofView.{proof_view};
 ghost use Rattle.stark_protocol.specs.Preprocessing.{HasHeight};
+ghost use Rattle.stark_rows.specs.MadeProofs.{IsJudged};
 
 use crate::elements::elements_in;
 use p3_uni_stark::{
-    PcsProof, PreprocessedProverData, PreprocessedVerifierKey, Proof, VerifiedProof,
-    prove_and_verify, setup_preprocessed, verify,
+    PcsProof, PreprocessedProverData, PreprocessedVerifierKey, Proof, StarkInstance,
+    StarkOperations, VerifiedProof, prove_and_verify, setup_preprocessed, verify,
 };
 use stark_air::{Air, BaseAir};
 use stark_bench::ClearCommitment;
@@ -65,7 +67,10 @@ fn stands_at<F: Drop, A: BaseAir<F>>(
     Ok(Some(trace.values.len()) == power_of_two(log_height).checked_mul(trace.width))
 }
 
-/// The proof of a trace of `2^log_height` rows and the verifier's verdict on it, with what is set up at that height.
+/// The proof of a trace of `2^log_height` rows and the verifier's verdict on it, with what is set up
+/// at that height. Over a scheme that refuses no true opening, from its least height on, the proof
+/// of a trace that satisfies the AIR, whose degrees fit the quotient's domain, is refused for want
+/// of memory alone, unless the zeta that was drawn lies in H.
 fn made_by<'p, SC, A>(
     alloc: Global,
     config: &'p SC,
@@ -86,6 +91,10 @@ where
     requires height { length trace.values.items ≡ 2 ^ log_height * trace.width }
     requires within { log_height + zk_bits SC.Pcs.ZK ≤ SC.Pcs.scheme.log_max_trace_height (SC.config.scheme config.now) }
     requires publics { length publics.now ≡ (A.layout air.now).publics }
+    ensures { IfOk result (λ made. IsJudged ⟦<SC as StarkOperations>⟧.operations
+        (⟦<SC as StarkInstance<A>>⟧.instance config.now air.now publics.now)
+        (A.preprocessed_trace air.now) log_height
+        (record { width = trace.width; values = trace.values.items }) (proof_view made.0) made.1) }
 {
     let keys = setup_preprocessed(alloc, config, air, log_height)?;
     match keys {

@@ -1,6 +1,5 @@
 -- The verifier's answer for an honest proof.
-use Rattle.std.proofs.Common.{◌≡◌, ◌≤◌, inl, inr, ℕ, Bool, true, false, Option, Result, Ok, Err, IfErr, arith}
-use Rattle.stark_support.specs.Scheme.{zk_bits}
+use Rattle.std.proofs.Common.{◌≡◌, ◌⊎◌, inl, inr, ℕ, Option, Result, Ok, Err, IfErr}
 use Rattle.stark_air.specs.Declaration.{Trace}
 use Rattle.stark_transcript.specs.declared.error.VerificationError.{VerificationError}
 use Rattle.stark_transcript.specs.declared.error.VerificationError.TheVariants.{OutOfMemory}
@@ -11,11 +10,6 @@ use Rattle.stark_protocol.specs.Instance.{Instance, ProtocolOps}
 use Rattle.stark_protocol.specs.declared.preprocessed.PreprocessedProverData.{PreprocessedProverData}
 use Rattle.stark_prover.specs.Honest.{AreSetUp, HasSizedDegrees, IsAcceptedOutside, IsSatisfied}
 use Rattle.p3_uni_stark.specs.Completeness.{IsHonest}
-
--- Zero knowledge adds one bit at most.
-pub one_bit : (is_zk : Bool) → zk_bits is_zk ≤ 1
-one_bit true = omega arith
-one_bit false = omega arith
 
 -- What can only be refused for want of memory or because something doesn't hold, that holds.
 pub memory_alone : {T X : Type 0} {Holds : Type 0} (answer : Result T (VerificationError X)) → IfErr answer (IsOutOfMemoryOr (λ error. Holds → ⊥)) → Holds → IfErr answer (λ error. error ≡ OutOfMemory)

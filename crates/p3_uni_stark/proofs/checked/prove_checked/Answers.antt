@@ -1,10 +1,7 @@
 use Rattle.std.proofs.Common.{inl, refl}
-use Rattle.stark_parts.proofs.SizingSteps.{sized_enough}
-use Rattle.stark_support.specs.Scheme.{zk_bits}
-use Rattle.stark_protocol.specs.QuotientFacts.{log_parts_ceiling}
 use Rattle.stark_prover.proofs.HonestSteps.{within_field}
 use Rattle.p3_uni_stark.proofs.CheckedSteps.{told_as}
-use Rattle.p3_uni_stark.proofs.HonestVerdict.{one_bit}
+use Rattle.p3_uni_stark.proofs.SizedDegrees.{sizable_degrees_fit}
 use Rattle.p3_uni_stark.proofs.checked.prove_checked.Goals as goal
 
 pub check_declared-requires-clause-height : goal.check_declared-requires-clause-height
@@ -22,9 +19,8 @@ returns-in-Ok-prove_with_preprocessed-clause-accepted g c = λ height provable s
     let within = within_field _ _ _ _ _ _ _ _ (proved.made height provable.rows c.requires.stands.0 c.requires.stands.1) in
     let constraints = g.A.Air.constraints c.args.air.now in
     let hint = g.A.BaseAir.degree_hint c.args.air.now in
-    let bits = zk_bits g.SC.Pcs.Pcs.ZK in
     proved.honest height provable.rows provable.least provable.whole key set_up (c.in-Ok.ensures.satisfied height provable.rows within)
-    (sized_enough constraints sizable hint height _ 0 bits (one_bit g.SC.Pcs.Pcs.ZK) (log_parts_ceiling constraints hint bits).covers)
+    (sizable_degrees_fit constraints sizable hint g.SC.Pcs.Pcs.ZK height)
 
 pub returns-in-Ok-prove_with_preprocessed-clause-sized : goal.returns-in-Ok-prove_with_preprocessed-clause-sized
 returns-in-Ok-prove_with_preprocessed-clause-sized g c = λ height provable sized key set_up.

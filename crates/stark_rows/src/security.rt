@@ -53,6 +53,16 @@ parameters | 5 | 1 1 16 => 84 3 1 16 2 GrindingSites { lookup_challenge: 0, out_
 // The numbers below this one at which the equation of the counter's false trace 5, 7 holds.
 pub const BAD_ZETAS: &str = "bad zetas | 12289 => [3, 12288]";
 
+// Two rows and how many numbers are tried: those that, as alpha, fold the counter's constraints to
+// zero in the first row. There they are 2 (first - 5) and 2 (second - first - 1), so that of the
+// false trace 5, 7 none is bad.
+pub const BAD_ALPHAS: &str = r#"
+bad alphas | 5 7 12289 => []
+bad alphas | 6 8 12289 => [12288]
+bad alphas | 6 7 12289 => [0]
+bad alphas | 7 12 12289 => [12287]
+"#;
+
 /// The answer to a row of these tables.
 pub fn answer<F, EF, C>(alloc: Global, row: &str) -> Result<String, Fail>
 where
@@ -65,6 +75,7 @@ where
         "bound" => bound_by_name::<F, EF>(alloc, text),
         "bound of a kind" => bound_of_kind::<F, EF>(alloc, text),
         "parameters" => parameters::<F>(alloc, text),
+        "bad alphas" => bad_alphas::<F, EF, C>(alloc, text),
         "bad zetas" => bad_zetas::<F, EF, C>(alloc, text),
         _ => Err(Fail::new("no such table")),
     }
@@ -248,18 +259,24 @@ fn parameters_in_their_fields(rt: HostRuntime) -> Result<(), Fail> {
     Ok(())
 }
 
-/// Whether the equation of the counter's false trace 5, 7 holds at zeta, with the selectors as sums: the first is 1 + zeta, the last
-/// h + h^2 * zeta, the transition's zeta - 1/h, for h = -1; the column is 6 - X.
-fn is_balanced<F, EF, C>(alloc: Global, zeta: EF, quotient: EF) -> Result<bool, Fail>
+/// The counter's constraints over a value of its column and the next one, folded by alpha, at a
+/// point, where the trace has two rows, with the selectors as sums: the first is 1 + x, the last
+/// h + h^2 * x, the transition's x - 1/h, for h = -1. The public value is 5.
+fn folded_counter<F, EF, C>(
+    alloc: Global,
+    (value, next_value): (EF, EF),
+    point: EF,
+    alpha: EF,
+) -> Result<EF, Fail>
 where
     F: PrimeField64 + TwoAdicField,
     EF: ExtensionField<F>,
     C: FieldChallenger<F> + CanObserve<ClearCommitment<F>> + ExtensionChallenger<F, EF> + Clone,
 {
-    let (one, six) = (above::<F, EF>(1), above::<F, EF>(6));
+    let one = above::<F, EF>(1);
     let mut rows = Vec::new(alloc);
-    rows.push(six - zeta)?;
-    rows.push(six + zeta)?;
+    rows.push(value)?;
+    rows.push(next_value)?;
     let mut publics = Vec::new(alloc);
     publics.push(element::<F>(5))?;
     let (local, next, none) = (&rows[..1], &rows[1..2], &rows[..0]);
@@ -267,9 +284,9 @@ where
         return Err(Fail::new("other rows"));
     }
     let selectors = LagrangeSelectors {
-        is_first_row: one + zeta,
-        is_last_row: zeta - one,
-        is_transition: zeta + one,
+        is_first_row: one + point,
+        is_last_row: point - one,
+        is_transition: point + one,
         inv_vanishing: EF::ZERO,
     };
     let sum = folded::<F, EF, C, CounterAir>(
@@ -280,9 +297,46 @@ where
         none,
         &publics,
         selectors,
-        above::<F, EF>(4),
+        alpha,
     )?;
+    Ok(sum)
+}
+
+/// Whether the equation of the counter's false trace 5, 7 holds at zeta; the column is 6 - X.
+fn is_balanced<F, EF, C>(alloc: Global, zeta: EF, quotient: EF) -> Result<bool, Fail>
+where
+    F: PrimeField64 + TwoAdicField,
+    EF: ExtensionField<F>,
+    C: FieldChallenger<F> + CanObserve<ClearCommitment<F>> + ExtensionChallenger<F, EF> + Clone,
+{
+    let (one, six) = (above::<F, EF>(1), above::<F, EF>(6));
+    let alpha = above::<F, EF>(4);
+    let sum = folded_counter::<F, EF, C>(alloc, (six - zeta, six + zeta), zeta, alpha)?;
     Ok(sum == (zeta * zeta - one) * quotient)
+}
+
+/// The numbers at which the constraints, folded, are zero in the first of two rows.
+fn bad_alphas<F, EF, C>(alloc: Global, text: &str) -> Result<String, Fail>
+where
+    F: PrimeField64 + TwoAdicField,
+    EF: ExtensionField<F>,
+    C: FieldChallenger<F> + CanObserve<ClearCommitment<F>> + ExtensionChallenger<F, EF> + Clone,
+{
+    let [first, second, numbers] = numbers_in::<3>(text)?;
+    let (first, second, point) = (
+        above::<F, EF>(first),
+        above::<F, EF>(second),
+        above::<F, EF>(1),
+    );
+    let mut found = Vec::new(alloc);
+    for n in 0..numbers {
+        let alpha = above::<F, EF>(n);
+        let sum = folded_counter::<F, EF, C>(alloc, (first, second), point, alpha)?;
+        if sum == EF::ZERO {
+            found.push(n)?;
+        }
+    }
+    shown(alloc, &found)
 }
 
 /// The domain of two points beside the subgroup of two points.

@@ -37,8 +37,9 @@ fn quotients_over_each_field(rt: HostRuntime) -> Result<(), Fail> {
 }
 
 #[test]
-fn bad_zetas_of_a_false_trace(rt: HostRuntime) -> Result<(), Fail> {
-    all_rows(&rt, rt.alloc(), "security", security::BAD_ZETAS, scalar)
+fn bad_draws_of_false_traces(rt: HostRuntime) -> Result<(), Fail> {
+    all_rows(&rt, rt.alloc(), "security", security::BAD_ZETAS, scalar)?;
+    all_rows(&rt, rt.alloc(), "security", security::BAD_ALPHAS, scalar)
 }
 
 #[test]

@@ -2,3 +2,4 @@ pub mod StatementView
 pub mod StatementJson
 pub mod Words
 pub mod StatementBytes
+pub mod Limits

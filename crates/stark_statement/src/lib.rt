@@ -5,10 +5,12 @@
 mod binding;
 mod error;
 mod fields;
+mod limits;
 mod statement;
 mod words;
 mod writing;
 
 pub use binding::bind_statement;
 pub use error::StatementError;
+pub use limits::{AirLimits, AirTooLarge};
 pub use statement::Statement;

@@ -1,5 +1,5 @@
 -- The AIR of a statement, as text.
-use Rattle.std.specs.Prelude.{◌≡◌, ◌⊎◌, ℕ, List, Result, Ok, Err, string_bytes, take, codes}
+use Rattle.std.specs.Prelude.{◌≡◌, ℕ, List, Result, Ok, Err, string_bytes, take, codes}
 use Rattle.std.proofs.Common.{ap, inl, inr, subst, sym}
 use Rattle.stark_fields.specs.ElementJson.{base_at}
 use Rattle.stark_tree_air.specs.TreeJson.{air_view}
@@ -10,6 +10,8 @@ use Rattle.stark_statement.specs.StatementView.{StatementView}
 use Rattle.stark_show.specs.Shown.{IsShown, IsWhole, columns_text}
 use Rattle.stark_commands.specs.Finding.{BeginsAsItsKind, IsProof}
 use Rattle.stark_commands.specs.Input.{Base}
+use Rattle.stark_commands.specs.StatementFacts.{too_large_accepted}
+use Rattle.stark_commands.specs.Statements.{IsSaidOfRead}
 use Rattle.stark_commands.specs.declared.finding.Finding.{Finding}
 use Rattle.stark_commands.specs.declared.finding.Finding.TheVariants as finding
 use Rattle.stark_commands.specs.declared.verdict.Verdict.TheVariants as verdict
@@ -37,10 +39,9 @@ module _ (number : Base → ℕ) where
   IsShownOf s (finding.Proof line) = ⊥
   IsShownOf s (finding.Verdict v) = ⊥
 
-  -- This is shown of the bytes of a statement; bytes that spell none are bad input.
+  -- This is shown of the bytes of a statement; bytes that spell none are bad input, and an AIR that passes a limit is refused.
   unfoldable pub IsShowing : List ℕ → Finding → Type 0
-  IsShowing bytes f = ((s : StatementView Base) × (spelled_by bytes ≡ Ok s) × IsShownOf s f)
-      ⊎ (((fault : StatementFault) × (spelled_by bytes ≡ Err fault)) × (f ≡ finding.Verdict verdict.BadInput))
+  IsShowing bytes f = IsSaidOfRead (λ v. finding.Verdict v) IsShownOf (spelled_by bytes) f
 
 -- A text begins by the letter of `columns`, and neither a verdict of acceptance nor a proof is shown.
 first_letter : {number : Base → ℕ} (s : StatementView Base) (text : List ℕ) → ShowsAir number s text → take 1 text ≡ codes "c"
@@ -53,19 +54,34 @@ module _ (number : Base → ℕ) where
   of_text s (finding.Proof line) shown = absurd shown
   of_text s (finding.Verdict v) shown = absurd shown
 
+  read_begins : (read : Result (StatementView Base) StatementFault) (f : Finding) → IsSaidOfRead (λ v. finding.Verdict v) (IsShownOf number) read f → BeginsAsItsKind f
+  unfolding IsSaidOfRead
+  read_begins (Err fault) f bad = subst BeginsAsItsKind (sym bad) tt
+  read_begins (Ok s) f (inl shown) = of_text s f shown.1
+  read_begins (Ok s) f (inr large) = subst BeginsAsItsKind (sym large.1) tt
+
   pub showing_begins : (bytes : List ℕ) (f : Finding) → IsShowing number bytes f → BeginsAsItsKind f
   unfolding IsShowing
-  showing_begins bytes f (inl shown) = of_text shown.0 f shown.2
-  showing_begins bytes f (inr bad) = subst BeginsAsItsKind (sym bad.1) tt
+  showing_begins bytes f showing = read_begins (spelled_by bytes) f showing
+
+  read_accepts_none : (read : Result (StatementView Base) StatementFault) → IsSaidOfRead (λ v. finding.Verdict v) (IsShownOf number) read (finding.Verdict verdict.Accepted) → ⊥
+  unfolding IsSaidOfRead
+  read_accepts_none (Err fault) bad = let clash : verdict.Accepted ≡ verdict.BadInput = cc in cc
+  read_accepts_none (Ok s) (inl shown) = shown.1
+  read_accepts_none (Ok s) (inr large) = too_large_accepted large.1
 
   pub showing_accepts_none : (bytes : List ℕ) → IsShowing number bytes (finding.Verdict verdict.Accepted) → ⊥
   unfolding IsShowing
-  showing_accepts_none bytes (inl shown) = shown.2
-  showing_accepts_none bytes (inr bad) = let clash : verdict.Accepted ≡ verdict.BadInput = cc in cc
+  showing_accepts_none bytes showing = read_accepts_none (spelled_by bytes) showing
+
+  read_proves_none : (read : Result (StatementView Base) StatementFault) (f : Finding) → IsSaidOfRead (λ v. finding.Verdict v) (IsShownOf number) read f → IsProof f → ⊥
+  unfolding IsSaidOfRead
+  read_proves_none (Err fault) f bad is = subst IsProof bad is
+  read_proves_none (Ok s) (finding.Text text) (inl shown) is = is
+  read_proves_none (Ok s) (finding.Verdict v) (inl shown) is = is
+  read_proves_none (Ok s) (finding.Proof line) (inl shown) is = shown.1
+  read_proves_none (Ok s) f (inr large) is = subst IsProof large.1 is
 
   pub showing_proves_none : (bytes : List ℕ) (f : Finding) → IsShowing number bytes f → IsProof f → ⊥
   unfolding IsShowing
-  showing_proves_none bytes (finding.Text text) shown is = is
-  showing_proves_none bytes (finding.Verdict v) shown is = is
-  showing_proves_none bytes (finding.Proof line) (inl shown) is = shown.2
-  showing_proves_none bytes (finding.Proof line) (inr bad) is = absurd (cc)
+  showing_proves_none bytes f showing is = read_proves_none (spelled_by bytes) f showing is

@@ -28,8 +28,10 @@ fn showing_of(alloc: Global, statement: &Statement<F12289>) -> Report<Finding>
     }
 }
 
-/// What is shown of the statement that the bytes of a JSON text spell: its AIR's columns, constraints and nodes, how many chunks its
-/// quotient is cut into, and how many challenges can be bad at the field's greatest height; `bad input` where they spell none.
+/// What is shown of the statement that the bytes of a JSON text spell: its AIR's columns,
+/// constraints and nodes, how many chunks its quotient is cut into, and how many challenges can be
+/// bad at the field's greatest height; `bad input` where they spell none, and `refused AirTooLarge`
+/// where the AIR passes a limit.
 pub fn show_statement(alloc: Global, bytes: &[u8]) -> Report<Finding>
     ensures { (result.answer ≡ no_memory) ⊎ IsShowing (⟦<F12289 as PrimeField64>⟧.number_of) bytes.now result.answer }
 {

@@ -33,7 +33,7 @@ use Rattle.stark_commands.specs.declared.input.CheckShape.{CheckShape}
 use Rattle.stark_commands.specs.declared.verdict.Verdict.{Verdict}
 use Rattle.stark_commands.specs.declared.verdict.Verdict.TheVariants as verdict
 use Rattle.stark_commands.specs.declared.verdict.Verdict.TheVariants.{Accepted, Refused, BadInput}
-use Rattle.stark_commands.specs.declared.verdict.Refusal.TheVariants.{OodPointInDomain, OodEvaluationMismatch, PeriodicColumn, QuotientDomainTooLarge, Pcs, GrindExhausted, OutOfMemory, Proof}
+use Rattle.stark_commands.specs.declared.verdict.Refusal.TheVariants.{OodPointInDomain, OodEvaluationMismatch, PeriodicColumn, QuotientDomainTooLarge, Pcs, GrindExhausted, AirTooLarge, OutOfMemory, Proof}
 
 -- A verdict that tells an equation is the function of its sides, or memory is wanting.
 module _ {K : Type 0} {ring : RingOps K} {inverse : K → K} (laws : FieldLaws ring inverse) (left right : K) where
@@ -45,6 +45,7 @@ module _ {K : Type 0} {ring : RingOps K} {inverse : K → K} (laws : FieldLaws r
   told_by (Refused QuotientDomainTooLarge) h = absurd h
   told_by (Refused Pcs) h = absurd h
   told_by (Refused GrindExhausted) h = absurd h
+  told_by (Refused AirTooLarge) h = absurd h
   told_by (Refused OutOfMemory) h = inr refl
   told_by (Refused (Proof why)) h = absurd h
   told_by BadInput h = absurd h

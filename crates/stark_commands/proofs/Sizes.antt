@@ -1,5 +1,5 @@
 -- How many chunks the quotients of AIRs are cut into.
-use Rattle.std.proofs.Common.{◌≡◌, ◌⊎◌, List, ap, arith, inl, inr, subst, sym, ℕ, zero, suc, ◌+◌, ◌^◌, ◌<◌, ◌≤◌, if◌then◌else◌}
+use Rattle.std.proofs.Common.{◌≡◌, ◌⊎◌, List, arith, subst, ℕ}
 use Rattle.stark_support.specs.Logarithm.{IsCeilingOfLog}
 use Rattle.stark_support.specs.LogarithmFacts.{ceiling_of_one, ceiling_between}
 use Rattle.stark_protocol.specs.QuotientFacts.{is_log_ceiling}

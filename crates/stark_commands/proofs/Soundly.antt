@@ -12,7 +12,7 @@ use Rattle.stark_commands.specs.Verify.{IsVerdict, IsVerdictBy, IsVerified, inst
 use Rattle.stark_statement.specs.StatementJson.{StatementFault}
 use Rattle.stark_statement.specs.StatementView.{StatementView}
 use Rattle.stark_commands.specs.Spelled.{declared_of}
-use Rattle.stark_commands.specs.Statements.{HoldsOfRead, IsSaidOfRead, IsSoundOn, IsSoundWithRows, IsVerdictOn, IsVerdictWithRows, ReadsDeclared}
+use Rattle.stark_commands.specs.Statements.{HoldsOfRead, IsSaidOfNone, IsSaidOfRead, IsSoundOn, IsSoundWithRows, IsVerdictOn, IsVerdictWithRows, ReadsDeclared, too_large}
 use Rattle.stark_commands.specs.declared.verdict.Verdict.{Verdict}
 use Rattle.stark_commands.specs.declared.verdict.Refusal.TheVariants as refusal
 use Rattle.stark_commands.specs.declared.verdict.Verdict.TheVariants as verdict
@@ -44,8 +44,18 @@ bad_input_clash h = cc
 memory_clash : verdict.Accepted ≡ verdict.OutOfMemory → ⊥
 memory_clash h = cc
 
+too_large_clash : verdict.Accepted ≡ too_large → ⊥
+too_large_clash h = cc
+
 refusal_clash : verdict.Accepted ≡ verdict.Refused refusal.OutOfMemory → ⊥
 refusal_clash h = cc
+
+-- What is said where there is no statement within the limits accepts nothing.
+pub none_accepted : (read : Result (StatementView Base) StatementFault) (v : Verdict) → (v ≡ verdict.OutOfMemory) ⊎ IsSaidOfNone read v → v ≡ verdict.Accepted → ⊥
+unfolding IsSaidOfNone
+none_accepted read v (inl memory) is = memory_clash (sym is ∙ memory)
+none_accepted (Err fault) v (inr none) is = bad_input_clash (sym is ∙ none)
+none_accepted (Ok s) v (inr none) is = too_large_clash (sym is ∙ none.1)
 
 accepted_soundly : {S C T P X Y : Type 0} (ops : ProtocolOps S Base Extension C (Listed Base) T P X Y) (log_rows : ℕ) → InTheClear ops log_rows → (air : CheckedAir) → LeavesWithin air.layout air.constraints
     → IsDeclared air.layout air.preprocessed_trace air.periodic_columns air.next_columns air.preprocessed_next_columns
@@ -94,14 +104,15 @@ module _ {S C T P X Y : Type 0} (ops : ProtocolOps S Base Extension C (Listed Ba
   sound_on s (reads, inl said) = (said.0, said.1, with_rows s reads said.0 said.1.within read said.2)
   sound_on s (reads, inr other) = absurd (bad_input_clash other.1)
 
-  pub statement_soundly : (statement : Result (StatementView Base) StatementFault) → IsSaidOfRead verdict.BadInput (IsVerdictOn ops scheme start read) statement verdict.Accepted
+  pub statement_soundly : (statement : Result (StatementView Base) StatementFault) → IsSaidOfRead (λ v. v) (IsVerdictOn ops scheme start read) statement verdict.Accepted
       → HoldsOfRead (IsSoundOn ops scheme start read) statement
   unfolding IsSaidOfRead HoldsOfRead
   statement_soundly (Err fault) said = bad_input_clash said
-  statement_soundly (Ok s) said = sound_on s said
+  statement_soundly (Ok s) (inl said) = sound_on s said.1
+  statement_soundly (Ok s) (inr large) = absurd (too_large_clash large.1)
 
   -- It is so where an answer accepts, which isn't want of memory.
-  pub statement_accepted : (statement : Result (StatementView Base) StatementFault) (v : Verdict) → (v ≡ verdict.OutOfMemory) ⊎ IsSaidOfRead verdict.BadInput (IsVerdictOn ops scheme start read) statement v → v ≡ verdict.Accepted
+  pub statement_accepted : (statement : Result (StatementView Base) StatementFault) (v : Verdict) → (v ≡ verdict.OutOfMemory) ⊎ IsSaidOfRead (λ v. v) (IsVerdictOn ops scheme start read) statement v → v ≡ verdict.Accepted
       → HoldsOfRead (IsSoundOn ops scheme start read) statement
   statement_accepted statement v (inl memory) is = absurd (memory_clash (sym is ∙ memory))
-  statement_accepted statement v (inr said) is = statement_soundly statement (subst (λ w. IsSaidOfRead verdict.BadInput (IsVerdictOn ops scheme start read) statement w) is said)
+  statement_accepted statement v (inr said) is = statement_soundly statement (subst (λ w. IsSaidOfRead (λ v. v) (IsVerdictOn ops scheme start read) statement w) is said)

@@ -28,7 +28,7 @@ use Rattle.stark_commands.specs.Prove.{IsProvedBy, IsProvedRead}
 use Rattle.stark_commands.specs.ProofInput.{ok_of}
 use Rattle.stark_commands.specs.SoundRun.{Listed}
 use Rattle.stark_commands.specs.Spelled.{declared_of}
-use Rattle.stark_commands.specs.Statements.{IsFoundWithRows, IsSaidOfRead, IsVerdictWithRows, ReadsDeclared, proof_in, rows_in, trace_numbers_of, verdict_of_fault, verdict_without}
+use Rattle.stark_commands.specs.Statements.{IsFoundWithRows, IsSaidOfNone, IsVerdictWithRows, PassesLimit, ReadsDeclared, proof_in, rows_in, too_large, trace_numbers_of, verdict_of_fault, verdict_without}
 use Rattle.stark_commands.specs.Verdict.{unjudged}
 use Rattle.stark_commands.specs.Verify.{IsVerdict}
 use Rattle.stark_commands.specs.declared.finding.Finding.{Finding}
@@ -80,6 +80,7 @@ kept_refusal refusal.PeriodicColumn = inr refl
 kept_refusal refusal.QuotientDomainTooLarge = inr refl
 kept_refusal refusal.Pcs = inr refl
 kept_refusal refusal.GrindExhausted = inr refl
+kept_refusal refusal.AirTooLarge = inr refl
 kept_refusal refusal.OutOfMemory = inl refl
 kept_refusal (refusal.Proof why) = inr refl
 
@@ -162,32 +163,20 @@ module _ {S C T X Y : Type 0} (ops : ProtocolOps S Base Extension C (Listed Base
   found_without_rows_read v g is (inl memory) = inl (is ∙ ap (λ w. finding.Verdict w) memory)
   found_without_rows_read v g is (inr bad) = inr (subst (λ r. IsFoundWithRows ops coordinates scheme start s log_rows r g) (sym bad.0) (is ∙ ap (λ w. finding.Verdict w) bad.1))
 
--- ---- a statement that was read
-
-module _ {V : Type 0} (bad memory : V) (IsSaid : StatementView Base → V → Type 0) (read : Result (StatementView Base) StatementFault) (v : V) where
-  pub said_of_read : (s : StatementView Base) → read ≡ Ok s → (v ≡ memory) ⊎ IsSaid s v → (v ≡ memory) ⊎ IsSaidOfRead bad IsSaid read v
-  unfolding IsSaidOfRead
-  said_of_read s is (inl lacks) = inl lacks
-  said_of_read s is (inr said) = inr (subst (λ r. IsSaidOfRead bad IsSaid r v) (sym is) said)
-
-  pub said_without_statement : (v ≡ memory) ⊎ (((fault : StatementFault) × (read ≡ Err fault)) × (v ≡ bad)) → (v ≡ memory) ⊎ IsSaidOfRead bad IsSaid read v
-  unfolding IsSaidOfRead
-  said_without_statement (inl lacks) = inl lacks
-  said_without_statement (inr none) = inr (subst (λ r. IsSaidOfRead bad IsSaid r v) (sym none.0.1) none.1)
-
--- The report of a statement that wasn't read, as a finding.
-pub as_finding_of : (read : Result (StatementView Base) StatementFault) (v : Verdict) (g : Finding) → g ≡ finding.Verdict v → (v ≡ verdict.OutOfMemory) ⊎ (((fault : StatementFault) × (read ≡ Err fault)) × (v ≡ verdict.BadInput))
-    → (g ≡ finding.Verdict verdict.OutOfMemory) ⊎ (((fault : StatementFault) × (read ≡ Err fault)) × (g ≡ finding.Verdict verdict.BadInput))
-as_finding_of read v g is (inl memory) = inl (is ∙ ap (λ w. finding.Verdict w) memory)
-as_finding_of read v g is (inr none) = inr (none.0, is ∙ ap (λ w. finding.Verdict w) none.1)
-
 -- ---- parts that weren't read
 
 -- The report of a statement with a fault, or for want of memory.
 pub unread_statement : (fault : Option StatementFault) (read : Result (StatementView Base) StatementFault) (v : Verdict) → IfSome fault (λ f. read ≡ Err f) → v ≡ verdict_without fault
-    → (v ≡ verdict.OutOfMemory) ⊎ (((f : StatementFault) × (read ≡ Err f)) × (v ≡ verdict.BadInput))
+    → (v ≡ verdict.OutOfMemory) ⊎ IsSaidOfNone read v
+unfolding IsSaidOfNone
 unread_statement None read v unread is = inl is
-unread_statement (Some f) read v unread is = inr ((f, unread), is)
+unread_statement (Some f) read v unread is = inr (subst (λ r. IsSaidOfNone r v) (sym unread) is)
+
+-- The report of a statement whose AIR passes a limit.
+pub large_statement : (read : Result (StatementView Base) StatementFault) (s : StatementView Base) (v : Verdict) → read ≡ Ok s → PassesLimit s → v ≡ too_large
+    → (v ≡ verdict.OutOfMemory) ⊎ IsSaidOfNone read v
+unfolding IsSaidOfNone
+large_statement read s v is passes large = inr (subst (λ r. IsSaidOfNone r v) (sym is) (passes, large))
 
 -- The report of a text that is no JSON, or for want of memory.
 unread_json : {X Y : Type 0} (view : X → Data) (fault : JsonFault) (whole : Option Data) (f : Data → Option Y) (v : Verdict) → Gives view (Err fault) whole → v ≡ verdict_of_fault fault

@@ -11,7 +11,7 @@ use Rattle.stark_protocol.specs.Equation.{OpenedRows, EquationHolds}
 use Rattle.stark_protocol.specs.Sizes.{chunk_shifts}
 use Rattle.stark_commands.specs.declared.verdict.Verdict.{Verdict}
 use Rattle.stark_commands.specs.declared.verdict.Verdict.TheVariants as verdict
-use Rattle.stark_commands.specs.declared.verdict.Refusal.TheVariants.{OodPointInDomain, OodEvaluationMismatch, PeriodicColumn, QuotientDomainTooLarge, Pcs, GrindExhausted, OutOfMemory, Proof}
+use Rattle.stark_commands.specs.declared.verdict.Refusal.TheVariants.{OodPointInDomain, OodEvaluationMismatch, PeriodicColumn, QuotientDomainTooLarge, Pcs, GrindExhausted, AirTooLarge, OutOfMemory, Proof}
 
 -- The verdict says whether a fact holds, unless memory is wanting.
 abbrev pub TellsEquation : Type 0 → Verdict → Type 0
@@ -22,6 +22,7 @@ TellsEquation Holds (verdict.Refused PeriodicColumn) = ⊥
 TellsEquation Holds (verdict.Refused QuotientDomainTooLarge) = ⊥
 TellsEquation Holds (verdict.Refused Pcs) = ⊥
 TellsEquation Holds (verdict.Refused GrindExhausted) = ⊥
+TellsEquation Holds (verdict.Refused AirTooLarge) = ⊥
 TellsEquation Holds (verdict.Refused OutOfMemory) = Unit {0}
 TellsEquation Holds (verdict.Refused (Proof why)) = ⊥
 TellsEquation Holds verdict.BadInput = ⊥

@@ -16,7 +16,9 @@ use Rattle.stark_protocol.specs.Instance.{ProtocolOps}
 use Rattle.stark_protocol.specs.Preprocessing.{HasHeight}
 use Rattle.stark_statement.specs.StatementBytes.{statement_bytes}
 use Rattle.stark_statement.specs.StatementJson.{StatementFault}
-use Rattle.stark_statement.specs.StatementView.{StatementView}
+use Rattle.stark_statement.specs.Limits.{IsWithin, default_limits}
+use Rattle.stark_statement.specs.StatementView.{StatementView, statement_view}
+use Rattle.stark_statement.specs.declared.statement.Statement.{Statement}
 use Rattle.stark_commands.specs.Airs.{CheckedAir, shape_of}
 use Rattle.stark_commands.specs.Input.{Base, Extension}
 use Rattle.stark_commands.specs.Prove.{IsProofLine, IsProved}
@@ -28,6 +30,7 @@ use Rattle.stark_commands.specs.Verify.{IsVerdict}
 use Rattle.stark_commands.specs.declared.finding.Finding.{Finding}
 use Rattle.stark_commands.specs.declared.finding.Finding.TheVariants as finding
 use Rattle.stark_commands.specs.declared.report.Report.{Report}
+use Rattle.stark_commands.specs.declared.verdict.Refusal.TheVariants as refusal
 use Rattle.stark_commands.specs.declared.verdict.Verdict.{Verdict}
 use Rattle.stark_commands.specs.declared.verdict.Verdict.TheVariants as verdict
 
@@ -57,11 +60,29 @@ abbrev pub ReadsPart : {X Y : Type 0} → (X → Y) → Result X (Report Verdict
 ReadsPart view (Ok x) reading = reading ≡ Some (view x)
 ReadsPart view (Err report) reading = (report.answer ≡ verdict.OutOfMemory) ⊎ ((reading ≡ None) × (report.answer ≡ verdict.BadInput))
 
--- A statement was read as this, or the report says why not.
-abbrev pub ReadsStatement : {X Y Fault : Type 0} → (X → Y) → Result X (Report Verdict) → Result Y Fault → Type 0
-ReadsStatement view (Ok x) reading = reading ≡ Ok (view x)
-ReadsStatement {Fault = Fault} view (Err report) reading =
-    (report.answer ≡ verdict.OutOfMemory) ⊎ (((fault : Fault) × (reading ≡ Err fault)) × (report.answer ≡ verdict.BadInput))
+-- ---- limits of a statement's AIR
+
+-- An AIR passes none of the limits.
+abbrev pub IsWithinLimits : StatementView Base → Type 0
+IsWithinLimits s = IsWithin default_limits s.air
+
+-- It passes one.
+abbrev pub PassesLimit : StatementView Base → Type 0
+PassesLimit s = IsWithinLimits s → ⊥
+
+-- what is said of a statement whose AIR passes a limit
+abbrev pub too_large : Verdict
+too_large = verdict.Refused refusal.AirTooLarge
+
+-- This is said of a reading that gives no statement within the limits.
+unfoldable pub IsSaidOfNone : Result (StatementView Base) StatementFault → Verdict → Type 0
+IsSaidOfNone (Err fault) v = v ≡ verdict.BadInput
+IsSaidOfNone (Ok s) v = PassesLimit s × (v ≡ too_large)
+
+-- A statement within the limits was read as this, or the report says why not.
+abbrev pub ReadsStatement : Result (Statement Base) (Report Verdict) → Result (StatementView Base) StatementFault → Type 0
+ReadsStatement (Ok statement) reading = (reading ≡ Ok (statement_view statement)) × IsWithinLimits (statement_view statement)
+ReadsStatement (Err report) reading = (report.answer ≡ verdict.OutOfMemory) ⊎ IsSaidOfNone reading report.answer
 
 -- ---- a statement's AIR
 
@@ -102,10 +123,10 @@ module _ {S C K T P X Y : Type 0} (ops : ProtocolOps S Base Extension C K T P X 
   IsVerdictOn read s v = ReadsDeclared (declared_of s.air)
       × (((log_rows : ℕ) × HasRows (declared_of s.air) log_rows × IsVerdictWithRows s log_rows read v) ⊎ (HasNoRows (declared_of s.air) × (v ≡ verdict.BadInput)))
 
--- Of what was read, if a statement was; else the input is bad.
-unfoldable pub IsSaidOfRead : {V : Type 0} → V → (StatementView Base → V → Type 0) → Result (StatementView Base) StatementFault → V → Type 0
-IsSaidOfRead bad IsSaid (Err fault) v = v ≡ bad
-IsSaidOfRead bad IsSaid (Ok s) v = IsSaid s v
+-- Of what was read, if a statement was and its AIR passes no limit; else the verdict says that the input is bad or the AIR too large.
+unfoldable pub IsSaidOfRead : {V : Type 0} → (Verdict → V) → (StatementView Base → V → Type 0) → Result (StatementView Base) StatementFault → V → Type 0
+IsSaidOfRead of_verdict IsSaid (Err fault) v = v ≡ of_verdict verdict.BadInput
+IsSaidOfRead of_verdict IsSaid (Ok s) v = (IsWithinLimits s × IsSaid s v) ⊎ (PassesLimit s × (v ≡ of_verdict too_large))
 
 -- A statement was read, and this holds of it.
 unfoldable pub HoldsOfRead : (StatementView Base → Type 0) → Result (StatementView Base) StatementFault → Type 0

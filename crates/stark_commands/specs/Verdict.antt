@@ -3,7 +3,7 @@ use Rattle.std.specs.Prelude.{ℕ, List, ◌++◌, codes}
 use Rattle.stark_commands.specs.declared.verdict.RunEnd.{RunEnd}
 use Rattle.stark_commands.specs.declared.verdict.RunEnd.TheVariants as ends
 use Rattle.stark_commands.specs.declared.verdict.Refusal.{Refusal}
-use Rattle.stark_commands.specs.declared.verdict.Refusal.TheVariants.{OodEvaluationMismatch, OodPointInDomain, PeriodicColumn, QuotientDomainTooLarge, Pcs, GrindExhausted, OutOfMemory, Proof}
+use Rattle.stark_commands.specs.declared.verdict.Refusal.TheVariants.{OodEvaluationMismatch, OodPointInDomain, PeriodicColumn, QuotientDomainTooLarge, Pcs, GrindExhausted, AirTooLarge, OutOfMemory, Proof}
 use Rattle.stark_commands.specs.Refusals.{proof_name_of}
 use Rattle.stark_commands.specs.declared.verdict.Verdict.{Verdict}
 use Rattle.stark_commands.specs.declared.verdict.Verdict.TheVariants as verdict
@@ -15,6 +15,7 @@ name_of PeriodicColumn = codes "PeriodicColumn"
 name_of QuotientDomainTooLarge = codes "QuotientDomainTooLarge"
 name_of Pcs = codes "Pcs"
 name_of GrindExhausted = codes "GrindExhausted"
+name_of AirTooLarge = codes "AirTooLarge"
 name_of OutOfMemory = codes "OutOfMemory"
 name_of (Proof why) = proof_name_of why
 

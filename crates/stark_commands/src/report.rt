@@ -9,6 +9,7 @@ ghost use Rattle.stark_commands.specs.declared.verdict.Refusal.{Refusal};
 
 use crate::finding::Finding;
 use crate::verdict::{Refusal, Verdict};
+use stark_statement::AirTooLarge;
 use std::alloc::Global;
 use std::fmt::Display;
 
@@ -45,6 +46,16 @@ impl Report<Verdict> {
         let wanted =
             "a power of two of rows, as many as the preprocessed columns have, each as wide as the AIR";
         Report::bad_input(alloc, "the trace doesn't fit the AIR", &wanted)
+    }
+
+    /// A statement's AIR passes a limit.
+    pub(crate) fn air_too_large(alloc: Global, passed: &AirTooLarge) -> Report<Verdict>
+        ensures { result.answer ≡ Verdict.Refused Refusal.AirTooLarge }
+    {
+        Report {
+            answer: Verdict::Refused(Refusal::AirTooLarge),
+            reason: words(alloc, "the AIR is too large", passed),
+        }
     }
 
     /// A growth of memory was refused in the middle of a command that refuses by name.

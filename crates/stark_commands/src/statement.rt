@@ -32,7 +32,7 @@ use stark_air::BaseAir;
 use stark_bench::{ClearCommitment, F12289, Sha256Challenger};
 use stark_clear::ClearProof;
 use stark_proof::{Proof, ProofDecodeError};
-use stark_statement::{Statement, StatementError};
+use stark_statement::{AirLimits, Statement, StatementError};
 use stark_support::{
     CanObserve, ExtensionField, JsonCodec, JsonFault, PrimeField64, lists_from_json,
     value_from_bytes,
@@ -69,7 +69,7 @@ pub trait StatementAnswers {
 }
 
 impl StatementAnswers for Statement<F12289> {
-    ghost verdict = { λ statement proof v. IsSaidOfRead Verdict.BadInput
+    ghost verdict = { λ statement proof v. IsSaidOfRead (λ v. v)
         (IsVerdictOn (⟦<ProgramConfig<Sha256Challenger<F12289>> as StarkOperations>⟧.operations) clear_pcs
         (bound_state (⟦<Sha256Challenger<F12289> as CanObserve<F12289>>⟧.after_observe) (⟦<F12289 as PrimeField64>⟧.of_number) (⟦<F12289 as PrimeField64>⟧.number_of) (replicate 32 0))
         (proof_in (⟦<ClearCommitment<F12289> as JsonCodec>⟧.reading) (⟦<ClearProof as JsonCodec>⟧.reading) proof))
@@ -81,7 +81,7 @@ impl StatementAnswers for Statement<F12289> {
         (proof_in (⟦<ClearCommitment<F12289> as JsonCodec>⟧.reading) (⟦<ClearProof as JsonCodec>⟧.reading) proof))
         (statement_in base_at statement) };
 
-    ghost found = { λ statement trace f. IsSaidOfRead (Finding.Verdict Verdict.BadInput)
+    ghost found = { λ statement trace f. IsSaidOfRead (λ v. Finding.Verdict v)
         (IsFoundOn (⟦<ProgramConfig<Sha256Challenger<F12289>> as StarkOperations>⟧.operations) (⟦<Extension as ExtensionField<F12289>>⟧.coordinates) clear_pcs
         (bound_state (⟦<Sha256Challenger<F12289> as CanObserve<F12289>>⟧.after_observe) (⟦<F12289 as PrimeField64>⟧.of_number) (⟦<F12289 as PrimeField64>⟧.number_of) (replicate 32 0))
         (rows_in trace)) (statement_in base_at statement) f };
@@ -112,14 +112,20 @@ impl StatementAnswers for Statement<F12289> {
         (rows_in trace) (statement_in base_at statement) f found is };
 }
 
-/// The statement that the bytes of a JSON text spell, or what is said where they spell none: `bad input`, with the field, node or
-/// constraint at fault in words, or `out of memory`.
+/// The statement that the bytes of a JSON text spell, whose AIR is within the limits
+/// (`AirLimits::default`); or what is said where there is none: `bad input`, with the field, node or
+/// constraint at fault in words; `refused AirTooLarge`, with the limit that is passed in words; or
+/// `out of memory`. Of a statement whose AIR passes a limit nothing is built.
 pub fn read_statement(alloc: Global, bytes: &[u8]) -> Result<Statement<F12289>, Report<Verdict>>
-    ensures { ReadsStatement statement_view result (statement_in base_at bytes.now) }
+    ensures { ReadsStatement result (statement_in base_at bytes.now) }
 {
-    match Statement::<F12289>::from_slice(alloc, bytes) {
-        Ok(statement) => Ok(statement),
-        Err(error) => Err(unread_statement(alloc, &error)),
+    let statement = match Statement::<F12289>::from_slice(alloc, bytes) {
+        Ok(statement) => statement,
+        Err(error) => return Err(unread_statement(alloc, &error)),
+    };
+    match AirLimits::default().check(&statement.air) {
+        Ok(()) => Ok(statement),
+        Err(passed) => Err(Report::air_too_large(alloc, &passed)),
     }
 }
 
@@ -253,8 +259,11 @@ fn verify_on(alloc: Global, statement: &Statement<F12289>, bytes: &[u8]) -> Repo
     }
 }
 
-/// The verdict on a proof for a statement, from the bytes of both: `accepted`; `refused` and the first fault; `bad input` where the
-/// statement or the proof can't be read, or the AIR's preprocessed columns have no power of two of rows up to 4096; `out of memory`.
+/// The verdict on a proof for a statement, from the bytes of both: `accepted`; `refused` and the
+/// first fault; `bad input` where the statement or the proof can't be read, or the AIR's
+/// preprocessed columns have no power of two of rows up to 4096; `out of memory`. It is
+/// `refused AirTooLarge` where the statement was read and its AIR passes a limit, whatever the
+/// proof is.
 ///
 /// What it accepts is accepted by the verifier, whose challenger observed the statement first (`verdict`), and the columns that the
 /// proof lists break no constraint of the AIR, unless alpha or zeta is bad for them (`sound`). So a service needs this one call.
@@ -326,10 +335,14 @@ fn prove_on(alloc: Global, statement: Statement<F12289>, bytes: &[u8]) -> Report
     }
 }
 
-/// The line of a proof of a trace for a statement, from the bytes of both; or `refused` and the first cause why there is none, `bad
-/// input` where the statement or the trace can't be read, the AIR has no main columns, or the trace isn't one of its widths and counts,
-/// or `out of memory`. It doesn't test the constraints: the proof of a trace that breaks one is written, and a verifier refuses it unless a draw is
-/// bad.
+/// The line of a proof of a trace for a statement, from the bytes of both; or `refused` and the
+/// first cause why there is none; `bad input` where the statement or the trace can't be read, the
+/// AIR has no main columns, or the trace isn't one of its widths and counts; or `out of memory`. It
+/// is `refused AirTooLarge` where the statement was read and its AIR passes a limit, whatever the
+/// trace is.
+///
+/// It doesn't test the constraints: the proof of a trace that breaks one is written, and a verifier
+/// refuses it unless a draw is bad.
 pub fn prove_statement(alloc: Global, statement: &[u8], trace: &[u8]) -> Report<Finding>
     ensures found { (result.answer ≡ Finding.Verdict Verdict.OutOfMemory) ⊎ ⟦<Statement<F12289> as StatementAnswers>⟧.found statement.now trace.now result.answer }
 {

@@ -48,6 +48,8 @@ pub enum Refusal {
     Pcs,
     /// No element is a witness of the work that is asked for.
     GrindExhausted,
+    /// A statement's AIR passes a limit.
+    AirTooLarge,
     /// A growth of memory was refused.
     OutOfMemory,
     /// A proof is refused for a reason that no check of numbers finds.
@@ -80,6 +82,7 @@ impl Verdict {
             Verdict::Refused(Refusal::QuotientDomainTooLarge) => "refused QuotientDomainTooLarge\n",
             Verdict::Refused(Refusal::Pcs) => "refused Pcs\n",
             Verdict::Refused(Refusal::GrindExhausted) => "refused GrindExhausted\n",
+            Verdict::Refused(Refusal::AirTooLarge) => "refused AirTooLarge\n",
             Verdict::Refused(Refusal::OutOfMemory) => "refused OutOfMemory\n",
             Verdict::Refused(Refusal::Proof(why)) => why.line(),
             Verdict::BadInput => "bad input\n",

@@ -10,6 +10,10 @@ mod faults;
 #[cfg(test)]
 mod hostile_rows;
 #[cfg(test)]
+mod limit_rows;
+#[cfg(test)]
+mod limit_tests;
+#[cfg(test)]
 mod program;
 #[cfg(test)]
 mod prove_rows;

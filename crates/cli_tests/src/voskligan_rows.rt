@@ -108,6 +108,60 @@ verify | <proved> | "degree_bits":1 => "degree_bits":-1 | bad input
 verify | <proved> | [8924, => [12289, | bad input
 "#;
 
+// AIRs at the limits of what is taken, and past them: nothing else of the statement, the proof or the trace is looked at then.
+pub(crate) const LARGE: &str = r#"
+# Columns.
+show | <wide> | columns: 65536 main, 0 public, 0 periodic, 0 preprocessed\0a<of nothing>
+show | <wide> | 65536 => 65537 | refused AirTooLarge
+show | <wide> | 65536 => 18446744073709551615 | refused AirTooLarge
+show | <fixed> | columns: 1 main, 0 public, 0 periodic, 65535 preprocessed\0a<of nothing>
+show | <fixed> | 65535 => 65536 | refused AirTooLarge
+show | <fixed> | "width":1 => "width":2 | refused AirTooLarge
+show | <fixed> | "width":1 => "width":18446744073709551615 | 65535 => 18446744073709551615 | refused AirTooLarge
+
+# Public values.
+show | <public> | columns: 0 main, 65536 public, 0 periodic, 0 preprocessed\0a<of nothing>
+show | <public> | 65536 => 65537 | 65535 => 65536 | refused AirTooLarge
+
+# Under the other verbs.
+prove | <wide>\1e[[]] | bad input
+prove | <wide>\1e[[]] | 65536 => 65537 | refused AirTooLarge
+verify | <wide>\1e<proof of two rows> | refused UnexpectedTraceNext
+verify | <wide>\1e<proof of two rows> | 65536 => 65537 | refused AirTooLarge
+
+# Beside other faults: of the proof, of the trace, of the preprocessed columns' height; but what spells no statement is bad input.
+verify | <wide>\1e | 65536 => 65537 | refused AirTooLarge
+prove | <wide>\1e | 65536 => 65537 | refused AirTooLarge
+verify | <fixed>\1e<proof of two rows> | bad input
+verify | <fixed>\1e<proof of two rows> | 65535 => 65536 | refused AirTooLarge
+show | <wide> | 65536,"publics":0 => 65537,"publics":1 | bad input
+"#;
+
+// Inputs by which a stranger tries to have much done: they are small as JSON, or in the AIR that they spell.
+pub(crate) const DEAR: &str = r#"
+# As many public values as there are numbers, without one of them.
+show | {"air":{"width":0,"publics":18446744073709551615,"periodic":[],"constants":[],"nodes":[],"constraints":[]},"public_values":[]} | bad input
+
+# A preprocessed column of 4096 values, of which no proof opens a row; and a periodic one, at the height that a proof claims.
+verify | {"air":{"width":1,"publics":0,"periodic":[],"preprocessed":{"width":1,"rows":[\(4095 [1],)[1]]},"constants":[],"nodes":[],"constraints":[]},"public_values":[]}\1e<proof of two rows> | refused PreprocessedTraceWidthMismatch
+verify | <proved> | "periodic":[] => "periodic":[[\(4095 1,)1]] | "degree_bits":1 => "degree_bits":12 | refused InvalidOpeningArgument
+
+# As many chunks as the field has places for at 64 rows, and twice as many as it has at one.
+prove then verify | {"air":{"width":1,"publics":0,"periodic":[],"max_constraint_degree":65,"constants":[],"nodes":[],"constraints":[]},"public_values":[]}\1e[\(63 [0],)[0]] | accepted
+prove | {"air":{"width":1,"publics":0,"periodic":[],"max_constraint_degree":4098,"constants":[],"nodes":[],"constraints":[]},"public_values":[]}\1e[[0]] | refused QuotientDomainTooLarge
+"#;
+
+// Expressions that are huge once they are written out.
+pub(crate) const HUGE: &str = r#"
+prove then verify | <doublings>\1e[[0],[0]] | accepted
+prove then verify | <doublings>\1e[[0],[1]] | refused OodEvaluationMismatch
+prove then verify | <many doublings>\1e[[0],[0]] | accepted
+prove then verify | <many sums>\1e[[0],[0]] | accepted
+verify | <many doublings>\1e<proof of two rows> | refused UnexpectedTraceNext
+prove | <many squares>\1e[[0],[0]] | refused QuotientDomainTooLarge
+verify | <many squares>\1e<proof of two rows> | refused QuotientDomainTooLarge
+"#;
+
 // One of each verb: its inputs are cut before each byte, each of their reads fails, and each write.
 pub(crate) const WHOLE: &str = r#"
 verify | <proved> | accepted

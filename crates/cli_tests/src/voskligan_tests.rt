@@ -1,7 +1,7 @@
 use crate::faults::{Spoiled, all_spoiled, written_or_no_memory};
 use crate::program::Program;
 use crate::runs::{all_rows, words_of};
-use crate::voskligan_rows::{BAD, EXAMPLES, SHOWN, WHOLE, WORDS};
+use crate::voskligan_rows::{BAD, DEAR, EXAMPLES, HUGE, LARGE, SHOWN, WHOLE, WORDS};
 use stark_bench::{F12289, Sha256Challenger};
 use stark_cli::statements::Verb;
 use stark_cli::{InputWord, Request, request_of};
@@ -25,6 +25,21 @@ fn shown_airs(rt: HostRuntime) -> Result<(), Fail> {
 #[test]
 fn bad_inputs(rt: HostRuntime) -> Result<(), Fail> {
     all_rows(&rt, rt.alloc(), PROGRAM, BAD, 39)
+}
+
+#[test]
+fn large_airs(rt: HostRuntime) -> Result<(), Fail> {
+    all_rows(&rt, rt.alloc(), PROGRAM, LARGE, 18)
+}
+
+#[test]
+fn dear_inputs(rt: HostRuntime) -> Result<(), Fail> {
+    all_rows(&rt, rt.alloc(), PROGRAM, DEAR, 5)
+}
+
+#[test]
+fn huge_expressions(rt: HostRuntime) -> Result<(), Fail> {
+    all_rows(&rt, rt.alloc(), PROGRAM, HUGE, 7)
 }
 
 #[test]

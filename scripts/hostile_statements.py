@@ -1,0 +1,248 @@
+"""The part of `hostile-sweep` that runs a built `voskligan`: statements, proofs and traces that a stranger spoiled or blew up.
+
+Each run has 256 MB of memory and a second of the processor, and has to end with status 0, 1 or 2 and the line that goes with it. What is
+accepted has to be what the honest files say. Behind them stand AIRs at the limits of `AirLimits::default` and two long honest ones, which
+are proved and verified in a gigabyte, with the time that each takes.
+"""
+import json
+import os
+import subprocess
+import tempfile
+import time
+from concurrent.futures import ThreadPoolExecutor
+
+from run_texts import named_texts
+
+BYTES = b'"09-]} '
+SECOND, GIGABYTE = (256, 1), (1024, 60)
+COLUMNS, CELLS, NODES, CONSTRAINTS = 65_536, 1_048_576, 131_072, 32_768
+
+
+class Runner:
+    """Runs the program on files of a folder of its own, and notes what it does."""
+
+    def __init__(self, program):
+        self.program, self.faults, self.runs = program, [], 0
+        self.slowest, self.largest = (0, ""), (0, "")
+
+    def run(self, verb, statement, second=None, limits=SECOND):
+        """The first line on standard output, the status, the seconds and the kilobytes of a run, and all that it wrote."""
+        with tempfile.TemporaryDirectory() as folder:
+            paths = []
+            for name, text in (("statement", statement), ("second", second)):
+                if text is not None:
+                    paths.append(os.path.join(folder, name))
+                    with open(paths[-1], "wb") as file:
+                        file.write(text)
+            with open(os.path.join(folder, "out"), "w+b") as out, open(os.path.join(folder, "told"), "w+b") as told:
+                limit = f'ulimit -c 0; ulimit -v {limits[0] * 1024}; ulimit -t {limits[1]}; exec "$0" "$@"'
+                start = time.monotonic()
+                done = subprocess.Popen(["sh", "-c", limit, self.program, verb, *paths], stdout=out, stderr=told)
+                _, status, used = os.wait4(done.pid, 0)
+                done.returncode = os.waitstatus_to_exitcode(status)
+                seconds = time.monotonic() - start
+                out.seek(0)
+                written = out.read()
+        return written.split(b"\n", 1)[0], done.returncode, seconds, used.ru_maxrss, written
+
+    def tell(self, name, verb, done, wanted):
+        """Notes a run that did otherwise than it had to."""
+        line, status, seconds, kilobytes, _ = done
+        self.runs += 1
+        self.slowest = max(self.slowest, (seconds, f"{verb} {name}"))
+        self.largest = max(self.largest, (kilobytes, f"{verb} {name}"))
+        if status != status_of(line) or (wanted is not None and not line.startswith(wanted)):
+            self.faults.append(f"{verb} {name}: {line[:80]!r}, status {status}")
+
+
+def status_of(line):
+    """The status that goes with a first line; None where no run writes it."""
+    if line == b"accepted" or line.startswith((b'{"', b"columns: ")):
+        return 0
+    if line.startswith(b"refused "):
+        return 1
+    return 2 if line in (b"bad input", b"out of memory") else None
+
+
+def air(**fields):
+    """An AIR of one column that asserts nothing, with some of its fields written anew."""
+    return {"width": 1, "publics": 0, "periodic": [], "constants": [], "nodes": [], "constraints": [], **fields}
+
+
+def statement(public_values=(), **fields):
+    """The text of such an AIR's statement."""
+    return json.dumps({"air": air(**fields), "public_values": list(public_values)}, separators=(",", ":")).encode()
+
+
+def chain(count, node):
+    """The nodes of a column and `count` more, each made from the place of the one before, of which the last is the one constraint."""
+    nodes = [["main", 0]] + [node(place) for place in range(count)]
+    return {"nodes": nodes, "constraints": [{"base": count}]}
+
+
+def doublings(count):
+    """Sums of a node and itself, over and over."""
+    return chain(count, lambda place: ["add", place, place])
+
+
+def large_airs():
+    """Names of AIRs that are small to write and large to handle, their fields, and what `show`, `verify` and `prove` say first."""
+    trillion, most = 10**12, 2**64 - 1
+    large, shape, size = b"refused AirTooLarge", b"refused UnexpectedTraceNext", b"refused QuotientDomainTooLarge"
+    shown, proof, bad = b"columns: ", b'{"', b"bad input"
+    keyless = b"refused PreprocessedTraceWidthMismatch"
+    fixed = lambda columns: {"preprocessed": {"width": columns, "rows": [[1] * columns] * 4096}}
+    half = doublings(20)
+    return [
+        ("2^64 - 1 public values", {"publics": most}, bad, bad, bad),
+        ("10^12 columns", {"width": trillion, **chain(0, None)}, large, large, large),
+        ("10^12 columns that nothing reads", {"width": trillion}, large, large, large),
+        ("2^64 - 1 preprocessed columns", {"preprocessed": {"width": most, "rows": []}}, large, large, large),
+        ("2^64 columns", {"width": most, "preprocessed": {"width": 1, "rows": []}}, large, large, large),
+        *((f"{k} doublings", doublings(k), shown, shape, proof) for k in (20, 24, 27, 64, 1000)),
+        ("64 squarings", chain(64, lambda place: ["mul", place, place]), shown, size, size),
+        *((f"a chain of {n}", chain(n, lambda place: ["neg", place]), shown, shape, proof) for n in (10_000, 30_000)),
+        ("16000 nodes over 20 doublings", {**half, "nodes": half["nodes"] + [["add", 20, 20]] * 16_000}, shown, shape, proof),
+        *((f"{n} preprocessed columns of 4096", fixed(n), shown, keyless, bad) for n in (1, 32, 256)),
+        ("257 preprocessed columns of 4096", fixed(257), large, large, large),
+        ("256 periodic columns of 4096", {"periodic": [[1] * 4096] * 256}, shown, shape, b"refused PeriodicColumn"),
+        ("a degree of 4098", {"max_constraint_degree": 4098}, shown, size, size),
+        ("a degree of 2^64 - 1", {"max_constraint_degree": most}, shown, size, size),
+        ("one node past the limit", {"nodes": [["first"]] * (NODES + 1)}, large, large, large),
+        ("one constraint past the limit", {"nodes": [["first"]], "constraints": [{"base": 0}] * (CONSTRAINTS + 1)}, large, large, large),
+    ]
+
+
+def run_large(runner, proof):
+    """The runs of those AIRs: shown, with a proof for another one, and with a trace of two rows of zeros."""
+    for name, fields, shown, verified, proved in large_airs():
+        text = statement(**fields)
+        for verb, second, wanted in (("show", None, shown), ("verify", proof, verified), ("prove", b"[[0],[0]]", proved)):
+            runner.tell(name, verb, runner.run(verb, text, second), wanted)
+
+
+def run_high(runner, honest, proof):
+    """A proof that claims the greatest height, for an AIR with long periodic columns; and as many chunks as the field has, at one row."""
+    given = json.loads(honest)
+    given["air"]["periodic"] = [[1] * 4096] * 256
+    high = proof.replace(b'"degree_bits":1', b'"degree_bits":12')
+    text = json.dumps(given).encode()
+    runner.tell("256 periodic columns at 2^12 rows", "verify", runner.run("verify", text, high), b"refused InvalidOpeningArgument")
+    text = statement(max_constraint_degree=4097)
+    made = runner.run("prove", text, b"[[0]]")
+    runner.tell("4096 chunks", "prove", made, b'{"')
+    runner.tell("4096 chunks", "verify", runner.run("verify", text, made[4]), b"accepted")
+
+
+def long_texts(honest, proof, trace):
+    """Names of texts that are long or odd, the verb, both texts, and what is said."""
+    digits, deep, bad = b"7" * 10_000_000, b"[" * 100_000 + b"]" * 100_000, b"bad input"
+    named = lambda text: b'{"' + b"a" * 10_000_000 + b'":0,' + text[1:]
+    more = lambda text: honest.replace(b'"air":{', b'"air":{' + text)
+    return [
+        ("10 MB of digits", "show", digits, None, bad),
+        ("10 MB of digits", "verify", honest, digits, bad),
+        ("10 MB of digits", "prove", honest, digits, bad),
+        ("a name of 10 MB", "verify", honest, named(proof), b"accepted"),
+        ("a name of 10 MB", "show", named(honest), None, bad),
+        ("an AIR with a name of 10 MB", "show", more(b'"' + b"a" * 10_000_000 + b'":0,'), None, b"columns: "),
+        ("an AIR nested 100,000 deep", "show", more(b'"deep":' + deep + b","), None, bad),
+        ("100,000 brackets", "prove", honest, deep, bad),
+        ("a trace of a million rows", "prove", honest, b"[" + b"[5]," * 1_000_000 + b"[5]]", bad),
+        ("a row of a million", "prove", honest, b"[[" + b"5," * 1_000_000 + b"5]]", bad),
+        ("the greatest degree_bits", "verify", honest, proof.replace(b'_bits":1', b'_bits":18446744073709551615'), b"refused DegreeBitsTooLarge"),
+        ("the greatest alpha_bits", "prove", honest[:-1] + b',"alpha_bits":18446744073709551615}', trace, b"refused GrindExhausted"),
+        ("the greatest ood_bits", "verify", honest[:-1] + b',"ood_bits":18446744073709551615}', proof, b"refused InvalidOodPowWitness"),
+        ("nothing", "show", b"", None, bad),
+    ]
+
+
+def said(text):
+    """A JSON value without the members that are null; None of no JSON."""
+    without = lambda members: {name: member for name, member in members if member is not None}
+    try:
+        return json.loads(text.decode("utf-8"), object_pairs_hook=without)
+    except (UnicodeDecodeError, ValueError, RecursionError):
+        return None
+
+
+def spoiled(text):
+    """The text cut before each of its bytes, and with each byte replaced by each of seven."""
+    for place in range(len(text)):
+        yield f"cut before {place}", text[:place]
+        for byte in BYTES:
+            yield f"{chr(byte)} at {place}", text[:place] + bytes([byte]) + text[place + 1 :]
+
+
+def sweep(runner, verb, honest, which):
+    """Runs with one of two honest texts spoiled; what is accepted has to say what the honest one says."""
+
+    def one(name, text):
+        texts = [text if index == which else other for index, other in enumerate(honest)]
+        return name, text, runner.run(verb, *texts)
+
+    with ThreadPoolExecutor(os.cpu_count()) as pool:
+        tasks = [pool.submit(one, name, text) for name, text in spoiled(honest[which])]
+        for name, text, done in (task.result() for task in tasks):
+            runner.tell(f"{('statement', 'second')[which]} {name}", verb, done, None)
+            if done[0] == b"accepted" and said(text) != said(honest[which]):
+                runner.faults.append(f"{verb} {which} {name}: accepted")
+
+
+def summary(runner, what):
+    """Prints how many runs there were, and the dearest of them."""
+    (seconds, slow), (kilobytes, large) = runner.slowest, runner.largest
+    print(f"{what}: {runner.runs} runs, at most {seconds:.3f} s ({slow}) and {kilobytes // 1024} MB ({large})", flush=True)
+    runner.runs, runner.slowest, runner.largest = 0, (0, ""), (0, "")
+
+
+def honest_airs():
+    """Names of AIRs as large as the limits allow, and of two long ones, with a trace that satisfies each."""
+    zeros, column = b"[[0],[0]]", [["main", 0]]
+    wide = b"[[" + b"0," * (COLUMNS - 1) + b"0]]"
+    tall = b"[" + b"[0]," * 4095 + b"[0]]"
+    many = {"nodes": column + [["mul", 0, 0]] * (NODES - 1), "constraints": [{"base": k + 1} for k in range(CONSTRAINTS)]}
+    return [
+        ("a chain of 100,000 nodes", chain(100_000, lambda place: ["neg", place]), zeros),
+        ("10,000 constraints", {"nodes": column + [["mul", 0, 0]] * 10_000, "constraints": [{"base": k + 1} for k in range(10_000)]}, zeros),
+        (f"{COLUMNS} columns", {"width": COLUMNS, "nodes": column, "constraints": [{"base": 0}]}, wide),
+        (f"{NODES} nodes, {CONSTRAINTS} constraints", many, zeros),
+        (f"{NODES} constants", {"constants": [1] * NODES}, zeros),
+        (f"{CELLS} fixed values", {"preprocessed": {"width": CELLS // 4096, "rows": [[1] * (CELLS // 4096)] * 4096}}, tall),
+    ]
+
+
+def run_honest(runner):
+    """Those AIRs proved, verified and shown, with the time and the memory of each run."""
+    for name, fields, trace in honest_airs():
+        text = statement(**fields)
+        made = runner.run("prove", text, trace, GIGABYTE)
+        checked = runner.run("verify", text, made[4], GIGABYTE)
+        shown = runner.run("show", text, None, GIGABYTE)
+        for verb, done, wanted in (("prove", made, b'{"'), ("verify", checked, b"accepted"), ("show", shown, b"columns: ")):
+            runner.tell(name, verb, done, wanted)
+            print(f"  {verb} {name}: {done[0][:40].decode()}, {done[2]:.3f} s, {done[3] // 1024} MB", flush=True)
+
+
+def sweep_statements(program):
+    """Whatever a run did otherwise than it had to."""
+    runner = Runner(program)
+    texts = named_texts("voskligan_texts.rt")
+    honest, proof = texts["proved"].split(b"\x1e")
+    trace = texts["two rows"].split(b"\x1e")[1]
+    sweep(runner, "verify", (honest, proof), 0)
+    sweep(runner, "verify", (honest, proof), 1)
+    sweep(runner, "prove", (honest, trace), 0)
+    sweep(runner, "prove", (honest, trace), 1)
+    sweep(runner, "show", (honest, None), 0)
+    summary(runner, "spoiled")
+    runner.tell("the forged proof", "verify", runner.run("verify", *texts["forged"].split(b"\x1e")), b"refused InvalidOpeningArgument")
+    for name, verb, first, second, wanted in long_texts(honest, proof, trace):
+        runner.tell(name, verb, runner.run(verb, first, second), wanted)
+    summary(runner, "long or odd")
+    run_large(runner, proof)
+    run_high(runner, honest, proof)
+    summary(runner, "blown up")
+    run_honest(runner)
+    summary(runner, "at the limits, and long")
+    return runner.faults

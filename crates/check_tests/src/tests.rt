@@ -36,14 +36,26 @@ const NO_CONSTRAINT: &str =
     r#"{"width":1,"publics":0,"periodic":[],"constants":[],"nodes":[],"constraints":[]}"#;
 
 /// A row of a table: an AIR, the height, a trace, the public values, and what is found.
-type Line = (&'static str, usize, &'static str, &'static str, &'static str);
+type Line = (
+    &'static str,
+    usize,
+    &'static str,
+    &'static str,
+    &'static str,
+);
 
 const CHECKS: [Line; 24] = [
     (COUNTER, 2, "[5,6,7,8]", "[5]", "satisfied"),
     (COUNTER, 1, "[5,7]", "[5]", "row 0: constraint 1 is 2"),
     (COUNTER, 1, "[6,7]", "[5]", "row 0: constraint 0 is 2"),
     (COUNTER, 1, "[6,8]", "[5]", "row 0: constraint 0 is 2"),
-    (COUNTER, 2, "[5,6,7,9]", "[5]", "row 2: constraint 1 is 1478"),
+    (
+        COUNTER,
+        2,
+        "[5,6,7,9]",
+        "[5]",
+        "row 2: constraint 1 is 1478",
+    ),
     (COUNTER, 0, "[5]", "[5]", "satisfied"),
     (COUNTER, 0, "[4]", "[5]", "row 0: constraint 0 is 12288"),
     (ENDS, 2, "[1,2,3,4]", "[4]", "satisfied"),
@@ -54,12 +66,36 @@ const CHECKS: [Line; 24] = [
     (PERIODIC, 2, "[4,6,6,8]", "[]", "satisfied"),
     (PERIODIC, 2, "[4,6,7,8]", "[]", "row 2: constraint 0 is 1"),
     (PERIODIC, 3, "[4,6,6,8,4,6,6,8]", "[]", "satisfied"),
-    (PERIODIC, 3, "[4,6,6,8,4,6,6,9]", "[]", "row 7: constraint 0 is 1"),
+    (
+        PERIODIC,
+        3,
+        "[4,6,6,8,4,6,6,9]",
+        "[]",
+        "row 7: constraint 0 is 1",
+    ),
     (PREPROCESSED, 2, "[4,18,40,14]", "[]", "satisfied"),
-    (PREPROCESSED, 2, "[4,18,40,15]", "[]", "row 3: constraint 0 is 1"),
-    (PREPROCESSED, 2, "[4,18,41,14]", "[]", "row 2: constraint 0 is 1"),
+    (
+        PREPROCESSED,
+        2,
+        "[4,18,40,15]",
+        "[]",
+        "row 3: constraint 0 is 1",
+    ),
+    (
+        PREPROCESSED,
+        2,
+        "[4,18,41,14]",
+        "[]",
+        "row 2: constraint 0 is 1",
+    ),
     (EXTENSION, 1, "[1,7,7,1]", "[]", "satisfied"),
-    (EXTENSION, 1, "[0,7,7,1]", "[]", "row 0: constraint 0 is 12282"),
+    (
+        EXTENSION,
+        1,
+        "[0,7,7,1]",
+        "[]",
+        "row 0: constraint 0 is 12282",
+    ),
     (EXTENSION, 1, "[1,7,7,2]", "[]", "row 1: constraint 0 is 7"),
     (BASE_FIRST, 1, "[7,1,7,2]", "[]", "row 1: constraint 1 is 7"),
     (NO_CONSTRAINT, 1, "[1,2]", "[]", "satisfied"),

@@ -69,10 +69,7 @@ impl<'a, F: Field> BaseAirBuilder for DebugConstraintBuilder<'a, F> {
     }
 
     fn preprocessed(&self) -> Result<RowWindow<'a, F>, AllocError> {
-        Ok(RowWindow::from_two_rows(
-            self.row.preprocessed_current,
-            self.row.preprocessed_next,
-        ))
+        Ok(RowWindow::from_two_rows(self.row.preprocessed_current, self.row.preprocessed_next))
     }
 
     fn is_first_row(&self) -> RowValue<F> {

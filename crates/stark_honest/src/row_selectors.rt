@@ -74,7 +74,11 @@ impl<F: TwoAdicField> DomainSelectors<F> {
     {
         RowSelectors {
             is_first_row: if row == 0 { self.first } else { F::ZERO },
-            is_last_row: if row + 1 == self.height { self.last } else { F::ZERO },
+            is_last_row: if row + 1 == self.height {
+                self.last
+            } else {
+                F::ZERO
+            },
             is_transition: point - self.generator_inverse,
         }
     }

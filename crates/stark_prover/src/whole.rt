@@ -3,11 +3,11 @@ ghost use Rattle.std.specs.Prelude.{None, [], ◌≡◌, ◌⊎◌, ℕ, ◌+◌
 ghost use Rattle.stark_support.specs.Scheme.{zk_bits};
 ghost use Rattle.stark_prover.specs.CommittedColumns.{IsPreprocessedCommitment};
 
-use stark_honest::log_height_of;
 use crate::instance::ProverInstance;
 use crate::operations::StarkProving;
 use crate::sized::prove_sized;
 use stark_air::Air;
+use stark_honest::log_height_of;
 use stark_parts::{Com, PcsProverError, StarkGenericConfig, Val};
 use stark_protocol::{PcsProverData, PreprocessedProverData, StarkProof};
 use stark_support::{

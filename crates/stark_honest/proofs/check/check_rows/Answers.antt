@@ -16,8 +16,7 @@ returns-in_err-check_row-clause-broken g c =
 pub loop-row-preserved : goal.loop-row-preserved
 loop-row-preserved g c =
     let i = checked_air g.F.Field.ring g.F.Field.inverse_of g.F.TwoAdicField.root (g.A.Air.constraints c.args.air.now) c.args.trace.now in
-    let root = g.F.TwoAdicField.root c.args.trace.now.log_height in
-    (
+    let root = g.F.TwoAdicField.root c.args.trace.now.log_height in (
       rows_grow i (checked_rows c.args.trace.now) c.loop-row.row c.loop-row.invariant.0 c.in_ok-check_row.ensures.holds,
       power_grows g.F.Field.ring root c.loop-row.point _ c.loop-row.row (g.met.F.Field.mul_is _ _ _ c.mul-point.ensures ∙ ap (λ x. g.F.Field.ring.mul x c.loop-row.point) c.new-selectors.ensures.generator_is) c.loop-row.invariant.1,
     )

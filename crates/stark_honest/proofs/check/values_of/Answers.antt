@@ -30,5 +30,5 @@ returns g c =
     let at = c.row_after-next.ensures.next ∙ ap (λ n. (c.args.row + 1) % n) c.power_of_two.ensures in
     let s = c.requires.selectors in
     let same = same_leaves ring t.public_values.now c.row_of.ensures.values (c.row_of-2.ensures.values ∙ ap (matrix_row t.main.values.now t.main.width) at)
-        c.row_of-3.ensures.values (c.row_of-4.ensures.values ∙ ap (matrix_row t.preprocessed.values.now t.preprocessed.width) at) c.requires.periodic s.first_is s.last_is s.transition_is in
+    c.row_of-3.ensures.values (c.row_of-4.ensures.values ∙ ap (matrix_row t.preprocessed.values.now t.preprocessed.width) at) c.requires.periodic s.first_is s.last_is s.transition_is in
     subst (λ e. IfOk c.values_in_row.result (λ made. made.items ≡ constraint_values (ring_operations ring (λ k. k)) e (g.A.Air.constraints c.args.air.now))) same c.values_in_row.ensures

@@ -9,5 +9,5 @@ returns-clause-satisfied g c =
     let same = ap (option_map trace_of) c.as_ref.ensures.value ∙ c.in_ok-declared.ensures in
     on_ok _ _ c.check_constraints.result (λ _ holds.
     subst (λ declared. IsSatisfiedByTrace g.F.Field.ring g.F.Field.inverse_of field.root field.TWO_ADICITY (g.A.Air.constraints c.args.air.now) (g.A.BaseAir.periodic_columns c.args.air.now)
-        (trace_of c.args.trace.now) declared c.args.public_values.now) same holds)
+    (trace_of c.args.trace.now) declared c.args.public_values.now) same holds)
     c.check_constraints.ensures.satisfied

@@ -11,8 +11,7 @@ pub loop-exponent-preserved : goal.loop-exponent-preserved
 loop-exponent-preserved g c =
     let field = g.met.F.Field in
     let ring = g.F.Field.ring in
-    let k = c.loop-exponent._exponent in
-    (
+    let k = c.loop-exponent._exponent in (
       sum_grows ring c.args.x c.loop-exponent.next c.loop-exponent.sum _ k (field.add_is _ _ _ c.add-sum.ensures) c.loop-exponent.invariant.1 c.loop-exponent.invariant.0,
       power_grows ring c.args.x c.loop-exponent.next _ k (field.mul_is _ _ _ c.mul-next.ensures) c.loop-exponent.invariant.1,
     )

@@ -103,9 +103,9 @@ def large_airs():
         ("64 squarings", chain(64, lambda place: ["mul", place, place]), shown, size, size),
         *((f"a chain of {n}", chain(n, lambda place: ["neg", place]), shown, shape, proof) for n in (10_000, 30_000)),
         ("16000 nodes over 20 doublings", {**half, "nodes": half["nodes"] + [["add", 20, 20]] * 16_000}, shown, shape, proof),
-        *((f"{n} preprocessed columns of 4096", fixed(n), shown, keyless, bad) for n in (1, 32, 256)),
+        *((f"{n} preprocessed columns of 4096", fixed(n), shown, keyless, bad) for n in (1, 32, 64)),
         ("257 preprocessed columns of 4096", fixed(257), large, large, large),
-        ("256 periodic columns of 4096", {"periodic": [[1] * 4096] * 256}, shown, shape, b"refused PeriodicColumn"),
+        ("64 periodic columns of 4096", {"periodic": [[1] * 4096] * 64}, shown, shape, b"refused PeriodicColumn"),
         ("a degree of 4098", {"max_constraint_degree": 4098}, shown, size, size),
         ("a degree of 2^64 - 1", {"max_constraint_degree": most}, shown, size, size),
         ("one node past the limit", {"nodes": [["first"]] * (NODES + 1)}, large, large, large),
@@ -124,10 +124,10 @@ def run_large(runner, proof):
 def run_high(runner, honest, proof):
     """A proof that claims the greatest height, for an AIR with long periodic columns; and as many chunks as the field has, at one row."""
     given = json.loads(honest)
-    given["air"]["periodic"] = [[1] * 4096] * 256
+    given["air"]["periodic"] = [[1] * 4096] * 64
     high = proof.replace(b'"degree_bits":1', b'"degree_bits":12')
     text = json.dumps(given).encode()
-    runner.tell("256 periodic columns at 2^12 rows", "verify", runner.run("verify", text, high), b"refused InvalidOpeningArgument")
+    runner.tell("64 periodic columns at 2^12 rows", "verify", runner.run("verify", text, high), b"refused InvalidOpeningArgument")
     text = statement(max_constraint_degree=4097)
     made = runner.run("prove", text, b"[[0]]")
     runner.tell("4096 chunks", "prove", made, b'{"')

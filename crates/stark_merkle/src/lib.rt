@@ -1,0 +1,14 @@
+//! Binary trees of digests over rows, and paths in them.
+#![tactic(auto)]
+
+mod hash;
+mod path;
+mod root;
+mod tree;
+
+pub use hash::{Sha256Tree, TreeHash, leaf, node};
+pub use path::{
+    full_trees_have_paths, is_path_to, paths_bind, root_of_path, rows_bind, trees_lead_to_roots,
+};
+pub use root::Root;
+pub use tree::{next_layer, path_in, tree_layers};

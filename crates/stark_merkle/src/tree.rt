@@ -1,0 +1,85 @@
+//! Trees, layer by layer.
+ghost use Rattle.std.specs.Prelude.{◌≡◌, ◌+◌, ◌<◌, ◌^◌, ◌↔◌, IfOk, IfSome, IsSome};
+ghost use Rattle.stark_merkle.specs.Tree.{HasPath, IsPathIn, digests_in, layers_from, neighbour, node_of, paired};
+
+use crate::hash::{TreeHash, node};
+use std::alloc::{AllocError, Global};
+
+/// The layer above: for each two neighbours one node, the even place's digest first. A last digest
+/// without a neighbour is left out. It is Err only where memory was refused.
+pub fn next_layer<H: TreeHash>(
+    alloc: Global,
+    layer: &[[u8; 32]],
+) -> Result<Vec<[u8; 32]>, AllocError>
+    ensures { IfOk result (λ above. above.items ≡ paired (node_of H.digest_of) layer.now) }
+{
+    let mut above = Vec::new(alloc);
+    for i in 0..layer.len() / 2 {
+        above.push(node::<H>(&layer[2 * i], &layer[2 * i + 1]))?;
+    }
+    Ok(above)
+}
+
+/// The leaves, and the `depth` layers above them, lowest first: the last of them is the root alone
+/// where there are 2^`depth` leaves. It is Err only where memory was refused.
+pub fn tree_layers<H: TreeHash>(
+    alloc: Global,
+    leaves: Vec<[u8; 32]>,
+    depth: usize,
+) -> Result<Vec<Vec<[u8; 32]>>, AllocError>
+    ensures { IfOk result (λ layers. digests_in layers.items
+        ≡ layers_from (node_of H.digest_of) depth leaves.items) }
+{
+    let mut layers = Vec::new(alloc);
+    let mut layer = leaves;
+    for _level in 0..depth {
+        let above = next_layer::<H>(alloc, &layer)?;
+        layers.push(layer)?;
+        layer = above;
+    }
+    layers.push(layer)?;
+    Ok(layers)
+}
+
+/// The place beside a place.
+fn neighbour(place: usize) -> usize
+    requires { place + 1 < 2 ^ 64 }
+    ensures { result ≡ neighbour place }
+{
+    if place % 2 == 0 { place + 1 } else { place - 1 }
+}
+
+/// The neighbours on the way up from the leaf at the place `index`, lowest first: one digest for each
+/// layer below the last. None exactly where a layer has no digest at the place, or one below the
+/// last has none beside it. It is Err only where memory was refused.
+pub fn path_in(
+    alloc: Global,
+    layers: &[Vec<[u8; 32]>],
+    index: usize,
+) -> Result<Option<Vec<[u8; 32]>>, AllocError>
+    ensures path { IfOk result (λ found. IfSome found
+        (λ path. IsPathIn (digests_in layers.now) index path.items)) }
+    ensures is_found { IfOk result (λ found. IsSome found ↔ HasPath (digests_in layers.now) index) }
+{
+    let Some(last) = layers.len().checked_sub(1) else {
+        return Ok(None);
+    };
+    let mut path = Vec::new(alloc);
+    let mut place = index;
+    for level in 0..last {
+        let layer = &layers[level];
+        if place >= layer.len() {
+            return Ok(None);
+        }
+        let beside = neighbour(place);
+        if beside >= layer.len() {
+            return Ok(None);
+        }
+        path.push(layer[beside])?;
+        place /= 2;
+    }
+    if place >= layers[last].len() {
+        return Ok(None);
+    }
+    Ok(Some(path))
+}

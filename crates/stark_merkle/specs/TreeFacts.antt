@@ -65,7 +65,7 @@ module _ {H : Type 0} (node : H → H → H) where
   path_in_layers (suc (suc d)) xs i [] h = absurd h
   path_in_layers (suc (suc d)) xs i (s ∷ path) h = (h.0, path_in_layers (suc d) (paired node xs) (i / 2) path h.1)
 
--- ---- full trees
+  -- ---- full trees
 
   paired_halves : (xs : List H) (n : ℕ) → length xs ≡ 2 * n → length (paired node xs) ≡ n
   unfolding paired

@@ -4,6 +4,9 @@
 mod hash;
 mod path;
 mod root;
+mod root_json;
+#[cfg(test)]
+mod tests;
 mod tree;
 
 pub use hash::{Sha256Tree, TreeHash, leaf, node};

@@ -53,7 +53,7 @@ loop-level-preserved c =
     let layer = layer_at c.args.layers.now c.loop-level.level c.index-layers-level.result (omega arith) c.index-layers-level.is in
     let beside : neighbour c.loop-level.place < length c.index-layers-level.result.items = subst (λ n. n < length c.index-layers-level.result.items) c.neighbour-beside.ensures (omega arith) in (
       layer_more c.args.layers.now c.args.index c.loop-level.level c.loop-level.place c.neighbour-beside.result c.index-layers-level.result c.index.result.now c.loop-level.path.items _ (omega arith)
-      c.index-layers-level.is c.neighbour-beside.ensures (omega arith) c.index.ensures c.in_ok-push.ensures.items c.loop-level.invariant.0,
+          c.index-layers-level.is c.neighbour-beside.ensures (omega arith) c.index.ensures c.in_ok-push.ensures.items c.loop-level.invariant.0,
       told_more layers c.args.index c.loop-level.level c.loop-level.place c.index-layers-level.result.items (omega arith) layer (omega arith) beside c.loop-level.invariant.1,
     )
 

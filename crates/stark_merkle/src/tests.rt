@@ -1,0 +1,342 @@
+//! Worked rows of trees over SHA-256. Row i of a tree is the text `row i`. The digests were computed
+//! in Python with hashlib, and which altered claims are refused by a verifier written there.
+use crate::{Root, Sha256Tree, TreeHash, is_path_to, leaf, path_in, tree_layers};
+use serde_json::Value;
+use stark_support::{JsonCodec, JsonFault, value_from_bytes};
+use std::alloc::Global;
+use std::test::Fail;
+
+// A table's name | what is given => the answer.
+const ROWS: &str = r#"
+# How many leaves there are. Answered is the root.
+root | 1 => 000c835b247f77f7f1a2ade1f76cd63e3760a4b5407fb46a7969c55413496358
+root | 2 => 6f30c90fee3730f57dbb469964df952a2e98e969be8a383424ad72be9103e045
+root | 4 => e718ef09d8e1f8c3ebf5ef632ee8a2e434c55e53e6ebb2cd7607bd6373044c22
+root | 8 => a94b4fe4b79e2f7254de09d24255b17837de9fbc890e8d2570c84383454a4ccf
+
+# How many leaves, and a place. Answered are the first bytes of the path's digests, lowest first.
+path | 1 0 => no digests
+path | 2 0 => 6cbe30c8
+path | 2 1 => 000c835b
+path | 4 0 => 6cbe30c8 05250cc8
+path | 4 1 => 000c835b 05250cc8
+path | 4 2 => df23aa49 6f30c90f
+path | 4 3 => 1d7d8539 6f30c90f
+path | 8 0 => 6cbe30c8 05250cc8 bb320aa5
+path | 8 1 => 000c835b 05250cc8 bb320aa5
+path | 8 2 => df23aa49 6f30c90f bb320aa5
+path | 8 3 => 1d7d8539 6f30c90f bb320aa5
+path | 8 4 => 576780d7 d228107e e718ef09
+path | 8 5 => 34b2b4c2 d228107e e718ef09
+path | 8 6 => 30279e8c 1649555e e718ef09
+path | 8 7 => 5fef95d9 1649555e e718ef09
+
+# Places past the leaves have no path, and of three leaves the last has none beside it.
+path | 1 1 => none
+path | 2 2 => none
+path | 8 8 => none
+path | 3 2 => none
+
+# How many leaves, a place, and what is altered of the claim that the row stands there.
+altered | 1 0 nothing => accepted
+altered | 1 0 row => refused
+altered | 1 0 root => refused
+altered | 1 0 index 1 => refused
+altered | 1 0 index 18446744073709551615 => refused
+altered | 1 0 depth 1 => refused
+altered | 1 0 depth 18446744073709551615 => refused
+altered | 1 0 longer => refused
+altered | 1 0 deeper 1 => refused
+altered | 2 1 nothing => accepted
+altered | 2 1 row => refused
+altered | 2 1 root => refused
+altered | 2 1 index 0 => refused
+altered | 2 1 index 2 => refused
+altered | 2 1 index 3 => refused
+altered | 2 1 depth 0 => refused
+altered | 2 1 depth 2 => refused
+altered | 2 1 depth 64 => refused
+altered | 2 1 entry 0 => refused
+altered | 2 1 shorter => refused
+altered | 2 1 longer => refused
+altered | 2 1 deeper 2 => refused
+altered | 2 1 node 0 => refused
+altered | 8 5 nothing => accepted
+altered | 8 5 row => refused
+altered | 8 5 root => refused
+altered | 8 5 index 4 => refused
+altered | 8 5 index 6 => refused
+altered | 8 5 index 7 => refused
+altered | 8 5 index 1 => refused
+altered | 8 5 index 2 => refused
+altered | 8 5 index 13 => refused
+altered | 8 5 index 9223372036854775813 => refused
+altered | 8 5 depth 2 => refused
+altered | 8 5 depth 4 => refused
+altered | 8 5 entry 0 => refused
+altered | 8 5 entry 1 => refused
+altered | 8 5 entry 2 => refused
+altered | 8 5 shorter => refused
+altered | 8 5 longer => refused
+altered | 8 5 deeper 4 => refused
+altered | 8 5 exchanged => refused
+altered | 8 5 node 2 => refused
+altered | 8 2 nothing => accepted
+altered | 8 2 index 3 => refused
+altered | 8 2 index 1 => refused
+altered | 8 2 index 10 => refused
+altered | 8 2 exchanged => refused
+altered | 8 2 node 2 => refused
+
+# What spells a root or not. Answered are its first bytes, and whether it is written the same way.
+json | "a94b4fe4b79e2f7254de09d24255b17837de9fbc890e8d2570c84383454a4ccf" => a94b4fe4 same
+json | "000c835b247f77f7f1a2ade1f76cd63e3760a4b5407fb46a7969c55413496358" => 000c835b same
+json | "A94B4FE4B79E2F7254DE09D24255B17837DE9FBC890E8D2570C84383454A4CCF" => a94b4fe4 other
+json | "A94B4fE4b79e2f7254De09d24255b17837de9fbC890e8D2570c84383454a4ccF" => a94b4fe4 other
+json | "\u006194b4fe4b79e2f7254de09d24255b17837de9fbc890e8d2570c84383454a4ccf" => a94b4fe4 same
+json | "ffffffffffffffffffffffffffffffffffffffffffffffffffffffffffffffff" => ffffffff same
+json | "a94b4fe4b79e2f7254de09d24255b17837de9fbc890e8d2570c84383454a4cc" => refused
+json | "a94b4fe4b79e2f7254de09d24255b17837de9fbc890e8d2570c84383454a4ccf0" => refused
+json | "a94b4fe4b79e2f7254de09d24255b17837de9fbc890e8d2570c84383454a4c" => refused
+json | "a94b4fe4b79e2f7254de09d24255b17837de9fbc890e8d2570c84383454a4ccf00" => refused
+json | "" => refused
+json | "a94b4fe4b79e2f7254de09d24255b17837de9fbc890e8d2570c84383454a4ccg" => refused
+json | "a94b4fe4b79e2f7254de09d24255b17837de9fbc890e8d2570c84383454a4cc " => refused
+json | " a94b4fe4b79e2f7254de09d24255b17837de9fbc890e8d2570c84383454a4cc" => refused
+json | "0xa94b4fe4b79e2f7254de09d24255b17837de9fbc890e8d2570c84383454a4c" => refused
+json | "a94b4fe4b79e2f7254de09d24255b17837de9fbc890e8d2570c84383454a4cé" => refused
+json | "+a94b4fe4b79e2f7254de09d24255b17837de9fbc890e8d2570c84383454a4cc" => refused
+json | 1234 => refused
+json | 0 => refused
+json | null => refused
+json | true => refused
+json | [] => refused
+json | ["a94b4fe4b79e2f7254de09d24255b17837de9fbc890e8d2570c84383454a4ccf"] => refused
+json | {} => refused
+"#;
+
+/// A claim that a row stands at a place of the tree of a depth that has a root.
+#[derive(Drop)]
+struct Claim {
+    root: [u8; 32],
+    depth: usize,
+    index: usize,
+    row: Vec<u8>,
+    path: Vec<[u8; 32]>,
+}
+
+/// The text of a row.
+fn row_at(alloc: Global, index: usize) -> Result<Vec<u8>, Fail> {
+    Ok(format!(in alloc; "row {index}")?.into_bytes())
+}
+
+/// The depth of the tree with so many leaves.
+fn depth_of(leaves: usize) -> usize {
+    leaves.checked_ilog2().unwrap_or(0) as usize
+}
+
+/// The layers of the tree with so many leaves.
+fn layers_of<H: TreeHash>(alloc: Global, leaves: usize) -> Result<Vec<Vec<[u8; 32]>>, Fail> {
+    let mut digests = Vec::new(alloc);
+    for index in 0..leaves {
+        digests.push(leaf::<H>(&row_at(alloc, index)?))?;
+    }
+    Ok(tree_layers::<H>(alloc, digests, depth_of(leaves))?)
+}
+
+/// The one digest of the last layer.
+fn root_of(layers: &[Vec<[u8; 32]>]) -> Result<[u8; 32], Fail> {
+    match layers.last().ok_or("no layers")?.as_slice() {
+        [root] => Ok(*root),
+        _ => Err(Fail::new("not one root")),
+    }
+}
+
+/// The true claim of a leaf.
+fn claim_of<H: TreeHash>(alloc: Global, leaves: usize, index: usize) -> Result<Claim, Fail> {
+    let layers = layers_of::<H>(alloc, leaves)?;
+    Ok(Claim {
+        root: root_of(&layers)?,
+        depth: depth_of(leaves),
+        index,
+        row: row_at(alloc, index)?,
+        path: path_in(alloc, &layers, index)?.ok_or("no path")?,
+    })
+}
+
+/// The bytes of two digests, one behind the other.
+fn both(alloc: Global, left: &[u8; 32], right: &[u8; 32]) -> Result<Vec<u8>, Fail> {
+    let mut row = Vec::new(alloc);
+    row.extend_from_slice(left)?;
+    row.extend_from_slice(right)?;
+    Ok(row)
+}
+
+/// The claim whose row is the two digests below the leaf's parent.
+fn parent_of<H: TreeHash>(alloc: Global, claim: Claim) -> Result<Claim, Fail> {
+    let below = leaf::<H>(&claim.row);
+    let beside = *claim.path.first().ok_or("no parent")?;
+    let row = if claim.index % 2 == 0 {
+        both(alloc, &below, &beside)?
+    } else {
+        both(alloc, &beside, &below)?
+    };
+    let mut path = Vec::new(alloc);
+    path.extend_from_slice(claim.path.get(1..).ok_or("no parent")?)?;
+    Ok(Claim {
+        root: claim.root,
+        depth: claim.depth,
+        index: claim.index / 2,
+        row,
+        path,
+    })
+}
+
+/// The claim with its path altered.
+fn with_path(claim: Claim, change: &str, number: usize) -> Result<Claim, Fail> {
+    let mut altered = claim;
+    match change {
+        "entry" => {
+            let digest = altered.path.get_mut(number).ok_or("no such entry")?;
+            digest[0] ^= 1;
+        }
+        "shorter" => {
+            altered.path.pop().ok_or("no entry")?;
+        }
+        "longer" => altered.path.push(altered.root)?,
+        "exchanged" => {
+            if altered.path.len() < 2 {
+                return Err(Fail::new("no two entries"));
+            }
+            altered.path.swap(0, 1);
+        }
+        _ => return Err(Fail::new("no such change")),
+    }
+    Ok(altered)
+}
+
+/// The claim with one thing altered.
+fn with_change<H: TreeHash>(
+    alloc: Global,
+    claim: Claim,
+    change: &str,
+    number: usize,
+) -> Result<Claim, Fail> {
+    let mut altered = claim;
+    match change {
+        "nothing" => {}
+        "row" => altered.row.push(b'0')?,
+        "root" => altered.root[0] ^= 1,
+        "index" => altered.index = number,
+        "depth" => altered.depth = number,
+        "deeper" => {
+            altered.path.push(altered.root)?;
+            altered.depth = number;
+        }
+        "node" => {
+            altered = parent_of::<H>(alloc, altered)?;
+            altered.depth = number;
+        }
+        _ => return with_path(altered, change, number),
+    }
+    Ok(altered)
+}
+
+/// Whether the altered claim is accepted.
+fn judged<H: TreeHash>(
+    alloc: Global,
+    leaves: usize,
+    index: usize,
+    change: &str,
+) -> Result<String, Fail> {
+    let (change, number) = change.split_once(' ').unwrap_or((change, "0"));
+    let claim = claim_of::<H>(alloc, leaves, index)?;
+    let altered = with_change::<H>(alloc, claim, change, number.parse::<usize>()?)?;
+    let accepted = is_path_to::<H>(
+        &altered.root,
+        altered.depth,
+        altered.index,
+        &altered.row,
+        &altered.path,
+    );
+    Ok(String::from_str(alloc, if accepted { "accepted" } else { "refused" })?)
+}
+
+/// The first bytes of a path's digests.
+fn shown(alloc: Global, path: &[[u8; 32]]) -> Result<String, Fail> {
+    let mut text = String::new(alloc);
+    for digest in path {
+        if !text.is_empty() {
+            text.push(' ')?;
+        }
+        text.push_str(&hex::encode(alloc, &digest[..4])?)?;
+    }
+    if text.is_empty() {
+        text.push_str("no digests")?;
+    }
+    Ok(text)
+}
+
+/// A JSON value's text.
+fn text_of(alloc: Global, value: &Value) -> Result<String, Fail> {
+    Ok(String::from_str(alloc, value.as_str().ok_or("no text")?)?)
+}
+
+/// The root that JSON spells, by its first bytes, and whether it is written the same way.
+fn spelled(alloc: Global, json: &str) -> Result<String, Fail> {
+    let value = value_from_bytes(alloc, json.as_bytes())
+        .ok()
+        .ok_or("no JSON")?;
+    match Root::from_json(alloc, &value) {
+        Ok(root) => {
+            let written = text_of(alloc, &root.to_json(alloc)?)?;
+            let start = hex::encode(alloc, &root.bytes()[..4])?;
+            let way = if value.as_str() == Some(written.as_str()) {
+                "same"
+            } else {
+                "other"
+            };
+            Ok(format!(in alloc; "{start} {way}")?)
+        }
+        Err(JsonFault::Invalid) => Ok(String::from_str(alloc, "refused")?),
+        Err(JsonFault::OutOfMemory) => Err(Fail::new("out of memory")),
+    }
+}
+
+/// The answer to a row.
+fn answer<H: TreeHash>(alloc: Global, row: &str) -> Result<String, Fail> {
+    let (table, text) = row.split_once(" | ").ok_or("no bar")?;
+    if table == "json" {
+        return spelled(alloc, text);
+    }
+    let (leaves, rest) = text.split_once(' ').unwrap_or((text, ""));
+    let leaves = leaves.parse::<usize>()?;
+    if table == "root" {
+        let root = Root::new(root_of(&layers_of::<H>(alloc, leaves)?)?);
+        return text_of(alloc, &root.to_json(alloc)?);
+    }
+    let (index, change) = rest.split_once(' ').unwrap_or((rest, ""));
+    let index = index.parse::<usize>()?;
+    if table == "altered" {
+        return judged::<H>(alloc, leaves, index, change);
+    }
+    match path_in(alloc, &layers_of::<H>(alloc, leaves)?, index)? {
+        Some(path) => shown(alloc, &path),
+        None => Ok(String::from_str(alloc, "none")?),
+    }
+}
+
+#[test]
+fn rows_are_answered(rt: HostRuntime) -> Result<(), Fail> {
+    let mut count = 0usize;
+    for row in ROWS.lines() {
+        if !row.is_empty() && !row.starts_with('#') {
+            let (input, expected) = row.split_once(" => ").ok_or("a row without an answer")?;
+            let found = answer::<Sha256Tree>(rt.alloc(), input)?;
+            assert_eq!(rt; found.as_str(), expected, "{input}");
+            count = count.saturating_add(1);
+        }
+    }
+    assert_eq!(rt; count, 96);
+    Ok(())
+}

@@ -1,5 +1,5 @@
 -- The steps of the loops over layers and paths.
-use Rattle.std.proofs.Common.{◌≡◌, ◌∙◌, ℕ, suc, ◌+◌, ◌-◌, ◌*◌, ◌/◌, ◌%◌, ◌^◌, ◌<◌, ◌≤◌, ◌↔◌, cond, List, [], ◌∷◌, ◌++◌, length, get_or, drop, map, Some, inl, inr, sym, ap, refl, subst, arith, append_assoc}
+use Rattle.std.proofs.Common.{◌≡◌, ◌∙◌, ℕ, zero, suc, ◌+◌, ◌-◌, ◌*◌, ◌/◌, ◌%◌, ◌^◌, ◌<◌, ◌≤◌, ◌↔◌, cond, List, [], ◌∷◌, ◌++◌, length, get_or, drop, map, None, Some, inl, inr, sym, ap, refl, subst, arith, append_assoc}
 use Rattle.std.proofs.lemmas.List.{at_drop_all, at_drop_more, append-nil, get_or-map, length-drop, length-map}
 use Rattle.std.proofs.lemmas.Bool.Decides.{eqb_tells}
 use Rattle.std.proofs.lemmas.Nat.{pow_pos}
@@ -7,7 +7,7 @@ use Rattle.std.proofs.Math.Nat.{div-lt_iff_lt-mul, pow-le-pow_right}
 use Rattle.std.specs.List.{slice_get}
 use Rattle.std.proofs.lemmas.Option.{slice_get_read}
 use Rattle.std.specs.declared.vec.Vec.{Vec}
-use Rattle.stark_merkle.specs.Tree.{HasPath, IsPathIn, digests_in, items_of, joined, layers_from, led, neighbour, paired}
+use Rattle.stark_merkle.specs.Tree.{HasPath, IsPathIn, digests_in, items_of, joined, layers_from, led, neighbour, paired, sole, top_of}
 
 -- ---- places
 
@@ -166,7 +166,33 @@ module _ {H : Type 0} where
       let none : length (drop (level + 1) layers) ≤ 0 = omega (arith, length-drop (level + 1) layers) in
       told.1 (subst (λ t. HasPath t place) (sym (opened layers level xs (omega arith) is)) (last_makes xs (drop (level + 1) layers) place none here))
 
+module _ {H : Type 0} where
+  pub sole_is : (xs : List H) (d : H) → length xs ≡ 1 → Some (get_or xs 0 d) ≡ sole xs
+  unfolding sole
+  sole_is [] d one = absurd (omega arith)
+  sole_is (x ∷ []) d one = refl
+  sole_is (x ∷ (y ∷ xs)) d one = absurd (omega arith)
+
+  pub sole_is_not : (xs : List H) → (length xs ≡ 1 → ⊥) → None ≡ sole xs
+  unfolding sole
+  sole_is_not [] other = refl
+  sole_is_not (x ∷ []) other = absurd (other refl)
+  sole_is_not (x ∷ (y ∷ xs)) other = refl
+
 module _ {H A : Type 0} where
+  pub top_at : (layers : List (Vec H A)) (last : ℕ) (d : Vec H A) → last + 1 ≡ length layers → sole (get_or layers last d).items ≡ top_of (digests_in layers)
+  unfolding top_of
+  top_at [] last d ended = absurd (omega arith)
+  top_at (layer ∷ []) zero d ended = refl
+  top_at (layer ∷ []) (suc last) d ended = absurd (omega arith)
+  top_at (layer ∷ (next ∷ layers)) zero d ended = absurd (omega arith)
+  top_at (layer ∷ (next ∷ layers)) (suc last) d ended = top_at (next ∷ layers) last d (omega arith)
+
+  pub top_of_none : (layers : List (Vec H A)) → (1 ≤ length layers → ⊥) → None ≡ top_of (digests_in layers)
+  unfolding top_of
+  top_of_none [] none = refl
+  top_of_none (layer ∷ layers) none = absurd (none (omega arith))
+
   -- A layer in memory is one of the lists.
   pub layer_at : (layers : List (Vec H A)) (level : ℕ) (layer : Vec H A) → level < length layers → layer ≡ get_or layers level layer → layer.items ≡ get_or (digests_in layers) level []
   layer_at layers level layer below is = ap items_of is ∙ sym (get_or-map items_of layers level layer [] below)

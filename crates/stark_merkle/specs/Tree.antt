@@ -1,5 +1,5 @@
 -- Binary trees of digests, their paths, and collisions.
-use Rattle.std.specs.Prelude.{◌≡◌, ◌≢◌, ℕ, zero, suc, ◌+◌, ◌-◌, ◌/◌, ◌%◌, ◌^◌, ◌<◌, eqb, cond, ⊤, List, [], ◌∷◌, ◌++◌, length, map, Some}
+use Rattle.std.specs.Prelude.{◌≡◌, ◌≢◌, ℕ, zero, suc, ◌+◌, ◌-◌, ◌/◌, ◌%◌, ◌^◌, ◌<◌, eqb, cond, ⊤, List, [], ◌∷◌, ◌++◌, length, map, IsSome, None, Option, Some}
 use Rattle.std.specs.List.{AllByRecursion, slice_get}
 use Rattle.std.specs.declared.vec.Vec.{Vec}
 
@@ -46,6 +46,18 @@ layer_above node (suc d) xs = layer_above node d (paired node xs)
 unfoldable pub layers_from : {H : Type 0} → (H → H → H) → ℕ → List H → List (List H)
 layers_from node zero xs = xs ∷ []
 layers_from node (suc d) xs = xs ∷ layers_from node d (paired node xs)
+
+-- The one digest of a layer.
+unfoldable pub sole : {H : Type 0} → List H → Option H
+sole [] = None
+sole (x ∷ []) = Some x
+sole (x ∷ (y ∷ xs)) = None
+
+-- The one digest of the last layer.
+unfoldable pub top_of : {H : Type 0} → List (List H) → Option H
+top_of [] = None
+top_of (xs ∷ []) = sole xs
+top_of (xs ∷ (ys ∷ layers)) = top_of (ys ∷ layers)
 
 -- ---- paths
 
@@ -94,6 +106,15 @@ LeadsTo hash root depth i row path = (length path ≡ depth) × (i < 2 ^ depth) 
 abbrev pub TreesLeadToRoots : (List ℕ → List ℕ) → ℕ → Type 0
 TreesLeadToRoots hash depth = (leaves : List (List ℕ)) (root : List ℕ) (i : ℕ) (x : List ℕ) (path : List (List ℕ)) → layer_above (node_of hash) depth leaves ≡ root ∷ []
     → slice_get leaves i ≡ Some x → IsPathIn (layers_from (node_of hash) depth leaves) i path → led (node_of hash) i x path ≡ root
+
+-- The digest that the last of a tree's layers has is its root.
+abbrev pub TopsAreRoots : (List ℕ → List ℕ) → ℕ → Type 0
+TopsAreRoots hash depth = (leaves : List (List ℕ)) (root : List ℕ) → top_of (layers_from (node_of hash) depth leaves) ≡ Some root
+    → layer_above (node_of hash) depth leaves ≡ root ∷ []
+
+-- Over 2^depth leaves the last layer has one digest.
+abbrev pub FullTreesHaveRoots : (List ℕ → List ℕ) → ℕ → Type 0
+FullTreesHaveRoots hash depth = (leaves : List (List ℕ)) → length leaves ≡ 2 ^ depth → IsSome (top_of (layers_from (node_of hash) depth leaves))
 
 -- Over 2^depth leaves each place has a path.
 abbrev pub FullTreesHavePaths : (List ℕ → List ℕ) → ℕ → Type 0

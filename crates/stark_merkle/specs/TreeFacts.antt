@@ -1,10 +1,10 @@
 -- In a tree every path leads to the root; and paths bind: two of them that lead from different rows to one root show a collision.
-use Rattle.std.specs.Prelude.{◌≡◌, ◌≢◌, ◌⊎◌, ℕ, zero, suc, ◌+◌, ◌-◌, ◌*◌, ◌/◌, ◌%◌, ◌^◌, ◌<◌, true, false, eqb, cond, List, [], ◌∷◌, ◌++◌, length, take, drop, Some, refl}
+use Rattle.std.specs.Prelude.{◌≡◌, ◌≢◌, ◌⊎◌, ℕ, zero, suc, ◌+◌, ◌-◌, ◌*◌, ◌/◌, ◌%◌, ◌^◌, ◌<◌, true, false, eqb, cond, List, [], ◌∷◌, ◌++◌, length, take, drop, IsSome, Some, refl}
 use Rattle.std.proofs.Common.{sym, ap, ◌∙◌, subst, inl, inr, arith}
 use Rattle.std.proofs.lemmas.Bool.Decides.{eqb_tells}
 use Rattle.std.proofs.Math.Seq.{drop-append_seam, take-append_seam}
 use Rattle.std.specs.List.{AllByRecursion, slice_get}
-use Rattle.stark_merkle.specs.Tree.{FullTreesHavePaths, HasPath, HashCollision, IsDigest, IsPath, IsPathIn, LeadsTo, joined, layer_above, layers_from, leaf_of, led, neighbour, node_of, paired}
+use Rattle.stark_merkle.specs.Tree.{FullTreesHavePaths, HasPath, HashCollision, IsDigest, IsPath, IsPathIn, LeadsTo, joined, layer_above, layers_from, leaf_of, led, neighbour, node_of, paired, sole, top_of}
 
 -- ---- a tree's own paths
 
@@ -45,6 +45,15 @@ module _ {H : Type 0} (node : H → H → H) where
         let beside : slice_get xs (i - 1) ≡ Some s = ap (λ b. slice_get xs (cond b (i + 1) (i - 1))) (sym w.0) ∙ k in
         paired_get xs (i / 2) s x (subst (λ n. slice_get xs n ≡ Some s) before beside) (subst (λ n. slice_get xs n ≡ Some x) w.1 h) ∙ ap (λ b. Some (cond b (node x s) (node s x))) (sym w.0)
   ]
+
+  -- A layer below the last doesn't matter to the top.
+  top_kept : (xs : List H) (layers : List (List H)) → 0 < length layers → top_of (xs ∷ layers) ≡ top_of layers
+  unfolding top_of
+  top_kept xs [] some = absurd (omega arith)
+  top_kept xs (ys ∷ layers) some = refl
+
+  top_passed : (xs : List H) (layers : List (List H)) (root : H) → 0 < length layers → top_of (xs ∷ layers) ≡ Some root → top_of layers ≡ Some root
+  top_passed xs layers root some top = sym (top_kept xs layers some) ∙ top
 
   pub led_to_root : (d : ℕ) (xs : List H) (root : H) (i : ℕ) (x : H) (path : List H) → layer_above node d xs ≡ root ∷ [] → slice_get xs i ≡ Some x → IsPath node d xs i path → led node i x path ≡ root
   unfolding layer_above IsPath led
@@ -100,6 +109,24 @@ module _ {H : Type 0} (node : H → H → H) where
         subst (λ n. neighbour i < n) (sym two) (neighbour_within i half small),
         full_has_path (suc d) (paired node xs) (i / 2) (paired_halves xs half two) (omega (arith, small)),
       )
+
+  -- The last of a tree's layers is the one above.
+  pub top_is_root : (d : ℕ) (xs : List H) (root : H) → top_of (layers_from node d xs) ≡ Some root → layer_above node d xs ≡ root ∷ []
+  unfolding layers_from layer_above sole top_of
+  top_is_root zero [] root top = absurd (cc)
+  top_is_root zero (x ∷ []) root top = (cc)
+  top_is_root zero (x ∷ (y ∷ xs)) root top = absurd (cc)
+  top_is_root (suc zero) xs root top = top_is_root zero (paired node xs) root (top_passed xs (layers_from node zero (paired node xs)) root (omega arith) top)
+  top_is_root (suc (suc d)) xs root top = top_is_root (suc d) (paired node xs) root (top_passed xs (layers_from node (suc d) (paired node xs)) root (omega arith) top)
+
+  pub full_has_root : (d : ℕ) (xs : List H) → length xs ≡ 2 ^ d → IsSome (top_of (layers_from node d xs))
+  unfolding layers_from sole top_of
+  full_has_root zero [] is = absurd (omega (arith, is))
+  full_has_root zero (x ∷ []) is = refl
+  full_has_root zero (x ∷ (y ∷ xs)) is = absurd (omega (arith, is))
+  full_has_root (suc zero) xs is = subst IsSome (sym (top_kept xs (layers_from node zero (paired node xs)) (omega arith))) (full_has_root zero (paired node xs) (paired_halves xs 1 is))
+  full_has_root (suc (suc d)) xs is =
+      subst IsSome (sym (top_kept xs (layers_from node (suc d) (paired node xs)) (omega arith))) (full_has_root (suc d) (paired node xs) (paired_halves xs (2 ^ suc d) (is ∙ pow_double (suc d))))
 
 -- ---- binding
 

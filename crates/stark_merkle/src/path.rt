@@ -1,6 +1,6 @@
 //! Paths from a leaf to the root, and what they bind.
 ghost use Rattle.std.specs.Prelude.{◌≡◌, ◌↔◌, ◌<◌, ◌^◌, IsTrue};
-ghost use Rattle.stark_merkle.specs.Tree.{FullTreesHavePaths, LeadsTo, PathsBind, RowsBind, TreesLeadToRoots, led, node_of};
+ghost use Rattle.stark_merkle.specs.Tree.{FullTreesHavePaths, FullTreesHaveRoots, LeadsTo, PathsBind, RowsBind, TopsAreRoots, TreesLeadToRoots, led, node_of};
 
 use crate::hash::{TreeHash, leaf, node};
 
@@ -49,6 +49,17 @@ pub fn is_path_to<H: TreeHash>(
 /// A law, with no code: in the layers of a tree each leaf's path leads to the root.
 pub fn trees_lead_to_roots<H: TreeHash>(_depth: usize)
     ensures { TreesLeadToRoots H.digest_of _depth }
+{}
+
+/// A law, with no code: the digest that `root_in` finds in the layers of a tree is its root.
+pub fn tops_are_roots<H: TreeHash>(_depth: usize)
+    ensures { TopsAreRoots H.digest_of _depth }
+{}
+
+/// A law, with no code: over 2^depth leaves the last layer has one digest, so that `root_in` finds
+/// it.
+pub fn full_trees_have_roots<H: TreeHash>(_depth: usize)
+    ensures { FullTreesHaveRoots H.digest_of _depth }
 {}
 
 /// A law, with no code: over 2^depth leaves each place has a path, so that `path_in` finds it.

@@ -1,6 +1,6 @@
 //! Worked rows of trees over SHA-256. Row i of a tree is the text `row i`. The digests were computed
 //! in Python with hashlib, and which altered claims are refused by a verifier written there.
-use crate::{Root, Sha256Tree, TreeHash, is_path_to, leaf, path_in, tree_layers};
+use crate::{Root, Sha256Tree, TreeHash, is_path_to, leaf, path_in, root_in, tree_layers};
 use serde_json::Value;
 use stark_support::{JsonCodec, JsonFault, value_from_bytes};
 use std::alloc::Global;
@@ -144,19 +144,11 @@ fn layers_of<H: TreeHash>(alloc: Global, leaves: usize) -> Result<Vec<Vec<[u8; 3
     Ok(tree_layers::<H>(alloc, digests, depth_of(leaves))?)
 }
 
-/// The one digest of the last layer.
-fn root_of(layers: &[Vec<[u8; 32]>]) -> Result<[u8; 32], Fail> {
-    match layers.last().ok_or("no layers")?.as_slice() {
-        [root] => Ok(*root),
-        _ => Err(Fail::new("not one root")),
-    }
-}
-
 /// The true claim of a leaf.
 fn claim_of<H: TreeHash>(alloc: Global, leaves: usize, index: usize) -> Result<Claim, Fail> {
     let layers = layers_of::<H>(alloc, leaves)?;
     Ok(Claim {
-        root: root_of(&layers)?,
+        root: root_in(&layers).ok_or("no root")?,
         depth: depth_of(leaves),
         index,
         row: row_at(alloc, index)?,
@@ -312,7 +304,7 @@ fn answer<H: TreeHash>(alloc: Global, row: &str) -> Result<String, Fail> {
     let (leaves, rest) = text.split_once(' ').unwrap_or((text, ""));
     let leaves = leaves.parse::<usize>()?;
     if table == "root" {
-        let root = Root::new(root_of(&layers_of::<H>(alloc, leaves)?)?);
+        let root = Root::new(root_in(&layers_of::<H>(alloc, leaves)?).ok_or("no root")?);
         return text_of(alloc, &root.to_json(alloc)?);
     }
     let (index, change) = rest.split_once(' ').unwrap_or((rest, ""));

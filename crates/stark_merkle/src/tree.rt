@@ -1,6 +1,6 @@
 //! Trees, layer by layer.
 ghost use Rattle.std.specs.Prelude.{◌≡◌, ◌+◌, ◌<◌, ◌^◌, ◌↔◌, IfOk, IfSome, IsSome};
-ghost use Rattle.stark_merkle.specs.Tree.{HasPath, IsPathIn, digests_in, layers_from, neighbour, node_of, paired};
+ghost use Rattle.stark_merkle.specs.Tree.{HasPath, IsPathIn, digests_in, layers_from, neighbour, node_of, paired, sole, top_of};
 
 use crate::hash::{TreeHash, node};
 use std::alloc::{AllocError, Global};
@@ -39,6 +39,28 @@ pub fn tree_layers<H: TreeHash>(
     }
     layers.push(layer)?;
     Ok(layers)
+}
+
+/// The one digest of a layer.
+fn sole(layer: &[[u8; 32]]) -> Option<[u8; 32]>
+    ensures { result ≡ sole layer.now }
+{
+    if layer.len() == 1 {
+        Some(layer[0])
+    } else {
+        None
+    }
+}
+
+/// The root of a tree's layers: the one digest of the last layer. None where there are no layers, or
+/// the last one hasn't exactly one digest.
+pub fn root_in(layers: &[Vec<[u8; 32]>]) -> Option<[u8; 32]>
+    ensures { result ≡ top_of (digests_in layers.now) }
+{
+    match layers.len().checked_sub(1) {
+        Some(last) => sole(&layers[last]),
+        None => None,
+    }
 }
 
 /// The place beside a place.

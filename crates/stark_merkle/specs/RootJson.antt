@@ -5,7 +5,7 @@ use Rattle.std.proofs.Common.{◌∙◌, [], ap, arith, sym}
 use Rattle.std.specs.Coded.{le_prop}
 use mathlib.Core.HLevel.{is_prop→PathP, Π_prop}
 use native.Mathlib.Nat.{ℕ_set}
-use Rattle.hex.specs.Hex.{IsBytes, decode_of, decode_sized, encode_lower}
+use Rattle.hex.specs.Hex.{IsBytes, decode_sized, encode_lower}
 use Rattle.hex.specs.declared.error.FromHexError.{FromHexError}
 use Rattle.hex.proofs.HexLemmas.{decode_of-ok, decode_sized-encode_lower, decode_sized-ok, decode_sized-twice}
 use Rattle.serde_json.specs.Data.{Data, null, boolean, number, string, array, object}

@@ -4,7 +4,7 @@ use Rattle.std.proofs.Common.{sym, ap, ◌∙◌, subst, inl, inr, arith}
 use Rattle.std.proofs.lemmas.Bool.Decides.{eqb_tells}
 use Rattle.std.proofs.Math.Seq.{drop-append_seam, take-append_seam}
 use Rattle.std.specs.List.{AllByRecursion, slice_get}
-use Rattle.stark_merkle.specs.Tree.{FullTreesHavePaths, HasPath, HashCollision, IsDigest, IsPath, IsPathIn, LeadsTo, joined, layer_above, layers_from, leaf_of, led, neighbour, node_of, paired, sole, top_of}
+use Rattle.stark_merkle.specs.Tree.{HasPath, HashCollision, IsDigest, IsPath, IsPathIn, LeadsTo, joined, layer_above, layers_from, leaf_of, led, neighbour, node_of, paired, sole, top_of}
 
 -- ---- a tree's own paths
 

@@ -6,32 +6,32 @@ ghost use Rattle.stark_merkle.specs.Sha.{digests_are_32};
 
 use sha2::{Digest, Sha256};
 
-/// A hash of bytes with digests of 32 bytes.
+/// A hash of bytes, `digest_of`, with digests of 32 bytes. A tree's laws hold of any.
 pub trait TreeHash {
     ghost digest_of: { List ℕ → List ℕ };
 
-    /// The digest of a byte and two pieces behind it.
+    /// The digest of a byte and two pieces behind it, with nothing between them.
     fn digest(tag: u8, first: &[u8], second: &[u8]) -> [u8; 32]
         ensures { result ≡ digest_of (tag ∷ (first.now ++ second.now)) };
 
     ghost digest_size: { (m : List ℕ) → length (digest_of m) ≡ 32 };
 }
 
-/// The digest of a row's bytes. The byte 0 before them tells a leaf from a node.
+/// A leaf: the digest of the byte 0 and a row's bytes behind it. The byte tells it from a node.
 pub fn leaf<H: TreeHash>(row: &[u8]) -> [u8; 32]
     ensures { result ≡ leaf_of H.digest_of row.now }
 {
     H::digest(0, row, &[])
 }
 
-/// The digest of two digests, behind the byte 1.
+/// A node: the digest of the byte 1 and two digests behind it, that of the even place first.
 pub fn node<H: TreeHash>(left: &[u8; 32], right: &[u8; 32]) -> [u8; 32]
     ensures { result ≡ node_of H.digest_of left.now right.now }
 {
     H::digest(1, left, right)
 }
 
-/// SHA-256.
+/// Trees over SHA-256.
 #[derive(Clone, Copy, Debug)]
 pub struct Sha256Tree;
 

@@ -1,4 +1,5 @@
-//! Binary trees of digests over rows, and paths in them.
+//! Binary trees of digests over rows: layers, roots as commitments, the paths of rows to a root,
+//! and what these bind. It is generic in the hash.
 #![tactic(auto)]
 
 mod hash;

@@ -22,7 +22,7 @@ pub fn root_of_path<H: TreeHash>(start: [u8; 32], index: usize, path: &[[u8; 32]
     digest
 }
 
-/// Whether a tree of that depth has the place.
+/// Whether a tree of that depth, which has 2^`depth` leaves, has the place.
 fn has_place(depth: usize, index: usize) -> bool
     ensures { IsTrue result ↔ index < 2 ^ depth }
 {

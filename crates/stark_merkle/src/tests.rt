@@ -1,5 +1,6 @@
-//! Worked rows of trees over SHA-256. Row i of a tree is the text `row i`. The digests were computed
-//! in Python with hashlib, and which altered claims are refused by a verifier written there.
+//! Worked rows of trees over SHA-256. Row i of a tree is the text `row i`. The digests were
+//! computed in Python with hashlib, and which altered claims are refused by a verifier written
+//! there.
 use crate::{Root, Sha256Tree, TreeHash, is_path_to, leaf, path_in, root_in, tree_layers};
 use serde_json::Value;
 use stark_support::{JsonCodec, JsonFault, value_from_bytes};

@@ -21,7 +21,8 @@ pub fn next_layer<H: TreeHash>(
 }
 
 /// The leaves, and the `depth` layers above them, lowest first: the last of them is the root alone
-/// where there are 2^`depth` leaves. It is Err only where memory was refused.
+/// where there are 2^`depth` leaves. With fewer leaves the last ones are empty, so that `depth` is
+/// what the caller pays for. It is Err only where memory was refused.
 pub fn tree_layers<H: TreeHash>(
     alloc: Global,
     leaves: Vec<[u8; 32]>,
@@ -41,7 +42,7 @@ pub fn tree_layers<H: TreeHash>(
     Ok(layers)
 }
 
-/// The one digest of a layer.
+/// The one digest of a layer; None where it hasn't exactly one.
 fn sole(layer: &[[u8; 32]]) -> Option<[u8; 32]>
     ensures { result ≡ sole layer.now }
 {
@@ -52,8 +53,8 @@ fn sole(layer: &[[u8; 32]]) -> Option<[u8; 32]>
     }
 }
 
-/// The root of a tree's layers: the one digest of the last layer. None where there are no layers, or
-/// the last one hasn't exactly one digest.
+/// The root of a tree's layers: the one digest of the last layer. None exactly where there are no
+/// layers, or the last one hasn't exactly one digest.
 pub fn root_in(layers: &[Vec<[u8; 32]>]) -> Option<[u8; 32]>
     ensures { result ≡ top_of (digests_in layers.now) }
 {
@@ -71,9 +72,10 @@ fn neighbour(place: usize) -> usize
     if place % 2 == 0 { place + 1 } else { place - 1 }
 }
 
-/// The neighbours on the way up from the leaf at the place `index`, lowest first: one digest for each
-/// layer below the last. None exactly where a layer has no digest at the place, or one below the
-/// last has none beside it. It is Err only where memory was refused.
+/// The neighbours on the way up from the leaf at the place `index`, lowest first: one digest for
+/// each layer below the last. From layer to layer the place is halved. None exactly where there are
+/// no layers, one has no digest at the place, or one below the last has none beside it. It is Err
+/// only where memory was refused.
 pub fn path_in(
     alloc: Global,
     layers: &[Vec<[u8; 32]>],

@@ -1,5 +1,5 @@
-use Rattle.std.proofs.Common.{◌≡◌, ◌≤◌, ◌+◌, ◌∙◌, ap, arith, length, subst, sym}
-use Rattle.stark_merkle.specs.Tree.{digests_in, sole, top_of}
+use Rattle.std.proofs.Common.{◌∙◌, ap, arith}
+use Rattle.stark_merkle.specs.Tree.{sole}
 use Rattle.stark_merkle.proofs.Steps.{top_at, top_of_none}
 use Rattle.stark_merkle.proofs.tree.root_in.Goals as goal
 

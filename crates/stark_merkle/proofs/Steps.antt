@@ -44,16 +44,17 @@ module _ {H : Type 0} (node : H → H → H) where
   led_all place x path k whole ended so_far = sym (at_drop_all (led node place x) path k ended) ∙ so_far
 
   -- two neighbours more
-  pub paired_more : (xs : List H) (i : ℕ) (d a b : H) (before after whole : List H) → 2 * i + 1 < length xs → a ≡ get_or xs (2 * i) d → b ≡ get_or xs (2 * i + 1) d
-      → after ≡ before ++ node a b ∷ [] → before ++ paired node (drop (2 * i) xs) ≡ whole → after ++ paired node (drop (2 * (i + 1)) xs) ≡ whole
+  pub paired_more : (xs : List H) (i : ℕ) (d a b new : H) (before after whole : List H) → 2 * i + 1 < length xs → a ≡ get_or xs (2 * i) d → b ≡ get_or xs (2 * i + 1) d
+      → new ≡ node a b → after ≡ before ++ new ∷ [] → before ++ paired node (drop (2 * i) xs) ≡ whole → after ++ paired node (drop (2 * (i + 1)) xs) ≡ whole
   unfolding paired
-  paired_more xs i d a b before after whole below is_a is_b pushed so_far =
+  paired_more xs i d a b new before after whole below is_a is_b is_new pushed so_far =
       let next : 2 * i + 1 + 1 ≡ 2 * (i + 1) = omega arith in
       let opened : paired node (drop (2 * i) xs) ≡ node a b ∷ paired node (drop (2 * (i + 1)) xs)
       = at_drop_more (paired node) xs (2 * i) d (omega arith) ∙ ap (λ t. paired node (t ∷ drop (2 * i + 1) xs)) (sym is_a)
       ∙ at_drop_more (λ t. paired node (a ∷ t)) xs (2 * i + 1) d below ∙ ap (λ t. node a t ∷ paired node (drop (2 * i + 1 + 1) xs)) (sym is_b)
       ∙ ap (λ n. node a b ∷ paired node (drop n xs)) next in
-      ap (λ t. t ++ paired node (drop (2 * (i + 1)) xs)) pushed ∙ append_assoc before (node a b ∷ []) (paired node (drop (2 * (i + 1)) xs)) ∙ ap (λ t. before ++ t) (sym opened) ∙ so_far
+      ap (λ t. t ++ paired node (drop (2 * (i + 1)) xs)) pushed ∙ ap (λ t. (before ++ t ∷ []) ++ paired node (drop (2 * (i + 1)) xs)) is_new
+      ∙ append_assoc before (node a b ∷ []) (paired node (drop (2 * (i + 1)) xs)) ∙ ap (λ t. before ++ t) (sym opened) ∙ so_far
 
   -- at most one is left over
   few_paired : (ys : List H) → length ys < 2 → paired node ys ≡ []

@@ -120,6 +120,12 @@ FullTreesHaveRoots hash depth = (leaves : List (List ℕ)) → length leaves ≡
 abbrev pub FullTreesHavePaths : (List ℕ → List ℕ) → ℕ → Type 0
 FullTreesHavePaths hash depth = (leaves : List (List ℕ)) (i : ℕ) → length leaves ≡ 2 ^ depth → i < 2 ^ depth → HasPath (layers_from (node_of hash) depth leaves) i
 
+-- Of each row of a tree over 2^depth leaves, the path in its layers leads to the root on top of them.
+abbrev pub OwnRowsLeadToRoots : (List ℕ → List ℕ) → ℕ → Type 0
+OwnRowsLeadToRoots hash depth = (leaves : List (List ℕ)) (root row : List ℕ) (i : ℕ) (path : List (List ℕ)) → length leaves ≡ 2 ^ depth
+    → top_of (layers_from (node_of hash) depth leaves) ≡ Some root → slice_get leaves i ≡ Some (leaf_of hash row)
+    → IsPathIn (layers_from (node_of hash) depth leaves) i path → LeadsTo hash root depth i row path
+
 -- Paths of one length that lead from different digests at one place to one root show a collision.
 abbrev pub PathsBind : (List ℕ → List ℕ) → ℕ → Type 0
 PathsBind hash i = (x y : List ℕ) (p q : List (List ℕ)) → IsDigest x → IsDigest y → AllByRecursion IsDigest p → AllByRecursion IsDigest q

@@ -3,6 +3,7 @@ use Rattle.std.specs.Prelude.{◌≡◌, ◌≢◌, ◌⊎◌, ℕ, zero, suc, �
 use Rattle.std.proofs.Common.{sym, ap, ◌∙◌, subst, inl, inr, arith}
 use Rattle.std.proofs.lemmas.Bool.Decides.{eqb_tells}
 use Rattle.std.proofs.Math.Seq.{drop-append_seam, take-append_seam}
+use Rattle.std.proofs.lemmas.Option.{slice_get_within}
 use Rattle.std.specs.List.{AllByRecursion, slice_get}
 use Rattle.stark_merkle.specs.Tree.{HasPath, HashCollision, IsDigest, IsPath, IsPathIn, LeadsTo, joined, layer_above, layers_from, leaf_of, led, neighbour, node_of, paired, sole, top_of}
 
@@ -73,6 +74,14 @@ module _ {H : Type 0} (node : H → H → H) where
   path_in_layers (suc zero) xs i (s ∷ path) h = (h.0, path_in_layers zero (paired node xs) (i / 2) path h.1)
   path_in_layers (suc (suc d)) xs i [] h = absurd h
   path_in_layers (suc (suc d)) xs i (s ∷ path) h = (h.0, path_in_layers (suc d) (paired node xs) (i / 2) path h.1)
+      -- It has a digest for each layer above the leaves.
+
+  pub path_length : (d : ℕ) (xs : List H) (i : ℕ) (path : List H) → IsPath node d xs i path → length path ≡ d
+  unfolding IsPath
+  path_length zero xs i [] h = refl
+  path_length zero xs i (s ∷ path) h = absurd h
+  path_length (suc d) xs i [] h = absurd h
+  path_length (suc d) xs i (s ∷ path) h = ap suc (path_length d (paired node xs) (i / 2) path h.1)
 
   -- ---- full trees
 
@@ -148,6 +157,17 @@ split a b x y l e = (
   sym (take-append_seam a x) ∙ ap (take (length a)) e ∙ ap (λ k. take k (b ++ y)) l ∙ take-append_seam b y,
   sym (drop-append_seam a x) ∙ ap (drop (length a)) e ∙ ap (λ k. drop k (b ++ y)) l ∙ drop-append_seam b y,
 )
+
+pub own_row_leads : (hash : List ℕ → List ℕ) (depth : ℕ) (leaves : List (List ℕ)) (root row : List ℕ) (i : ℕ) (path : List (List ℕ)) → length leaves ≡ 2 ^ depth
+    → top_of (layers_from (node_of hash) depth leaves) ≡ Some root → slice_get leaves i ≡ Some (leaf_of hash row)
+    → IsPathIn (layers_from (node_of hash) depth leaves) i path → LeadsTo hash root depth i row path
+own_row_leads hash depth leaves root row i path full top here way =
+    let node = node_of hash in
+    let in_tree = path_in_layers node depth leaves i path way in (
+      path_length node depth leaves i path in_tree,
+      subst (λ n. i < n) full (slice_get_within leaves i (leaf_of hash row) here),
+      led_to_root node depth leaves root i (leaf_of hash row) path (top_is_root node depth leaves root top) here in_tree,
+    )
 
 module _ (hash : List ℕ → List ℕ) (size : (m : List ℕ) → length (hash m) ≡ 32) where
   -- Different pairs of digests with one node.

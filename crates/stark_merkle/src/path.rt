@@ -1,6 +1,6 @@
 //! Paths from a leaf to the root, and what they bind.
 ghost use Rattle.std.specs.Prelude.{◌≡◌, ◌↔◌, ◌<◌, ◌^◌, IsTrue};
-ghost use Rattle.stark_merkle.specs.Tree.{FullTreesHavePaths, FullTreesHaveRoots, LeadsTo, PathsBind, RowsBind, TopsAreRoots, TreesLeadToRoots, led, node_of};
+ghost use Rattle.stark_merkle.specs.Tree.{FullTreesHavePaths, FullTreesHaveRoots, LeadsTo, OwnRowsLeadToRoots, PathsBind, RowsBind, TopsAreRoots, TreesLeadToRoots, led, node_of};
 
 use crate::hash::{TreeHash, leaf, node};
 
@@ -65,6 +65,12 @@ pub fn full_trees_have_roots<H: TreeHash>(_depth: usize)
 /// A law, with no code: over 2^depth leaves each place has a path, so that `path_in` finds it.
 pub fn full_trees_have_paths<H: TreeHash>(_depth: usize)
     ensures { FullTreesHavePaths H.digest_of _depth }
+{}
+
+/// A law, with no code: of each row of a tree over 2^depth leaves, `is_path_to` accepts the path
+/// that `path_in` finds in the layers, to the root that `root_in` finds there.
+pub fn own_rows_lead_to_roots<H: TreeHash>(_depth: usize)
+    ensures { OwnRowsLeadToRoots H.digest_of _depth }
 {}
 
 /// A law, with no code: paths of one length that lead from different digests at one place to one

@@ -57,9 +57,9 @@ class Runner:
 
 def status_of(line):
     """The status that goes with a first line; None where no run writes it."""
-    if line == b"accepted" or line.startswith((b'{"', b"columns: ")):
+    if line in (b"accepted", b"satisfied") or line.startswith((b'{"', b"columns: ")):
         return 0
-    if line.startswith(b"refused "):
+    if line.startswith((b"refused ", b"row ")):
         return 1
     return 2 if line in (b"bad input", b"out of memory") else None
 
@@ -86,7 +86,8 @@ def doublings(count):
 
 
 def large_airs():
-    """Names of AIRs that are small to write and large to handle, their fields, and what `show`, `verify` and `prove` say first."""
+    """Names of AIRs that are small to write and large to handle, their fields, and what `show`, `verify` and `prove` say first; `check`
+    says the same as `prove` of what isn't read or is too large, and else that the trace satisfies the AIR."""
     trillion, most = 10**12, 2**64 - 1
     large, shape, size = b"refused AirTooLarge", b"refused UnexpectedTraceNext", b"refused QuotientDomainTooLarge"
     shown, proof, bad = b"columns: ", b'{"', b"bad input"
@@ -114,10 +115,13 @@ def large_airs():
 
 
 def run_large(runner, proof):
-    """The runs of those AIRs: shown, with a proof for another one, and with a trace of two rows of zeros."""
+    """The runs of those AIRs: shown, with a proof for another one, and with a trace of two rows of zeros, which satisfies each it fits."""
+    zeros = b"[[0],[0]]"
     for name, fields, shown, verified, proved in large_airs():
         text = statement(**fields)
-        for verb, second, wanted in (("show", None, shown), ("verify", proof, verified), ("prove", b"[[0],[0]]", proved)):
+        checked = proved if proved in (b"bad input", b"refused AirTooLarge") else b"satisfied"
+        runs = (("show", None, shown), ("verify", proof, verified), ("check", zeros, checked), ("prove", zeros, proved))
+        for verb, second, wanted in runs:
             runner.tell(name, verb, runner.run(verb, text, second), wanted)
 
 
@@ -213,13 +217,15 @@ def honest_airs():
 
 
 def run_honest(runner):
-    """Those AIRs proved, verified and shown, with the time and the memory of each run."""
+    """Those AIRs checked, proved, verified and shown, with the time and the memory of each run."""
     for name, fields, trace in honest_airs():
         text = statement(**fields)
+        checked = runner.run("check", text, trace, GIGABYTE)
         made = runner.run("prove", text, trace, GIGABYTE)
-        checked = runner.run("verify", text, made[4], GIGABYTE)
+        verified = runner.run("verify", text, made[4], GIGABYTE)
         shown = runner.run("show", text, None, GIGABYTE)
-        for verb, done, wanted in (("prove", made, b'{"'), ("verify", checked, b"accepted"), ("show", shown, b"columns: ")):
+        told = (("check", checked, b"satisfied"), ("prove", made, b'{"'), ("verify", verified, b"accepted"), ("show", shown, b"columns: "))
+        for verb, done, wanted in told:
             runner.tell(name, verb, done, wanted)
             print(f"  {verb} {name}: {done[0][:40].decode()}, {done[2]:.3f} s, {done[3] // 1024} MB", flush=True)
 
@@ -234,6 +240,8 @@ def sweep_statements(program):
     sweep(runner, "verify", (honest, proof), 1)
     sweep(runner, "prove", (honest, trace), 0)
     sweep(runner, "prove", (honest, trace), 1)
+    sweep(runner, "check", (honest, trace), 0)
+    sweep(runner, "check", (honest, trace), 1)
     sweep(runner, "show", (honest, None), 0)
     summary(runner, "spoiled")
     runner.tell("the forged proof", "verify", runner.run("verify", *texts["forged"].split(b"\x1e")), b"refused InvalidOpeningArgument")

@@ -6,7 +6,7 @@ use crate::texts::TEXTS;
 use crate::voskligan_texts::VOSKLIGAN_TEXTS;
 use stark_cli::statements::Verb;
 use stark_cli::{Sink, Source, samples, statements};
-use stark_commands::RunEnd;
+use stark_commands::{RunEnd, TraceTask};
 use std::alloc::Global;
 
 /// A program.
@@ -32,12 +32,19 @@ pub(crate) fn both_inputs(input: &[u8]) -> (&[u8], &[u8]) {
     }
 }
 
-/// The verb of a row's first word.
+/// The verb of a row's first word, or of two.
 fn verb_of(words: &[String]) -> Option<Verb> {
-    match words.first()?.as_str() {
-        "verify" => Some(Verb::Verify),
-        "prove" => Some(Verb::Prove),
-        "show" => Some(Verb::Show),
+    match words {
+        [verb] => match verb.as_str() {
+            "verify" => Some(Verb::Verify),
+            "check" => Some(Verb::Trace(TraceTask::Check)),
+            "prove" => Some(Verb::Trace(TraceTask::Prove)),
+            "show" => Some(Verb::Show),
+            _ => None,
+        },
+        [verb, flag] if verb.as_str() == "prove" && flag.as_str() == "--unchecked" => {
+            Some(Verb::Trace(TraceTask::ProveUnchecked))
+        }
         _ => None,
     }
 }

@@ -105,9 +105,13 @@ pub(crate) fn is_said(rt: &impl Abort, found: &Outcome, end: RunEnd, lines: &[u8
 
 /// How a run has to end that writes lines.
 pub(crate) fn end_of(lines: &str) -> RunEnd {
-    if lines == "accepted" || lines.starts_with('{') || lines.starts_with("columns: ") {
+    if lines == "accepted"
+        || lines == "satisfied"
+        || lines.starts_with('{')
+        || lines.starts_with("columns: ")
+    {
         RunEnd::Accepted
-    } else if lines.starts_with("refused ") {
+    } else if lines.starts_with("refused ") || lines.starts_with("row ") {
         RunEnd::Refused
     } else {
         RunEnd::NotJudged

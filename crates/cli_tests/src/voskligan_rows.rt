@@ -11,12 +11,13 @@ prove then verify | <range> | accepted
 prove then verify | <machine> | accepted
 prove then verify | <preprocessed> | accepted
 
-# It refuses the proof of each trace that breaks a constraint.
-prove then verify | <counter false> | refused OodEvaluationMismatch
-prove then verify | <fibonacci false> | refused OodEvaluationMismatch
-prove then verify | <range false> | refused OodEvaluationMismatch
-prove then verify | <machine false> | refused OodEvaluationMismatch
-prove then verify | <preprocessed> | \1e[[1] => \1e[[2] | refused OodEvaluationMismatch
+# It refuses the proof of each trace that breaks a constraint and was not checked.
+prove --unchecked then verify | <counter false> | refused OodEvaluationMismatch
+prove --unchecked then verify | <fibonacci false> | refused OodEvaluationMismatch
+prove --unchecked then verify | <range false> | refused OodEvaluationMismatch
+prove --unchecked then verify | <machine false> | refused OodEvaluationMismatch
+prove --unchecked then verify | <preprocessed> | \1e[[1] => \1e[[2] | refused OodEvaluationMismatch
+prove --unchecked then verify | <counter> | accepted
 
 # With work.
 prove then verify | <counter> | "public_values" => "ood_bits":3,"public_values" | accepted
@@ -33,11 +34,65 @@ verify | <proved> | [{"base":4},{"base":10}] => [{"base":10},{"base":4}] | refus
 verify | <proved> | ["sub",7,8] => ["add",7,8] | refused InvalidOpeningArgument
 verify | <proved> | "constants":[1] => "max_constraint_degree":2,"constants":[1] | refused InvalidOpeningArgument
 verify | <proved> | "constants":[1] => "constants":[1,3] | refused InvalidOpeningArgument
-verify | <proved> | "public_values" => "alpha_bits":1,"public_values" | refused InvalidAlphaPowWitness
+verify | <proved> | "public_values" => "alpha_bits":3,"public_values" | refused InvalidAlphaPowWitness
 verify | <proved> | "public_values" => "ood_bits":1,"public_values" | refused InvalidOodPowWitness
 
 # A proof whose AIR was chosen behind zeta.
 verify | <forged> | refused InvalidOpeningArgument
+"#;
+
+// What a check says, and a prover of what a check finds broken.
+pub(crate) const CHECKED: &str = r#"
+# Each example's trace, and its false one.
+check | <counter> | satisfied
+check | <fibonacci> | satisfied
+check | <range> | satisfied
+check | <machine> | satisfied
+check | <preprocessed> | satisfied
+check | <counter false> | <check of counter>
+check | <fibonacci false> | <check of fibonacci>
+check | <range false> | <check of range>
+check | <machine false> | <check of machine>
+
+# The last row alone is wrong, beside a preprocessed and a periodic column.
+check | <preprocessed> | \1e[[1],[2],[3],[4]] => \1e[[1],[2],[3],[5]] | row 3: constraint 0 is 1\0a<equation of preprocessed>
+check | <periodic>\1e[[1],[3],[1],[4]] | row 3: constraint 0 is 1\0a<equation of periodic>
+check | <periodic>\1e[[1],[3],[1],[3]] | satisfied
+
+# One row, which is the first, the last and behind itself.
+check | <counter> | \1e[[5],[6],[7],[8],[9],[10],[11],[12]] => \1e[[5]] | satisfied
+check | <counter> | \1e[[5],[6],[7],[8],[9],[10],[11],[12]] => \1e[[6]] | row 0: constraint 0 is 1\0a<equation 0 of counter>
+check | <round>\1e[[1,0]] | row 0: constraint 1 is 12288\0a<equation 1 of round>
+
+# Behind the last row comes the first: 0 - 1 - 1, and 12288 - 2 - 1.
+check | <round>\1e[[0,0],[1,1]] | row 1: constraint 1 is 12287\0a<equation 1 of round>
+check | <round>\1e[[0,12288],[1,0],[1,1],[0,2]] | row 3: constraint 1 is 12285\0a<equation 1 of round>
+
+# Of several the first row, and in it the first constraint.
+check | <round>\1e[[3,0],[2,1]] | row 0: constraint 0 is 6\0a<equation 0 of round>
+check | <round>\1e[[0,0],[2,1]] | row 1: constraint 0 is 2\0a<equation 0 of round>
+
+# No proof is made of a trace that breaks a constraint, whatever else would keep one from it.
+prove | <counter false> | <check of counter>
+prove | <fibonacci false> | <check of fibonacci>
+prove | <range false> | <check of range>
+prove | <machine false> | <check of machine>
+prove | <preprocessed> | \1e[[1] => \1e[[2] | row 0: constraint 0 is 1\0a<equation of preprocessed>
+prove | <counter false> | "public_values" => "ood_bits":20,"public_values" | <check of counter>
+prove --unchecked | <counter false> | "public_values" => "ood_bits":20,"public_values" | refused GrindExhausted
+
+# What is no trace of the AIR's, and an AIR past a limit.
+check | <counter> | "air" => "Air" | bad input
+check | <counter> | \1e[[5], => \1e[ | bad input
+check | <counter> | \1e[[5], => \1e[[5,5], | bad input
+check | <counter> | \1e[[5], => \1e[[12289], | bad input
+check | <preprocessed> | [[1],[2],[3],[4]]}, => [[1],[2]]}, | bad input
+check | <small>\1e[[],[]] | bad input
+check | <small> | bad input
+check | <wide>\1e[[]] | bad input
+check | <wide>\1e[[]] | 65536 => 65537 | refused AirTooLarge
+check | <wide>\1e | 65536 => 65537 | refused AirTooLarge
+prove --unchecked | <wide>\1e | 65536 => 65537 | refused AirTooLarge
 "#;
 
 // What is shown of each example.
@@ -105,7 +160,7 @@ verify | {"air":<air of counter>,"public_values":[5]}\1e | bad input
 verify | {"air":<air of counter>,"public_values":[5]}\1enull | bad input
 verify | {"air":<air of counter>,"public_values":[5]}\1e{"proof":<proof of two rows>} | bad input
 verify | <proved> | "degree_bits":1 => "degree_bits":-1 | bad input
-verify | <proved> | [8924, => [12289, | bad input
+verify | <proved> | [2893, => [12289, | bad input
 "#;
 
 // AIRs at the limits of what is taken, and past them: nothing else of the statement, the proof or the trace is looked at then.
@@ -154,7 +209,8 @@ prove | {"air":{"width":1,"publics":0,"periodic":[],"max_constraint_degree":4098
 // Expressions that are huge once they are written out.
 pub(crate) const HUGE: &str = r#"
 prove then verify | <doublings>\1e[[0],[0]] | accepted
-prove then verify | <doublings>\1e[[0],[1]] | refused OodEvaluationMismatch
+prove --unchecked then verify | <doublings>\1e[[0],[1]] | refused OodEvaluationMismatch
+check | <many doublings>\1e[[0],[0]] | satisfied
 prove then verify | <many doublings>\1e[[0],[0]] | accepted
 prove then verify | <many sums>\1e[[0],[0]] | accepted
 verify | <many doublings>\1e<proof of two rows> | refused UnexpectedTraceNext
@@ -166,6 +222,7 @@ verify | <many squares>\1e<proof of two rows> | refused QuotientDomainTooLarge
 pub(crate) const WHOLE: &str = r#"
 verify | <proved> | accepted
 show | {"air":<air of counter>,"public_values":[5]} | <lines of counter>
+check | <two rows> | satisfied
 "#;
 
 // Words and what they ask for. Two quotes stand for the empty word.
@@ -176,9 +233,16 @@ verify statement.json = verify, file statement.json, standard
 verify - proof.json = verify, standard, file proof.json
 prove statement.json trace.json = prove, file statement.json, file trace.json
 prove statement.json = prove, file statement.json, standard
+prove --unchecked statement.json trace.json = prove unchecked, file statement.json, file trace.json
+prove --unchecked statement.json = prove unchecked, file statement.json, standard
+prove --unchecked - trace.json = prove unchecked, standard, file trace.json
+check statement.json trace.json = check, file statement.json, file trace.json
+check statement.json = check, file statement.json, standard
 show statement.json = show, file statement.json, nothing
 show - = show, standard, nothing
 show verify = show, file verify, nothing
+prove statement.json --unchecked = prove, file statement.json, file --unchecked
+check --unchecked statement.json = check, file --unchecked, file statement.json
 --help = help
 --version = version
 verify = unknown
@@ -186,10 +250,19 @@ verify - = unknown
 verify - - = unknown
 prove - - = unknown
 prove - = unknown
+prove --unchecked = unknown
+prove --unchecked - = unknown
+prove --unchecked - - = unknown
+prove --unchecked statement.json trace.json more = unknown
+prove --uncheck statement.json trace.json = unknown
+verify --unchecked statement.json proof.json = unknown
+check = unknown
+check - - = unknown
+check statement.json trace.json more = unknown
+Check statement.json = unknown
 show = unknown
 show statement.json proof.json = unknown
 verify statement.json proof.json more = unknown
-check statement.json proof.json = unknown
 Verify statement.json proof.json = unknown
 verif statement.json = unknown
 verify --help = verify, file --help, standard

@@ -1,10 +1,11 @@
 use crate::faults::{Spoiled, all_spoiled, written_or_no_memory};
 use crate::program::Program;
 use crate::runs::{all_rows, words_of};
-use crate::voskligan_rows::{BAD, DEAR, EXAMPLES, HUGE, LARGE, SHOWN, WHOLE, WORDS};
+use crate::voskligan_rows::{BAD, CHECKED, DEAR, EXAMPLES, HUGE, LARGE, SHOWN, WHOLE, WORDS};
 use stark_bench::{F12289, Sha256Challenger};
 use stark_cli::statements::Verb;
 use stark_cli::{InputWord, Request, request_of};
+use stark_commands::TraceTask;
 use stark_statement::Statement;
 use stark_support::{CanSample, PrimeField64};
 use std::alloc::{AllocError, Global};
@@ -14,7 +15,12 @@ const PROGRAM: Program = Program::Voskligan;
 
 #[test]
 fn examples(rt: HostRuntime) -> Result<(), Fail> {
-    all_rows(&rt, rt.alloc(), PROGRAM, EXAMPLES, 25)
+    all_rows(&rt, rt.alloc(), PROGRAM, EXAMPLES, 26)
+}
+
+#[test]
+fn checked_traces(rt: HostRuntime) -> Result<(), Fail> {
+    all_rows(&rt, rt.alloc(), PROGRAM, CHECKED, 37)
 }
 
 #[test]
@@ -39,22 +45,43 @@ fn dear_inputs(rt: HostRuntime) -> Result<(), Fail> {
 
 #[test]
 fn huge_expressions(rt: HostRuntime) -> Result<(), Fail> {
-    all_rows(&rt, rt.alloc(), PROGRAM, HUGE, 7)
+    all_rows(&rt, rt.alloc(), PROGRAM, HUGE, 8)
 }
 
 #[test]
 fn cut_anywhere(rt: HostRuntime) -> Result<(), Fail> {
-    all_spoiled(&rt, rt.alloc(), PROGRAM, Spoiled::Cut, WHOLE, 690 + 285)
+    all_spoiled(
+        &rt,
+        rt.alloc(),
+        PROGRAM,
+        Spoiled::Cut,
+        WHOLE,
+        691 + 285 + 295,
+    )
 }
 
 #[test]
 fn failing_reads(rt: HostRuntime) -> Result<(), Fail> {
-    all_spoiled(&rt, rt.alloc(), PROGRAM, Spoiled::Read, WHOLE, 692 + 288)
+    all_spoiled(
+        &rt,
+        rt.alloc(),
+        PROGRAM,
+        Spoiled::Read,
+        WHOLE,
+        693 + 288 + 297,
+    )
 }
 
 #[test]
 fn failing_writes(rt: HostRuntime) -> Result<(), Fail> {
-    all_spoiled(&rt, rt.alloc(), PROGRAM, Spoiled::Write, WHOLE, 11 + 261)
+    all_spoiled(
+        &rt,
+        rt.alloc(),
+        PROGRAM,
+        Spoiled::Write,
+        WHOLE,
+        11 + 261 + 12,
+    )
 }
 
 /// What a word names, in words.
@@ -75,7 +102,9 @@ fn request_text(alloc: Global, request: Request<'_>) -> Result<String, AllocErro
         Request::Run(task) => {
             let verb = match task.verb {
                 Verb::Verify => "verify",
-                Verb::Prove => "prove",
+                Verb::Trace(TraceTask::Check) => "check",
+                Verb::Trace(TraceTask::Prove) => "prove",
+                Verb::Trace(TraceTask::ProveUnchecked) => "prove unchecked",
                 Verb::Show => "show",
             };
             let statement = input_text(alloc, task.statement)?;
@@ -96,7 +125,7 @@ fn words_are_compared_whole(rt: HostRuntime) -> Result<(), Fail> {
         assert_eq!(rt; found.as_str(), asked, "{line}");
         lines = lines.saturating_add(1);
     }
-    assert_eq!(rt; lines, 28);
+    assert_eq!(rt; lines, 44);
     Ok(())
 }
 
@@ -130,7 +159,7 @@ const BY_TWOS: &[u8] =
 // Two AIRs of one shape, whose constants alone differ. The numbers are those of a model in Python.
 #[test]
 fn another_statement_draws_otherwise(rt: HostRuntime) -> Result<(), Fail> {
-    assert_eq!(rt; first_draw(rt.alloc(), COUNTER)?, 4471);
-    assert_eq!(rt; first_draw(rt.alloc(), BY_TWOS)?, 2274);
+    assert_eq!(rt; first_draw(rt.alloc(), COUNTER)?, 4483);
+    assert_eq!(rt; first_draw(rt.alloc(), BY_TWOS)?, 6324);
     Ok(())
 }

@@ -27,11 +27,27 @@ pub(crate) const VOSKLIGAN_TEXTS: &str = r#"
 <lines of machine> = columns: 2 main, 2 public, 0 periodic, 5 preprocessed\0aconstraint 0 (base, degree 2): first_row * (main[0] - public[0]) = 0\0aconstraint 1 (base, degree 2): first_row * main[1] = 0\0aconstraint 2 (base, degree 2): main[1] * (main[1] - 1) = 0\0aconstraint 3 (base, degree 2): transition * (next[1] - (main[1] + (1 - main[1]) * preprocessed[3])) = 0\0aconstraint 4 (base, degree 3): transition * (next[0] - (main[1] * main[0] + (1 - main[1]) * (preprocessed[0] * preprocessed[4] + preprocessed[1] * (main[0] + preprocessed[4]) + preprocessed[2] * (main[0] + main[0]) + preprocessed[3] * main[0]))) = 0\0aconstraint 5 (base, degree 2): last_row * (main[0] - public[1]) = 0\0aconstraint 6 (base, degree 2): last_row * (main[1] - 1) = 0\0aquotient chunks: 2\0aerror bound at 2^12 rows: 6 alpha, 12287 zeta
 
 
+# What a check says of their false traces: the first row that breaks a constraint and the first such constraint, by a model in Python.
+<check of counter> = row 3: constraint 1 is 10292\0aconstraint 1 (base, degree 1): transition * (next[0] - main[0] - 1) = 0
+<check of fibonacci> = row 14: constraint 3 is 8448\0aconstraint 3 (base, degree 1): transition * (next[1] - (main[0] + main[1])) = 0
+<check of range> = row 23: constraint 3 is 12033\0aconstraint 3 (base, degree 3): periodic[1] * (main[2] + periodic[0] * main[1] - main[0]) = 0
+<check of machine> = row 9: constraint 4 is 6091\0aconstraint 4 (base, degree 3): transition * (next[0] - (main[1] * main[0] + (1 - main[1]) * (preprocessed[0] * preprocessed[4] + preprocessed[1] * (main[0] + preprocessed[4]) + preprocessed[2] * (main[0] + main[0]) + preprocessed[3] * main[0]))) = 0
 
-# The counter's trace 5, 6 and its proof, as computed by a model in Python: the challenger observes the statement's bytes, the seed and the
-# trace, alpha is 9314, 2632, 6558, 7049, and zeta 6741, 1343, 11233, 4984.
+# An AIR of two columns that asserts that the first is 0 or 1, and that the second goes up by one, round the end too; and one whose
+# column is a periodic one.
+<round> = {"air":{"width":2,"publics":0,"periodic":[],"constants":[1],"nodes":[["main",0],["constant",0],["sub",0,1],["mul",0,2],["next",1],["main",1],["sub",4,5],["sub",6,1]],"constraints":[{"base":3},{"base":7}]},"public_values":[]}
+<periodic> = {"air":{"width":1,"publics":0,"periodic":[[1,3]],"constants":[],"nodes":[["main",0],["periodic",0],["sub",0,1]],"constraints":[{"base":2}]},"public_values":[]}
+<equation of periodic> = constraint 0 (base, degree 1): main[0] - periodic[0] = 0
+<equation of preprocessed> = constraint 0 (base, degree 1): main[0] - preprocessed[0] = 0
+<equation 0 of counter> = constraint 0 (base, degree 2): first_row * (main[0] - public[0]) = 0
+<equation 0 of round> = constraint 0 (base, degree 2): main[0] * (main[0] - 1) = 0
+<equation 1 of round> = constraint 1 (base, degree 1): next[1] - main[1] - 1 = 0
+
+
+# The counter's trace 5, 6 and its proof, as computed by a model in Python: the challenger observes the digest of the statement's bytes, the seed
+# and the trace, alpha is 2137, 9569, 8279, 1332, and zeta 6514, 3831, 2012, 6506.
 <two rows> = {"air":<air of counter>,"public_values":[5]}\1e[[5],[6]]
-<proof of two rows> = {"commitments":{"quotient_chunks":[[[7633,0],[10973,0],[9010,0],[2620,0]]],"random":null,"trace":[[[6150,6144]]]},"degree_bits":1,"ood_pow_witness":0,"opened_values":{"preprocessed_local":null,"preprocessed_next":null,"quotient_chunks":[[[7633,0,0,0],[10973,0,0,0],[9010,0,0,0],[2620,0,0,0]]],"random":null,"trace_local":[[8924,5473,528,9797]],"trace_next":[[3376,6816,11761,2492]]},"opening_proof":null}
+<proof of two rows> = {"commitments":{"quotient_chunks":[[[5077,0],[1360,0],[2005,0],[11623,0]]],"random":null,"trace":[[[6150,6144]]]},"degree_bits":1,"ood_pow_witness":0,"opened_values":{"preprocessed_local":null,"preprocessed_next":null,"quotient_chunks":[[[5077,0,0,0],[1360,0,0,0],[2005,0,0,0],[11623,0,0,0]]],"random":null,"trace_local":[[2893,4229,11283,9036]],"trace_next":[[9407,8060,1006,3253]]},"opening_proof":null}
 <lines of two rows> = columns: 1 main, 1 public, 0 periodic, 0 preprocessed\0aconstraint 0 (base, degree 2): first_row * (main[0] - public[0]) = 0\0aconstraint 1 (base, degree 1): transition * (next[0] - main[0] - 1) = 0\0aquotient chunks: 1\0aerror bound at 2^12 rows: 1 alpha, 8191 zeta
 <proved> = {"air":<air of counter>,"public_values":[5]}\1e<proof of two rows>
 

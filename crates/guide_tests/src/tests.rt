@@ -12,7 +12,7 @@ use crate::text::air_of;
 use p3_uni_stark::{StarkProof, prove, verify};
 use stark_air::{Air, BaseAir};
 use stark_bench::F12289;
-use stark_commands::prove_statement;
+use stark_commands::{TraceTask, answer_trace};
 use stark_samples::CounterAir;
 use stark_support::{PrimeField64, RowMajorMatrix};
 use stark_tree_air::TreeAir;
@@ -37,7 +37,8 @@ const ONES: &str =
 /// Whether both calls of the guide accept the proof of a trace: of the one without a clause, and of the one with it.
 fn answers_of(alloc: Global, trace: &str) -> Result<(bool, bool), Fail> {
     let statement = STATEMENT.as_bytes();
-    let report = prove_statement(alloc, statement, trace.as_bytes());
+    let asked = TraceTask::ProveUnchecked;
+    let report = answer_trace(alloc, asked, statement, trace.as_bytes());
     let proof = report.answer.line().as_bytes();
     let accepted = is_accepted(alloc, statement, proof);
     Ok((accepted, sound::is_accepted(alloc, statement, proof)))

@@ -1,5 +1,4 @@
 pub mod BalancingSteps
-pub mod Loops
 pub mod MaskSteps
 pub mod MaskValues
 pub mod MaskedChunkSteps
@@ -7,5 +6,4 @@ pub mod MaskedColumns
 pub mod MaskedQuotient
 pub mod MaskedRows
 pub mod PartWeights
-pub mod PowerSums
 pub mod Ranges

@@ -10,7 +10,7 @@ use Rattle.stark_support.specs.PowerFacts.{power-mul}
 use Rattle.stark_support.specs.Polynomial.{polynomial_opposite, polynomial_ring, polynomial_sum, scaled, value, value_over}
 use Rattle.stark_support.specs.PolynomialFacts.{value_of_difference, value_of_scaled}
 use Rattle.stark_support.specs.Coset.{TwoAdicCoset, coset_size, coset_vanishing}
-use Rattle.stark_clear.proofs.PowerSums.{value_of_append}
+use Rattle.stark_columns.proofs.PowerSums.{value_of_append}
 use Rattle.stark_clear.specs.Masks.{less_all, masked_polynomial, vanishing_scale}
 
 -- the sum of a list

@@ -9,8 +9,8 @@ use Rattle.stark_support.specs.Ring.{RingOps}
 use Rattle.stark_support.specs.Coset.{AreParts, TwoAdicCoset, coset_part}
 use Rattle.stark_support.proofs.Places.{from_place}
 use Rattle.stark_clear.specs.Masks.{AreMaskedChunks, balancing_masks, chunk_columns, chunk_masks, masked_chunks, masked_column, masked_polynomial, quotient_masks, range, vanishing_scale}
-use Rattle.stark_clear.specs.PlainChunks.{ArePlainChunks}
-use Rattle.stark_clear.specs.RowFacts.{size_in_parts}
+use Rattle.stark_columns.specs.PlainChunks.{ArePlainChunks}
+use Rattle.stark_columns.specs.RowFacts.{size_in_parts}
 use Rattle.stark_clear.proofs.MaskSteps.{chunks_length}
 use Rattle.stark_clear.proofs.Ranges.{from_zero, listed_range}
 

@@ -6,7 +6,7 @@ use Rattle.stark_support.specs.Ring.{RingOps, difference}
 use Rattle.stark_support.specs.Polynomial.{polynomial_ring}
 use Rattle.stark_support.proofs.Places.{from_place}
 use Rattle.stark_clear.specs.Masks.{masked_polynomial}
-use Rattle.stark_clear.specs.OpenedFacts.{one_is_done}
+use Rattle.stark_columns.specs.OpenedFacts.{one_is_done}
 
 module _ {F : Type 0} (ring : RingOps F) where
   -- p less q from place i on

@@ -23,10 +23,10 @@ use Rattle.stark_support.specs.CosetFacts.{point_nonzero, root_has_order}
 use Rattle.stark_support.specs.SubgroupFacts.{embedded_nonzero}
 use Rattle.stark_support.specs.Recomposition.{weighted_sum}
 use Rattle.stark_support.specs.Scheme.{AreQuotientChunks, IsChunk, IsMasked, QuotientChunk, TakesRows, committed_chunk}
-use Rattle.stark_clear.specs.ClearScheme.{IsFull, columns_of}
+use Rattle.stark_columns.specs.Columns.{IsFull, columns_of}
 use Rattle.stark_clear.specs.Masks.{AreMaskedChunks, HasMasks, balancing_mask, balancing_masks, chunk_columns, chunk_masks, less_all, masked_chunk, masked_chunks, masked_column, quotient_masks, range, vanishing_scale}
-use Rattle.stark_clear.specs.PlainChunks.{ArePlainChunks}
-use Rattle.stark_clear.specs.RowFacts.{all_listed, size_in_parts}
+use Rattle.stark_columns.specs.PlainChunks.{ArePlainChunks}
+use Rattle.stark_columns.specs.RowFacts.{all_listed, size_in_parts}
 use Rattle.stark_clear.proofs.BalancingSteps.{masks_at}
 use Rattle.stark_clear.proofs.MaskSteps.{chunks_have_masks}
 use Rattle.stark_clear.proofs.MaskValues.{balanced_value_over, masked_on_coset, total, total_of_append}

@@ -5,9 +5,9 @@ use Rattle.stark_support.specs.Ring.{RingOps}
 use Rattle.stark_support.specs.Coset.{coset_size}
 use Rattle.stark_support.specs.Polynomial.{value}
 use Rattle.stark_support.specs.Scheme.{CommittingCalls, matrix_row}
-use Rattle.stark_clear.specs.ColumnPoints.{IsPolynomialBelow}
+use Rattle.stark_columns.specs.ColumnPoints.{IsPolynomialBelow}
 use Rattle.stark_clear.specs.Masks.{AreMaskedBy, AreMaskedChunks, mask_lists, quotient_masks}
-use Rattle.stark_clear.specs.PlainChunks.{ArePlainChunks}
+use Rattle.stark_columns.specs.PlainChunks.{ArePlainChunks}
 use Rattle.stark_clear.specs.Stops.{MaskedPcs}
 
 -- Each column is a polynomial of degree below the height: it has no mask.

@@ -1,30 +1,13 @@
 -- When claims are true of the columns that a commitment lists, and which claim is the first that isn't.
-use Rattle.std.specs.Prelude.{◌≡◌, ℕ, zero, suc, ⊤, List, [], ◌∷◌, length, Option, None, Some}
+use Rattle.std.specs.Prelude.{◌≡◌, List, length}
 use Rattle.std.specs.List.{AllByRecursion}
 use Rattle.stark_support.specs.Ring.{RingOps}
 use Rattle.stark_support.specs.Polynomial.{value_over}
 use Rattle.stark_support.specs.Coset.{TwoAdicCoset, coset_size}
 use Rattle.stark_support.specs.Claims.{RoundClaim}
+use Rattle.stark_support.specs.Faults.{IsFirstFault, PlaceByPlace}
 use Rattle.stark_clear.specs.declared.clear.check.ClearError.{ClearError}
 use Rattle.stark_clear.specs.declared.clear.check.ClearError.TheVariants.{Stopped, Shape, Value}
-
--- Two lists are of one length, and what stands at the same place of them is related.
-unfoldable pub PlaceByPlace : {A B : Type 0} → (A → B → Type 0) → List A → List B → Type 0
-PlaceByPlace R [] [] = ⊤
-PlaceByPlace R [] (y ∷ ys) = ⊥
-PlaceByPlace R (x ∷ xs) [] = ⊥
-PlaceByPlace R (x ∷ xs) (y ∷ ys) = R x y × PlaceByPlace R xs ys
-
--- Element i is the first of which P fails.
-unfoldable pub IsFirstFault : {A : Type 0} → (A → Type 0) → List A → ℕ → Type 0
-IsFirstFault P [] i = ⊥
-IsFirstFault P (x ∷ xs) zero = P x → ⊥
-IsFirstFault P (x ∷ xs) (suc i) = P x × IsFirstFault P xs i
-
--- The number of the first of which P fails; none where it holds of all.
-abbrev pub FindsFirstFault : {A : Type 0} → (A → Type 0) → List A → Option ℕ → Type 0
-FindsFirstFault P xs None = AllByRecursion P xs
-FindsFirstFault P xs (Some i) = IsFirstFault P xs i
 
 -- Each column has as many coefficients as the claimed domain points, and there are as many columns as values at each point.
 abbrev pub MatrixHasShape : {F E : Type 0} → List (List F) → TwoAdicCoset F × List (E × List E) → Type 0

@@ -1,5 +1,5 @@
 -- The laws of the scheme in the clear.
-use Rattle.std.specs.Prelude.{◌≡◌, ℕ, zero, suc, ◌<◌, Bool, List, [], ◌∷◌, Option, map, length, All, refl}
+use Rattle.std.specs.Prelude.{◌≡◌, ℕ, zero, suc, ◌<◌, List, [], ◌∷◌, Option, map, length, All, refl}
 use Rattle.std.specs.List.{AllByRecursion}
 use Rattle.std.proofs.Common.{sym, ap, ◌∙◌, subst, arith}
 use Rattle.std.proofs.lemmas.List.{length-map}
@@ -8,20 +8,16 @@ use Rattle.stark_support.specs.Coset.{coset_size}
 use Rattle.stark_support.specs.Claims.{RoundClaim}
 use Rattle.stark_support.specs.Polynomial.{HasDegreeBelow}
 use Rattle.stark_support.specs.Scheme.{CommittedMatrix, CommittingCalls, HasDegreesBelowSize, OpenedRound, RoundStands, SchemeLaws, handed, row_at, true_claim, true_matrices, true_matrix_claims, true_values}
-use Rattle.stark_clear.specs.ClearClaims.{ClaimsAreTrue, ClaimsFault, HasValue, HasValues, IsFirstFault, MatrixHasShape, MatrixIsTrue, PlaceByPlace, RoundHasShape, RoundIsTrue}
-use Rattle.stark_clear.specs.ClearScheme.{IsFull, RefusesClaims, clear_scheme, columns_of}
+use Rattle.stark_support.specs.Faults.{PlaceByPlace, no_first_fault}
+use Rattle.stark_clear.specs.ClearClaims.{ClaimsAreTrue, ClaimsFault, HasValue, HasValues, MatrixHasShape, MatrixIsTrue, RoundHasShape, RoundIsTrue}
+use Rattle.stark_columns.specs.Columns.{IsFull, columns_of}
+use Rattle.stark_clear.specs.ClearScheme.{RefusesClaims, clear_scheme}
 use Rattle.stark_clear.specs.Stops.{StopsAt}
-use Rattle.stark_clear.specs.Opened.{matrices_at, opened_round}
+use Rattle.stark_columns.specs.Opened.{matrices_at, opened_round}
 use Rattle.stark_clear.specs.declared.clear.call.ClearCall.{ClearCall}
 use Rattle.stark_clear.specs.declared.clear.call.ClearCall.TheVariants.{Verify}
 use Rattle.stark_clear.specs.declared.clear.check.ClearError.{ClearError}
 use Rattle.stark_clear.specs.declared.clear.check.ClearError.TheVariants.{Stopped, Shape, Value}
-
-no_first_fault : {A : Type 0} (P : A → Type 0) (xs : List A) (i : ℕ) → IsFirstFault P xs i → AllByRecursion P xs → ⊥
-unfolding IsFirstFault
-no_first_fault P [] i fault all = fault
-no_first_fault P (x ∷ xs) zero fault all = fault all.0
-no_first_fault P (x ∷ xs) (suc i) fault all = no_first_fault P xs i fault.1 all.1
 
 -- Claims that are true have no fault.
 pub true_or_at_fault : {F E : Type 0} (ring : RingOps E) (embed : F → E) (claims : List (RoundClaim F E (List (List (List F))))) (error : ClearError) → ClaimsAreTrue ring embed claims → ClaimsFault ring embed claims error → ⊥

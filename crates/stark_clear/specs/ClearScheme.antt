@@ -1,10 +1,10 @@
 -- The scheme in the clear: a commitment lists the committed columns.
-use Rattle.std.specs.Prelude.{◌≡◌, ℕ, Bool, true, List, Option, None, Some, map, length}
+use Rattle.std.specs.Prelude.{◌≡◌, ℕ, List, Option, None, Some}
 use Rattle.std.specs.List.{AllByRecursion}
 use Rattle.stark_support.specs.Ring.{RingOps}
-use Rattle.stark_support.specs.Coset.{coset_size}
 use Rattle.stark_support.specs.Claims.{RoundClaim}
-use Rattle.stark_support.specs.Scheme.{CommittedMatrix, CommittingCalls, SchemeOps}
+use Rattle.stark_support.specs.Scheme.{CommittingCalls, SchemeOps}
+use Rattle.stark_columns.specs.Columns.{IsFull, columns_of}
 use Rattle.stark_clear.specs.ClearClaims.{ClaimsAreTrue, ClaimsFault}
 use Rattle.stark_clear.specs.Stops.{StopsAt}
 use Rattle.stark_clear.specs.declared.clear.call.ClearCall.{ClearCall}
@@ -22,13 +22,6 @@ clear_pcs = record { field = record {}; stops_at = None }
 -- The scheme that stops at this call.
 abbrev pub stopping_pcs : {F : Type 0} → ClearCall → ClearPcs F
 stopping_pcs call = record { field = record {}; stops_at = Some call }
-
--- Each column has as many coefficients as the domain points.
-abbrev pub IsFull : {F : Type 0} → CommittedMatrix F → Type 0
-IsFull matrix = AllByRecursion (λ column. length column ≡ coset_size matrix.domain) matrix.columns
-
-abbrev pub columns_of : {F : Type 0} → List (CommittedMatrix F) → List (List (List F))
-columns_of matrices = map (λ m. m.columns) matrices
 
 -- Stopped where verifying stops, and there no other error; else the first fault of the claims.
 abbrev pub RefusesClaims : {F E : Type 0} → RingOps E → (F → E) → Option ClearCall → List (RoundClaim F E (List (List (List F)))) → ClearError → Type 0

@@ -3,14 +3,6 @@ pub mod ClearClaims
 pub mod ClearFacts
 pub mod ClearJson
 pub mod ClearScheme
-pub mod ColumnFacts
-pub mod ColumnPoints
-pub mod Columns
 pub mod Masks
-pub mod Opened
-pub mod OpenedFacts
-pub mod PlainChunkFacts
-pub mod PlainChunks
-pub mod RowFacts
 pub mod SchemeClauses
 pub mod Stops

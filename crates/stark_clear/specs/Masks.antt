@@ -7,7 +7,7 @@ use Rattle.stark_support.specs.Powers.{power}
 use Rattle.stark_support.specs.Polynomial.{polynomial_ring, scaled}
 use Rattle.stark_support.specs.Coset.{TwoAdicCoset, coset_part, coset_size}
 use Rattle.stark_support.specs.Scheme.{MaskedColumn, QuotientChunk}
-use Rattle.stark_clear.specs.PlainChunks.{ArePlainChunks}
+use Rattle.stark_columns.specs.PlainChunks.{ArePlainChunks}
 
 -- `count` elements of a sequence from the `first` on
 abbrev pub range : {A : Type 0} → (ℕ → A) → ℕ → ℕ → List A

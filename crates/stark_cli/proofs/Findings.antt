@@ -83,9 +83,11 @@ module _ {I : Type 0} (memory : Finding) (no_answer : IsNoAnswer memory) (IsFoun
       let is : v ≡ verdict.Accepted = only_accepted v e in
       inl (subst (λ w. FindsSome IsFound known (finding.Verdict w)) is (finds known (finding.Verdict v) e found), subst (λ w. Appends old new (line_of w)) is wrote)
   said_so known (finding.Proof line) old new e found wrote = inr (finding.Proof line, inl tt, finds known (finding.Proof line) refl found, wrote)
-  said_so known (finding.Text text) old new e found wrote = inr (finding.Text text, inr tt, finds known (finding.Text text) refl found, wrote)
+  said_so known (finding.Text text) old new e found wrote = inr (finding.Text text, inr (inl tt), finds known (finding.Text text) refl found, wrote)
+  said_so known finding.Satisfied old new e found wrote = inr (finding.Satisfied, inr (inr refl), finds known finding.Satisfied refl found, wrote)
+  said_so known (finding.Broken row) old new e found wrote = absurd (let h : Refused ≡ Accepted = e in cc)
 
-  -- A run that ends by `Accepted` found an input accepted, or a proof or a text of it, and said so.
+  -- A run that ends by `Accepted` found an input accepted, or a proof or a text of it, or that it satisfies, and said so.
   pub accepts_or_tells : (known : Option I) (end : RunEnd) (old new : Option (List ℕ))
       → (end ≡ InputFailed) ⊎ SaysFound memory IsFound known end old new → end ≡ Accepted → AcceptsOrTells IsFound known old new
   accepts_or_tells known InputFailed old new found e = absurd (cc)

@@ -23,6 +23,10 @@ first_of_text : (bytes : List ℕ) → take 1 bytes ≡ codes "c" → first_of b
 first_of_text [] e = absurd (cc)
 first_of_text (x ∷ xs) e = let h : x ∷ take 0 xs ≡ 99 ∷ [] = e in cc
 
+first_of_row : (bytes : List ℕ) → take 1 bytes ≡ codes "r" → first_of bytes ≡ 114
+first_of_row [] e = absurd (cc)
+first_of_row (x ∷ xs) e = let h : x ∷ take 0 xs ≡ 114 ∷ [] = e in cc
+
 -- a front of a line begins as the line does
 pub first_of_front : (count : ℕ) (line : List ℕ) (c : ℕ) → c ≢ 0 → first_of (take count line) ≡ c → first_of line ≡ c
 first_of_front zero [] c some e = e
@@ -37,6 +41,8 @@ accepted_finding (finding.Verdict verdict.BadInput) begins e = absurd (let h : 9
 accepted_finding (finding.Verdict verdict.OutOfMemory) begins e = absurd (let h : 111 ≡ 97 = e in omega arith)
 accepted_finding (finding.Proof line) begins e = absurd (let h : 123 ≡ 97 = sym (first_of_object _ begins) ∙ e in omega arith)
 accepted_finding (finding.Text text) begins e = absurd (let h : 99 ≡ 97 = sym (first_of_text _ begins) ∙ e in omega arith)
+accepted_finding finding.Satisfied begins e = absurd (let h : 115 ≡ 97 = e in omega arith)
+accepted_finding (finding.Broken row) begins e = absurd (let h : 114 ≡ 97 = sym (first_of_row _ begins) ∙ e in omega arith)
 
 proof_finding : (f : Finding) → BeginsAsItsKind f → first_of (finding_line f) ≡ 123 → IsProof f
 proof_finding (finding.Verdict verdict.Accepted) begins e = absurd (let h : 97 ≡ 123 = e in omega arith)
@@ -45,6 +51,8 @@ proof_finding (finding.Verdict verdict.BadInput) begins e = absurd (let h : 98 �
 proof_finding (finding.Verdict verdict.OutOfMemory) begins e = absurd (let h : 111 ≡ 123 = e in omega arith)
 proof_finding (finding.Proof line) begins e = tt
 proof_finding (finding.Text text) begins e = absurd (let h : 99 ≡ 123 = sym (first_of_text _ begins) ∙ e in omega arith)
+proof_finding finding.Satisfied begins e = absurd (let h : 115 ≡ 123 = e in omega arith)
+proof_finding (finding.Broken row) begins e = absurd (let h : 114 ≡ 123 = sym (first_of_row _ begins) ∙ e in omega arith)
 
 -- what a run wrote is what it appended
 pub wrote : (old new : Option (List ℕ)) (bytes line : List ℕ) → Wrote old new bytes → Appends old new line → bytes ≡ line

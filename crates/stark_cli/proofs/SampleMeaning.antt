@@ -89,10 +89,14 @@ module _ (verified : SampleAir → List ℕ → Verdict → Type 0) (sound : Sam
       let same : other ≡ air = cc in
       subst (λ a. sound a input) same (h.3 (sym (same_verdict _ _ h.1)))
 
+no_verdict : (v : Verdict) → finding.Satisfied ≡ finding.Verdict v → ⊥
+no_verdict v is = cc
+
 -- Where proofs that are found are proofs of the trace that was read.
 module _ (verified : SampleAir → List ℕ → Verdict → Type 0) (sound : SampleAir → List ℕ → Type 0) (proved : SampleAir → List ℕ → Finding → Type 0) (proof_line : SampleAir → List ℕ → List ℕ → Type 0)
     (finds_proofs : (air : SampleAir) (input : List ℕ) (f : Finding) → proved air input f → IsProof f → proof_line air input (finding_line f))
-    (shows_none : (air : SampleAir) (input : List ℕ) (f : Finding) → proved air input f → IsText f → ⊥) where
+    (shows_none : (air : SampleAir) (input : List ℕ) (f : Finding) → proved air input f → IsText f → ⊥)
+    (satisfies_none : (air : SampleAir) (input : List ℕ) → proved air input finding.Satisfied → ⊥) where
   named_prover : (command : Option Command) (input : List ℕ) (f : Finding) → IsFinding verified sound proved command input f → IsProof f → (air : SampleAir) × (command ≡ Some (Prove air)) × proof_line air input (finding_line f)
   unfolding IsFinding
   named_prover None input f found is = absurd (no_proof f verdict.BadInput found is)
@@ -106,6 +110,13 @@ module _ (verified : SampleAir → List ℕ → Verdict → Type 0) (sound : Sam
   finds_no_text (Some (Check air)) input f found is = no_text f _ found is
   finds_no_text (Some (Verify air)) input f found is = no_text f found.0 found.1 is
   finds_no_text (Some (Prove air)) input f found is = shows_none air input f found is
+
+  satisfies_nothing : (command : Option Command) (input : List ℕ) → IsFinding verified sound proved command input finding.Satisfied → ⊥
+  unfolding IsFinding
+  satisfies_nothing None input found = let clash : finding.Satisfied ≡ finding.Verdict verdict.BadInput = found in cc
+  satisfies_nothing (Some (Check air)) input found = no_verdict _ found
+  satisfies_nothing (Some (Verify air)) input found = no_verdict found.0 found.1
+  satisfies_nothing (Some (Prove air)) input found = satisfies_none air input found
 
   -- What begins as an object does is the front of a proof of the trace that was read.
   proves_trace : (command : Option Command) (input bytes : List ℕ) → IsFrontOfProof (IsFinding verified sound proved command) input bytes → ProvesTrace proof_line command input bytes
@@ -125,4 +136,5 @@ module _ (verified : SampleAir → List ℕ → Verdict → Type 0) (sound : Sam
   ends_accepted command known old new (inr (f, inl is, some, made)) =
       let prover = named_prover command some.0 f some.2 is in
       inr (finding_line f, (prover.0, prover.1, some.0, some.1, prover.2), made)
-  ends_accepted command known old new (inr (f, inr is, some, made)) = absurd (finds_no_text command some.0 f some.2 is)
+  ends_accepted command known old new (inr (f, inr (inl is), some, made)) = absurd (finds_no_text command some.0 f some.2 is)
+  ends_accepted command known old new (inr (f, inr (inr is), some, made)) = absurd (satisfies_nothing command some.0 (subst (λ g. IsFinding verified sound proved command some.0 g) is some.2))

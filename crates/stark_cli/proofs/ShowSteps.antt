@@ -1,5 +1,5 @@
 -- From what was read of a statement to what is shown of it.
-use Rattle.std.proofs.Common.{◌≡◌, ◌⊎◌, ℕ, List, Ok}
+use Rattle.std.proofs.Common.{◌≡◌, ◌⊎◌, ℕ, List, Ok, subst}
 use Rattle.stark_statement.specs.StatementView.{StatementView}
 use Rattle.stark_commands.specs.Input.{Base}
 use Rattle.stark_commands.specs.StatementFacts.{said_of_read, said_without_statement}
@@ -19,3 +19,6 @@ module _ (number : Base → ℕ) (bytes : List ℕ) (f : Finding) where
   pub nothing_shown : (v : Verdict) → f ≡ finding.Verdict v → (v ≡ verdict.OutOfMemory) ⊎ IsSaidOfNone (spelled_by bytes) v → (f ≡ no_memory) ⊎ IsShowing number bytes f
   unfolding IsShowing
   nothing_shown v is none = said_without_statement (λ w. finding.Verdict w) (IsShownOf number) (spelled_by bytes) v f is none
+
+  pub shown_of_same : (others : List ℕ) → bytes ≡ others → (f ≡ no_memory) ⊎ IsShowing number bytes f → (f ≡ no_memory) ⊎ IsShowing number others f
+  shown_of_same others same shown = subst (λ t. (f ≡ no_memory) ⊎ IsShowing number t f) same shown

@@ -1,12 +1,13 @@
 -- What the words after the name of `voskligan` ask for.
-use Rattle.std.specs.Prelude.{ℕ, List, [], ◌∷◌, if◌then◌else◌, Option, None, Some, codes}
+use Rattle.std.specs.Prelude.{ℕ, Bool, ◌&&◌, List, [], ◌∷◌, if◌then◌else◌, Option, None, Some, codes}
 use Rattle.std.specs.Str.{bytes_eq}
 use Rattle.stark_cli.specs.declared.arguments.InputWord.{InputWord}
 use Rattle.stark_cli.specs.declared.arguments.InputWord.TheVariants as word
 use Rattle.stark_cli.specs.declared.arguments.Request.{Request}
 use Rattle.stark_cli.specs.declared.arguments.Request.TheVariants as request
 use Rattle.stark_cli.specs.declared.statements.Verb.{Verb}
-use Rattle.stark_cli.specs.declared.statements.Verb.TheVariants.{Prove, Show, Verify}
+use Rattle.stark_cli.specs.declared.statements.Verb.TheVariants.{Show, Trace, Verify}
+use Rattle.stark_commands.specs.declared.task.TraceTask.TheVariants.{Check, Prove, ProveUnchecked}
 
 -- what is read: nothing, standard input, or the file of a path
 pub data InputName : Type 0 where
@@ -35,7 +36,8 @@ request_view (request.Run t) = task t.verb (input_view t.statement) (input_view 
 unfoldable pub verb_of : List ℕ → Option Verb
 verb_of w =
     if bytes_eq w (codes "verify") then Some Verify
-    else if bytes_eq w (codes "prove") then Some Prove
+    else if bytes_eq w (codes "prove") then Some (Trace Prove)
+    else if bytes_eq w (codes "check") then Some (Trace Check)
     else if bytes_eq w (codes "show") then Some Show
     else None
 
@@ -53,21 +55,31 @@ abbrev pub with_one : Option Verb → InputName → Asked
 with_one None statement = unknown
 with_one (Some Show) statement = task Show statement nothing
 with_one (Some Verify) statement = unless_twice Verify statement standard
-with_one (Some Prove) statement = unless_twice Prove statement standard
+with_one (Some (Trace asked)) statement = unless_twice (Trace asked) statement standard
 
 abbrev pub with_two : Option Verb → InputName → InputName → Asked
 with_two None statement second = unknown
 with_two (Some Show) statement second = unknown
 with_two (Some Verify) statement second = unless_twice Verify statement second
-with_two (Some Prove) statement second = unless_twice Prove statement second
+with_two (Some (Trace asked)) statement second = unless_twice (Trace asked) statement second
 
 abbrev pub alone : List ℕ → Asked
 alone w = if bytes_eq w (codes "--help") then help else if bytes_eq w (codes "--version") then version else unknown
+
+-- a verb with what names its inputs
+abbrev pub with_inputs : Option Verb → List (List ℕ) → Asked
+with_inputs verb [] = unknown
+with_inputs verb (statement ∷ []) = with_one verb (input_of statement)
+with_inputs verb (statement ∷ second ∷ []) = with_two verb (input_of statement) (input_of second)
+with_inputs verb (statement ∷ second ∷ more ∷ rest) = unknown
+
+-- The words begin with `prove --unchecked`.
+abbrev pub is_unchecked : List ℕ → List ℕ → Bool
+is_unchecked verb flag = bytes_eq verb (codes "prove") && bytes_eq flag (codes "--unchecked")
 
 -- what the words ask for, each compared whole
 unfoldable pub request_of : List (List ℕ) → Asked
 request_of [] = unknown
 request_of (w ∷ []) = alone w
-request_of (verb ∷ statement ∷ []) = with_one (verb_of verb) (input_of statement)
-request_of (verb ∷ statement ∷ second ∷ []) = with_two (verb_of verb) (input_of statement) (input_of second)
-request_of (verb ∷ statement ∷ second ∷ more ∷ rest) = unknown
+request_of (verb ∷ next ∷ rest) =
+    if is_unchecked verb next then with_inputs (Some (Trace ProveUnchecked)) rest else with_inputs (verb_of verb) (next ∷ rest)

@@ -78,10 +78,10 @@ module _ {I : Type 0} (IsFound : I → Finding → Type 0) where
   abbrev pub FindsSome : Option I → Finding → Type 0
   FindsSome known f = (input : I) × IsInput known input × IsFound input f
 
-  -- An input was accepted and `accepted` was written, or a proof or a text was found and written.
+  -- An input was accepted and `accepted` was written; or a proof, a text or that a trace satisfies its AIR was found and written.
   abbrev pub AcceptsOrTells : Option I → Option (List ℕ) → Option (List ℕ) → Type 0
   AcceptsOrTells known old new = (FindsSome known (finding.Verdict verdict.Accepted) × Appends old new (line_of verdict.Accepted))
-      ⊎ ((f : Finding) × (IsProof f ⊎ IsText f) × FindsSome known f × Appends old new (finding_line f))
+      ⊎ ((f : Finding) × (IsProof f ⊎ (IsText f ⊎ (f ≡ finding.Satisfied))) × FindsSome known f × Appends old new (finding_line f))
 
   -- These bytes are the front of the line of a proof that is found of an input.
   abbrev pub IsFrontOfProof : I → List ℕ → Type 0

@@ -11,7 +11,7 @@ use Rattle.stark_show.specs.Shown.{IsShown, IsWhole, columns_text}
 use Rattle.stark_commands.specs.Finding.{BeginsAsItsKind, IsProof}
 use Rattle.stark_commands.specs.Input.{Base}
 use Rattle.stark_commands.specs.StatementFacts.{too_large_accepted}
-use Rattle.stark_commands.specs.Statements.{IsSaidOfRead}
+use Rattle.stark_commands.specs.Statements.{IsSaidOfRead, too_large}
 use Rattle.stark_commands.specs.declared.finding.Finding.{Finding}
 use Rattle.stark_commands.specs.declared.finding.Finding.TheVariants as finding
 use Rattle.stark_commands.specs.declared.verdict.Verdict.TheVariants as verdict
@@ -38,6 +38,8 @@ module _ (number : Base → ℕ) where
   IsShownOf s (finding.Text text) = ShowsAir number s (string_bytes text)
   IsShownOf s (finding.Proof line) = ⊥
   IsShownOf s (finding.Verdict v) = ⊥
+  IsShownOf s finding.Satisfied = ⊥
+  IsShownOf s (finding.Broken row) = ⊥
 
   -- This is shown of the bytes of a statement; bytes that spell none are bad input, and an AIR that passes a limit is refused.
   unfoldable pub IsShowing : List ℕ → Finding → Type 0
@@ -53,6 +55,8 @@ module _ (number : Base → ℕ) where
   of_text s (finding.Text text) shown = first_letter s (string_bytes text) shown
   of_text s (finding.Proof line) shown = absurd shown
   of_text s (finding.Verdict v) shown = absurd shown
+  of_text s finding.Satisfied shown = absurd shown
+  of_text s (finding.Broken row) shown = absurd shown
 
   read_begins : (read : Result (StatementView Base) StatementFault) (f : Finding) → IsSaidOfRead (λ v. finding.Verdict v) (IsShownOf number) read f → BeginsAsItsKind f
   unfolding IsSaidOfRead
@@ -80,7 +84,19 @@ module _ (number : Base → ℕ) where
   read_proves_none (Ok s) (finding.Text text) (inl shown) is = is
   read_proves_none (Ok s) (finding.Verdict v) (inl shown) is = is
   read_proves_none (Ok s) (finding.Proof line) (inl shown) is = shown.1
+  read_proves_none (Ok s) finding.Satisfied (inl shown) is = is
+  read_proves_none (Ok s) (finding.Broken row) (inl shown) is = is
   read_proves_none (Ok s) f (inr large) is = subst IsProof large.1 is
+
+  read_satisfies_none : (read : Result (StatementView Base) StatementFault) → IsSaidOfRead (λ v. finding.Verdict v) (IsShownOf number) read finding.Satisfied → ⊥
+  unfolding IsSaidOfRead
+  read_satisfies_none (Err fault) bad = let clash : finding.Satisfied ≡ finding.Verdict verdict.BadInput = bad in cc
+  read_satisfies_none (Ok s) (inl shown) = shown.1
+  read_satisfies_none (Ok s) (inr large) = let clash : finding.Satisfied ≡ finding.Verdict too_large = large.1 in cc
+
+  pub showing_satisfies_none : (bytes : List ℕ) → IsShowing number bytes finding.Satisfied → ⊥
+  unfolding IsShowing
+  showing_satisfies_none bytes showing = read_satisfies_none (spelled_by bytes) showing
 
   pub showing_proves_none : (bytes : List ℕ) (f : Finding) → IsShowing number bytes f → IsProof f → ⊥
   unfolding IsShowing

@@ -1,17 +1,19 @@
 //! The words after the name of `voskligan`.
 
 ghost use Rattle.std.specs.Prelude.{◌≡◌, map, string_bytes};
-ghost use Rattle.stark_cli.specs.Arguments.{alone, input_of, input_view, request_of, request_view, unless_twice, verb_of, with_one, with_two};
+ghost use Rattle.stark_cli.specs.Arguments.{alone, input_of, input_view, is_unchecked, request_of, request_view, unless_twice, verb_of, with_inputs, with_one, with_two};
 
 use crate::statements::Verb;
+use stark_commands::TraceTask;
 
 /// How the program is used.
 pub const USAGE: &str = "usage: voskligan verify STATEMENT [PROOF]
-       voskligan prove STATEMENT [TRACE]
+       voskligan prove [--unchecked] STATEMENT [TRACE]
+       voskligan check STATEMENT [TRACE]
        voskligan show STATEMENT
        voskligan --help | --version
 Each word is a file's path, or - for standard input, which a last word that is left out stands for.
-Status 0: accepted, proved or shown. 1: refused. 2: not judged.
+Status 0: accepted, proved, satisfied, shown. 1: refused, a constraint broken. 2: not judged.
 ";
 
 /// What a word names.
@@ -51,7 +53,8 @@ fn verb_of(word: &str) -> Option<Verb>
 {
     match word {
         "verify" => Some(Verb::Verify),
-        "prove" => Some(Verb::Prove),
+        "prove" => Some(Verb::Trace(TraceTask::Prove)),
+        "check" => Some(Verb::Trace(TraceTask::Check)),
         "show" => Some(Verb::Show),
         _ => None,
     }
@@ -117,19 +120,39 @@ fn with_two<'w>(verb: Option<Verb>, statement: InputWord<'w>, second: InputWord<
     }
 }
 
+/// What a verb asks for with the words that name its inputs.
+fn with_inputs<'w>(verb: Option<Verb>, words: &'w [String]) -> Request<'w>
+    ensures { request_view result ≡ with_inputs verb (map string_bytes words.now) }
+{
+    match words {
+        [statement] => with_one(verb, input_of(statement.as_str())),
+        [statement, second] => with_two(
+            verb,
+            input_of(statement.as_str()),
+            input_of(second.as_str()),
+        ),
+        _ => Request::Unknown,
+    }
+}
+
+/// Whether words begin with `prove --unchecked`.
+fn is_unchecked(verb: &str, flag: &str) -> bool
+    ensures { result ≡ is_unchecked verb.now flag.now }
+{
+    verb == "prove" && flag == "--unchecked"
+}
+
 /// What the words after the program's name ask for, each compared whole.
 #[tactic(auto, unfolding(crate::specs::Arguments::request_of))]
 pub fn request_of<'w>(words: &'w [String]) -> Request<'w>
     ensures { request_view result ≡ request_of (map string_bytes words.now) }
 {
     match words {
+        [] => Request::Unknown,
         [word] => alone(word.as_str()),
-        [verb, statement] => with_one(verb_of(verb.as_str()), input_of(statement.as_str())),
-        [verb, statement, second] => with_two(
-            verb_of(verb.as_str()),
-            input_of(statement.as_str()),
-            input_of(second.as_str()),
-        ),
-        _ => Request::Unknown,
+        [verb, flag, inputs @ ..] if is_unchecked(verb.as_str(), flag.as_str()) => {
+            with_inputs(Some(Verb::Trace(TraceTask::ProveUnchecked)), inputs)
+        }
+        [verb, inputs @ ..] => with_inputs(verb_of(verb.as_str()), inputs),
     }
 }

@@ -32,10 +32,15 @@ fn showing_of(alloc: Global, statement: &Statement<F12289>) -> Report<Finding>
 /// constraints and nodes, how many chunks its quotient is cut into, and how many challenges can be
 /// bad at the field's greatest height; `bad input` where they spell none, and `refused AirTooLarge`
 /// where the AIR passes a limit.
-pub fn show_statement(alloc: Global, bytes: &[u8]) -> Report<Finding>
-    ensures { (result.answer ≡ no_memory) ⊎ IsShowing (⟦<F12289 as PrimeField64>⟧.number_of) bytes.now result.answer }
+///
+/// The bytes are let go of once they are read, before the text is made, which may be far longer.
+pub fn show_statement(alloc: Global, bytes: Vec<u8>) -> Report<Finding>
+    ensures { (result.answer ≡ no_memory)
+        ⊎ IsShowing (⟦<F12289 as PrimeField64>⟧.number_of) bytes.items result.answer }
 {
-    match read_statement(alloc, bytes) {
+    let read = read_statement(alloc, &bytes);
+    drop(bytes);
+    match read {
         Ok(statement) => showing_of(alloc, &statement),
         Err(report) => report.as_finding(),
     }

@@ -4,7 +4,7 @@ ghost use Rattle.std.specs.Prelude.{◌≡◌, ◌↔◌, ◌⊎◌, ℕ, List, 
 ghost use Rattle.std.specs.Io.KnownBytes.{Appends};
 ghost use Rattle.stark_cli.specs.Running.{Found, IsFindingEnd, IsFoundOrLacksMemory, SaysFound, SaysOf, WhereAccepted, WhereObject, both};
 ghost use Rattle.stark_cli.specs.Shown.{IsShowing};
-ghost use Rattle.stark_cli.specs.StatementRun.{Accepts, AcceptsInput, IsFinding, ProvesTrace, WritesProof, WritesText, no_memory};
+ghost use Rattle.stark_cli.specs.StatementRun.{Accepts, AcceptsInput, IsFinding, ProvesTrace, SaysSatisfied, WritesProof, WritesText, no_memory};
 ghost use Rattle.stark_cli.specs.declared.statements.Verb.{Verb};
 ghost use Rattle.stark_commands.specs.Verdict.{line_of};
 ghost use Rattle.stark_commands.specs.declared.finding.Finding.{Finding};
@@ -15,7 +15,7 @@ use crate::show::show_statement;
 use crate::streams::{InputFault, Sink, Source, read_to_end};
 use stark_bench::F12289;
 use stark_commands::{
-    Finding, Report, RunEnd, StatementAnswers, Verdict, prove_statement, verify_statement,
+    Finding, Report, RunEnd, StatementAnswers, TraceTask, Verdict, answer_trace, verify_statement,
 };
 use stark_statement::Statement;
 use stark_support::PrimeField64;
@@ -26,8 +26,8 @@ use std::alloc::Global;
 pub enum Verb {
     /// To verify a proof.
     Verify,
-    /// To prove a trace.
-    Prove,
+    /// To check or prove a trace.
+    Trace(TraceTask),
     /// To show its AIR.
     Show,
 }
@@ -54,12 +54,14 @@ impl StatementFindings for Statement<F12289> {
 
 /// What is found of the bytes of both.
 #[tactic(auto, unfolding(crate::specs::StatementRun::IsFinding))]
-fn answer(alloc: Global, verb: Verb, statement: &[u8], second: &[u8]) -> Report<Finding>
-    ensures { IsFoundOrLacksMemory no_memory (⟦<Statement<F12289> as StatementFindings>⟧.finding verb) (statement.now, second.now) result.answer }
+fn answer(alloc: Global, verb: Verb, statement: Vec<u8>, second: Vec<u8>) -> Report<Finding>
+    ensures { IsFoundOrLacksMemory no_memory
+        (⟦<Statement<F12289> as StatementFindings>⟧.finding verb)
+        (statement.items, second.items) result.answer }
 {
     match verb {
-        Verb::Verify => verify_statement(alloc, statement, second).as_finding(),
-        Verb::Prove => prove_statement(alloc, statement, second),
+        Verb::Verify => verify_statement(alloc, &statement, &second).as_finding(),
+        Verb::Trace(asked) => answer_trace(alloc, asked, &statement, &second),
         Verb::Show => show_statement(alloc, statement),
     }
 }
@@ -100,7 +102,7 @@ fn find<S: Source, R: Source>(
         Ok(bytes) => bytes,
         Err(fault) => return unread(fault),
     };
-    Ok(answer(alloc, verb, &first, &other))
+    Ok(answer(alloc, verb, first, other))
 }
 
 /// A run, by its exact clauses alone.
@@ -128,9 +130,11 @@ fn ran<S: Source, R: Source, W: Sink>(
     }
 }
 
-/// Runs the program on a statement and a second input: the proof that is verified, or the trace that is proved; to show takes none.
+/// Runs the program on a statement and a second input: the proof that is verified, or the trace that is checked or proved; to show
+/// takes none.
 ///
-/// Both are read to their ends, and one line is written, or the text that shows. The reason, in words, is for standard error; no clause
+/// Both are read to their ends, and one line is written, or the text that shows, or the two lines of a row that breaks a constraint.
+/// The reason, in words, is for standard error; no clause
 /// speaks of it.
 pub fn run<S: Source, R: Source, W: Sink>(
     alloc: Global,
@@ -157,12 +161,13 @@ pub fn run<S: Source, R: Source, W: Sink>(
     ensures sound { WhereAccepted (both (S.remaining statement.old) (R.remaining second.old)) (W.contents writer.old) (W.contents writer.new) (λ input. ⟦<Statement<F12289> as StatementAnswers>⟧.sound input.0 input.1) }
     // In every run what begins as an object does is the front of the line of a proof, for the statement, of the trace.
     ensures proved { WhereObject (both (S.remaining statement.old) (R.remaining second.old)) (W.contents writer.old) (W.contents writer.new) (ProvesTrace (⟦<Statement<F12289> as StatementAnswers>⟧.proof_line) verb) }
-    // A run ends so only where it wrote `accepted` for inputs that are accepted, a proof's line, or a text that shows a statement,
-    // whether or not the readers tell their bytes.
+    // A run ends so only where it wrote `accepted` for inputs that are accepted, a proof's line, a text that shows a statement, or, of a
+    // trace that is checked and satisfies the statement's AIR, that it does; whether or not the readers tell their bytes.
     ensures accepted_end { result.end ≡ RunEnd.Accepted
         → (AcceptsInput (⟦<Statement<F12289> as StatementAnswers>⟧.verdict) verb (both (S.remaining statement.old) (R.remaining second.old)) × Appends (W.contents writer.old) (W.contents writer.new) (line_of Verdict.Accepted))
         ⊎ (WritesProof (⟦<Statement<F12289> as StatementAnswers>⟧.proof_line) verb (both (S.remaining statement.old) (R.remaining second.old)) (W.contents writer.old) (W.contents writer.new)
-        ⊎ WritesText (⟦<Statement<F12289> as StatementFindings>⟧.shown) verb (both (S.remaining statement.old) (R.remaining second.old)) (W.contents writer.old) (W.contents writer.new)) }
+        ⊎ (WritesText (⟦<Statement<F12289> as StatementFindings>⟧.shown) verb (both (S.remaining statement.old) (R.remaining second.old)) (W.contents writer.old) (W.contents writer.new)
+        ⊎ SaysSatisfied (⟦<Statement<F12289> as StatementAnswers>⟧.found) verb (both (S.remaining statement.old) (R.remaining second.old)) (W.contents writer.old) (W.contents writer.new))) }
 {
     ran(alloc, verb, statement, second, writer)
 }

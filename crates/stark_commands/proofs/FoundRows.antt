@@ -9,9 +9,10 @@ use Rattle.stark_commands.specs.Airs.{CheckedAir}
 use Rattle.stark_commands.specs.Input.{Base, Extension}
 use Rattle.stark_commands.specs.SoundRun.{Listed}
 use Rattle.stark_commands.specs.Spelled.{declared_of}
-use Rattle.stark_commands.specs.Statements.{HasNoRows, HasRows, IsFoundOn, IsFoundWithRows, IsVerdictOn, IsVerdictWithRows, ReadsDeclared}
+use Rattle.stark_commands.specs.Statements.{HasNoRows, HasRows, IsToldOn, IsToldWithRows, IsVerdictOn, IsVerdictWithRows, ReadsDeclared}
 use Rattle.stark_commands.specs.declared.finding.Finding.{Finding}
 use Rattle.stark_commands.specs.declared.finding.Finding.TheVariants as finding
+use Rattle.stark_commands.specs.declared.task.TraceTask.{TraceTask}
 use Rattle.stark_commands.specs.declared.verdict.Verdict.{Verdict}
 use Rattle.stark_commands.specs.declared.verdict.Verdict.TheVariants as verdict
 use Rattle.stark_commands.proofs.VerdictSteps.{of_some}
@@ -39,17 +40,17 @@ module _ {S C K T P X Y : Type 0} (ops : ProtocolOps S Base Extension C K T P X 
   unfolding IsVerdictOn
   said_without_rows none is = inr (reads, inr (none, is))
 
-module _ {S C T X Y : Type 0} (ops : ProtocolOps S Base Extension C (Listed Base) T ClearProof X Y) (coordinates : Extension → List Base) (scheme : S) (start : StatementView Base → C) (read : Option (List (List Base))) (s : StatementView Base) (f : Finding) where
+module _ {S C T X Y : Type 0} (ops : ProtocolOps S Base Extension C (Listed Base) T ClearProof X Y) (coordinates : Extension → List Base) (scheme : S) (start : StatementView Base → C) (asked : TraceTask) (read : Option (List (List Base))) (s : StatementView Base) (f : Finding) where
   pub found_with_rows : (log_rows : ℕ) → 0 < (declared_of s.air).layout.main → HasRows (declared_of s.air) log_rows
-      → (f ≡ finding.Verdict verdict.OutOfMemory) ⊎ IsFoundWithRows ops coordinates scheme start s log_rows read f → (f ≡ finding.Verdict verdict.OutOfMemory) ⊎ IsFoundOn ops coordinates scheme start read s f
-  unfolding IsFoundOn
+      → (f ≡ finding.Verdict verdict.OutOfMemory) ⊎ IsToldWithRows ops coordinates scheme start asked s log_rows read f → (f ≡ finding.Verdict verdict.OutOfMemory) ⊎ IsToldOn ops coordinates scheme start asked read s f
+  unfolding IsToldOn
   found_with_rows log_rows columns rows (inl lacks) = inl lacks
   found_with_rows log_rows columns rows (inr found) = inr (inl (log_rows, columns, rows, found))
 
-  pub found_without_rows : HasNoRows (declared_of s.air) → f ≡ finding.Verdict verdict.BadInput → (f ≡ finding.Verdict verdict.OutOfMemory) ⊎ IsFoundOn ops coordinates scheme start read s f
-  unfolding IsFoundOn
+  pub found_without_rows : HasNoRows (declared_of s.air) → f ≡ finding.Verdict verdict.BadInput → (f ≡ finding.Verdict verdict.OutOfMemory) ⊎ IsToldOn ops coordinates scheme start asked read s f
+  unfolding IsToldOn
   found_without_rows none is = inr (inr (inr none, is))
 
-  pub found_without_columns : (declared_of s.air).layout.main ≡ 0 → f ≡ finding.Verdict verdict.BadInput → (f ≡ finding.Verdict verdict.OutOfMemory) ⊎ IsFoundOn ops coordinates scheme start read s f
-  unfolding IsFoundOn
+  pub found_without_columns : (declared_of s.air).layout.main ≡ 0 → f ≡ finding.Verdict verdict.BadInput → (f ≡ finding.Verdict verdict.OutOfMemory) ⊎ IsToldOn ops coordinates scheme start asked read s f
+  unfolding IsToldOn
   found_without_columns none is = inr (inr (inl none, is))

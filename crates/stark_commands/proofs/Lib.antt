@@ -14,4 +14,5 @@ pub mod StatementSteps
 pub mod TakenColumns
 pub mod TraceShapes
 pub mod TraceSteps
+pub mod TraceTasks
 pub mod VerdictSteps

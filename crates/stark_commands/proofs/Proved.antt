@@ -95,6 +95,8 @@ module _ {S C T X Y : Type 0} (ops : ProtocolOps S Base Extension C (Listed Base
     tells_prover (Ok proof) (finding.Proof line) tells holds = (proof_view proof, holds, tells (no_float (proof_view proof)))
     tells_prover (Ok proof) (finding.Verdict v) tells holds = absurd tells
     tells_prover (Ok proof) (finding.Text text) tells holds = absurd tells
+    tells_prover (Ok proof) finding.Satisfied tells holds = absurd tells
+    tells_prover (Ok proof) (finding.Broken row) tells holds = absurd tells
     tells_prover (Err error) f tells holds = subst (λ g. TellsProver program_writing (IsMadeOf ops coordinates i held height trace) (IsCause ops coordinates i held height trace) g) (sym tells) (error, holds, refl)
 
   memory_told : (answer : Result (Proof (Listed Base) Extension ClearProof Base) (ProvingError Y)) (f : Finding) → TellsAnswer program_writing answer f → answer ≡ Err ProvingError.OutOfMemory → f ≡ no_memory

@@ -17,7 +17,7 @@ use Rattle.stark_air.specs.Layout.{LeavesWithin}
 use Rattle.stark_transcript.specs.Shape.{opens_next_row}
 use Rattle.stark_proof.specs.ProofView.{PreprocessedView, ProofView}
 use Rattle.stark_clear.specs.ClearClaims.{ClaimsAreTrue}
-use Rattle.stark_clear.specs.ClearScheme.{IsFull, columns_of}
+use Rattle.stark_columns.specs.Columns.{IsFull, columns_of}
 use Rattle.stark_security.specs.ConstraintPolynomial.{AirInstance, Columns, height, next_point}
 use Rattle.stark_security.specs.BadValues.{Satisfies}
 use Rattle.stark_protocol.specs.Acceptance.{Accepted, domain_fault, height_fault, key_fault, log_parts, of_shape}

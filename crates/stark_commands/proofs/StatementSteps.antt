@@ -105,6 +105,8 @@ kept_finding (finding.Verdict v) = elim (kept_verdict v) [
 ]
 kept_finding (finding.Proof line) = inr refl
 kept_finding (finding.Text text) = inr refl
+kept_finding finding.Satisfied = inr refl
+kept_finding (finding.Broken row) = inr refl
 
 found_unjudged : (P : Finding → Type 0) (f g : Finding) → g ≡ unjudged_finding f → (f ≡ finding.Verdict (verdict.Refused refusal.OutOfMemory)) ⊎ P f → (g ≡ finding.Verdict verdict.OutOfMemory) ⊎ P g
 found_unjudged P f g is (inl memory) = inl (is ∙ ap unjudged_finding memory)
@@ -143,7 +145,7 @@ module _ {S C R T X Y : Type 0} (ops : ProtocolOps S Base Extension C (Listed Ba
   unfolding IsProvedRead IsProvedBy IsFoundWithRows
   hashed air rows f declares proved = subst (λ a. IsProvedRead ops script_ops coordinates log_rows scheme (start s) script_start a (Some (trace_numbers_of s rows)) f) declares proved
 
-  -- What is found of the rows that were read is found of the file.
+  -- What a prover finds of the rows that were read is found of the file.
   pub found_of_read : (air : CheckedAir) (state : C) (rows : List (List Base)) (f g : Finding) → read ≡ Some rows → air ≡ declared_of s.air → state ≡ start s → g ≡ unjudged_finding f
       → (f ≡ finding.Verdict (verdict.Refused refusal.OutOfMemory)) ⊎ IsProvedRead ops script_ops coordinates log_rows scheme state script_start air (Some (trace_numbers_of s rows)) f
       → (g ≡ finding.Verdict verdict.OutOfMemory) ⊎ IsFoundWithRows ops coordinates scheme start s log_rows read g
@@ -153,15 +155,6 @@ module _ {S C R T X Y : Type 0} (ops : ProtocolOps S Base Extension C (Listed Ba
         | inl memory ↦ inl memory
         | inr proved ↦ inr (hashed air rows g declares (subst (λ c. IsProvedRead ops script_ops coordinates log_rows scheme c script_start air (Some (trace_numbers_of s rows)) g) begins proved))
       ])
-
-module _ {S C T X Y : Type 0} (ops : ProtocolOps S Base Extension C (Listed Base) T ClearProof X Y) (coordinates : Extension → List Base) (scheme : S)
-    (start : StatementView Base → C) (s : StatementView Base) (log_rows : ℕ) (read : Option (List (List Base))) where
-  -- A file that spells none is bad input.
-  pub found_without_rows_read : (v : Verdict) (g : Finding) → g ≡ finding.Verdict v → (v ≡ verdict.OutOfMemory) ⊎ ((read ≡ None) × (v ≡ verdict.BadInput))
-      → (g ≡ finding.Verdict verdict.OutOfMemory) ⊎ IsFoundWithRows ops coordinates scheme start s log_rows read g
-  unfolding IsFoundWithRows
-  found_without_rows_read v g is (inl memory) = inl (is ∙ ap (λ w. finding.Verdict w) memory)
-  found_without_rows_read v g is (inr bad) = inr (subst (λ r. IsFoundWithRows ops coordinates scheme start s log_rows r g) (sym bad.0) (is ∙ ap (λ w. finding.Verdict w) bad.1))
 
 -- ---- parts that weren't read
 

@@ -6,7 +6,8 @@ use Rattle.stark_support.specs.Ring.{RingOps}
 use Rattle.stark_support.specs.Coset.{TwoAdicCoset, coset_size}
 use Rattle.stark_support.specs.Polynomial.{value_over, HasDegreeBelow}
 use Rattle.stark_support.specs.RecompositionPolynomial.{ChunksFit}
-use Rattle.stark_clear.specs.ClearClaims.{PlaceByPlace, HasValue, HasValues, MatrixHasShape, MatrixIsTrue, RoundHasShape, RoundIsTrue}
+use Rattle.stark_support.specs.Faults.{PlaceByPlace}
+use Rattle.stark_clear.specs.ClearClaims.{HasValue, HasValues, MatrixHasShape, MatrixIsTrue, RoundHasShape, RoundIsTrue}
 use Rattle.stark_security.specs.ConstraintPolynomial.{AirInstance, next_point}
 use Rattle.stark_protocol.specs.OpenedClaims.{chunk_claim, claims_of, preprocessed_rounds, row_points}
 use Rattle.stark_verifier.specs.TakenValues.{TakeOpenedValues, embedded_polynomials, values_at}

@@ -13,5 +13,6 @@ pub mod SoundRun
 pub mod Prove
 pub mod ProveFacts
 pub mod Spelled
+pub mod TraceChecks
 pub mod Statements
 pub mod StatementFacts

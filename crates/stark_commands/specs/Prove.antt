@@ -82,6 +82,8 @@ module _ {K E P F Y : Type 0} (writing : ProofView K E P F → Data) where
   TellsAnswer (Ok proof) (finding.Proof line) = has_float (writing (proof_view proof)) ≡ false → IsLineOf writing (proof_view proof) (string_bytes line)
   TellsAnswer (Ok proof) (finding.Verdict v) = ⊥
   TellsAnswer (Ok proof) (finding.Text text) = ⊥
+  TellsAnswer (Ok proof) finding.Satisfied = ⊥
+  TellsAnswer (Ok proof) (finding.Broken row) = ⊥
   TellsAnswer (Err error) f = f ≡ finding.Verdict (verdict.Refused (prover_refusal_of error))
 
   -- The finding is the line of a proof of which this holds, or names an error of which that holds.
@@ -92,6 +94,8 @@ module _ {K E P F Y : Type 0} (writing : ProofView K E P F → Data) where
   TellsProver Holds Fault (finding.Verdict verdict.BadInput) = ⊥
   TellsProver Holds Fault (finding.Verdict verdict.OutOfMemory) = ⊥
   TellsProver Holds Fault (finding.Text text) = ⊥
+  TellsProver Holds Fault finding.Satisfied = ⊥
+  TellsProver Holds Fault (finding.Broken row) = ⊥
 
 -- A proof of the program's configuration as JSON.
 abbrev pub program_writing : ProofView (Listed Base) Extension ClearProof Base → Data

@@ -29,16 +29,22 @@ module _ {Y : Type 0} (Holds : ProofView (Listed Base) Extension ClearProof Base
   tells_begin (finding.Proof line) tells = ap (take 1) tells.2 ∙ object_of_proof tells.0
   tells_begin (finding.Verdict v) tells = tt
   tells_begin (finding.Text text) tells = absurd tells
+  tells_begin finding.Satisfied tells = absurd tells
+  tells_begin (finding.Broken row) tells = absurd tells
 
   tells_line : (f : Finding) → IsProof f → TellsProver program_writing Holds Fault f → (p : ProofView (Listed Base) Extension ClearProof Base) × Holds p × IsLineOf program_writing p (finding_line f)
   tells_line (finding.Proof line) is tells = tells
   tells_line (finding.Verdict v) is tells = absurd is
   tells_line (finding.Text text) is tells = absurd is
+  tells_line finding.Satisfied is tells = absurd is
+  tells_line (finding.Broken row) is tells = absurd is
 
   tells_no_text : (f : Finding) → TellsProver program_writing Holds Fault f → IsText f → ⊥
   tells_no_text (finding.Text text) tells is = tells
   tells_no_text (finding.Proof line) tells is = is
   tells_no_text (finding.Verdict v) tells is = is
+  tells_no_text finding.Satisfied tells is = is
+  tells_no_text (finding.Broken row) tells is = is
 
 -- What is found of an input that isn't read.
 pub not_read_begins : (f : Finding) → f ≡ finding.Verdict verdict.BadInput → BeginsAsItsKind f
@@ -49,6 +55,9 @@ not_read_proof f is proof = subst IsProof is proof
 
 pub not_read_text : (f : Finding) → f ≡ finding.Verdict verdict.BadInput → IsText f → ⊥
 not_read_text f is text = subst IsText is text
+
+pub not_read_satisfied : finding.Satisfied ≡ finding.Verdict verdict.BadInput → ⊥
+not_read_satisfied is = cc
 
 pub not_read_accepted : finding.Verdict verdict.Accepted ≡ finding.Verdict verdict.BadInput → ⊥
 not_read_accepted is = cc
@@ -69,6 +78,10 @@ module _ {S C T X Y : Type 0} (ops : ProtocolOps S Base Extension C (Listed Base
   pub accepted_alone : IsProved ops coordinates log_rows scheme first_state air height trace publics ood_bits alpha_bits (finding.Verdict verdict.Accepted) → ⊥
   unfolding IsProved
   accepted_alone proved = proved.2
+
+  pub satisfied_alone : IsProved ops coordinates log_rows scheme first_state air height trace publics ood_bits alpha_bits finding.Satisfied → ⊥
+  unfolding IsProved
+  satisfied_alone proved = proved.2
 
 module _ {S H R T X Y : Type 0} (hashing_ops : ProtocolOps S Base Extension H (Listed Base) T ClearProof X Y) (script_ops : ProtocolOps S Base Extension R (Listed Base) T ClearProof X Y) (coordinates : Extension → List Base)
     (log_rows : ℕ) (scheme : S) (hashing_start : H) (script_start : List Base → R) (air : CheckedAir) where
@@ -94,6 +107,11 @@ module _ {S H R T X Y : Type 0} (hashing_ops : ProtocolOps S Base Extension H (L
     accepted_by hashing proved = accepted_alone hashing_ops coordinates log_rows scheme hashing_start air height trace publics ood_bits alpha_bits proved
     accepted_by (scripted numbers) proved = accepted_alone script_ops coordinates log_rows scheme (script_start numbers) air height trace publics ood_bits alpha_bits proved
 
+    satisfied_by : (named : NamedChallenger) → IsProvedBy hashing_ops script_ops coordinates log_rows scheme hashing_start script_start air height trace publics ood_bits alpha_bits named finding.Satisfied → ⊥
+    unfolding IsProvedBy
+    satisfied_by hashing proved = satisfied_alone hashing_ops coordinates log_rows scheme hashing_start air height trace publics ood_bits alpha_bits proved
+    satisfied_by (scripted numbers) proved = satisfied_alone script_ops coordinates log_rows scheme (script_start numbers) air height trace publics ood_bits alpha_bits proved
+
   -- A proof's line begins as an object does.
   pub proved_begins : (read : Option TraceNumbers) (f : Finding) → IsProvedRead hashing_ops script_ops coordinates log_rows scheme hashing_start script_start air read f → BeginsAsItsKind f
   unfolding IsProvedRead
@@ -115,6 +133,13 @@ module _ {S H R T X Y : Type 0} (hashing_ops : ProtocolOps S Base Extension H (L
   proved_accepts_none None proved = not_read_accepted proved
   proved_accepts_none (Some m) (inl found) = accepted_by found.0 (trace_of air.layout.main m.rows) m.publics m.ood_bits m.alpha_bits m.challenger found.2
   proved_accepts_none (Some m) (inr other) = not_read_accepted other.1
+
+  -- Nor does it find that a trace satisfies its AIR.
+  pub proved_satisfies_none : (read : Option TraceNumbers) → IsProvedRead hashing_ops script_ops coordinates log_rows scheme hashing_start script_start air read finding.Satisfied → ⊥
+  unfolding IsProvedRead
+  proved_satisfies_none None proved = not_read_satisfied proved
+  proved_satisfies_none (Some m) (inl found) = satisfied_by found.0 (trace_of air.layout.main m.rows) m.publics m.ood_bits m.alpha_bits m.challenger found.2
+  proved_satisfies_none (Some m) (inr other) = not_read_satisfied other.1
 
   -- Nor does it show anything.
   pub proved_no_text : (read : Option TraceNumbers) (f : Finding) → IsProvedRead hashing_ops script_ops coordinates log_rows scheme hashing_start script_start air read f → IsText f → ⊥

@@ -4,7 +4,6 @@ use Rattle.serde_json.specs.Data.{Data}
 use Rattle.stark_support.specs.Json.{◌>>=◌, array_at, json_of}
 use Rattle.stark_support.specs.declared.json.JsonFault.{JsonFault}
 use Rattle.stark_support.specs.declared.json.JsonFault.TheVariants.{Invalid, OutOfMemory}
-use Rattle.stark_support.specs.Sponge.{observed_bytes}
 use Rattle.stark_air.specs.Declaration.{IsDeclared}
 use Rattle.stark_air.specs.Layout.{LeavesWithin}
 use Rattle.stark_fields.specs.ElementJson.{base_at, element_at}
@@ -14,7 +13,7 @@ use Rattle.stark_proof.specs.ProofJson.{proof_reading}
 use Rattle.stark_proof.specs.ProofView.{ProofView}
 use Rattle.stark_protocol.specs.Instance.{ProtocolOps}
 use Rattle.stark_protocol.specs.Preprocessing.{HasHeight}
-use Rattle.stark_statement.specs.StatementBytes.{statement_bytes}
+use Rattle.stark_statement.specs.StatementBytes.{after_statement}
 use Rattle.stark_statement.specs.StatementJson.{StatementFault}
 use Rattle.stark_statement.specs.Limits.{IsWithin, default_limits}
 use Rattle.stark_statement.specs.StatementView.{StatementView, statement_view}
@@ -25,11 +24,14 @@ use Rattle.stark_commands.specs.Prove.{IsProofLine, IsProved}
 use Rattle.stark_commands.specs.ProofInput.{hashing, ok_of}
 use Rattle.stark_commands.specs.SoundRun.{IsSoundWithKey, Listed}
 use Rattle.stark_commands.specs.Spelled.{declared_of}
+use Rattle.stark_commands.specs.TraceChecks.{IsCheckedWithRows, IsFirstChecked}
 use Rattle.stark_commands.specs.TraceInput.{HasTraceShape, TraceNumbers, trace_of}
 use Rattle.stark_commands.specs.Verify.{IsVerdict}
 use Rattle.stark_commands.specs.declared.finding.Finding.{Finding}
 use Rattle.stark_commands.specs.declared.finding.Finding.TheVariants as finding
 use Rattle.stark_commands.specs.declared.report.Report.{Report}
+use Rattle.stark_commands.specs.declared.task.TraceTask.{TraceTask}
+use Rattle.stark_commands.specs.declared.task.TraceTask.TheVariants as task
 use Rattle.stark_commands.specs.declared.verdict.Refusal.TheVariants as refusal
 use Rattle.stark_commands.specs.declared.verdict.Verdict.{Verdict}
 use Rattle.stark_commands.specs.declared.verdict.Verdict.TheVariants as verdict
@@ -100,9 +102,9 @@ pub record ReadsDeclared (air : CheckedAir) : Type 0 where
   pub within : LeavesWithin air.layout air.constraints
   pub counted : IsDeclared air.layout air.preprocessed_trace air.periodic_columns air.next_columns air.preprocessed_next_columns
 
--- The state of a challenger that has observed a statement and nothing else.
+-- The state of a challenger that has observed a statement, by its digest, and nothing else.
 unfoldable pub bound_state : {C : Type 0} → (C → Base → C) → (ℕ → Base) → (Base → ℕ) → C → StatementView Base → C
-bound_state observe of_number number_of fresh s = observed_bytes observe of_number (statement_bytes number_of s) fresh
+bound_state observe of_number number_of fresh s = after_statement observe of_number number_of s fresh
 
 -- What the prover is handed: the rows that were read, beside the statement's values, with the challenger that hashes.
 abbrev pub trace_numbers_of : StatementView Base → List (List Base) → TraceNumbers
@@ -155,10 +157,17 @@ module _ {S C T X Y : Type 0} (ops : ProtocolOps S Base Extension C (Listed Base
       × IsProved ops coordinates log_rows scheme (start s) (declared_of s.air) height (trace_of (declared_of s.air).layout.main rows) s.public_values s.ood_bits s.alpha_bits f)
       ⊎ (((height : ℕ) → HasTraceShape (shape_of (declared_of s.air)) log_rows (trace_numbers_of s rows) height → ⊥) × (f ≡ finding.Verdict verdict.BadInput))
 
-  -- The AIR has main columns, and this is found of the rows, with what is set up for those of its preprocessed columns; or it has none,
+  -- What is told of the rows under a task: what a check finds, what a prover finds, or what a prover finds where a check finds the trace
+  -- satisfying, and else what the check finds.
+  unfoldable pub IsToldWithRows : TraceTask → StatementView Base → ℕ → Option (List (List Base)) → Finding → Type 0
+  IsToldWithRows task.Check s log_rows read f = IsCheckedWithRows s log_rows read f
+  IsToldWithRows task.Prove s log_rows read f = IsFirstChecked (IsCheckedWithRows s log_rows read) (IsFoundWithRows s log_rows read) f
+  IsToldWithRows task.ProveUnchecked s log_rows read f = IsFoundWithRows s log_rows read f
+
+  -- The AIR has main columns, and this is told of the rows, with what is set up for those of its preprocessed columns; or it has none,
   -- or they have no number of rows that a key can have, and the statement is bad input.
-  unfoldable pub IsFoundOn : Option (List (List Base)) → StatementView Base → Finding → Type 0
-  IsFoundOn read s f = ((log_rows : ℕ) × (0 < (declared_of s.air).layout.main) × HasRows (declared_of s.air) log_rows × IsFoundWithRows s log_rows read f)
+  unfoldable pub IsToldOn : TraceTask → Option (List (List Base)) → StatementView Base → Finding → Type 0
+  IsToldOn task read s f = ((log_rows : ℕ) × (0 < (declared_of s.air).layout.main) × HasRows (declared_of s.air) log_rows × IsToldWithRows task s log_rows read f)
       ⊎ ((((declared_of s.air).layout.main ≡ 0) ⊎ HasNoRows (declared_of s.air)) × (f ≡ finding.Verdict verdict.BadInput))
 
   unfoldable pub IsLineWithRows : StatementView Base → ℕ → Option (List (List Base)) → List ℕ → Type 0

@@ -15,7 +15,7 @@ ghost use Rattle.stark_commands.specs.TraceInput.{HasTraceShape, trace_numbers, 
 ghost use Rattle.stark_commands.specs.Finding.{BeginsAsItsKind, IsProof, IsText, finding_line};
 ghost use Rattle.stark_commands.specs.declared.finding.Finding.{Finding};
 ghost use Rattle.stark_commands.specs.declared.verdict.Verdict.{Verdict};
-ghost use Rattle.stark_commands.specs.ProveFacts.{proved_accepts_none, proved_begins, proved_line, proved_no_text};
+ghost use Rattle.stark_commands.specs.ProveFacts.{proved_accepts_none, proved_begins, proved_line, proved_no_text, proved_satisfies_none};
 ghost use Rattle.stark_commands.specs.Prove.{AnswersWithHeld, IsProofOfRead, IsProved, IsProvedBy, IsProvedRead, IsTraceFor, TellsAnswer, program_writing};
 
 use crate::airs::DeclaredAir;
@@ -59,6 +59,9 @@ pub trait ProvedInput {
     /// A prover accepts nothing.
     ghost accepts_none: { (air : Self) (input : List ℕ) → proved air input (Finding.Verdict Verdict.Accepted) → ⊥ };
 
+    /// Nor does it find that a trace satisfies its AIR.
+    ghost satisfies_none: { (air : Self) (input : List ℕ) → proved air input Finding.Satisfied → ⊥ };
+
     /// Nor does it show anything.
     ghost shows_none: { (air : Self) (input : List ℕ) (f : Finding) → proved air input f → IsText f → ⊥ };
 }
@@ -81,6 +84,10 @@ impl ProvedInput for SampleAir {
         (⟦<Extension as ExtensionField<F12289>>⟧.coordinates) 2 clear_pcs (replicate 32 0) (λ numbers. (numbers, 0)) (sample air) (trace_numbers_in input) f found };
 
     ghost accepts_none = { λ air input found. proved_accepts_none
+        (⟦<ProgramConfig<Sha256Challenger<F12289>> as StarkOperations>⟧.operations) (⟦<ProgramConfig<ScriptChallenger<F12289>> as StarkOperations>⟧.operations)
+        (⟦<Extension as ExtensionField<F12289>>⟧.coordinates) 2 clear_pcs (replicate 32 0) (λ numbers. (numbers, 0)) (sample air) (trace_numbers_in input) found };
+
+    ghost satisfies_none = { λ air input found. proved_satisfies_none
         (⟦<ProgramConfig<Sha256Challenger<F12289>> as StarkOperations>⟧.operations) (⟦<ProgramConfig<ScriptChallenger<F12289>> as StarkOperations>⟧.operations)
         (⟦<Extension as ExtensionField<F12289>>⟧.coordinates) 2 clear_pcs (replicate 32 0) (λ numbers. (numbers, 0)) (sample air) (trace_numbers_in input) found };
 

@@ -1,9 +1,9 @@
-//! The commands of a statement: a proof verified, a trace proved.
+//! The commands of a statement: a proof verified, a trace checked or proved.
 //!
 //! A statement is what a verifier's owner fixes; the proof or the trace is another file. Before anything else the challenger, which
 //! hashes, observes the whole statement, so that no part of it can be chosen behind a draw.
 
-ghost use Rattle.std.specs.Prelude.{◌≡◌, ◌⊎◌, ◌<◌, ◌≤◌, ℕ, List, IfOk, map, replicate};
+ghost use Rattle.std.specs.Prelude.{◌≡◌, ◌⊎◌, ◌≤◌, ℕ, List, IfOk, map, replicate};
 ghost use Rattle.stark_clear.specs.ClearScheme.{clear_pcs};
 ghost use Rattle.stark_proof.specs.ProofJson.{proof_fault};
 ghost use Rattle.stark_proof.specs.ProofView.{proof_view};
@@ -12,19 +12,18 @@ ghost use Rattle.stark_fields.specs.ElementJson.{base_at};
 ghost use Rattle.stark_statement.specs.StatementJson.{statement_fault, statement_in};
 ghost use Rattle.stark_statement.specs.StatementView.{statement_view};
 ghost use Rattle.stark_commands.specs.Finding.{BeginsAsItsKind, IsProof, IsText, finding_line};
-ghost use Rattle.stark_commands.specs.StatementFacts.{found_accepts_none, found_begins, found_line, found_no_text};
-ghost use Rattle.stark_commands.specs.Statements.{HoldsOfRead, IsFoundOn, IsFoundWithRows, IsLineOn, IsSaidOfRead, IsSoundOn, IsVerdictOn, IsVerdictWithRows, ReadsPart, ReadsStatement, bound_state, proof_in, rows_in, verdict_of_fault, verdict_without};
+ghost use Rattle.stark_commands.specs.StatementFacts.{check_proves_none, found_accepts_none, found_begins, found_line, found_no_text, satisfied_of_read};
+ghost use Rattle.stark_commands.specs.Statements.{HoldsOfRead, IsLineOn, IsSaidOfRead, IsSoundOn, IsToldOn, IsVerdictOn, IsVerdictWithRows, ReadsPart, ReadsStatement, bound_state, proof_in, rows_in, verdict_of_fault, verdict_without};
 ghost use Rattle.stark_commands.specs.declared.finding.Finding.{Finding};
+ghost use Rattle.stark_commands.specs.declared.task.TraceTask.{TraceTask};
 ghost use Rattle.stark_commands.specs.declared.verdict.Verdict.{Verdict};
 
 use crate::config::{ProgramConfig, ProgramProof};
 use crate::finding::Finding;
-use crate::input::{CheckShape, Extension};
-use crate::proof_input::ChosenChallenger;
-use crate::prove::prove_read;
+use crate::input::Extension;
 use crate::report::Report;
 use crate::rows::log_rows_of;
-use crate::trace_input::TraceInput;
+use crate::task::TraceTask;
 use crate::verdict::Verdict;
 use crate::verify::verify_proof;
 use p3_uni_stark::StarkOperations;
@@ -49,23 +48,29 @@ pub trait StatementAnswers {
     /// The columns that the proof lists break no constraint of the statement's AIR, unless a challenge is bad.
     ghost sound: { List ℕ → List ℕ → Type 0 };
 
-    /// This is found of a statement and a trace.
-    ghost found: { List ℕ → List ℕ → Finding → Type 0 };
+    /// This is found of a statement and a trace, by what is asked for the trace.
+    ghost found: { TraceTask → List ℕ → List ℕ → Finding → Type 0 };
 
     /// This is the line of a proof, for the statement, of the trace.
     ghost proof_line: { List ℕ → List ℕ → List ℕ → Type 0 };
 
     /// A proof that is found is one of the trace that was read.
-    ghost finds_proofs: { (statement trace : List ℕ) (f : Finding) → found statement trace f → IsProof f → proof_line statement trace (finding_line f) };
+    ghost finds_proofs: { (asked : TraceTask) (statement trace : List ℕ) (f : Finding) → found asked statement trace f → IsProof f → proof_line statement trace (finding_line f) };
 
-    /// A proof's line begins as an object does.
-    ghost begins: { (statement trace : List ℕ) (f : Finding) → found statement trace f → BeginsAsItsKind f };
+    /// A check finds none.
+    ghost checks_alone: { (statement trace : List ℕ) (f : Finding) → found TraceTask.Check statement trace f → IsProof f → ⊥ };
 
-    /// A prover accepts nothing.
-    ghost accepts_none: { (statement trace : List ℕ) → found statement trace (Finding.Verdict Verdict.Accepted) → ⊥ };
+    /// Only a check finds that a trace satisfies its AIR.
+    ghost satisfied_checks: { (asked : TraceTask) (statement trace : List ℕ) → found asked statement trace Finding.Satisfied → asked ≡ TraceTask.Check };
 
-    /// Nor does it show anything.
-    ghost shows_none: { (statement trace : List ℕ) (f : Finding) → found statement trace f → IsText f → ⊥ };
+    /// A proof's line begins as an object does, and the lines of a broken row otherwise.
+    ghost begins: { (asked : TraceTask) (statement trace : List ℕ) (f : Finding) → found asked statement trace f → BeginsAsItsKind f };
+
+    /// Neither a check nor a prover accepts anything.
+    ghost accepts_none: { (asked : TraceTask) (statement trace : List ℕ) → found asked statement trace (Finding.Verdict Verdict.Accepted) → ⊥ };
+
+    /// Nor does either show anything.
+    ghost shows_none: { (asked : TraceTask) (statement trace : List ℕ) (f : Finding) → found asked statement trace f → IsText f → ⊥ };
 }
 
 impl StatementAnswers for Statement<F12289> {
@@ -81,35 +86,45 @@ impl StatementAnswers for Statement<F12289> {
         (proof_in (⟦<ClearCommitment<F12289> as JsonCodec>⟧.reading) (⟦<ClearProof as JsonCodec>⟧.reading) proof))
         (statement_in base_at statement) };
 
-    ghost found = { λ statement trace f. IsSaidOfRead (λ v. Finding.Verdict v)
-        (IsFoundOn (⟦<ProgramConfig<Sha256Challenger<F12289>> as StarkOperations>⟧.operations) (⟦<Extension as ExtensionField<F12289>>⟧.coordinates) clear_pcs
+    ghost found = { λ asked statement trace f. IsSaidOfRead (λ v. Finding.Verdict v)
+        (IsToldOn (⟦<ProgramConfig<Sha256Challenger<F12289>> as StarkOperations>⟧.operations) (⟦<Extension as ExtensionField<F12289>>⟧.coordinates) clear_pcs
         (bound_state (⟦<Sha256Challenger<F12289> as CanObserve<F12289>>⟧.after_observe) (⟦<F12289 as PrimeField64>⟧.of_number) (⟦<F12289 as PrimeField64>⟧.number_of) (replicate 32 0))
-        (rows_in trace)) (statement_in base_at statement) f };
+        asked (rows_in trace)) (statement_in base_at statement) f };
 
     ghost proof_line = { λ statement trace line. HoldsOfRead
         (IsLineOn (⟦<ProgramConfig<Sha256Challenger<F12289>> as StarkOperations>⟧.operations) (⟦<Extension as ExtensionField<F12289>>⟧.coordinates) clear_pcs
         (bound_state (⟦<Sha256Challenger<F12289> as CanObserve<F12289>>⟧.after_observe) (⟦<F12289 as PrimeField64>⟧.of_number) (⟦<F12289 as PrimeField64>⟧.number_of) (replicate 32 0))
         (rows_in trace) line) (statement_in base_at statement) };
 
-    ghost finds_proofs = { λ statement trace f found is. found_line
+    ghost finds_proofs = { λ asked statement trace f found is. found_line
+        (⟦<ProgramConfig<Sha256Challenger<F12289>> as StarkOperations>⟧.operations) (⟦<Extension as ExtensionField<F12289>>⟧.coordinates) clear_pcs
+        (bound_state (⟦<Sha256Challenger<F12289> as CanObserve<F12289>>⟧.after_observe) (⟦<F12289 as PrimeField64>⟧.of_number) (⟦<F12289 as PrimeField64>⟧.number_of) (replicate 32 0))
+        asked (rows_in trace) (statement_in base_at statement) f found is };
+
+    ghost checks_alone = { λ statement trace f found is. check_proves_none
         (⟦<ProgramConfig<Sha256Challenger<F12289>> as StarkOperations>⟧.operations) (⟦<Extension as ExtensionField<F12289>>⟧.coordinates) clear_pcs
         (bound_state (⟦<Sha256Challenger<F12289> as CanObserve<F12289>>⟧.after_observe) (⟦<F12289 as PrimeField64>⟧.of_number) (⟦<F12289 as PrimeField64>⟧.number_of) (replicate 32 0))
         (rows_in trace) (statement_in base_at statement) f found is };
 
-    ghost begins = { λ statement trace f found. found_begins
+    ghost satisfied_checks = { λ asked statement trace found. satisfied_of_read
         (⟦<ProgramConfig<Sha256Challenger<F12289>> as StarkOperations>⟧.operations) (⟦<Extension as ExtensionField<F12289>>⟧.coordinates) clear_pcs
         (bound_state (⟦<Sha256Challenger<F12289> as CanObserve<F12289>>⟧.after_observe) (⟦<F12289 as PrimeField64>⟧.of_number) (⟦<F12289 as PrimeField64>⟧.number_of) (replicate 32 0))
-        (rows_in trace) (statement_in base_at statement) f found };
+        (rows_in trace) asked (statement_in base_at statement) found };
 
-    ghost accepts_none = { λ statement trace found. found_accepts_none
+    ghost begins = { λ asked statement trace f found. found_begins
         (⟦<ProgramConfig<Sha256Challenger<F12289>> as StarkOperations>⟧.operations) (⟦<Extension as ExtensionField<F12289>>⟧.coordinates) clear_pcs
         (bound_state (⟦<Sha256Challenger<F12289> as CanObserve<F12289>>⟧.after_observe) (⟦<F12289 as PrimeField64>⟧.of_number) (⟦<F12289 as PrimeField64>⟧.number_of) (replicate 32 0))
-        (rows_in trace) (statement_in base_at statement) found };
+        asked (rows_in trace) (statement_in base_at statement) f found };
 
-    ghost shows_none = { λ statement trace f found is. found_no_text
+    ghost accepts_none = { λ asked statement trace found. found_accepts_none
         (⟦<ProgramConfig<Sha256Challenger<F12289>> as StarkOperations>⟧.operations) (⟦<Extension as ExtensionField<F12289>>⟧.coordinates) clear_pcs
         (bound_state (⟦<Sha256Challenger<F12289> as CanObserve<F12289>>⟧.after_observe) (⟦<F12289 as PrimeField64>⟧.of_number) (⟦<F12289 as PrimeField64>⟧.number_of) (replicate 32 0))
-        (rows_in trace) (statement_in base_at statement) f found is };
+        asked (rows_in trace) (statement_in base_at statement) found };
+
+    ghost shows_none = { λ asked statement trace f found is. found_no_text
+        (⟦<ProgramConfig<Sha256Challenger<F12289>> as StarkOperations>⟧.operations) (⟦<Extension as ExtensionField<F12289>>⟧.coordinates) clear_pcs
+        (bound_state (⟦<Sha256Challenger<F12289> as CanObserve<F12289>>⟧.after_observe) (⟦<F12289 as PrimeField64>⟧.of_number) (⟦<F12289 as PrimeField64>⟧.number_of) (replicate 32 0))
+        asked (rows_in trace) (statement_in base_at statement) f found is };
 }
 
 /// The statement that the bytes of a JSON text spell, whose AIR is within the limits
@@ -168,7 +183,7 @@ fn unread_proof(alloc: Global, error: &ProofDecodeError) -> Report<Verdict>
 
 /// The rows of a trace that the bytes of a JSON text spell: an array of arrays of numbers.
 #[tactic(auto, unfolding(crate::specs::Statements::rows_in))]
-fn read_rows(alloc: Global, bytes: &[u8]) -> Result<Vec<Vec<F12289>>, Report<Verdict>>
+pub(crate) fn read_rows(alloc: Global, bytes: &[u8]) -> Result<Vec<Vec<F12289>>, Report<Verdict>>
     ensures { ReadsPart (λ rows. map (λ row. row.items) rows.items) result (rows_in bytes.now) }
 {
     let value = match value_from_bytes(alloc, bytes) {
@@ -193,7 +208,7 @@ fn unread_text(alloc: Global, subject: &str, error: &JsonFault) -> Report<Verdic
 
 /// The challenger that hashes, once it has observed the statement. Err only where memory was refused.
 #[tactic(auto, unfolding(crate::specs::Statements::bound_state))]
-fn bound_challenger(
+pub(crate) fn bound_challenger(
     alloc: Global,
     statement: &Statement<F12289>,
 ) -> Result<Sha256Challenger<F12289>, AllocError>
@@ -206,7 +221,7 @@ fn bound_challenger(
 }
 
 /// The preprocessed columns have no number of rows that a key can have.
-fn unfit_rows(alloc: Global) -> Report<Verdict>
+pub(crate) fn unfit_rows(alloc: Global) -> Report<Verdict>
     ensures { result.answer ≡ Verdict.BadInput }
 {
     let wanted = "its preprocessed columns want a power of two of rows, at most 4096";
@@ -274,80 +289,5 @@ pub fn verify_statement(alloc: Global, statement: &[u8], proof: &[u8]) -> Report
     match read_statement(alloc, statement) {
         Ok(statement) => verify_on(alloc, &statement, proof),
         Err(report) => report,
-    }
-}
-
-/// What is found of the rows of a trace, with what is set up for `2^log_rows` rows of preprocessed columns.
-fn prove_with_rows(
-    alloc: Global,
-    statement: Statement<F12289>,
-    log_rows: usize,
-    bytes: &[u8],
-) -> Report<Finding>
-    requires height { HasHeight log_rows (⟦<TreeAir<F12289> as BaseAir<F12289>>⟧.preprocessed_trace statement.air) }
-    requires within { log_rows ≤ 12 }
-    requires columns { 0 < (⟦<TreeAir<F12289> as BaseAir<F12289>>⟧.layout statement.air).main }
-    ensures { (result.answer ≡ Finding.Verdict Verdict.OutOfMemory) ⊎ IsFoundWithRows (⟦<ProgramConfig<Sha256Challenger<F12289>> as StarkOperations>⟧.operations) (⟦<Extension as ExtensionField<F12289>>⟧.coordinates) clear_pcs
-        (bound_state (⟦<Sha256Challenger<F12289> as CanObserve<F12289>>⟧.after_observe) (⟦<F12289 as PrimeField64>⟧.of_number) (⟦<F12289 as PrimeField64>⟧.number_of) (replicate 32 0))
-        (statement_view statement) log_rows (rows_in bytes.now) result.answer }
-{
-    let rows = match read_rows(alloc, bytes) {
-        Ok(rows) => rows,
-        Err(report) => return report.as_finding(),
-    };
-    let Ok(shape) = CheckShape::from_air(alloc, &statement.air) else {
-        return Report::out_of_memory().as_finding();
-    };
-    let Ok(challenger) = bound_challenger(alloc, &statement) else {
-        return Report::out_of_memory().as_finding();
-    };
-    let Statement {
-        air,
-        public_values,
-        alpha_bits,
-        ood_bits,
-    } = statement;
-    let input = TraceInput {
-        rows,
-        publics: public_values,
-        challenger: ChosenChallenger::Sha256,
-        ood_bits,
-        alpha_bits,
-    };
-    let report = prove_read(alloc, &air, log_rows, shape, challenger, input);
-    report.unless_unjudged()
-}
-
-/// What is found of a trace for a statement that was read.
-fn prove_on(alloc: Global, statement: Statement<F12289>, bytes: &[u8]) -> Report<Finding>
-    ensures { (result.answer ≡ Finding.Verdict Verdict.OutOfMemory) ⊎ IsFoundOn (⟦<ProgramConfig<Sha256Challenger<F12289>> as StarkOperations>⟧.operations) (⟦<Extension as ExtensionField<F12289>>⟧.coordinates) clear_pcs
-        (bound_state (⟦<Sha256Challenger<F12289> as CanObserve<F12289>>⟧.after_observe) (⟦<F12289 as PrimeField64>⟧.of_number) (⟦<F12289 as PrimeField64>⟧.number_of) (replicate 32 0))
-        (rows_in bytes.now) (statement_view statement) result.answer }
-{
-    if statement.air.width() == 0 {
-        let wanted = "the AIR has no main columns, so that there is nothing to prove";
-        return Report::bad_input(alloc, "the statement", &wanted).as_finding();
-    }
-    match log_rows_of(alloc, &statement.air) {
-        Ok(Some(log_rows)) => prove_with_rows(alloc, statement, log_rows, bytes),
-        Ok(None) => unfit_rows(alloc).as_finding(),
-        Err(AllocError) => Report::out_of_memory().as_finding(),
-    }
-}
-
-/// The line of a proof of a trace for a statement, from the bytes of both; or `refused` and the
-/// first cause why there is none; `bad input` where the statement or the trace can't be read, the
-/// AIR has no main columns, or the trace isn't one of its widths and counts; or `out of memory`. It
-/// is `refused AirTooLarge` where the statement was read and its AIR passes a limit, whatever the
-/// trace is.
-///
-/// It doesn't test the constraints: the proof of a trace that breaks one is written, and a verifier
-/// refuses it unless a draw is bad.
-pub fn prove_statement(alloc: Global, statement: &[u8], trace: &[u8]) -> Report<Finding>
-    ensures found { (result.answer ≡ Finding.Verdict Verdict.OutOfMemory) ⊎ ⟦<Statement<F12289> as StatementAnswers>⟧.found statement.now trace.now result.answer }
-{
-    match read_statement(alloc, statement) {
-        Ok(statement) => prove_on(alloc, statement, trace),
-        Err(report) => report.as_finding(),
     }
 }

@@ -5,7 +5,7 @@ ghost use Rattle.std.specs.List.{flat_map};
 ghost use Rattle.serde_json.specs.View.{view};
 ghost use Rattle.stark_support.specs.Json.{Gives};
 ghost use Rattle.stark_commands.specs.ProofInput.{HasSomeNumber};
-ghost use Rattle.stark_commands.specs.TraceInput.{HasTraceShape, trace_numbers, trace_numbers_at, trace_numbers_in};
+ghost use Rattle.stark_commands.specs.TraceInput.{FitsShape, HasTraceShape, rows_of, trace_numbers, trace_numbers_at, trace_numbers_in};
 
 use crate::input::{CheckShape, have_length};
 use crate::proof_input::{ChosenChallenger, bits_from_json, challenger_from_json};
@@ -34,18 +34,34 @@ impl TraceInput {
         ensures some { IfSome result (HasTraceShape shape log_rows (trace_numbers self.now)) }
         ensures none { IsNone result → (log_height : ℕ) → HasTraceShape shape log_rows (trace_numbers self.now) log_height → ⊥ }
     {
-        if self.publics.len() != shape.num_public_values {
-            return None;
-        }
-        if !have_length(&self.rows, shape.width) {
-            return None;
-        }
-        let log_height = log_of_height(self.rows.len())?;
-        if shape.preprocessed_width > 0 && log_height != log_rows {
-            return None;
-        }
-        Some(log_height)
+        log_height_of_rows(&self.rows, &self.publics, shape, log_rows)
     }
+}
+
+/// The logarithm of the height of a trace of these rows, where it is a power of two from 1 to 4096,
+/// and `2^log_rows` beside preprocessed columns, and the rows are as wide and the public values as
+/// many as those of the shape; else None.
+pub(crate) fn log_height_of_rows(
+    rows: &[Vec<F12289>],
+    publics: &[F12289],
+    shape: CheckShape,
+    log_rows: usize,
+) -> Option<usize>
+    ensures some { IfSome result (FitsShape shape log_rows (rows_of rows.now) publics.now) }
+    ensures none { IsNone result → (log_height : ℕ)
+        → FitsShape shape log_rows (rows_of rows.now) publics.now log_height → ⊥ }
+{
+    if publics.len() != shape.num_public_values {
+        return None;
+    }
+    if !have_length(rows, shape.width) {
+        return None;
+    }
+    let log_height = log_of_height(rows.len())?;
+    if shape.preprocessed_width > 0 && log_height != log_rows {
+        return None;
+    }
+    Some(log_height)
 }
 
 /// The logarithm of a power of two from 1 to 4096; None for another number.

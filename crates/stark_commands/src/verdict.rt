@@ -8,9 +8,9 @@ use crate::refusal::ProofRefusal;
 /// How a run ends.
 #[derive(Clone, Copy, Debug, PartialEq, Eq)]
 pub enum RunEnd {
-    /// The line `accepted`, or the line of a proof, is written.
+    /// The line `accepted` or `satisfied`, a proof's line or a text that shows an AIR is written.
     Accepted,
-    /// A line that begins with `refused` is written.
+    /// A line that begins with `refused`, or the two of a row that breaks a constraint, is written.
     Refused,
     /// The line `bad input` or `out of memory` is written: nothing was judged.
     NotJudged,

@@ -2,6 +2,7 @@
 //! its hashlib.
 use crate::rows::{read, shown, word_and_rest};
 use stark_bench::ClearCommitment;
+use stark_merkle::Root;
 use stark_support::{
     CanObserve, CanSample, CanSampleBits, FieldChallenger, GrindingChallenger, JsonCodec,
 };
@@ -16,6 +17,7 @@ sha256 | draw; draw => 1340248034 1177291290
 sha256 | observe 2013265920; draw; bits 10; bits 31; bits 63 => observed 1094168982 412 1805035146 7022966747152662163
 sha256 | above; draw => Ext4 { c0: 1340248034, c1: 1177291290, c2: 1104188589, c3: 106541312 } 1896291174
 sha256 | commit [[[1,2],[3,2013265920]],[[5]]]; draw => 2 1223346094
+sha256 | root "000102030405060708090a0b0c0d0e0f101112131415161718191a1b1c1d1e1f"; draw => observed 936145726
 sha256 | grind 0; draw => Some(0) 1340248034
 sha256 | grind 8; draw => Some(166) 1138891138
 sha256 | grind 16; draw => Some(35128) 58634387
@@ -26,6 +28,7 @@ sha256 | check 16 35127; draw => false 275326887
 script [4,2013265920] | draw; draw; draw => 4 2013265920 4
 script [2013265920,5] | bits 16; bits 63; bits 31 => 0 5 2013265920
 script [2013265920,2,3,4,5] | observe 7; above; draw; above => observed Ext4 { c0: 2013265920, c1: 2, c2: 3, c3: 4 } 5 Ext4 { c0: 2013265920, c1: 2, c2: 3, c3: 4 }
+script [4,5] | root "000102030405060708090a0b0c0d0e0f101112131415161718191a1b1c1d1e1f"; draw; draw => observed 4 5
 script [4] | grind 0; grind 16 => Some(0) Some(65535)
 script [4] | check 31 2013265920; check 20 1048575; check 64 0 => false true false
 "#;
@@ -37,6 +40,7 @@ where
     EF: Debug + Drop,
     C: FieldChallenger<F>
         + CanObserve<ClearCommitment<F>>
+        + CanObserve<Root>
         + CanSample<EF>
         + GrindingChallenger<Witness = F>,
 {
@@ -58,6 +62,7 @@ where
     EF: Debug + Drop,
     C: FieldChallenger<F>
         + CanObserve<ClearCommitment<F>>
+        + CanObserve<Root>
         + CanSample<EF>
         + GrindingChallenger<Witness = F>,
 {
@@ -66,6 +71,7 @@ where
         "draw" => draw::<F, C>(alloc, challenger),
         "above" => draw::<EF, C>(alloc, challenger),
         "observe" => observe::<F, C>(alloc, challenger, given),
+        "root" => observe::<Root, C>(alloc, challenger, given),
         "commit" => commit::<F, C>(alloc, challenger, given),
         "bits" => bits(alloc, challenger, given),
         "grind" => grind::<F, C>(alloc, challenger, given),

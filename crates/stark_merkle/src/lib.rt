@@ -1,7 +1,8 @@
 //! Binary trees of digests over rows: layers, roots as commitments, the paths of rows to a root,
-//! and what these bind. It is generic in the hash.
+//! the bytes of rows of field elements, and what these bind. It is generic in the hash.
 #![tactic(auto)]
 
+mod bytes;
 mod hash;
 mod path;
 mod root;
@@ -10,6 +11,9 @@ mod root_json;
 mod tests;
 mod tree;
 
+pub use bytes::{
+    opened_rows_bind, pair_bytes, pair_bytes_tell_pairs, row_bytes, row_bytes_tell_rows,
+};
 pub use hash::{Sha256Tree, TreeHash, leaf, node};
 pub use path::{
     full_trees_have_paths, full_trees_have_roots, is_path_to, own_rows_lead_to_roots, paths_bind,

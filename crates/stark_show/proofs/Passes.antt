@@ -1,5 +1,5 @@
 -- One node after the other, and one constraint after the other.
-use Rattle.std.proofs.Common.{◌≡◌, ◌∙◌, ℕ, zero, suc, ◌+◌, ◌<◌, ◌≤◌, List, [], ◌∷◌, ◌++◌, length, drop, get_or, refl, sym, ap, subst, arith, append_assoc}
+use Rattle.std.proofs.Common.{◌≡◌, ◌∙◌, ℕ, zero, suc, ◌+◌, ◌<◌, ◌≤◌, List, [], ◌∷◌, ◌++◌, length, drop, get_or, refl, sym, ap, subst, arith, append_assoc, IfOk, Result}
 use Rattle.std.proofs.lemmas.List.{append-nil, drop_all, drop_more}
 use Rattle.stark_tree_air.proofs.NeededSteps.{place_fits}
 use Rattle.stark_tree_air.specs.Needed.{NodesBelow, OperandsBelow, constraint_place}
@@ -7,9 +7,9 @@ use Rattle.stark_tree_air.specs.Nodes.{ConstraintsFit}
 use Rattle.stark_tree_air.specs.declared.node.TreeNode.{TreeNode}
 use Rattle.stark_tree_air.specs.declared.node.TreeConstraint.{TreeConstraint}
 use Rattle.stark_show.specs.Expressions.{Written}
-use Rattle.stark_show.specs.Lines.{constraint_line, constraint_lines}
-use Rattle.stark_show.specs.NodeDegrees.{degree_at, degrees_after, node_degree}
-use Rattle.stark_show.specs.ShownNodes.{NodeNames, NodesName, lines_after, long_line, long_lines, node_written, shown_after, shown_nodes, shown_written, written_at}
+use Rattle.stark_show.specs.Lines.{constraint_lines, numbered_line}
+use Rattle.stark_show.specs.NodeDegrees.{degrees_after, node_degree}
+use Rattle.stark_show.specs.ShownNodes.{NodeNames, NodesName, lines_after, long_line, long_lines, node_written, shown_after, shown_nodes, shown_written}
 
 pub one_longer : {A : Type 0} (xs : List A) (x : A) → length (xs ++ x ∷ []) ≡ length xs + 1
 one_longer [] x = refl
@@ -109,11 +109,9 @@ module _ (cs : List TreeConstraint) (i : ℕ) (c : TreeConstraint) (within : i <
       let both : ConstraintsFit count (c ∷ drop (i + 1) cs) = subst (λ js. ConstraintsFit count js) at_constraint fit in
       (place_fits count c both.0, both.1)
 
-  pub one_more_line : (ws : List Written) (ds : List ℕ) (degree : ℕ) (w : Written) (so_far line after all : List ℕ) → so_far ++ constraint_lines ws ds i (drop i cs) ≡ all → w ≡ written_at ws (constraint_place c) → degree ≡ degree_at ds (constraint_place c) → line ≡ constraint_line i c degree w.text → after ≡ so_far ++ line → after ++ constraint_lines ws ds (i + 1) (drop (i + 1) cs) ≡ all
-  one_more_line ws ds degree w so_far line after all leads is_text is_degree is_line pushed =
+  pub one_more_line : (ws : List Written) (ds : List ℕ) (so_far line after all : List ℕ) → so_far ++ constraint_lines ws ds i (drop i cs) ≡ all → line ≡ numbered_line ws ds i c → after ≡ so_far ++ line → after ++ constraint_lines ws ds (i + 1) (drop (i + 1) cs) ≡ all
+  one_more_line ws ds so_far line after all leads written pushed =
       let rest = constraint_lines ws ds (i + 1) (drop (i + 1) cs) in
-      let place = constraint_place c in
-      let written : line ≡ constraint_line i c (degree_at ds place) (written_at ws place).text = is_line ∙ ap (λ d. constraint_line i c d w.text) is_degree ∙ ap (λ (x : Written). constraint_line i c (degree_at ds place) x.text) is_text in
       ap (λ xs. xs ++ rest) pushed ∙ append_assoc so_far line rest ∙ ap (λ x. so_far ++ (x ++ rest)) written ∙ sym (ap (λ js. so_far ++ constraint_lines ws ds i js) at_constraint) ∙ leads
 
 pub read_at : {A : Type 0} (xs : List A) (i : ℕ) (d : A) → i < length xs → get_or xs i d ≡ get_or xs i (get_or xs i d)
@@ -141,3 +139,9 @@ fit_in m n cs ds many same fit = subst (λ k. ConstraintsFit k ds) (sym many) (s
 
 pub same_lines : (vs ws : List Written) (ds es : List ℕ) (bs cs : List TreeConstraint) → vs ≡ ws → ds ≡ es → bs ≡ cs → constraint_lines vs ds 0 bs ≡ constraint_lines ws es 0 cs
 same_lines vs ws ds es bs cs e f g = ap (λ x. constraint_lines x ds 0 bs) e ∙ ap (λ x. constraint_lines ws x 0 bs) f ∙ ap (λ x. constraint_lines ws es 0 x) g
+
+-- A line by what is shown of the nodes and their degrees.
+pub same_line : {X E : Type 0} (bytes : X → List ℕ) (r : Result X E) (vs ws : List Written) (ds es : List ℕ) (k : ℕ) (c : TreeConstraint) → vs ≡ ws → ds ≡ es
+    → IfOk r (λ line. bytes line ≡ numbered_line vs ds k c) → IfOk r (λ line. bytes line ≡ numbered_line ws es k c)
+same_line bytes r vs ws ds es k c e f made =
+    subst (λ x. IfOk r (λ line. bytes line ≡ numbered_line x es k c)) e (subst (λ x. IfOk r (λ line. bytes line ≡ numbered_line vs x k c)) f made)

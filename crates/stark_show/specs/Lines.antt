@@ -23,12 +23,14 @@ abbrev pub constraint_line : ℕ → TreeConstraint → ℕ → List ℕ → Lis
 constraint_line k c degree text =
     codes "constraint " ++ (decimal k ++ (codes " (" ++ (kind_name c ++ (codes ", degree " ++ (decimal degree ++ (codes "): " ++ (text ++ codes " = 0\n")))))))
 
+-- A constraint's line, by what is shown of the nodes and their degrees.
+abbrev pub numbered_line : List Written → List ℕ → ℕ → TreeConstraint → List ℕ
+numbered_line ws ds k c = constraint_line k c (degree_at ds (constraint_place c)) (written_at ws (constraint_place c)).text
+
 -- The lines of constraints, numbered from k on, by what is shown of the nodes and their degrees.
 abbrev pub constraint_lines : List Written → List ℕ → ℕ → List TreeConstraint → List ℕ
 constraint_lines ws ds k [] = []
-constraint_lines ws ds k (c ∷ cs) =
-    let place = constraint_place c in
-    constraint_line k c (degree_at ds place) (written_at ws place).text ++ constraint_lines ws ds (k + 1) cs
+constraint_lines ws ds k (c ∷ cs) = numbered_line ws ds k c ++ constraint_lines ws ds (k + 1) cs
 
 -- How many chunks the quotient is cut into.
 abbrev pub chunks_line : ℕ → List ℕ

@@ -1,16 +1,19 @@
 -- The text that shows an AIR.
-use Rattle.std.specs.Prelude.{◌≡◌, ℕ, List, ◌++◌, length, map, Option}
+use Rattle.std.specs.Prelude.{◌≡◌, ℕ, List, [], ◌++◌, length, map, Option, None, Some}
+use Rattle.std.specs.List.{slice_get}
 use Rattle.std.specs.String.{string_bytes}
 use Rattle.stark_air.specs.Declaration.{trace_width}
 use Rattle.stark_symbolic.specs.Degree.{degree}
 use Rattle.stark_security.specs.ErrorBound.{IsChunkCount, IsErrorBound}
 use Rattle.stark_tree_air.specs.Nodes.{nodes_trees, spelled}
+use Rattle.stark_tree_air.specs.TreeJson.{ListView}
 use Rattle.stark_tree_air.specs.Traces.{declared_trace}
 use Rattle.stark_tree_air.specs.declared.columns.TreeColumns.{TreeColumns}
 use Rattle.stark_tree_air.specs.declared.columns.TreeDeclaration.{TreeDeclaration}
 use Rattle.stark_tree_air.specs.declared.list.TreeList.{TreeList}
+use Rattle.stark_tree_air.specs.declared.node.TreeConstraint.{TreeConstraint}
 use Rattle.stark_show.specs.declared.text.Sections.{Sections}
-use Rattle.stark_show.specs.Lines.{bound_line, chunks_line, columns_line, constraint_lines}
+use Rattle.stark_show.specs.Lines.{bound_line, chunks_line, columns_line, constraint_lines, numbered_line}
 use Rattle.stark_show.specs.ShownNodes.{long_lines, shown_nodes}
 use Rattle.stark_show.specs.Whole.{AreShort, tree_lines}
 
@@ -28,6 +31,19 @@ constraints_text number list =
 -- A line for each node that is too long for an operand.
 unfoldable pub long_text : {F : Type 0} → (F → ℕ) → TreeList F → List ℕ
 long_text number list = long_lines number list.constants.items list.nodes.items
+
+-- The line of a constraint over a list's nodes.
+abbrev pub listed_line : {F : Type 0} → (F → ℕ) → ListView F → ℕ → TreeConstraint → List ℕ
+listed_line number list k c = numbered_line (shown_nodes number list.constants list.nodes) (map (degree 0) (nodes_trees list.constants list.nodes)) k c
+
+-- The same where there is a constraint, and else nothing.
+abbrev pub line_if_any : {F : Type 0} → (F → ℕ) → ListView F → ℕ → Option TreeConstraint → List ℕ
+line_if_any number list k None = []
+line_if_any number list k (Some c) = listed_line number list k c
+
+-- The line of a list's constraint of this number; nothing where there is no such constraint.
+unfoldable pub equation_line : {F : Type 0} → (F → ℕ) → ListView F → ℕ → List ℕ
+equation_line number list k = line_if_any number list k (slice_get list.constraints k)
 
 -- The parts one after the other.
 abbrev pub sections_text : Sections → List ℕ

@@ -11,4 +11,4 @@ mod text;
 pub use binding::Binding;
 pub use lines::{bound_line, chunks_line, columns_line, constraint_line};
 pub use phrase::Phrase;
-pub use text::shown;
+pub use text::{equation, shown};

@@ -1,7 +1,7 @@
 //! The lines that show an AIR.
-ghost use Rattle.std.specs.Prelude.{◌≡◌, ◌++◌, ◌^◌, length, map, IfOk, string_bytes};
+ghost use Rattle.std.specs.Prelude.{◌≡◌, ◌++◌, ◌<◌, ◌^◌, length, map, IfOk, string_bytes};
 ghost use Rattle.stark_show.specs.Expressions.{phrase_view};
-ghost use Rattle.stark_show.specs.Lines.{bound_line, chunks_line, columns_line, constraint_line, constraint_lines, kind_name};
+ghost use Rattle.stark_show.specs.Lines.{bound_line, chunks_line, columns_line, constraint_line, constraint_lines, kind_name, numbered_line};
 ghost use Rattle.stark_tree_air.specs.Nodes.{ConstraintsFit};
 ghost use Rattle.stark_tree_air.specs.Needed.{constraint_place};
 
@@ -54,6 +54,24 @@ fn constraint_place(constraint: TreeConstraint) -> usize
     place
 }
 
+/// A constraint's line, by what is shown of the nodes and their degrees.
+pub(crate) fn numbered_line(
+    alloc: Global,
+    phrases: &[Phrase],
+    degrees: &[usize],
+    number: usize,
+    constraint: TreeConstraint,
+) -> Result<String, AllocError>
+    requires phrases { constraint_place constraint < length phrases.now }
+    requires degrees { constraint_place constraint < length degrees.now }
+    ensures { IfOk result (λ line. string_bytes line
+        ≡ numbered_line (map phrase_view phrases.now) degrees.now number constraint) }
+{
+    let place = constraint_place(constraint);
+    let text = &operand(phrases, place).text;
+    constraint_line(alloc, number, constraint, degrees[place], text)
+}
+
 /// The lines of the constraints, by what is shown of the nodes and their degrees.
 pub(crate) fn constraint_lines(
     alloc: Global,
@@ -67,9 +85,7 @@ pub(crate) fn constraint_lines(
 {
     let mut lines = String::new(alloc);
     for (number, constraint) in constraints.iter().enumerate() {
-        let place = constraint_place(*constraint);
-        let text = &operand(phrases, place).text;
-        let line = constraint_line(alloc, number, *constraint, degrees[place], text)?;
+        let line = numbered_line(alloc, phrases, degrees, number, *constraint)?;
         lines.push_str(&line)?;
     }
     Ok(lines)

@@ -1,20 +1,23 @@
 //! A whole AIR as text.
-ghost use Rattle.std.specs.Prelude.{◌≡◌, ◌+◌, ◌^◌, ◌≤◌, length, IfOk, string_bytes};
+ghost use Rattle.std.specs.Prelude.{◌≡◌, ◌+◌, ◌^◌, ◌<◌, ◌≤◌, length, IfOk, string_bytes};
+ghost use Rattle.std.specs.List.{slice_get};
 ghost use Rattle.stark_parts.specs.Sizing.{constraint_degree, quotient_multiple};
 ghost use Rattle.stark_security.specs.ErrorBound.{IsChunkCount, IsErrorBound};
 ghost use Rattle.stark_support.specs.Logarithm.{IsCeilingOfLog};
-ghost use Rattle.stark_show.specs.Shown.{IsShown, IsWhole, columns_text, constraints_text, long_text, sections_text};
+ghost use Rattle.stark_show.specs.Shown.{IsShown, IsWhole, columns_text, constraints_text, equation_line, listed_line, long_text, sections_text};
 ghost use Rattle.stark_show.specs.ShownNodes.{NodesName};
+ghost use Rattle.stark_tree_air.specs.Needed.{constraint_place};
 ghost use Rattle.stark_tree_air.specs.Nodes.{ConstraintsFit, spelled};
+ghost use Rattle.stark_tree_air.specs.TreeJson.{list_view};
 
 use crate::degrees::node_degrees;
-use crate::lines::{bound_line, chunks_line, columns_line, constraint_lines};
+use crate::lines::{bound_line, chunks_line, columns_line, constraint_lines, numbered_line};
 use crate::nodes::shown_nodes;
 use stark_air::AirLayout;
 use stark_parts::get_log_num_quotient_chunks;
 use stark_security::ood_error_bound;
 use stark_support::{ExtensionField, Field, PrimeField64};
-use stark_tree_air::{TreeAir, TreeColumns, TreeList};
+use stark_tree_air::{TreeAir, TreeColumns, TreeConstraint, TreeList};
 use std::alloc::{AllocError, Global};
 
 /// The text in its parts, each of whole lines.
@@ -63,6 +66,23 @@ fn shown_columns<F>(alloc: Global, columns: &TreeColumns<F>) -> Result<String, A
     )
 }
 
+/// The line of a list's constraint.
+fn equation_of<F: PrimeField64>(
+    alloc: Global,
+    list: &TreeList<F>,
+    number: usize,
+    constraint: TreeConstraint,
+) -> Result<String, AllocError>
+    requires nodes { NodesName (length list.now.constants.items) 0 list.now.nodes.items }
+    requires place { constraint_place constraint < length list.now.nodes.items }
+    ensures { IfOk result (λ line. string_bytes line
+        ≡ listed_line F.number_of (list_view list.now) number constraint) }
+{
+    let shown = shown_nodes(alloc, &list.constants, &list.nodes)?;
+    let degrees = node_degrees(alloc, &list.nodes)?;
+    numbered_line(alloc, &shown.phrases, &degrees, number, constraint)
+}
+
 /// The lines of the constraints and of long nodes.
 #[tactic(auto, unfolding(crate::specs::Shown::long_text))]
 fn shown_list<F: PrimeField64>(alloc: Global, list: &TreeList<F>) -> Result<ShownList, AllocError>
@@ -78,6 +98,30 @@ fn shown_list<F: PrimeField64>(alloc: Global, list: &TreeList<F>) -> Result<Show
         constraints,
         long: shown.lines,
     })
+}
+
+/// The constraint of a number.
+fn constraint_at(constraints: &[TreeConstraint], number: usize) -> Option<TreeConstraint>
+    ensures { result ≡ slice_get constraints.now number }
+{
+    constraints.get(number).copied()
+}
+
+/// The line of one constraint, by its number, as `shown` has it; empty where there is no such
+/// constraint. Err only where memory was refused.
+pub fn equation<F: PrimeField64>(
+    alloc: Global,
+    air: &TreeAir<F>,
+    number: usize,
+) -> Result<String, AllocError>
+    ensures { IfOk result (λ line. string_bytes line
+        ≡ equation_line F.number_of (list_view air.now.list) number) }
+{
+    let list = &air.list;
+    match constraint_at(&list.constraints, number) {
+        Some(constraint) => equation_of(alloc, list, number, constraint),
+        None => Ok(String::new(alloc)),
+    }
 }
 
 /// The logarithm of the number of chunks that the quotient is cut into, without masks.

@@ -1,12 +1,9 @@
 -- Writings by words that can be read back, whatever follows them.
 use Rattle.std.proofs.Common.{◌≡◌, ℕ, suc, ◌<◌, ◌^◌, List, [], ◌∷◌, ◌++◌, length, length-append, take, drop, refl, sym, ap, ◌∙◌, append_assoc, arith}
 use Rattle.std.specs.Prelude.{◌≢◌, Option, None, Some, flat_map}
-use Rattle.std.specs.Int.{w64, from_be_bytes}
 use Rattle.std.proofs.lemmas.List.{append_cancel_left}
-use Rattle.std.proofs.lemmas.Nat.{from_be_bytes-to_be_bytes_8}
-use Rattle.std.proofs.Math.Seq.{drop-append_seam, take-append_seam}
 use Rattle.stark_support.specs.Seed.{number}
-use Rattle.stark_support.specs.SeedFacts.{length-number}
+use Rattle.stark_support.specs.SeedFacts.{length-number, same_number, split_number}
 use Rattle.stark_statement.specs.Words.{AreWords, word, optional, counted, label, labelled, framed}
 
 -- Where two writings go on to the same words, what is written is the same, and so is what follows.
@@ -70,17 +67,6 @@ pub same_written : {A : Type 0} (words : A → List ℕ) → IsCode words → (x
 same_written words code x y e = (code.read x y [] [] (ap (λ ws. ws ++ []) e)).0
 
 -- ---- bytes
-
-split_number : (n m : ℕ) (x y : List ℕ) → number n ++ x ≡ number m ++ y → (number n ≡ number m) × (x ≡ y)
-unfolding number
-split_number n m x y e = (
-  sym (take-append_seam (number n) x) ∙ ap (take 8) e ∙ take-append_seam (number m) y,
-  sym (drop-append_seam (number n) x) ∙ ap (drop 8) e ∙ drop-append_seam (number m) y,
-)
-
-same_number : (n m : ℕ) → n < 2 ^ 64 → m < 2 ^ 64 → number n ≡ number m → n ≡ m
-unfolding number
-same_number n m h k e = sym (from_be_bytes-to_be_bytes_8 n h) ∙ ap (from_be_bytes w64) e ∙ from_be_bytes-to_be_bytes_8 m k
 
 all_behind : (w : ℕ) (ws : List ℕ) → AreWords (w ∷ ws) → AreWords ws
 all_behind w ws all = λ k d l. all (suc k) d (omega (arith, l))

@@ -1,5 +1,7 @@
 -- The canonical writing of a statement.
 use Rattle.std.specs.Prelude.{ℕ, List, [], ◌∷◌, ◌++◌}
+use Rattle.sha2.specs.Sha256.{sha256}
+use Rattle.stark_support.specs.Sponge.{observed_bytes}
 use Rattle.stark_air.specs.Declaration.{Trace}
 use Rattle.stark_tree_air.specs.TreeJson.{AirView, ColumnsView, ListView}
 use Rattle.stark_tree_air.specs.declared.node.TreeNode.{TreeNode}
@@ -72,3 +74,11 @@ module _ {F : Type 0} (number_of : F → ℕ) where
 -- how many bytes follow, the label, and each word as 8 bytes
 abbrev pub statement_bytes : {F : Type 0} → (F → ℕ) → StatementView F → List ℕ
 statement_bytes number_of s = framed (labelled (statement_words number_of s))
+
+-- the SHA-256 digest of these bytes, by which a statement is bound into a transcript
+abbrev pub statement_digest : {F : Type 0} → (F → ℕ) → StatementView F → List ℕ
+statement_digest number_of s = sha256 (statement_bytes number_of s)
+
+-- the state of a challenger that has observed it, byte by byte
+abbrev pub after_statement : {C F : Type 0} → (C → F → C) → (ℕ → F) → (F → ℕ) → StatementView F → C → C
+after_statement observe of_number number_of s state = observed_bytes observe of_number (statement_digest number_of s) state

@@ -10,3 +10,4 @@ pub mod CombinationSteps
 pub mod CellSteps
 pub mod InverseSteps
 pub mod InOrder
+pub mod Loops

@@ -57,3 +57,4 @@ pub mod Scheme
 pub mod SchemeFacts
 pub mod MaskFacts
 pub mod JoinedRows
+pub mod Faults

@@ -18,7 +18,7 @@ pub length-number : (n : ℕ) → length (number n) ≡ 8
 unfolding number
 length-number n = refl
 
-same_number : (n m : ℕ) → n < 2 ^ 64 → m < 2 ^ 64 → number n ≡ number m → n ≡ m
+pub same_number : (n m : ℕ) → n < 2 ^ 64 → m < 2 ^ 64 → number n ≡ number m → n ≡ m
 unfolding number
 same_number n m h k e = sym (from_be_bytes-to_be_bytes_8 n h) ∙ ap (from_be_bytes w64) e ∙ from_be_bytes-to_be_bytes_8 m k
 
@@ -28,10 +28,10 @@ split a b x y l e = (
   sym (drop-append_seam a x) ∙ ap (drop (length a)) e ∙ ap (λ k. drop k (b ++ y)) l ∙ drop-append_seam b y,
 )
 
-split_number : (n m : ℕ) (x y : List ℕ) → number n ++ x ≡ number m ++ y → (number n ≡ number m) × (x ≡ y)
+pub split_number : (n m : ℕ) (x y : List ℕ) → number n ++ x ≡ number m ++ y → (number n ≡ number m) × (x ≡ y)
 split_number n m x y e = split (number n) (number m) x y (length-number n ∙ sym (length-number m)) e
 
-read_number : (n m : ℕ) (x y : List ℕ) → n < 2 ^ 64 → m < 2 ^ 64 → number n ++ x ≡ number m ++ y → (n ≡ m) × (x ≡ y)
+pub read_number : (n m : ℕ) (x y : List ℕ) → n < 2 ^ 64 → m < 2 ^ 64 → number n ++ x ≡ number m ++ y → (n ≡ m) × (x ≡ y)
 read_number n m x y h k e = let s = split_number n m x y e in (same_number n m h k s.0, s.1)
 
 -- ---- bytes that are put together in turn

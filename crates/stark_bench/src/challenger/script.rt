@@ -5,6 +5,7 @@ ghost use Rattle.stark_bench.specs.ChallengeFacts.{after_four_in_turn, four_in_t
 
 use crate::challenger::commitment::ClearCommitment;
 use stark_fields::{Ext4, Modulus, Residue};
+use stark_merkle::Root;
 use stark_support::{
     CanObserve, CanSample, CanSampleBits, ExtensionChallenger, FieldChallenger, GrindingChallenger,
     checked_pow2,
@@ -50,6 +51,12 @@ impl<M: Modulus, Kind> CanObserve<ClearCommitment<Residue<M, Kind>>>
     ghost after_observe = { λ s _. s };
 
     fn observe(&mut self, _value: &ClearCommitment<Residue<M, Kind>>) {}
+}
+
+impl<M: Modulus, Kind> CanObserve<Root> for ScriptChallenger<Residue<M, Kind>> {
+    ghost after_observe = { λ s _. s };
+
+    fn observe(&mut self, _value: &Root) {}
 }
 
 impl<M: Modulus, Kind> CanSample<Residue<M, Kind>> for ScriptChallenger<Residue<M, Kind>> {

@@ -8,6 +8,7 @@ ghost use Rattle.stark_bench.specs.ChallengeFacts.{after_four_in_turn, four_in_t
 use crate::challenger::commitment::{ClearCommitment, observe_matrices};
 use sha2::{Digest, Sha256};
 use stark_fields::{Ext4, Modulus, Residue};
+use stark_merkle::Root;
 use stark_support::{
     CanObserve, CanSample, CanSampleBits, ExtensionChallenger, FieldChallenger, GrindingChallenger,
     PrimeField64, checked_pow2,
@@ -86,6 +87,15 @@ impl<M: Modulus, Kind> CanObserve<ClearCommitment<Residue<M, Kind>>>
 
     fn observe(&mut self, value: &ClearCommitment<Residue<M, Kind>>) {
         observe_matrices(self, value.matrices());
+    }
+}
+
+impl<M: Modulus, Kind> CanObserve<Root> for Sha256Challenger<Residue<M, Kind>> {
+    ghost after_observe = { λ s root. absorbed s 3 root.bytes };
+
+    /// The 32 bytes, absorbed at once, behind a byte of their own that tells them from an element.
+    fn observe(&mut self, value: &Root) {
+        self.absorb(3, &value.bytes());
     }
 }
 

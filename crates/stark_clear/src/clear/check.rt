@@ -3,11 +3,12 @@ ghost use Rattle.std.specs.Prelude.{◌≡◌, ◌↔◌, IsTrue, IfErr, IfOk, l
 ghost use Rattle.std.specs.List.{AllByRecursion};
 ghost use Rattle.stark_support.specs.Claims.{claim_view, matrix_view, point_view};
 ghost use Rattle.stark_support.specs.Scheme.{row_at};
-ghost use Rattle.stark_clear.specs.ClearClaims.{ClaimsAreTrue, ClaimsFault, FindsFirstFault, HasValue, HasValues, MatrixHasShape, PlaceByPlace, RoundHasShape, RoundIsTrue, MatrixIsTrue};
-ghost use Rattle.stark_clear.specs.Columns.{column_list, columns_list};
+ghost use Rattle.stark_support.specs.Faults.{FindsFirstFault, PlaceByPlace};
+ghost use Rattle.stark_clear.specs.ClearClaims.{ClaimsAreTrue, ClaimsFault, HasValue, HasValues, MatrixHasShape, RoundHasShape, RoundIsTrue, MatrixIsTrue};
+ghost use Rattle.stark_columns.specs.Columns.{column_list, columns_list};
 
-use crate::clear::powers::{column_value, powers_or_none};
 use stark_bench::ClearCommitment;
+use stark_columns::{column_value, powers_or_none};
 use stark_support::{ExtensionField, Field, MatrixClaim, OpeningClaim, PolynomialSpace};
 use std::alloc::Global;
 use thiserror::Error;

@@ -10,15 +10,16 @@ ghost use Rattle.stark_support.specs.Polynomial.{value};
 ghost use Rattle.stark_clear.specs.ClearFacts.{clear_laws};
 ghost use Rattle.stark_clear.specs.ClearCalls.{clear_calls};
 ghost use Rattle.stark_clear.specs.ClearScheme.{clear_pcs, clear_scheme, stopping_pcs};
-ghost use Rattle.stark_clear.specs.ColumnPoints.{IsPolynomialBelow};
+ghost use Rattle.stark_columns.specs.ColumnPoints.{IsPolynomialBelow};
 ghost use Rattle.stark_clear.specs.Stops.{StopsAt};
 ghost use Rattle.stark_clear.specs.SchemeClauses.{CommitsChunks, CommitsRows, OpensTrueValues, ProvesTrueClaims};
 
 use crate::clear::call::ClearCall;
 use crate::clear::check::{ClearError, check_claims};
-use crate::clear::commit::{chunks_of, columns_of, committed, committed_alone, copied};
-use crate::clear::opening::{open_rounds, rows_on};
+use crate::clear::commit::{committed, committed_alone, copied};
+use crate::clear::opening::open_rounds;
 use stark_bench::{ClearCommitment, Coset};
+use stark_columns::{chunks_of, columns_of, rows_on};
 use stark_dft::periodic_lde_table;
 use stark_support::{
     ExtensionField, OpenedRounds, OpeningClaim, OpeningRound, Pcs, PeriodicColumns,

@@ -4,13 +4,13 @@ ghost use Rattle.std.specs.Int.{IsPowerOfTwo};
 ghost use Rattle.std.specs.List.{AllByRecursion};
 ghost use Rattle.stark_support.specs.Coset.{coset_size};
 ghost use Rattle.stark_support.specs.Scheme.{matrix_row};
-ghost use Rattle.stark_clear.specs.Columns.{columns_list};
+ghost use Rattle.stark_columns.specs.Columns.{columns_list};
 ghost use Rattle.stark_clear.specs.Masks.{AreMaskedChunks, HasMaskAt, HasMasks, balancing_mask, balancing_masks, chunk_columns, masked_chunks, quotient_masks, vanishing_scale};
 
-use crate::clear::chunks_of;
 use crate::masked::columns::{masked_columns, take_off};
 use crate::masked::list::chunk_lists;
 use stark_bench::Coset;
+use stark_columns::chunks_of;
 use stark_support::{
     DomainShape, Field, PolynomialSpace, RowMajorMatrix, TwoAdicField, squared_times,
 };

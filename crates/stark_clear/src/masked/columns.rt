@@ -3,7 +3,7 @@ ghost use Rattle.std.specs.Prelude.{◌≡◌, ◌≤◌, IfOk, length, map};
 ghost use Rattle.std.specs.Simd.Lanes.{zip2};
 ghost use Rattle.stark_support.specs.Polynomial.{polynomial_ring};
 ghost use Rattle.stark_support.specs.Ring.{difference};
-ghost use Rattle.stark_clear.specs.Columns.{column_list, columns_list};
+ghost use Rattle.stark_columns.specs.Columns.{column_list, columns_list};
 ghost use Rattle.stark_clear.specs.Masks.{masked_polynomial};
 
 use stark_support::Field;

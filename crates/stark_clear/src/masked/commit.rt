@@ -4,13 +4,13 @@ ghost use Rattle.std.specs.Int.{IsPowerOfTwo};
 ghost use Rattle.std.specs.List.{AllByRecursion};
 ghost use Rattle.stark_support.specs.Coset.{coset_size};
 ghost use Rattle.stark_support.specs.Scheme.{TakesRows, matrix_row, natural_coset};
-ghost use Rattle.stark_clear.specs.Columns.{columns_list};
+ghost use Rattle.stark_columns.specs.Columns.{columns_list};
 ghost use Rattle.stark_clear.specs.Masks.{AreMaskedBy, mask_lists};
 
-use crate::clear::columns_of;
 use crate::masked::columns::masked_columns;
 use crate::masked::list::next_lists;
 use stark_bench::Coset;
+use stark_columns::columns_of;
 use stark_support::{
     DomainShape, PolynomialSpace, RowMajorMatrix, TwoAdicField, log2_strict_usize,
 };

@@ -1,6 +1,6 @@
 //! A list of masks, read round and round.
 ghost use Rattle.std.specs.Prelude.{◌≡◌, ◌<◌, ◌+◌, ◌*◌, ◌%◌, length, map, IfOk, OnOk};
-ghost use Rattle.stark_clear.specs.Columns.{columns_list};
+ghost use Rattle.stark_columns.specs.Columns.{columns_list};
 ghost use Rattle.stark_clear.specs.Masks.{chunk_masks, mask_list, mask_lists};
 
 use stark_support::Field;

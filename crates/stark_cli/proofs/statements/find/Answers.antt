@@ -1,4 +1,4 @@
-use Rattle.std.proofs.Common.{ap, ◌∙◌, []}
+use Rattle.std.proofs.Common.{[], refl}
 use Rattle.stark_cli.proofs.Findings.{both_inputs, is_some_of, memory_reported}
 use Rattle.stark_cli.proofs.StatementMeaning.{pair_found}
 use Rattle.stark_cli.specs.Running.{both}
@@ -7,8 +7,8 @@ use Rattle.stark_cli.proofs.statements.find.Goals as goal
 
 pub returns-clause-found : goal.returns-clause-found
 returns-clause-found g c =
-    pair_found _ _ _ _ c.args.verb _ (c.deref.result.now, c.deref-2.result.now) (c.in-Ok.bytes.items, c.in-Ok-read_to_end.bytes.items) _
-    (both_inputs _ _ _ _ c.in-Ok.ensures.bytes c.in-Ok-read_to_end.ensures.bytes) (ap (λ a. (a, c.deref-2.result.now)) c.deref.ensures.value ∙ ap (λ b. (c.in-Ok.bytes.items, b)) c.deref-2.ensures.value) c.answer.ensures
+    pair_found _ _ _ _ c.args.verb _ (c.in-Ok.bytes.items, c.in-Ok-read_to_end.bytes.items) (c.in-Ok.bytes.items, c.in-Ok-read_to_end.bytes.items) _
+    (both_inputs _ _ _ _ c.in-Ok.ensures.bytes c.in-Ok-read_to_end.ensures.bytes) refl c.answer.ensures
 
 pub returns-in-Err-clause-found : goal.returns-in-Err-clause-found
 returns-in-Err-clause-found g c = memory_reported no_memory _ _ _ (is_some_of ([], []) (both (g.S.Source.remaining c.args.statement.now) (g.R.Source.remaining c.args.second.now))) _ c.unread.ensures.memory

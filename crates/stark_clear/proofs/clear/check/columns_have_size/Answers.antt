@@ -1,6 +1,6 @@
 use Rattle.std.proofs.Common.{rules, ◌≡◌, length}
-use Rattle.stark_clear.specs.Columns.{column_list}
-use Rattle.stark_clear.proofs.Loops.{shown, refuted, left_step, left_stop, left_end}
+use Rattle.stark_columns.specs.Columns.{column_list}
+use Rattle.stark_support.proofs.Loops.{shown, refuted, left_step, left_stop, left_end}
 use Rattle.stark_clear.proofs.clear.check.columns_have_size.Goals as goal
 
 pub returns-then-len-size : goal.returns-then-len-size

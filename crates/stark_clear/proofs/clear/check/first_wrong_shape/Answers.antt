@@ -1,8 +1,9 @@
 use Rattle.std.proofs.Common.{rules, sym, subst, map}
 use Rattle.stark_support.specs.Claims.{claim_view, matrix_view}
-use Rattle.stark_clear.specs.ClearClaims.{MatrixHasShape, PlaceByPlace, RoundHasShape}
-use Rattle.stark_clear.specs.Columns.{columns_list}
-use Rattle.stark_clear.proofs.Loops.{left_step, passed_step, passed_stop}
+use Rattle.stark_support.specs.Faults.{PlaceByPlace}
+use Rattle.stark_clear.specs.ClearClaims.{MatrixHasShape, RoundHasShape}
+use Rattle.stark_columns.specs.Columns.{columns_list}
+use Rattle.stark_support.proofs.Loops.{left_step, passed_step, passed_stop}
 use Rattle.stark_clear.proofs.clear.check.first_wrong_shape.Goals as goal
 
 pub returns-then-not-round_has_shape : goal.returns-then-not-round_has_shape

@@ -1,8 +1,8 @@
 use Rattle.std.proofs.Common.{rules, arith, ◌≡◌, ◌∙◌, ap, sym, length}
 use Rattle.stark_support.specs.Polynomial.{value_over}
 use Rattle.stark_clear.specs.ClearClaims.{HasValue}
-use Rattle.stark_clear.specs.Columns.{column_list}
-use Rattle.stark_clear.proofs.Loops.{shown, refuted, both_step, both_stop, both_end, same_lengths}
+use Rattle.stark_columns.specs.Columns.{column_list}
+use Rattle.stark_support.proofs.Loops.{shown, refuted, both_step, both_stop, both_end, same_lengths}
 use Rattle.stark_clear.proofs.clear.check.has_values.Goals as goal
 
 pub returns-then-values-columns : goal.returns-then-values-columns

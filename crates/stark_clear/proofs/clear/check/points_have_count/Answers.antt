@@ -1,6 +1,6 @@
 use Rattle.std.proofs.Common.{◌≡◌, length}
 use Rattle.stark_support.specs.Claims.{point_view}
-use Rattle.stark_clear.proofs.Loops.{shown, refuted, left_step, left_stop, left_end}
+use Rattle.stark_support.proofs.Loops.{shown, refuted, left_step, left_stop, left_end}
 use Rattle.stark_clear.proofs.clear.check.points_have_count.Goals as goal
 
 pub returns-then-point-count : goal.returns-then-point-count

@@ -4,8 +4,8 @@ use Rattle.std.proofs.lemmas.List.{length-map}
 use Rattle.stark_support.specs.Claims.{matrix_view, point_view}
 use Rattle.stark_support.specs.Coset.{coset_size}
 use Rattle.stark_clear.specs.ClearClaims.{MatrixHasShape}
-use Rattle.stark_clear.specs.Columns.{column_list, columns_list}
-use Rattle.stark_clear.proofs.Loops.{shown, refuted, both_step, both_stop, both_end, same_lengths}
+use Rattle.stark_columns.specs.Columns.{column_list, columns_list}
+use Rattle.stark_support.proofs.Loops.{shown, refuted, both_step, both_stop, both_end, same_lengths}
 use Rattle.stark_clear.proofs.clear.check.round_has_shape.Goals as goal
 
 pub returns-then-claims-matrices : goal.returns-then-claims-matrices

@@ -1,7 +1,7 @@
 use Rattle.stark_support.specs.Claims.{matrix_view}
 use Rattle.stark_clear.specs.ClearClaims.{MatrixHasShape}
-use Rattle.stark_clear.specs.Columns.{columns_list}
-use Rattle.stark_clear.proofs.Loops.{BothLeft}
+use Rattle.stark_columns.specs.Columns.{columns_list}
+use Rattle.stark_support.proofs.Loops.{BothLeft}
 use Rattle.stark_clear.proofs.clear.check.round_has_shape.Given as goal
 
 abbrev pub invariant-loop-i : goal.invariant-loop-i

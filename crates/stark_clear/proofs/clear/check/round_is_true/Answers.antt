@@ -2,8 +2,8 @@ use Rattle.std.proofs.Common.{rules, arith, ◌≡◌, sym, subst, map, length}
 use Rattle.std.specs.List.{AllByRecursion}
 use Rattle.stark_support.specs.Claims.{matrix_view, point_view}
 use Rattle.stark_clear.specs.ClearClaims.{HasValues, MatrixIsTrue}
-use Rattle.stark_clear.specs.Columns.{column_list, columns_list}
-use Rattle.stark_clear.proofs.Loops.{shown, refuted, both_step, both_stop, both_end, same_lengths}
+use Rattle.stark_columns.specs.Columns.{column_list, columns_list}
+use Rattle.stark_support.proofs.Loops.{shown, refuted, both_step, both_stop, both_end, same_lengths}
 use Rattle.stark_clear.proofs.clear.check.round_is_true.Goals as goal
 
 pub returns-then-claims-matrices : goal.returns-then-claims-matrices

@@ -1,7 +1,7 @@
 use Rattle.std.proofs.lemmas.Grind.{common_steps}
 use Rattle.std.proofs.Common.{map, arith}
 use Rattle.stark_support.proofs.Places.{all_mapped_front}
-use Rattle.stark_clear.specs.Columns.{columns_list}
+use Rattle.stark_columns.specs.Columns.{columns_list}
 use Rattle.stark_clear.proofs.clear.commit.copied.Goals as goal
 
 pub returns : goal.returns

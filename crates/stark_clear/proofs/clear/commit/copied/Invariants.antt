@@ -1,5 +1,5 @@
 use Rattle.std.proofs.Common.{◌≡◌, ◌++◌, map, drop}
-use Rattle.stark_clear.specs.Columns.{columns_list}
+use Rattle.stark_columns.specs.Columns.{columns_list}
 use Rattle.stark_clear.proofs.clear.commit.copied.Given as goal
 
 abbrev pub invariant-loop-columns : goal.invariant-loop-columns

@@ -1,5 +1,5 @@
 use Rattle.stark_support.proofs.Places.{all_mapped_front}
-use Rattle.stark_clear.specs.Columns.{column_list, columns_list}
+use Rattle.stark_columns.specs.Columns.{column_list, columns_list}
 use Rattle.stark_clear.proofs.clear.commit.copied_columns.Goals as goal
 
 pub returns : goal.returns

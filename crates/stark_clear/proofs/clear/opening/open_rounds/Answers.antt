@@ -2,7 +2,7 @@ use Rattle.std.proofs.Common.{◌∙◌, sym}
 use Rattle.std.proofs.lemmas.Simd.{map-map}
 use Rattle.stark_support.specs.Claims.{opened_view, round_view}
 use Rattle.stark_support.proofs.Places.{all_mapped_front}
-use Rattle.stark_clear.specs.Opened.{opened_round}
+use Rattle.stark_columns.specs.Opened.{opened_round}
 use Rattle.stark_clear.proofs.clear.opening.open_rounds.Goals as goal
 
 pub returns : goal.returns

@@ -1,6 +1,6 @@
 use Rattle.std.proofs.Common.{◌≡◌, ◌++◌, map, drop}
 use Rattle.stark_support.specs.Claims.{opened_view, round_view}
-use Rattle.stark_clear.specs.Opened.{opened_round}
+use Rattle.stark_columns.specs.Opened.{opened_round}
 use Rattle.stark_clear.proofs.clear.opening.open_rounds.Given as goal
 
 abbrev pub invariant-loop-round : goal.invariant-loop-round

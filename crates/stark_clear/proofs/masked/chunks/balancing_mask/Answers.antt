@@ -1,7 +1,7 @@
 use Rattle.std.proofs.lemmas.Grind.{common_steps}
 use Rattle.std.proofs.Common.{◌≡◌, ◌∙◌, [], ap, arith, get_or, length}
 use Rattle.std.proofs.lemmas.List.{length-map}
-use Rattle.stark_clear.specs.Columns.{column_list, columns_list}
+use Rattle.stark_columns.specs.Columns.{column_list, columns_list}
 use Rattle.stark_clear.specs.Masks.{HasMaskAt}
 use Rattle.stark_clear.proofs.BalancingSteps.{mask_read, one_more_off, one_of_all}
 use Rattle.stark_clear.proofs.MaskedColumns.{off_length}

@@ -1,5 +1,5 @@
 use Rattle.std.proofs.Common.{◌≡◌, [], drop, get_or, length, map}
-use Rattle.stark_clear.specs.Columns.{columns_list}
+use Rattle.stark_columns.specs.Columns.{columns_list}
 use Rattle.stark_clear.specs.Masks.{balancing_mask, less_all}
 use Rattle.stark_clear.proofs.masked.chunks.balancing_mask.Given as goal
 

@@ -1,6 +1,6 @@
 use Rattle.std.proofs.Common.{◌∙◌, [], ◌∷◌, ap, map}
 use Rattle.std.proofs.lemmas.List.{map-append}
-use Rattle.stark_clear.specs.Columns.{column_list, columns_list}
+use Rattle.stark_columns.specs.Columns.{column_list, columns_list}
 use Rattle.stark_clear.specs.Masks.{balancing_mask}
 use Rattle.stark_clear.proofs.Ranges.{from_zero, range_grown}
 use Rattle.stark_clear.proofs.masked.chunks.balancing_masks.Goals as goal

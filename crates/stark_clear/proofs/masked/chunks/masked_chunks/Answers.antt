@@ -1,6 +1,6 @@
 use Rattle.std.proofs.Common.{◌∙◌, ◌∷◌, [], ap, arith, map, refl}
 use Rattle.std.proofs.lemmas.List.{map-append}
-use Rattle.stark_clear.specs.Columns.{column_list, columns_list}
+use Rattle.stark_columns.specs.Columns.{column_list, columns_list}
 use Rattle.stark_clear.specs.Masks.{vanishing_scale}
 use Rattle.stark_clear.proofs.MaskedChunkSteps.{one_more_masked}
 use Rattle.stark_clear.proofs.MaskedColumns.{joined_columns}

@@ -1,5 +1,5 @@
 use Rattle.std.proofs.Common.{◌≡◌, ◌++◌, map}
-use Rattle.stark_clear.specs.Columns.{columns_list}
+use Rattle.stark_columns.specs.Columns.{columns_list}
 use Rattle.stark_clear.proofs.MaskedChunkSteps.{left_to_mask}
 use Rattle.stark_clear.proofs.masked.chunks.masked_chunks.Given as goal
 

@@ -3,7 +3,7 @@ use Rattle.std.proofs.lemmas.List.{length-map}
 use Rattle.std.proofs.lemmas.Nat.{pow_pos}
 use Rattle.stark_support.specs.LogarithmFacts.{exponent_at_most}
 use Rattle.stark_support.specs.Scheme.{matrix_row}
-use Rattle.stark_clear.specs.Columns.{columns_list}
+use Rattle.stark_columns.specs.Columns.{columns_list}
 use Rattle.stark_clear.specs.Masks.{chunk_columns, masked_chunks}
 use Rattle.stark_clear.proofs.MaskedChunkSteps.{masked_made, quotient_length}
 use Rattle.stark_clear.proofs.masked.chunks.masked_chunks_of.Goals as goal

@@ -1,6 +1,6 @@
 use Rattle.std.proofs.Common.{◌∙◌, ap, map, subst, sym}
 use Rattle.std.specs.List.{AllByRecursion}
-use Rattle.stark_clear.specs.Columns.{columns_list}
+use Rattle.stark_columns.specs.Columns.{columns_list}
 use Rattle.stark_clear.specs.Masks.{HasMasks}
 use Rattle.stark_clear.proofs.MaskSteps.{chunks_have_masks}
 use Rattle.stark_clear.proofs.masked.chunks.quotient_masks.Goals as goal

@@ -1,5 +1,5 @@
 use Rattle.std.proofs.Common.{arith}
-use Rattle.stark_clear.specs.Columns.{column_list}
+use Rattle.stark_columns.specs.Columns.{column_list}
 use Rattle.stark_clear.specs.Masks.{masked_polynomial}
 use Rattle.stark_clear.proofs.MaskedColumns.{all_joined}
 use Rattle.stark_clear.proofs.masked.columns.masked_columns.Goals as goal

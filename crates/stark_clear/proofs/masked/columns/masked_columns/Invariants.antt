@@ -1,6 +1,6 @@
 use Rattle.std.proofs.Common.{◌≡◌, ◌++◌, drop, map}
 use Rattle.std.specs.Simd.Lanes.{zip2}
-use Rattle.stark_clear.specs.Columns.{column_list, columns_list}
+use Rattle.stark_columns.specs.Columns.{column_list, columns_list}
 use Rattle.stark_clear.specs.Masks.{masked_polynomial}
 use Rattle.stark_clear.proofs.masked.columns.masked_columns.Given as goal
 

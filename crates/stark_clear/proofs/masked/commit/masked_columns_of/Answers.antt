@@ -2,7 +2,7 @@ use Rattle.std.proofs.Common.{◌≡◌, ◌≤◌, ◌-◌, ◌/◌, ◌^◌, �
 use Rattle.std.specs.List.{AllByRecursion}
 use Rattle.stark_support.specs.LogarithmFacts.{exponent_at_most}
 use Rattle.stark_support.specs.Scheme.{TakesRows, matrix_row, natural_coset}
-use Rattle.stark_clear.specs.Columns.{column_list, columns_list}
+use Rattle.stark_columns.specs.Columns.{column_list, columns_list}
 use Rattle.stark_clear.specs.Masks.{mask_lists}
 use Rattle.stark_clear.proofs.MaskSteps.{lists_full, lists_length}
 use Rattle.stark_clear.proofs.MaskedColumns.{joined_columns}

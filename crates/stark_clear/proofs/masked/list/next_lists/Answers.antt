@@ -1,6 +1,6 @@
 use Rattle.std.proofs.Common.{◌∙◌, [], ◌∷◌, ap, map, length}
 use Rattle.std.proofs.lemmas.List.{map-append}
-use Rattle.stark_clear.specs.Columns.{column_list, columns_list}
+use Rattle.stark_columns.specs.Columns.{column_list, columns_list}
 use Rattle.stark_clear.proofs.MaskSteps.{next_place, one_more_list}
 use Rattle.stark_clear.proofs.masked.list.next_lists.Goals as goal
 

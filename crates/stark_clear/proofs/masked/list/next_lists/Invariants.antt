@@ -1,5 +1,5 @@
 use Rattle.std.proofs.Common.{◌≡◌, ◌+◌, ◌*◌, ◌%◌, length}
-use Rattle.stark_clear.specs.Columns.{columns_list}
+use Rattle.stark_columns.specs.Columns.{columns_list}
 use Rattle.stark_clear.specs.Masks.{mask_lists}
 use Rattle.stark_clear.proofs.masked.list.next_lists.Given as goal
 

@@ -1,7 +1,7 @@
-use Rattle.std.proofs.Common.{◌∙◌, ap, map, false}
+use Rattle.std.proofs.Common.{◌∙◌, ap, map}
 use Rattle.stark_support.specs.Claims.{round_view}
 use Rattle.stark_clear.specs.ClearFacts.{true_claims, true_openings}
-use Rattle.stark_clear.specs.Opened.{opened_round}
+use Rattle.stark_columns.specs.Opened.{opened_round}
 use Rattle.stark_clear.proofs.clear.pcs.ClearPcsUnivariateStarkPcs.open_with_preprocessing.Goals as goal
 
 pub returns-clause-true_values : goal.returns-clause-true_values

@@ -1,6 +1,6 @@
 use Rattle.std.proofs.Common.{map}
 use Rattle.stark_support.specs.Scheme.{matrix_row}
-use Rattle.stark_clear.specs.Columns.{columns_list}
+use Rattle.stark_columns.specs.Columns.{columns_list}
 use Rattle.stark_clear.proofs.MaskedQuotient.{masked_stand}
 use Rattle.stark_clear.proofs.masked.pcs.MaskedClearPcsUnivariateStarkPcs.commit_quotient.Goals as goal
 

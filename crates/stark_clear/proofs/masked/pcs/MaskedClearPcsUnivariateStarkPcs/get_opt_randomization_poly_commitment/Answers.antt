@@ -1,6 +1,6 @@
 use Rattle.std.proofs.Common.{◌≡◌, ◌∙◌, ap, sym, subst, length, rules}
 use Rattle.std.specs.List.{AllByRecursion}
-use Rattle.stark_clear.specs.Columns.{columns_list}
+use Rattle.stark_columns.specs.Columns.{columns_list}
 use Rattle.stark_clear.proofs.MaskSteps.{lists_full, lists_length}
 use Rattle.stark_clear.proofs.masked.pcs.MaskedClearPcsUnivariateStarkPcs.get_opt_randomization_poly_commitment.Goals as goal
 

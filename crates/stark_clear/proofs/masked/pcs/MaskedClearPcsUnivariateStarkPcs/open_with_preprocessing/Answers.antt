@@ -1,4 +1,4 @@
-use Rattle.std.specs.Prelude.{IfOk, Result, Ok, Err, true}
+use Rattle.std.specs.Prelude.{IfOk, Result, Ok, Err}
 use Rattle.stark_clear.specs.ClearFacts.{true_claims}
 use Rattle.stark_clear.proofs.masked.pcs.MaskedClearPcsUnivariateStarkPcs.open_with_preprocessing.Goals as goal
 

@@ -1,0 +1,9 @@
+pub mod AcceptSteps
+pub mod ClaimSteps
+pub mod ListSteps
+pub mod ObserveSteps
+pub mod PlaySteps
+pub mod PointSteps
+pub mod ReplaySteps
+pub mod ViewSteps
+pub mod WalkSteps

@@ -1,0 +1,128 @@
+-- What the verifier's functions find.
+use Rattle.std.specs.Prelude.{◌≡◌, ℕ, ⊤, List, map, Option, None, Some, Result, Ok, Err}
+use Rattle.std.specs.List.{AllByRecursion, zip}
+use Rattle.std.specs.declared.vec.Vec.{Vec}
+use Rattle.stark_support.specs.Claims.{IfRefused}
+use Rattle.stark_support.specs.declared.scheme.SchemeFault.{SchemeFault}
+use Rattle.stark_support.specs.Coset.{TwoAdicCoset}
+use Rattle.stark_fri_proof.specs.declared.proof.LayerOpening.{LayerOpening}
+use Rattle.stark_fri_proof.specs.declared.proof.Phase.{Phase}
+use Rattle.stark_support.specs.Faults.{FindsFirstFault, IsFirstFault, IsFirstFaultWith}
+use Rattle.stark_fri_proof.specs.Parts.{FriProofView, InputOpening, QueryProof}
+use Rattle.stark_fri_proof.specs.declared.parameters.FriParameters.{FriParameters}
+use Rattle.stark_fri.specs.Accept.{HasFolds, HasLength, HasQueryCount, Refused}
+use Rattle.stark_fri.specs.Claims.{ClaimsFault, ClaimsFit, RoundRead, height_of}
+use Rattle.stark_fri.specs.Parts.{FriFields, FriOps, SpongeCalls}
+use Rattle.stark_fri.specs.Query.{InputLeads, PairLeads, QueryAt, QueryFails, QueryHolds, Target, extension_coset, next_at, pair_at, pairs_of, phase_root, walked_by}
+use Rattle.stark_fri.specs.Transcript.{FoldsWork, Instance, Passes, QueryWorkPasses, after_phases, alpha_of, betas_of, checks_of, fold_betas, fold_checks, query_places}
+use Rattle.stark_fri.specs.declared.replay.Drawn.{Drawn}
+use Rattle.stark_fri.specs.declared.error.FriError.{FriError}
+use Rattle.stark_fri.specs.declared.error.FriError.TheVariants.{NoClaims, MixedHeights, TooHigh, Widths, PointOnCoset, CommitPhases, FinalPolynomial, Queries, CommitWork, QueryWork, Query}
+use Rattle.stark_fri.specs.declared.error.QueryFault.{QueryFault}
+
+-- All witnesses pass, and these are the drawn challenges and the state behind them; or this fold's witness is the first that doesn't.
+abbrev pub Plays : {C F E : Type 0} → SpongeCalls C F E → ℕ → C → List (Phase F) → Result (List E × C) ℕ → Type 0
+Plays sponge bits state phases (Ok drawn) =
+    AllByRecursion (Passes sponge bits) (checks_of sponge bits state phases) × (drawn.0 ≡ betas_of sponge bits state phases) × (drawn.1 ≡ after_phases sponge bits state phases)
+Plays sponge bits state phases (Err fold) = IsFirstFault (Passes sponge bits) (checks_of sponge bits state phases) fold
+
+-- The same of challenges in memory, with the state behind the folds.
+abbrev pub PlaysTo : {C F E A : Type 0} → SpongeCalls C F E → ℕ → C → List (Phase F) → C → Result (Vec E A) ℕ → Type 0
+PlaysTo sponge bits state phases behind (Ok betas) = Plays sponge bits state phases (Ok (betas.items, behind))
+PlaysTo sponge bits state phases behind (Err fold) = Plays sponge bits state phases (Err fold)
+
+-- This is drawn: alpha, the folds' betas, and the places in 2 ^ bits rows.
+abbrev pub IsDrawn : {C F E : Type 0} → SpongeCalls C F E → Instance C F E → ℕ → Drawn E → Type 0
+IsDrawn sponge i bits drawn =
+    (drawn.alpha ≡ alpha_of sponge i) × (drawn.betas.items ≡ fold_betas sponge i) × (drawn.places.items ≡ query_places sponge i bits)
+
+-- All witnesses pass, and this is drawn; or this is the first witness that doesn't.
+abbrev pub Replays : {C F E : Type 0} → SpongeCalls C F E → Instance C F E → ℕ → Result (Drawn E) FriError → Type 0
+Replays sponge i bits (Ok drawn) = FoldsWork sponge i × QueryWorkPasses sponge i × IsDrawn sponge i bits drawn
+Replays sponge i bits (Err (CommitWork phase)) = IsFirstFault (Passes sponge i.parameters.commit_proof_of_work_bits) (fold_checks sponge i) phase
+Replays sponge i bits (Err QueryWork) = FoldsWork sponge i × (QueryWorkPasses sponge i → ⊥)
+Replays sponge i bits (Err NoClaims) = ⊥
+Replays sponge i bits (Err (MixedHeights round)) = ⊥
+Replays sponge i bits (Err TooHigh) = ⊥
+Replays sponge i bits (Err (Widths round)) = ⊥
+Replays sponge i bits (Err (PointOnCoset round)) = ⊥
+Replays sponge i bits (Err CommitPhases) = ⊥
+Replays sponge i bits (Err FinalPolynomial) = ⊥
+Replays sponge i bits (Err Queries) = ⊥
+Replays sponge i bits (Err (Query query fault)) = ⊥
+
+-- The claims fit, and this is the logarithm of their height; or this is their first fault.
+abbrev pub FindsHeight : {F E : Type 0} → FriFields F E → FriParameters → List (RoundRead E) → Result ℕ FriError → Type 0
+FindsHeight fields s rounds (Ok k) = ClaimsFit fields s rounds × (k ≡ height_of rounds)
+FindsHeight fields s rounds (Err error) = ClaimsFault fields s rounds error
+
+-- The pair leads to its root, and this is the folded value; or it doesn't.
+abbrev pub Steps : {F E : Type 0} → FriFields F E → (List ℕ → List ℕ) → TwoAdicCoset E → E → ℕ → E → List ℕ → LayerOpening E → Option E → Type 0
+Steps fields hash c beta place value tree layer None = PairLeads hash (pair_at fields c place value tree layer) → ⊥
+Steps fields hash c beta place value tree layer (Some v) =
+    PairLeads hash (pair_at fields c place value tree layer) × (v ≡ next_at fields c beta place value layer.sibling)
+
+-- All pairs lead to their roots and this is the last value; or this fold is the first whose pair doesn't.
+abbrev pub Walks : {F E : Type 0} → FriFields F E → (List ℕ → List ℕ) → TwoAdicCoset E → ℕ → E → List (List ℕ) → List E → List (LayerOpening E) → Result E ℕ → Type 0
+Walks fields hash c i v trees betas layers (Ok w) =
+    AllByRecursion (PairLeads hash) (pairs_of fields c i v trees betas layers) × (w ≡ walked_by fields c i v betas layers)
+Walks fields hash c i v trees betas layers (Err fold) = IsFirstFault (PairLeads hash) (pairs_of fields c i v trees betas layers) fold
+
+-- The same from a place of 2 ^ bits extended rows.
+abbrev pub WalksFrom : {F E : Type 0} → FriFields F E → (List ℕ → List ℕ) → ℕ → ℕ → E → List (Phase F) → List E → List (LayerOpening E) → Result E ℕ → Type 0
+WalksFrom fields hash bits place value phases betas layers found =
+    Walks fields hash (extension_coset fields bits) place value (map phase_root phases) betas layers found
+
+-- The first round whose rows don't lead to its root; none where all do.
+abbrev pub FindsInputFault : {F E : Type 0} → FriFields F E → (List ℕ → List ℕ) → ℕ → ℕ → List (RoundRead E) → List (InputOpening F) → Option ℕ → Type 0
+FindsInputFault fields hash bits place rounds inputs found = FindsFirstFault (InputLeads fields hash bits place) (zip rounds inputs) found
+
+-- The query's first fault; none where it holds.
+abbrev pub FindsQueryFault : {F E : Type 0} → FriFields F E → (List ℕ → List ℕ) → Target E → QueryAt F E → Option QueryFault → Type 0
+FindsQueryFault fields hash target q None = QueryHolds fields hash target q
+FindsQueryFault fields hash target q (Some fault) = QueryFails fields hash target fault q
+
+-- Each query holds; or this is the first that doesn't, and its first fault.
+abbrev pub FindsFault : {F E : Type 0} → FriFields F E → (List ℕ → List ℕ) → Target E → List (QueryAt F E) → Option (ℕ × QueryFault) → Type 0
+FindsFault fields hash target queries None = AllByRecursion (QueryHolds fields hash target) queries
+FindsFault fields hash target queries (Some found) = IsFirstFaultWith (QueryHolds fields hash target) (QueryFails fields hash target found.1) queries found.0
+
+-- What the queries are checked against, of what was drawn.
+abbrev pub target_by : {F E : Type 0} → List (RoundRead E) → ℕ → Drawn E → FriProofView F E → Target E
+target_by rounds bits drawn proof = record {
+  rounds = rounds;
+  bits = bits;
+  alpha = drawn.alpha;
+  betas = drawn.betas.items;
+  trees = map phase_root proof.phases;
+  final_polynomial = proof.final_polynomial;
+}
+
+-- The proof has as many folds, coefficients and queries as the parameters ask for at a height; or this is the first that differs.
+abbrev pub ShapeFits : {F E : Type 0} → FriParameters → ℕ → FriProofView F E → Result ⊤ FriError → Type 0
+ShapeFits s k proof (Ok done) = HasFolds s k proof × HasLength s k proof × HasQueryCount s proof
+ShapeFits s k proof (Err CommitPhases) = HasFolds s k proof → ⊥
+ShapeFits s k proof (Err FinalPolynomial) = HasFolds s k proof × (HasLength s k proof → ⊥)
+ShapeFits s k proof (Err Queries) = HasFolds s k proof × HasLength s k proof × (HasQueryCount s proof → ⊥)
+ShapeFits s k proof (Err NoClaims) = ⊥
+ShapeFits s k proof (Err (MixedHeights round)) = ⊥
+ShapeFits s k proof (Err TooHigh) = ⊥
+ShapeFits s k proof (Err (Widths round)) = ⊥
+ShapeFits s k proof (Err (PointOnCoset round)) = ⊥
+ShapeFits s k proof (Err (CommitWork phase)) = ⊥
+ShapeFits s k proof (Err QueryWork) = ⊥
+ShapeFits s k proof (Err (Query query fault)) = ⊥
+
+-- The same of what was drawn in memory: of a query, and of all.
+abbrev pub FindsFaultAt : {F E : Type 0} → FriFields F E → (List ℕ → List ℕ) → List (RoundRead E) → ℕ → Drawn E → FriProofView F E → ℕ → QueryProof F E
+    → Option QueryFault → Type 0
+FindsFaultAt fields hash rounds bits drawn proof place query found = FindsQueryFault fields hash (target_by rounds bits drawn proof) (place, query) found
+
+abbrev pub FindsFirstQuery : {F E : Type 0} → FriFields F E → (List ℕ → List ℕ) → List (RoundRead E) → ℕ → Drawn E → FriProofView F E
+    → Option (ℕ × QueryFault) → Type 0
+FindsFirstQuery fields hash rounds bits drawn proof found =
+    FindsFault fields hash (target_by rounds bits drawn proof) (zip drawn.places.items proof.queries) found
+
+-- What holds of a refusal: it is the first fault.
+abbrev pub IsRefused : {C F E : Type 0} → FriOps C F E → Instance C F E → SchemeFault FriError → Type 0
+IsRefused ops i fault = IfRefused fault (Refused ops i)

@@ -1,0 +1,22 @@
+//! The verifier of the FRI scheme: what it accepts and refuses, exactly, over any two-adic field
+//! with an extension, any hash of trees and any challenger.
+#![tactic(auto)]
+
+mod claims;
+mod error;
+mod fields;
+mod folds;
+mod laws;
+mod phases;
+mod query;
+mod replay;
+mod seen;
+mod sponge;
+mod transcript;
+mod verify;
+
+pub use error::{FriError, FriProverError, QueryFault};
+pub use fields::FoldingFields;
+pub use laws::{no_claim_is_both, own_check_is_enough};
+pub use sponge::{FriCalls, FriObserving, FriSponge};
+pub use verify::verify_openings;

@@ -1,0 +1,176 @@
+//! The checks of one query.
+ghost use Rattle.std.specs.Prelude.{◌≡◌, ◌<◌, ◌≤◌, ◌^◌, ◌↔◌, IfOk, IsTrue, length, map};
+ghost use Rattle.std.specs.List.{AllByRecursion, zip};
+ghost use Rattle.stark_support.specs.Faults.{PlaceByPlace};
+ghost use Rattle.stark_support.specs.Polynomial.{value};
+ghost use Rattle.stark_merkle.specs.Bytes.{row_bytes_of};
+ghost use Rattle.stark_merkle.specs.Tree.{LeadsTo, items_of};
+ghost use Rattle.stark_fri_proof.specs.Paths.{digests_of};
+ghost use Rattle.stark_fri.specs.Claims.{AreOff, matrices_in, rounds_in};
+ghost use Rattle.stark_fri.specs.Found.{FindsFaultAt, FindsInputFault};
+ghost use Rattle.stark_fri.specs.Query.{QueryFits, RowFits, extension_coset, last_point};
+
+use crate::claims::points_have_count;
+use crate::error::QueryFault;
+use crate::fields::FoldingFields;
+use crate::folds::{half_size, point_at, walk};
+use crate::replay::Drawn;
+use crate::seen::batched_value;
+use stark_fri_proof::{FriProof, InputOpening, QueryProof};
+use stark_merkle::{Root, TreeHash, is_path_to, row_bytes};
+use stark_support::{
+    ExtensionField, Field, MatrixClaim, OpeningClaim, PolynomialSpace, PrimeField64, TwoAdicField,
+    polynomial_value,
+};
+use std::alloc::{AllocError, Global};
+
+/// Whether a row is opened of each matrix, with as many elements as there are values at each point.
+fn rows_fit<EF, D: PolynomialSpace>(
+    matrices: &[MatrixClaim<'_, EF, D>],
+    rows: &[Vec<D::Val>],
+) -> bool
+    ensures { IsTrue result ↔
+        PlaceByPlace RowFits (matrices_in D.coset_of matrices.now) (map items_of rows.now) }
+{
+    if rows.len() != matrices.len() {
+        return false;
+    }
+    for m in 0..matrices.len() {
+        let matrix = &matrices[m];
+        if !points_have_count(&matrix.1, rows[m].len()) {
+            return false;
+        }
+    }
+    true
+}
+
+/// Whether a query opens rows of each round that fit its matrices, and one pair for each fold.
+fn query_fits<EF, D: PolynomialSpace>(
+    claims: &[OpeningClaim<'_, EF, Root, D>],
+    folds: usize,
+    query: &QueryProof<D::Val, EF>,
+) -> bool
+    ensures { IsTrue result ↔ QueryFits (rounds_in D.coset_of claims.now) folds query.now }
+{
+    let inputs = query.inputs();
+    if inputs.len() != claims.len() {
+        return false;
+    }
+    if query.layers().len() != folds {
+        return false;
+    }
+    for r in 0..claims.len() {
+        let claim = &claims[r];
+        if !rows_fit::<EF, D>(&claim.1, inputs[r].rows()) {
+            return false;
+        }
+    }
+    true
+}
+
+/// Whether the opened rows stand at the place of the tree of `2^bits` leaves that has the root.
+fn input_leads<F: PrimeField64, H: TreeHash>(
+    alloc: Global,
+    root: &Root,
+    input: &InputOpening<F>,
+    bits: usize,
+    place: usize,
+) -> Result<bool, AllocError>
+    ensures { IfOk result (λ leads. IsTrue leads ↔ LeadsTo H.digest_of root.now.bytes bits place
+        (row_bytes_of F.number_of input.now.rows) (digests_of input.now.path)) }
+{
+    let bytes = row_bytes(alloc, input.rows())?;
+    Ok(is_path_to::<H>(&root.bytes(), bits, place, &bytes, input.path().digests()))
+}
+
+/// The first round whose opened rows don't lead to its root.
+fn first_input_fault<EF, D, H>(
+    alloc: Global,
+    claims: &[OpeningClaim<'_, EF, Root, D>],
+    inputs: &[InputOpening<D::Val>],
+    bits: usize,
+    place: usize,
+) -> Result<Option<usize>, AllocError>
+where
+    D: PolynomialSpace<Val: PrimeField64>,
+    EF: ExtensionField<D::Val>,
+    H: TreeHash,
+    ensures { IfOk result (FindsInputFault ⟦<EF as FoldingFields<D::Val>>⟧.folding H.digest_of
+        bits place (rounds_in D.coset_of claims.now) inputs.now) }
+{
+    for r in 0..claims.len().min(inputs.len()) {
+        let claim = &claims[r];
+        let leads = input_leads::<D::Val, H>(alloc, claim.0, &inputs[r], bits, place)?;
+        if !leads {
+            return Ok(Some(r));
+        }
+    }
+    Ok(None)
+}
+
+/// The point at which the final polynomial is to have the value that a place leads to.
+fn last_point<F: TwoAdicField + PrimeField64, EF: ExtensionField<F>>(
+    folds: usize,
+    bits: usize,
+    start: usize,
+) -> EF
+    requires folds { folds ≤ bits }
+    requires within { bits ≤ F.TWO_ADICITY }
+    ensures { let fields = ⟦<EF as FoldingFields<F>>⟧.folding in
+        result ≡ last_point fields folds (extension_coset fields bits) start }
+{
+    let mut shift = F::GENERATOR;
+    let mut log_size = bits;
+    let mut place = start;
+    for _fold in 0..folds {
+        shift = shift * shift;
+        place %= half_size(log_size);
+        log_size -= 1;
+    }
+    EF::from_base(point_at(shift, log_size, place))
+}
+
+/// The first fault of a query at a place of `2^bits` extended rows: of its shape, then of the
+/// rounds' rows, then of the folds' pairs, then of the value at the end. None where it holds.
+pub(crate) fn query_fault<EF, D, H>(
+    alloc: Global,
+    claims: &[OpeningClaim<'_, EF, Root, D>],
+    proof: &FriProof<D::Val, EF>,
+    drawn: &Drawn<EF>,
+    bits: usize,
+    place: usize,
+    query: &QueryProof<D::Val, EF>,
+) -> Result<Option<QueryFault>, AllocError>
+where
+    D: PolynomialSpace<Val: PrimeField64>,
+    EF: ExtensionField<D::Val>,
+    H: TreeHash,
+    requires betas { length drawn.now.betas.items ≡ length proof.now.phases }
+    requires folds { length proof.now.phases ≤ bits }
+    requires within { bits ≤ D.Val.TWO_ADICITY }
+    requires off { AreOff ⟦<EF as FoldingFields<D::Val>>⟧.folding bits (rounds_in D.coset_of
+        claims.now) }
+    ensures { IfOk result (FindsFaultAt ⟦<EF as FoldingFields<D::Val>>⟧.folding H.digest_of
+        (rounds_in D.coset_of claims.now) bits drawn.now proof.now place query.now) }
+{
+    let phases = proof.phases();
+    if !query_fits::<EF, D>(claims, phases.len(), query) {
+        return Ok(Some(QueryFault::Shape));
+    }
+    let inputs = query.inputs();
+    if let Some(round) = first_input_fault::<EF, D, H>(alloc, claims, inputs, bits, place)? {
+        return Ok(Some(QueryFault::Input { round }));
+    }
+    let value = batched_value::<EF, D>(alloc, claims, inputs, drawn.alpha, bits, place)?;
+    let layers = query.layers();
+    let walked = walk::<D::Val, EF, H>(alloc, phases, &drawn.betas, layers, bits, place, value)?;
+    let reached = match walked {
+        Ok(reached) => reached,
+        Err(layer) => return Ok(Some(QueryFault::Layer { layer })),
+    };
+    let point = last_point::<D::Val, EF>(phases.len(), bits, place);
+    if reached != polynomial_value(proof.final_polynomial(), point) {
+        return Ok(Some(QueryFault::Final));
+    }
+    Ok(None)
+}

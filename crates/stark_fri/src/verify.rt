@@ -1,0 +1,155 @@
+//! Whether claims hold by a proof.
+ghost use Rattle.std.specs.Prelude.{◌≡◌, ◌≤◌, IfErr, IfOk, length};
+ghost use Rattle.stark_fri.specs.Accept.{Accepted, log_final};
+ghost use Rattle.stark_fri.specs.Claims.{AreOff, rounds_in};
+ghost use Rattle.stark_fri.specs.Found.{FindsFirstQuery, IsRefused, ShapeFits};
+ghost use Rattle.stark_fri.specs.Scheme.{claimed_of, claims_in, instance_of};
+
+use crate::claims::check_claims;
+use crate::error::{FriError, QueryFault};
+use crate::fields::FoldingFields;
+use crate::query::query_fault;
+use crate::replay::{Drawn, replay_proof};
+use crate::sponge::FriCalls;
+use stark_fri_proof::{FriParameters, FriProof};
+use stark_merkle::{Root, TreeHash};
+use stark_support::{
+    CanObserve, CanSample, CanSampleBits, ExtensionField, GrindingChallenger, OpeningClaim,
+    PolynomialSpace, PrimeField64, SchemeFault, TwoAdicField,
+};
+use std::alloc::{AllocError, Global};
+
+/// The logarithm of the final polynomial's length at a height.
+fn log_final(parameters: &FriParameters, log_height: usize) -> usize
+    ensures { result ≡ log_final parameters.now log_height }
+{
+    log_height.min(parameters.log_final_poly_len())
+}
+
+/// Whether a proof has as many folds, coefficients and queries as the parameters ask for at a
+/// height; else the first that differs, as `CommitPhases`, `FinalPolynomial` or `Queries`.
+fn check_shape<F, EF>(
+    parameters: &FriParameters,
+    log_height: usize,
+    proof: &FriProof<F, EF>,
+) -> Result<(), FriError>
+    requires { log_height ≤ 63 }
+    ensures { ShapeFits parameters.now log_height proof.now result }
+{
+    let log_length = log_final(parameters, log_height);
+    if proof.phases().len() != log_height - log_length {
+        return Err(FriError::CommitPhases);
+    }
+    if proof.final_polynomial().len() != 1 << log_length {
+        return Err(FriError::FinalPolynomial);
+    }
+    if proof.queries().len() != parameters.num_queries() {
+        return Err(FriError::Queries);
+    }
+    Ok(())
+}
+
+/// The first query at fault, and its first fault.
+fn first_query_fault<EF, D, H>(
+    alloc: Global,
+    claims: &[OpeningClaim<'_, EF, Root, D>],
+    proof: &FriProof<D::Val, EF>,
+    drawn: &Drawn<EF>,
+    bits: usize,
+) -> Result<Option<(usize, QueryFault)>, AllocError>
+where
+    D: PolynomialSpace<Val: PrimeField64>,
+    EF: ExtensionField<D::Val>,
+    H: TreeHash,
+    requires betas { length drawn.now.betas.items ≡ length proof.now.phases }
+    requires folds { length proof.now.phases ≤ bits }
+    requires within { bits ≤ D.Val.TWO_ADICITY }
+    requires off { AreOff ⟦<EF as FoldingFields<D::Val>>⟧.folding bits (rounds_in D.coset_of
+        claims.now) }
+    ensures { IfOk result (FindsFirstQuery ⟦<EF as FoldingFields<D::Val>>⟧.folding H.digest_of
+        (rounds_in D.coset_of claims.now) bits drawn.now proof.now) }
+{
+    let queries = proof.queries();
+    for i in 0..drawn.places.len().min(queries.len()) {
+        let place = drawn.places[i];
+        let query = &queries[i];
+        let found = query_fault::<EF, D, H>(alloc, claims, proof, drawn, bits, place, query)?;
+        if let Some(fault) = found {
+            return Ok(Some((i, fault)));
+        }
+    }
+    Ok(None)
+}
+
+/// Whether claims hold by a proof: its steps, in the order of the faults.
+fn check<C, EF, D, H>(
+    alloc: Global,
+    parameters: &FriParameters,
+    claims: &[OpeningClaim<'_, EF, Root, D>],
+    proof: &FriProof<D::Val, EF>,
+    challenger: &mut C,
+) -> Result<(), SchemeFault<FriError>>
+where
+    D: PolynomialSpace<Val: PrimeField64>,
+    EF: ExtensionField<D::Val>,
+    H: TreeHash,
+    C: CanObserve<D::Val>
+        + CanObserve<Root>
+        + CanSample<EF>
+        + CanSampleBits<usize>
+        + GrindingChallenger<Witness = D::Val>,
+    ensures accepted { IfOk result (λ _. Accepted ⟦<C as FriCalls<D::Val, EF, H>>⟧.fri_ops
+        (instance_of parameters.now (rounds_in D.coset_of claims.now) proof.now challenger.old)) }
+    ensures refused { IfErr result (IsRefused ⟦<C as FriCalls<D::Val, EF, H>>⟧.fri_ops
+        (instance_of parameters.now (rounds_in D.coset_of claims.now) proof.now challenger.old)) }
+{
+    let log_height = match check_claims::<EF, D>(parameters, claims) {
+        Ok(log_height) => log_height,
+        Err(error) => return Err(SchemeFault::Refused(error)),
+    };
+    if let Err(error) = check_shape(parameters, log_height, proof) {
+        return Err(SchemeFault::Refused(error));
+    }
+    // No more than the field's adicity, as the claims' check says.
+    let bits = log_height + parameters.log_blowup();
+    let drawn = match replay_proof::<C, EF, D>(
+        alloc, parameters, claims, proof, bits, challenger,
+    )? {
+        Ok(drawn) => drawn,
+        Err(error) => return Err(SchemeFault::Refused(error)),
+    };
+    match first_query_fault::<EF, D, H>(alloc, claims, proof, &drawn, bits)? {
+        Some((query, fault)) => Err(SchemeFault::Refused(FriError::Query { query, fault })),
+        None => Ok(()),
+    }
+}
+
+/// Whether claims hold by a proof, from the challenger's state: Ok exactly where they do. Otherwise
+/// `Refused` with the first fault, in the order of `FriError`, or `OutOfMemory`. Any proof is
+/// taken: each of its lengths is tested before anything is read by it, so that time and memory are
+/// bounded by the lengths of the claims and the proof and by the parameters.
+pub fn verify_openings<C, EF, D, H>(
+    alloc: Global,
+    parameters: &FriParameters,
+    claims: &[OpeningClaim<'_, EF, Root, D>],
+    proof: &FriProof<D::Val, EF>,
+    challenger: &mut C,
+) -> Result<(), SchemeFault<FriError>>
+where
+    D: PolynomialSpace<Val: PrimeField64>,
+    EF: ExtensionField<D::Val>,
+    H: TreeHash,
+    C: CanObserve<D::Val>
+        + CanObserve<Root>
+        + CanSample<EF>
+        + CanSampleBits<usize>
+        + GrindingChallenger<Witness = D::Val>,
+    ensures accepted { IfOk result (λ _. Accepted ⟦<C as FriCalls<D::Val, EF, H>>⟧.fri_ops
+        (claimed_of parameters.now (claims_in D.coset_of claims.now) proof.now
+        challenger.old)) }
+    ensures refused { IfErr result (IsRefused ⟦<C as FriCalls<D::Val, EF, H>>⟧.fri_ops
+        (claimed_of parameters.now (claims_in D.coset_of claims.now) proof.now
+        challenger.old)) }
+{
+    check::<C, EF, D, H>(alloc, parameters, claims, proof, challenger)
+}

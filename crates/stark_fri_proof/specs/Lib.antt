@@ -1,0 +1,6 @@
+pub mod Fields
+pub mod Parameters
+pub mod Parts
+pub mod PathJson
+pub mod Paths
+pub mod ProofJson

@@ -1,0 +1,6 @@
+use Rattle.std.proofs.Common.{◌≡◌}
+use Rattle.stark_fri_prover.specs.Commit.{leaves_of}
+use Rattle.stark_fri_prover.proofs.commit.leaves.Given as goal
+
+abbrev pub invariant-loop-place : goal.invariant-loop-place
+invariant-loop-place g l = l.leaves.items ≡ leaves_of g.H.TreeHash.digest_of g.F.PrimeField64.number_of l.extended l.place

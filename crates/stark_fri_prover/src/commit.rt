@@ -1,0 +1,150 @@
+//! Commitments to columns: their values on a larger coset, and the tree over these rows.
+ghost use Rattle.std.specs.Prelude.{◌≡◌, ◌≤◌, ◌+◌, ◌^◌, IfOk, map};
+ghost use Rattle.std.specs.List.{AllByRecursion};
+ghost use Rattle.stark_columns.specs.ColumnPoints.{coset_from};
+ghost use Rattle.stark_columns.specs.Columns.{columns_list};
+ghost use Rattle.stark_merkle.specs.Tree.{items_of};
+ghost use Rattle.stark_fri_prover.specs.Commit.{AreExtended, HasRow, HaveRows, IsRootOver, extension_of, leaves_of, row_of};
+
+use stark_bench::Coset;
+use stark_columns::rows_on;
+use stark_merkle::{Root, TreeHash, leaf, root_in, row_bytes, tree_layers};
+use stark_support::{DomainShape, PrimeField64, RowMajorMatrix, TwoAdicField};
+use std::alloc::{AllocError, Global};
+
+/// What the prover keeps of a commitment: the root, the columns' coefficients, their values on the
+/// larger coset, a matrix of rows for each matrix, and the tree's layers over these rows.
+#[derive(Debug, Drop)]
+pub struct FriData<F> {
+    root: Root,
+    log_height: usize,
+    matrices: Vec<Vec<Vec<F>>>,
+    extended: Vec<RowMajorMatrix<F>>,
+    layers: Vec<Vec<[u8; 32]>>,
+}
+
+impl<F> FriData<F> {
+    /// The commitment.
+    pub fn root(&self) -> Root
+        ensures { result ≡ self.now.root }
+    {
+        self.root
+    }
+
+    /// The logarithm of how many coefficients each column has.
+    pub fn log_height(&self) -> usize
+        ensures { result ≡ self.now.log_height }
+    {
+        self.log_height
+    }
+
+    /// The coefficients of each column of each matrix, the constant first.
+    pub fn matrices(&self) -> &[Vec<Vec<F>>]
+        ensures { result.now ≡ self.now.matrices.items }
+    {
+        &self.matrices
+    }
+}
+
+/// The values of each matrix's columns at the domain's points, a row a point.
+fn extended_rows<F: TwoAdicField>(
+    alloc: Global,
+    matrices: &[Vec<Vec<F>>],
+    domain: &Coset<F>,
+) -> Result<Vec<RowMajorMatrix<F>>, AllocError>
+    ensures { IfOk result (λ extended.
+        AreExtended F.ring F.root (coset_from domain.now.shift domain.now.log_size) (map columns_list matrices.now) extended.items) }
+{
+    let mut extended = Vec::new(alloc);
+    for index in 0..matrices.len() {
+        let rows = rows_on(alloc, matrices, index, domain)?;
+        extended.push(rows)?;
+    }
+    Ok(extended)
+}
+
+/// A list of its own of the values of row `place`.
+fn copied_row<F: Copy>(
+    alloc: Global,
+    matrix: &RowMajorMatrix<F>,
+    place: usize,
+) -> Result<Vec<F>, AllocError>
+    requires { HasRow place matrix.now }
+    ensures { IfOk result (λ row. row.items ≡ row_of place matrix.now) }
+{
+    let start = place * matrix.width;
+    let mut row = Vec::new(alloc);
+    row.extend_from_slice(&matrix.values[start..start + matrix.width])?;
+    Ok(row)
+}
+
+/// Row `place` of each matrix.
+fn rows_at<F: Copy>(
+    alloc: Global,
+    extended: &[RowMajorMatrix<F>],
+    place: usize,
+) -> Result<Vec<Vec<F>>, AllocError>
+    requires { AllByRecursion (HasRow place) extended.now }
+    ensures { IfOk result (λ rows. map items_of rows.items ≡ map (row_of place) extended.now) }
+{
+    let mut rows = Vec::new(alloc);
+    for matrix in extended {
+        let row = copied_row(alloc, matrix, place)?;
+        rows.push(row)?;
+    }
+    Ok(rows)
+}
+
+/// The leaves over the first `count` rows.
+fn leaves<F: PrimeField64, H: TreeHash>(
+    alloc: Global,
+    extended: &[RowMajorMatrix<F>],
+    count: usize,
+) -> Result<Vec<[u8; 32]>, AllocError>
+    requires { HaveRows count extended.now }
+    ensures { IfOk result (λ leaves. leaves.items ≡ leaves_of H.digest_of F.number_of extended.now count) }
+{
+    let mut leaves = Vec::new(alloc);
+    for place in 0..count {
+        let rows = rows_at(alloc, extended, place)?;
+        let bytes = row_bytes(alloc, &rows)?;
+        leaves.push(leaf::<H>(&bytes))?;
+    }
+    Ok(leaves)
+}
+
+/// The commitment to columns of `2^log_height` coefficients, and what the prover keeps of it: the
+/// root of the tree over the columns' values at `2^log_blowup` times as many points, on the coset
+/// of the field's generator. It is Err only where memory was refused.
+pub fn commit_columns<F: TwoAdicField + PrimeField64, H: TreeHash>(
+    alloc: Global,
+    log_height: usize,
+    log_blowup: usize,
+    matrices: Vec<Vec<Vec<F>>>,
+) -> Result<(Root, FriData<F>), AllocError>
+    requires { log_height + log_blowup ≤ F.TWO_ADICITY }
+    ensures commitment { IfOk result (λ made. made.0 ≡ made.1.root) }
+    ensures height { IfOk result (λ made. made.1.log_height ≡ log_height) }
+    ensures columns { IfOk result (λ made. made.1.matrices.items ≡ matrices.items) }
+    ensures root { IfOk result (λ made. IsRootOver F.ring F.root H.digest_of F.number_of
+        (extension_of F.GENERATOR (log_height + log_blowup)) (map columns_list matrices.items) made.0.bytes) }
+{
+    let bits = log_height + log_blowup;
+    let domain = Coset::new(F::GENERATOR, bits);
+    let extended = extended_rows(alloc, &matrices, &domain)?;
+    let leaves = leaves::<F, H>(alloc, &extended, domain.size())?;
+    let layers = tree_layers::<H>(alloc, leaves, bits)?;
+    // Over 2^bits leaves there is a root.
+    let top = root_in(&layers).unwrap();
+    let root = Root::new(top);
+    Ok((
+        root,
+        FriData {
+            root,
+            log_height,
+            matrices,
+            extended,
+            layers,
+        },
+    ))
+}

@@ -1,0 +1,24 @@
+//! All cases.
+use crate::answers::{answer, each_byte_replaced};
+use crate::rows::all_rows;
+use crate::{cases, commitments};
+use std::test::Fail;
+
+#[test]
+fn verdicts(rt: HostRuntime) -> Result<(), Fail> {
+    all_rows(&rt, rt.alloc(), cases::ROWS, answer)
+}
+
+#[test]
+fn roots(rt: HostRuntime) -> Result<(), Fail> {
+    all_rows(&rt, rt.alloc(), commitments::ROWS, commitments::answer)
+}
+
+#[test]
+fn any_byte_of_a_proof(rt: HostRuntime) -> Result<(), Fail> {
+    for byte in b"\"09-]} " {
+        let count = each_byte_replaced(rt.alloc(), "folded", *byte)?;
+        assert!(rt; count > 500);
+    }
+    Ok(())
+}

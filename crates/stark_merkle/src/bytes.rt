@@ -1,0 +1,85 @@
+//! The bytes of rows and of pairs, which the leaves of trees are the digests of.
+ghost use Rattle.std.specs.Prelude.{◌≡◌, ◌++◌, IfOk, OnOk, map};
+ghost use Rattle.stark_support.specs.Seed.{number};
+ghost use Rattle.stark_merkle.specs.Bytes.{OpenedRowsBind, PairBytesTell, RowBytesTell, elements_bytes, pair_bytes_of, row_bytes_of, rows_bytes};
+ghost use Rattle.stark_merkle.specs.Tree.{items_of};
+
+use crate::hash::TreeHash;
+use stark_support::{ExtensionField, PrimeField64};
+use std::alloc::{AllocError, Global};
+
+/// Puts a number behind the bytes, in 8 bytes, the high one first.
+#[tactic(auto, unfolding(stark_support::specs::Seed::number))]
+fn push_number(bytes: &mut Vec<u8>, n: u64) -> Result<(), AllocError>
+    ensures { OnOk result (bytes.new.items ≡ bytes.old.items ++ number n) }
+{
+    bytes.extend_from_slice(&n.to_be_bytes())
+}
+
+fn push_elements<F: PrimeField64>(bytes: &mut Vec<u8>, xs: &[F]) -> Result<(), AllocError>
+    ensures { OnOk result (bytes.new.items ≡ bytes.old.items ++ elements_bytes F.number_of xs.now) }
+{
+    for x in xs {
+        push_number(&mut *bytes, x.as_canonical_u64())?;
+    }
+    Ok(())
+}
+
+fn push_coordinates<F: PrimeField64, EF: ExtensionField<F>>(
+    bytes: &mut Vec<u8>,
+    x: EF,
+) -> Result<(), AllocError>
+    ensures { OnOk result (bytes.new.items ≡ bytes.old.items ++ elements_bytes F.number_of (EF.coordinates x)) }
+{
+    for index in 0..EF::DIMENSION {
+        push_number(&mut *bytes, x.coordinate(index).as_canonical_u64())?;
+    }
+    Ok(())
+}
+
+/// The bytes of the rows that one leaf commits to, a matrix each: how many there are, and for each
+/// how many elements it has and the elements' numbers; every number in 8 bytes, the high one first.
+/// It is Err only where memory was refused.
+pub fn row_bytes<F: PrimeField64>(alloc: Global, rows: &[Vec<F>]) -> Result<Vec<u8>, AllocError>
+    ensures { IfOk result (λ bytes. bytes.items ≡ row_bytes_of F.number_of (map items_of rows.now)) }
+{
+    let mut bytes = Vec::new(alloc);
+    push_number(&mut bytes, rows.len() as u64)?;
+    for row in rows {
+        push_number(&mut bytes, row.len() as u64)?;
+        push_elements(&mut bytes, row)?;
+    }
+    Ok(bytes)
+}
+
+/// The bytes of a pair of elements of an extension: the numbers of the first one's coordinates and
+/// then those of the second one's, each in 8 bytes, the high one first. It is Err only where memory
+/// was refused.
+pub fn pair_bytes<F: PrimeField64, EF: ExtensionField<F>>(
+    alloc: Global,
+    first: EF,
+    second: EF,
+) -> Result<Vec<u8>, AllocError>
+    ensures { IfOk result (λ bytes. bytes.items ≡ pair_bytes_of F.number_of EF.coordinates first second) }
+{
+    let mut bytes = Vec::new(alloc);
+    push_coordinates::<F, EF>(&mut bytes, first)?;
+    push_coordinates::<F, EF>(&mut bytes, second)?;
+    Ok(bytes)
+}
+
+/// A law, with no code: rows with the same bytes are the same.
+pub fn row_bytes_tell_rows<F: PrimeField64>(_some: &F)
+    ensures { RowBytesTell F.number_of }
+{}
+
+/// A law, with no code: pairs with the same bytes are the same.
+pub fn pair_bytes_tell_pairs<F: PrimeField64, EF: ExtensionField<F>>(_some: &EF)
+    ensures { PairBytesTell F.number_of EF.coordinates }
+{}
+
+/// A law, with no code: two openings of different rows that lead to one root from one place show two
+/// texts with one digest.
+pub fn opened_rows_bind<F: PrimeField64, H: TreeHash>(_some: &F, _depth: usize, _index: usize)
+    ensures { OpenedRowsBind H.digest_of F.number_of _depth _index }
+{}

@@ -1,13 +1,15 @@
 -- What the scheme computes with, and the prover's data.
 use Rattle.std.specs.Prelude.{ℕ, Bool, List}
 use Rattle.stark_support.specs.Ring.{RingOps}
+use Rattle.stark_support.specs.declared.matrix.RowMajorMatrix.{RowMajorMatrix}
 use Rattle.stark_merkle.specs.declared.root.Root.{Root}
 
--- The prover's data: the root, the logarithm of the height, and for each matrix its columns.
+-- The prover's data: the root, the logarithm of the height, and for each matrix its columns and their rows on the larger coset.
 pub record FriDataView (F : Type 0) : Type 0 where
   pub root : Root
   pub log_height : ℕ
   pub matrices : List (List (List F))
+  pub extended : List (RowMajorMatrix F)
 
 -- The base field and the extension. A leaf of rows and one of a pair are the digests of their bytes.
 pub record FriFields (F E : Type 0) : Type 0 where

@@ -3,11 +3,13 @@ use Rattle.std.specs.Prelude.{◌≡◌, ℕ, ◌+◌, ◌-◌, ◌*◌, ◌/◌
 use Rattle.std.specs.List.{AllByRecursion, range_with_len, slice_get}
 use Rattle.stark_support.specs.Ring.{RingOps}
 use Rattle.stark_support.specs.Coset.{TwoAdicCoset, coset_part, coset_point, coset_size}
+use Rattle.stark_support.specs.Faults.{PlaceByPlace}
+use Rattle.stark_support.specs.declared.matrix.RowMajorMatrix.{RowMajorMatrix}
 use Rattle.stark_support.specs.Polynomial.{HasDegreeBelow, value}
 use Rattle.std.specs.Borrow.{Bor}
 use Rattle.std.specs.declared.vec.Vec.{Vec}
 use Rattle.stark_support.specs.Claims.{RoundClaim, RoundPoints, claim_view}
-use Rattle.stark_support.specs.Scheme.{CommittedMatrix, CommittingCalls, OpenedRound, RoundStands, SchemeOps, TakesRows, handed, matrix_row, row_at, true_claim}
+use Rattle.stark_support.specs.Scheme.{CommittedMatrix, CommittingCalls, HasRows, OpenedRound, RoundStands, SchemeOps, TakesRows, handed, matrix_row, row_at, true_claim}
 use Rattle.stark_merkle.specs.Tree.{layer_above, leaf_of, node_of}
 use Rattle.stark_merkle.specs.declared.root.Root.{Root}
 use Rattle.stark_fri_proof.specs.declared.parameters.FriParameters.{FriParameters}
@@ -37,10 +39,21 @@ claimed_of s claims proof state = instance_of s (map round_read claims) proof st
 abbrev pub claims_in : {F E D A B : Type 0} → (D → TwoAdicCoset F) → List (Bor Root × Vec (D × Vec (E × Bor (List E)) A) B) → List (RoundClaim F E Root)
 claims_in coset_of claims = map (claim_view coset_of) claims
 
+-- The coset of 2 ^ bits points on which columns are extended.
+abbrev pub extension_of : {F : Type 0} → F → ℕ → TwoAdicCoset F
+extension_of generator bits = record { shift = generator; log_size = bits }
+
+abbrev pub IsExtended : {F : Type 0} → RingOps F → (ℕ → F) → TwoAdicCoset F → List (List F) → RowMajorMatrix F → Type 0
+IsExtended ring root coset columns rows = HasRows ring root coset columns rows.values.items rows.width
+
+-- The rows of each matrix are its columns' values at the coset's points.
+abbrev pub AreExtended : {F : Type 0} → RingOps F → (ℕ → F) → TwoAdicCoset F → List (List (List F)) → List (RowMajorMatrix F) → Type 0
+AreExtended ring root coset matrices extended = PlaceByPlace (IsExtended ring root coset) matrices extended
+
 module _ {C F E : Type 0} (ops : FriOps C F E) where
   -- The values of all columns at point i of the coset of 2 ^ bits points.
   abbrev pub extended_row : ℕ → List (List (List F)) → ℕ → List (List F)
-  extended_row bits matrices i = map (λ columns. row_at ops.fields.base (λ c. c) columns (coset_point ops.fields.base ops.fields.root (record { shift = ops.fields.generator; log_size = bits }) i)) matrices
+  extended_row bits matrices i = map (λ columns. row_at ops.fields.base (λ c. c) columns (coset_point ops.fields.base ops.fields.root (extension_of ops.fields.generator bits) i)) matrices
 
   -- The root of the tree over the extended rows.
   abbrev pub IsRootOf : ℕ → List (List (List F)) → Root → Type 0
@@ -51,6 +64,7 @@ module _ {C F E : Type 0} (ops : FriOps C F E) where
     pub columns : prover_data.matrices ≡ columns_of matrices
     pub full : AllByRecursion IsFull matrices
     pub heights : AllByRecursion (λ (m : CommittedMatrix F). m.domain.log_size ≡ prover_data.log_height) matrices
+    pub rows : AreExtended ops.fields.base ops.fields.root (extension_of ops.fields.generator (prover_data.log_height + s.log_blowup)) prover_data.matrices prover_data.extended
     pub extended : IsRootOf (prover_data.log_height + s.log_blowup) prover_data.matrices root
 
   abbrev pub own_rounds : List (RoundPoints E (FriDataView F)) → List (RoundRead E)

@@ -186,7 +186,7 @@ fn checked_row_bits<F: TwoAdicField>(log_height: usize, log_blowup: usize) -> Op
 
 /// The logarithm of the matrices' height, if the claims fit; else the first fault of them, of
 /// `NoClaims`, `MixedHeights`, `TooHigh`, `Widths` and `PointOnCoset` in this order.
-pub(crate) fn check_claims<EF, D>(
+pub fn check_claims<EF, D>(
     parameters: &FriParameters,
     claims: &[OpeningClaim<'_, EF, Root, D>],
 ) -> Result<usize, FriError>

@@ -15,8 +15,11 @@ mod sponge;
 mod transcript;
 mod verify;
 
+pub use claims::check_claims;
 pub use error::{FriError, FriProverError, QueryFault};
 pub use fields::FoldingFields;
 pub use laws::{no_claim_is_both, own_check_is_enough};
+pub use replay::draw_places;
 pub use sponge::{FriCalls, FriObserving, FriSponge};
+pub use transcript::{observe_claims, observe_parameters, observe_values};
 pub use verify::verify_openings;

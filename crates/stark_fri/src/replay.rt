@@ -46,7 +46,7 @@ where
 }
 
 /// The places of so many queries, in `2^bits` extended rows.
-fn draw_places<C, F, EF>(
+pub fn draw_places<C, F, EF>(
     alloc: Global,
     challenger: &mut C,
     bits: usize,

@@ -25,7 +25,7 @@ fn observe_number<C: CanObserve<F>, F: PrimeField64>(challenger: &mut C, n: usiz
 }
 
 /// Observes the parameters, in the order of the struct.
-pub(crate) fn observe_parameters<C, F: PrimeField64, EF: ExtensionField<F>>(
+pub fn observe_parameters<C, F: PrimeField64, EF: ExtensionField<F>>(
     challenger: &mut C,
     parameters: &FriParameters,
 )
@@ -54,7 +54,7 @@ where
 }
 
 /// Observes elements in turn.
-pub(crate) fn observe_values<C, F: PrimeField64, EF: ExtensionField<F>>(
+pub fn observe_values<C, F: PrimeField64, EF: ExtensionField<F>>(
     challenger: &mut C,
     values: &[EF],
 )
@@ -120,7 +120,7 @@ where
 }
 
 /// Observes all that the verifier reads of the claims: how many rounds there are, and the rounds.
-pub(crate) fn observe_claims<C, EF, D>(challenger: &mut C, claims: &[OpeningClaim<'_, EF, Root, D>])
+pub fn observe_claims<C, EF, D>(challenger: &mut C, claims: &[OpeningClaim<'_, EF, Root, D>])
 where
     D: PolynomialSpace<Val: PrimeField64>,
     EF: ExtensionField<D::Val>,

@@ -1,2 +1,5 @@
 pub mod Commit
 pub mod CommitFacts
+pub mod Folds
+pub mod OwnClaims
+pub mod SchemeClauses

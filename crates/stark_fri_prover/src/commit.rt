@@ -1,41 +1,44 @@
 //! Commitments to columns: their values on a larger coset, and the tree over these rows.
-ghost use Rattle.std.specs.Prelude.{◌≡◌, ◌≤◌, ◌+◌, ◌^◌, IfOk, map};
-ghost use Rattle.std.specs.List.{AllByRecursion};
+ghost use Rattle.std.specs.Prelude.{◌≡◌, ◌≤◌, ◌↔◌, ◌+◌, ◌^◌, IfOk, IsTrue, Some, map};
+ghost use Rattle.std.specs.List.{AllByRecursion, slice_get};
 ghost use Rattle.stark_columns.specs.ColumnPoints.{coset_from};
 ghost use Rattle.stark_columns.specs.Columns.{columns_list};
 ghost use Rattle.stark_merkle.specs.Tree.{items_of};
+ghost use Rattle.stark_support.specs.declared.matrix.RowMajorMatrix.{RowMajorMatrix};
 ghost use Rattle.stark_fri_prover.specs.Commit.{AreExtended, HasRow, HaveRows, IsRootOver, extension_of, leaves_of, row_of};
 
 use stark_bench::Coset;
 use stark_columns::rows_on;
-use stark_merkle::{Root, TreeHash, leaf, root_in, row_bytes, tree_layers};
+use stark_fri_proof::{InputOpening, MerklePath};
+use stark_merkle::{Root, TreeHash, leaf, path_in, root_in, row_bytes, tree_layers};
 use stark_support::{DomainShape, PrimeField64, RowMajorMatrix, TwoAdicField};
 use std::alloc::{AllocError, Global};
 
-/// What the prover keeps of a commitment: the root, the columns' coefficients, their values on the
-/// larger coset, a matrix of rows for each matrix, and the tree's layers over these rows.
-#[derive(Debug, Drop)]
-pub struct FriData<F> {
+/// What the prover keeps of a commitment: the root, the natural domain of the columns' length, their
+/// coefficients, and their values on the larger coset, a matrix of rows for each matrix, with the
+/// tree's layers over these rows.
+#[derive(Drop)]
+pub struct FriData<F: TwoAdicField> {
     root: Root,
-    log_height: usize,
+    domain: Coset<F>,
     matrices: Vec<Vec<Vec<F>>>,
     extended: Vec<RowMajorMatrix<F>>,
     layers: Vec<Vec<[u8; 32]>>,
 }
 
-impl<F> FriData<F> {
+impl<F: TwoAdicField> FriData<F> {
     /// The commitment.
-    pub fn root(&self) -> Root
-        ensures { result ≡ self.now.root }
+    pub fn root(&self) -> &Root
+        ensures { result.now ≡ self.now.root }
     {
-        self.root
+        &self.root
     }
 
-    /// The logarithm of how many coefficients each column has.
-    pub fn log_height(&self) -> usize
-        ensures { result ≡ self.now.log_height }
+    /// The subgroup of as many points as each column has coefficients.
+    pub fn domain(&self) -> Coset<F>
+        ensures { result ≡ self.now.domain }
     {
-        self.log_height
+        self.domain
     }
 
     /// The coefficients of each column of each matrix, the constant first.
@@ -43,6 +46,44 @@ impl<F> FriData<F> {
         ensures { result.now ≡ self.now.matrices.items }
     {
         &self.matrices
+    }
+
+    /// The rows of matrix `index` on the larger coset; no rows where there is no such matrix. It is Err
+    /// only where memory was refused.
+    pub fn rows_of(&self, alloc: Global, index: usize) -> Result<RowMajorMatrix<F>, AllocError>
+        ensures { IfOk result (λ rows. (stored : RowMajorMatrix F)
+            → slice_get self.now.extended.items index ≡ Some stored
+            → (rows.values.items ≡ stored.values.items) × (rows.width ≡ stored.width)) }
+    {
+        let mut values = Vec::new(alloc);
+        let Some(stored) = self.extended.get(index) else {
+            return Ok(RowMajorMatrix::new(values, 0));
+        };
+        values.extend_from_slice(&stored.values)?;
+        Ok(RowMajorMatrix::new(values, stored.width))
+    }
+
+    /// A row of each matrix at a place of the larger coset, and their path to the root: nothing
+    /// where there is no such place. It is Err only where memory was refused.
+    pub fn open_at(&self, alloc: Global, place: usize) -> Result<InputOpening<F>, AllocError> {
+        if !have_row(&self.extended, place) {
+            return Ok(InputOpening::new(Vec::new(alloc), MerklePath::new(Vec::new(alloc))));
+        }
+        let rows = rows_at(alloc, &self.extended, place)?;
+        let path = path_or_none(alloc, &self.layers, place)?;
+        Ok(InputOpening::new(rows, path))
+    }
+}
+
+/// The path of a leaf; no digest where there is no such leaf.
+pub(crate) fn path_or_none(
+    alloc: Global,
+    layers: &[Vec<[u8; 32]>],
+    place: usize,
+) -> Result<MerklePath, AllocError> {
+    match path_in(alloc, layers, place)? {
+        Some(path) => Ok(MerklePath::new(path)),
+        None => Ok(MerklePath::new(Vec::new(alloc))),
     }
 }
 
@@ -61,6 +102,31 @@ fn extended_rows<F: TwoAdicField>(
         extended.push(rows)?;
     }
     Ok(extended)
+}
+
+/// Whether the matrix has a row `place`.
+fn has_row<F>(matrix: &RowMajorMatrix<F>, place: usize) -> bool
+    ensures { IsTrue result ↔ HasRow place matrix.now }
+{
+    let Some(start) = place.checked_mul(matrix.width) else {
+        return false;
+    };
+    match start.checked_add(matrix.width) {
+        Some(end) => end <= matrix.values.len(),
+        None => false,
+    }
+}
+
+/// Whether each matrix has a row `place`.
+fn have_row<F>(extended: &[RowMajorMatrix<F>], place: usize) -> bool
+    ensures { IsTrue result ↔ AllByRecursion (HasRow place) extended.now }
+{
+    for matrix in extended {
+        if !has_row(matrix, place) {
+            return false;
+        }
+    }
+    true
 }
 
 /// A list of its own of the values of row `place`.
@@ -124,8 +190,11 @@ pub fn commit_columns<F: TwoAdicField + PrimeField64, H: TreeHash>(
 ) -> Result<(Root, FriData<F>), AllocError>
     requires { log_height + log_blowup ≤ F.TWO_ADICITY }
     ensures commitment { IfOk result (λ made. made.0 ≡ made.1.root) }
-    ensures height { IfOk result (λ made. made.1.log_height ≡ log_height) }
+    ensures height { IfOk result (λ made. made.1.domain.log_size ≡ log_height) }
     ensures columns { IfOk result (λ made. made.1.matrices.items ≡ matrices.items) }
+    ensures rows { IfOk result (λ made. AreExtended F.ring F.root
+        (extension_of F.GENERATOR (log_height + log_blowup))
+        (map columns_list matrices.items) made.1.extended.items) }
     ensures root { IfOk result (λ made. IsRootOver F.ring F.root H.digest_of F.number_of
         (extension_of F.GENERATOR (log_height + log_blowup)) (map columns_list matrices.items) made.0.bytes) }
 {
@@ -141,7 +210,7 @@ pub fn commit_columns<F: TwoAdicField + PrimeField64, H: TreeHash>(
         root,
         FriData {
             root,
-            log_height,
+            domain: Coset::subgroup(log_height),
             matrices,
             extended,
             layers,

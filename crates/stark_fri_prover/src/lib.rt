@@ -1,6 +1,14 @@
-//! The prover's side of FRI: what is committed to, as a tree over extended rows.
+//! The FRI scheme: commitments as trees over extended rows, openings as folded polynomials, and the
+//! scheme that they make with the verifier.
 #![tactic(auto)]
 
+mod batch;
+mod claims;
 mod commit;
+mod layers;
+mod opening;
+mod pcs;
+mod phases;
 
 pub use commit::{FriData, commit_columns};
+pub use pcs::FriPcs;

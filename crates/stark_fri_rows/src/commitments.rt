@@ -48,7 +48,7 @@ where
         .ok_or("no JSON")?;
     let matrices = matrices_of::<F>(alloc, &value)?;
     let (root, data) = commit_columns::<F, H>(alloc, height, blowup, matrices)?;
-    if data.root().bytes() != root.bytes() || data.log_height() != height {
+    if data.root().bytes() != root.bytes() || data.domain().log_size != height {
         return Err(Fail::new("other data"));
     }
     Ok(root.to_json(alloc)?.to_string(alloc)?)

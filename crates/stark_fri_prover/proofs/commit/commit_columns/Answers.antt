@@ -24,6 +24,16 @@ unwrap-top-requires g c =
     subst IsSome (sym (c.root_in.ensures ∙ ap (λ t. top_of (digests_in t)) c.deref-3.ensures.value ∙ ap top_of c.in_ok-layers.ensures))
     (full_has_root (node_of hash) (c.args.log_height + c.args.log_blowup) c.in_ok-leaves.leaves.items count)
 
+pub returns-clause-rows : goal.returns-clause-rows
+returns-clause-rows g c =
+    let ring = g.F.Field.ring in
+    let root = g.F.TwoAdicField.root in
+    let bits = c.args.log_height + c.args.log_blowup in
+    let shift : c.new-domain.result.shift ≡ g.F.Field.GENERATOR = c.new-domain.ensures.shift ∙ c.GENERATOR.ensures in
+    subst (λ t. AreExtended ring root (extension_of g.F.Field.GENERATOR bits) (map columns_list t) c.in_ok-extended.extended.items) c.deref.ensures.value
+    (subst (λ s. AreExtended ring root (coset_from s bits) (map columns_list c.deref.result.now) c.in_ok-extended.extended.items) shift
+    (subst (λ n. AreExtended ring root (coset_from c.new-domain.result.shift n) (map columns_list c.deref.result.now) c.in_ok-extended.extended.items) c.new-domain.ensures.size c.in_ok-extended.ensures))
+
 pub returns-clause-root : goal.returns-clause-root
 returns-clause-root g c =
     let ring = g.F.Field.ring in
@@ -31,14 +41,10 @@ returns-clause-root g c =
     let hash = g.H.TreeHash.digest_of in
     let number_of = g.F.PrimeField64.number_of in
     let bits = c.args.log_height + c.args.log_blowup in
-    let shift : c.new-domain.result.shift ≡ g.F.Field.GENERATOR = c.new-domain.ensures.shift ∙ c.GENERATOR.ensures in
     let size : c.new-domain.result.log_size ≡ bits = c.new-domain.ensures.size in
     let coset : TwoAdicCoset g.row.F.Denot = extension_of g.F.Field.GENERATOR bits in
     let columns : List (List (List g.row.F.Denot)) = map columns_list c.args.matrices.items in
-    let extended : AreExtended ring root coset columns c.in_ok-extended.extended.items =
-    subst (λ t. AreExtended ring root coset (map columns_list t) c.in_ok-extended.extended.items) c.deref.ensures.value
-    (subst (λ s. AreExtended ring root (coset_from s bits) (map columns_list c.deref.result.now) c.in_ok-extended.extended.items) shift
-    (subst (λ n. AreExtended ring root (coset_from c.new-domain.result.shift n) (map columns_list c.deref.result.now) c.in_ok-extended.extended.items) size c.in_ok-extended.ensures)) in
+    let extended : AreExtended ring root coset columns c.in_ok-extended.extended.items = returns-clause-rows g c in
     let leaves = c.in_ok-leaves.ensures ∙ ap (λ t. leaves_of hash number_of t c.size.result) c.deref-2.ensures.value
     ∙ ap (leaves_of hash number_of c.in_ok-extended.extended.items) (c.size.ensures ∙ ap (λ n. 2 ^ n) size)
     ∙ same_leaves ring root coset hash number_of columns c.in_ok-extended.extended.items extended (2 ^ bits) (omega arith) in

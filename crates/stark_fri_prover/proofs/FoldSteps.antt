@@ -1,0 +1,56 @@
+-- One fold more.
+use Rattle.std.proofs.Common.{◌≡◌, ◌∙◌, ℕ, suc, ◌+◌, List, [], ◌∷◌, ◌++◌, ap, arith, length, refl, subst, sym}
+use Rattle.std.proofs.lemmas.List.{length-append}
+use Rattle.std.specs.List.{AllByRecursion}
+use Rattle.stark_support.specs.PointFacts.{all_append}
+use Rattle.stark_support.specs.Ring.{RingOps}
+use Rattle.stark_folding.specs.Fold.{folded}
+use Rattle.stark_folding.specs.Walk.{folded_all}
+use Rattle.stark_fri.specs.Parts.{SpongeCalls}
+use Rattle.stark_fri.specs.Transcript.{Passes, after_phases, asked, betas_of, checks_of, worked}
+use Rattle.stark_fri_proof.specs.declared.proof.Phase.{Phase}
+use Rattle.stark_fri_prover.specs.Folds.{AreFolds, IsFold}
+
+folded_by_one_more : {E : Type 0} (ring : RingOps E) (betas : List E) (beta : E) (p : List E) → folded_all ring (betas ++ beta ∷ []) p ≡ folded ring beta (folded_all ring betas p)
+unfolding folded_all
+folded_by_one_more ring [] beta p = refl
+folded_by_one_more ring (b ∷ betas) beta p = folded_by_one_more ring betas beta (folded ring b p)
+
+module _ {C F E : Type 0} (sponge : SpongeCalls C F E) (bits : ℕ) where
+  after_one_more : (state : C) (phases : List (Phase F)) (phase : Phase F) → after_phases sponge bits state (phases ++ phase ∷ []) ≡ sponge.after_draw (worked sponge bits (after_phases sponge bits state phases) phase)
+  unfolding after_phases
+  after_one_more state [] phase = refl
+  after_one_more state (p ∷ phases) phase = after_one_more (sponge.after_draw (worked sponge bits state p)) phases phase
+
+  betas_of_one_more : (state : C) (phases : List (Phase F)) (phase : Phase F)
+      → betas_of sponge bits state (phases ++ phase ∷ []) ≡ betas_of sponge bits state phases ++ sponge.draw (worked sponge bits (after_phases sponge bits state phases) phase) ∷ []
+  unfolding betas_of after_phases
+  betas_of_one_more state [] phase = refl
+  betas_of_one_more state (p ∷ phases) phase =
+      ap (λ t. sponge.draw (worked sponge bits state p) ∷ t) (betas_of_one_more (sponge.after_draw (worked sponge bits state p)) phases phase)
+
+  passing_one_more : (state : C) (phases : List (Phase F)) (phase : Phase F) → AllByRecursion (Passes sponge bits) (checks_of sponge bits state phases)
+      → Passes sponge bits (asked sponge (after_phases sponge bits state phases) phase, phase.witness) → AllByRecursion (Passes sponge bits) (checks_of sponge bits state (phases ++ phase ∷ []))
+  unfolding checks_of after_phases
+  passing_one_more state [] phase all here = (here, tt)
+  passing_one_more state (p ∷ phases) phase all here = (all.0, passing_one_more (sponge.after_draw (worked sponge bits state p)) phases phase all.1 here)
+
+  module _ (ring : RingOps E) (before : C) (polynomial : List E) where
+    pub no_folds : (phases : List (Phase F)) → phases ≡ [] → AreFolds sponge ring bits 0 before before polynomial phases polynomial
+    unfolding betas_of after_phases checks_of folded_all
+    no_folds phases none = subst (λ t. AreFolds sponge ring bits 0 before before polynomial t polynomial) (sym none) (record { number = refl; passing = tt; folded = refl; state = refl })
+
+    pub one_more_fold : (n : ℕ) (state after : C) (phases later : List (Phase F)) (last half : List E) (phase : Phase F) → later ≡ phases ++ phase ∷ []
+        → IsFold sponge ring bits state after last phase half → AreFolds sponge ring bits n before state polynomial phases last → AreFolds sponge ring bits (n + 1) before after polynomial later half
+    one_more_fold n state after phases later last half phase pushed one folds =
+        let here = folds.state in
+        let number : length (phases ++ phase ∷ []) ≡ n + 1 = omega (arith, length-append phases (phase ∷ []), folds.number) in
+        subst (λ t. AreFolds sponge ring bits (n + 1) before after polynomial t half) (sym pushed) (record {
+          number = number;
+          passing = passing_one_more before phases phase folds.passing (subst (λ s. Passes sponge bits (asked sponge s phase, phase.witness)) here one.passing);
+          folded = one.by_beta ∙ ap (λ s. folded ring (sponge.draw (worked sponge bits s phase)) last) here
+              ∙ ap (folded ring (sponge.draw (worked sponge bits (after_phases sponge bits before phases) phase))) folds.folded
+              ∙ sym (folded_by_one_more ring (betas_of sponge bits before phases) (sponge.draw (worked sponge bits (after_phases sponge bits before phases) phase)) polynomial)
+              ∙ ap (λ t. folded_all ring t polynomial) (sym (betas_of_one_more before phases phase));
+          state = one.state ∙ ap (λ s. sponge.after_draw (worked sponge bits s phase)) here ∙ sym (after_one_more before phases phase);
+        })

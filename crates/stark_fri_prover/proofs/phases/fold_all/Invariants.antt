@@ -1,0 +1,23 @@
+use Rattle.stark_fri.specs.Parts.{SpongeCalls}
+use Rattle.stark_fri_prover.specs.Folds.{AreFolds}
+use Rattle.stark_fri_prover.proofs.phases.fold_all.Given as goal
+
+abbrev pub sponge_of : (g : goal.Over) → SpongeCalls g.row.C.Denot g.row.F.Denot g.row.EF.Denot
+sponge_of g = record {
+  zero = g.F.Field.ring.zero;
+  observing = record {
+    from_byte = g.F.PrimeField64.of_number;
+    coordinates = g.EF.ExtensionField.coordinates;
+    observe_element = g.C.CanObserve-1.after_observe;
+    observe_root = g.C.CanObserve-2.after_observe;
+  };
+  draw = g.C.CanSample.sample_of;
+  after_draw = g.C.CanSample.after_sample;
+  bits_of = g.C.CanSampleBits.bits_of;
+  after_bits = g.C.CanSampleBits.after_bits;
+  passes = g.C.GrindingChallenger.passes;
+  after_check = g.C.GrindingChallenger.after_check;
+}
+
+abbrev pub invariant-loop-fold : goal.invariant-loop-fold
+invariant-loop-fold g l = AreFolds (sponge_of g) g.EF.Field.ring l.bits l._fold l.fn.challenger l.challenger l.fn.polynomial.items l.phases.items l.last.items

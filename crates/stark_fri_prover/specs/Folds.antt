@@ -1,0 +1,28 @@
+-- What the prover's folds leave.
+use Rattle.std.specs.Prelude.{◌≡◌, ℕ, true, Bool, List, length}
+use Rattle.std.specs.List.{AllByRecursion}
+use Rattle.stark_folding.specs.Fold.{folded}
+use Rattle.stark_folding.specs.Walk.{folded_all}
+use Rattle.stark_fri.specs.Parts.{SpongeCalls}
+use Rattle.stark_fri.specs.Transcript.{Passes, after_phases, asked, betas_of, checks_of, worked}
+use Rattle.stark_fri_proof.specs.declared.proof.Phase.{Phase}
+use Rattle.stark_support.specs.Ring.{RingOps}
+
+-- The witness passes from this state, and is zero where no work is asked for; the state behind is that after its check.
+pub record IsWitness {C F : Type 0} (zero : F) (passes : C → ℕ → F → Bool) (after_check : C → ℕ → F → C) (bits : ℕ) (before after : C) (witness : F) : Type 0 where
+  pub none_asked : bits ≡ 0 → witness ≡ zero
+  pub passing : passes before bits witness ≡ true
+  pub state : after ≡ after_check before bits witness
+
+-- One fold: its witness passes, and by the challenge that is drawn behind it the polynomial is folded.
+pub record IsFold {C F E : Type 0} (sponge : SpongeCalls C F E) (ring : RingOps E) (bits : ℕ) (before after : C) (polynomial : List E) (phase : Phase F) (half : List E) : Type 0 where
+  pub passing : Passes sponge bits (asked sponge before phase, phase.witness)
+  pub by_beta : half ≡ folded ring (sponge.draw (worked sponge bits before phase)) polynomial
+  pub state : after ≡ sponge.after_draw (worked sponge bits before phase)
+
+-- So many folds, one after the other: all witnesses pass, and the polynomial that is left is folded by all challenges that were drawn.
+pub record AreFolds {C F E : Type 0} (sponge : SpongeCalls C F E) (ring : RingOps E) (bits count : ℕ) (before after : C) (polynomial : List E) (phases : List (Phase F)) (last : List E) : Type 0 where
+  pub number : length phases ≡ count
+  pub passing : AllByRecursion (Passes sponge bits) (checks_of sponge bits before phases)
+  pub folded : last ≡ folded_all ring (betas_of sponge bits before phases) polynomial
+  pub state : after ≡ after_phases sponge bits before phases

@@ -1,0 +1,133 @@
+//! The layers of a folding: the words that are folded, and the trees over their pairs.
+
+use crate::commit::path_or_none;
+use stark_bench::Coset;
+use stark_columns::rows_on;
+use stark_fri_proof::LayerOpening;
+use stark_merkle::{Root, TreeHash, leaf, pair_bytes, root_in, tree_layers};
+use stark_support::{DomainShape, ExtensionField, PrimeField64, TwoAdicField};
+use std::alloc::{AllocError, Global};
+
+/// A word, and the tree over its pairs: leaf `i` is that of the values at place `i` and half the
+/// word further.
+#[derive(Drop)]
+pub(crate) struct Layer<EF> {
+    values: Vec<EF>,
+    tree: Vec<Vec<[u8; 32]>>,
+}
+
+/// The coordinates of a polynomial's coefficients: a polynomial of the base field for each element of
+/// the basis.
+fn coordinate_columns<F: TwoAdicField, EF: ExtensionField<F>>(
+    alloc: Global,
+    polynomial: &[EF],
+) -> Result<Vec<Vec<F>>, AllocError> {
+    let mut columns = Vec::new(alloc);
+    for place in 0..EF::DIMENSION {
+        let mut column = Vec::with_capacity(alloc, polynomial.len())?;
+        for coefficient in polynomial {
+            column.push(coefficient.coordinate(place))?;
+        }
+        columns.push(column)?;
+    }
+    Ok(columns)
+}
+
+/// The first elements whose coordinates stand one after the other, `count` where there are so many.
+fn elements_of<F: TwoAdicField, EF: ExtensionField<F>>(
+    alloc: Global,
+    coordinates: &[F],
+    count: usize,
+) -> Result<Vec<EF>, AllocError> {
+    let mut elements = Vec::with_capacity(alloc, count)?;
+    let mut left = coordinates;
+    for _place in 0..count {
+        let Some((row, rest)) = left.split_at_checked(EF::DIMENSION) else {
+            return Ok(elements);
+        };
+        if let Some(element) = EF::from_basis_coefficients_slice(row) {
+            elements.push(element)?;
+        }
+        left = rest;
+    }
+    Ok(elements)
+}
+
+/// The values of a polynomial at the points of a coset: those of its coordinates, by transforms over
+/// the base field.
+fn values_of<F: TwoAdicField, EF: ExtensionField<F>>(
+    alloc: Global,
+    polynomial: &[EF],
+    domain: &Coset<F>,
+) -> Result<Vec<EF>, AllocError> {
+    let columns = coordinate_columns::<F, EF>(alloc, polynomial)?;
+    let mut matrices = Vec::new(alloc);
+    matrices.push(columns)?;
+    let rows = rows_on(alloc, &matrices, 0, domain)?;
+    elements_of(alloc, &rows.values, domain.size())
+}
+
+/// The layer of a polynomial on a coset, and its root; None where the coset has one point.
+pub(crate) fn layer_of<F: TwoAdicField + PrimeField64, EF: ExtensionField<F>, H: TreeHash>(
+    alloc: Global,
+    polynomial: &[EF],
+    domain: &Coset<F>,
+) -> Result<Option<(Root, Layer<EF>)>, AllocError> {
+    let values = values_of(alloc, polynomial, domain)?;
+    let half = values.len() / 2;
+    let mut leaves = Vec::with_capacity(alloc, half)?;
+    for i in 0..half {
+        let bytes = pair_bytes::<F, EF>(alloc, values[i], values[i + half])?;
+        leaves.push(leaf::<H>(&bytes))?;
+    }
+    let tree = tree_layers::<H>(alloc, leaves, domain.log_size.saturating_sub(1))?;
+    match root_in(&tree) {
+        Some(root) => Ok(Some((Root::new(root), Layer { values, tree }))),
+        None => Ok(None),
+    }
+}
+
+/// What a query opens of a layer at a place of it; None where the layer has no such pair.
+fn open_layer<EF: Copy>(
+    alloc: Global,
+    layer: &Layer<EF>,
+    place: usize,
+) -> Result<Option<LayerOpening<EF>>, AllocError> {
+    let half = layer.values.len() / 2;
+    if place >= layer.values.len() {
+        return Ok(None);
+    }
+    let (pair, other) = if place < half {
+        (place, place + half)
+    } else {
+        (place - half, place - half)
+    };
+    if other >= layer.values.len() {
+        return Ok(None);
+    }
+    let path = path_or_none(alloc, &layer.tree, pair)?;
+    Ok(Some(LayerOpening {
+        sibling: layer.values[other],
+        path,
+    }))
+}
+
+/// What a query opens of the layers on its way.
+pub(crate) fn open_layers<EF: Copy>(
+    alloc: Global,
+    layers: &[Layer<EF>],
+    start: usize,
+) -> Result<Vec<LayerOpening<EF>>, AllocError> {
+    let mut opened = Vec::new(alloc);
+    let mut place = start;
+    for layer in layers {
+        if let Some(opening) = open_layer(alloc, layer, place)? {
+            opened.push(opening)?;
+        }
+        let half = layer.values.len() / 2;
+        if place >= half {
+            place -= half;
+        }
+    }
+    Ok(opened)
+}

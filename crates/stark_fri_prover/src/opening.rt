@@ -1,0 +1,211 @@
+//! Openings: a proof that claims hold, and the prover's own check of it.
+ghost use Rattle.std.specs.Prelude.{◌≡◌, ◌+◌, ◌≤◌, ◌↔◌, IfErr, IfOk, IsTrue, length, map};
+ghost use Rattle.std.specs.List.{AllByRecursion};
+ghost use Rattle.stark_support.specs.Claims.{IfRefused, opened_view, round_view};
+ghost use Rattle.stark_columns.specs.Columns.{columns_list};
+ghost use Rattle.stark_fri.specs.Accept.{Accepted};
+ghost use Rattle.stark_fri.specs.Claims.{rounds_in};
+ghost use Rattle.stark_fri.specs.Scheme.{OpeningRefused, instance_of, own_rounds};
+ghost use Rattle.stark_fri_prover.specs.OwnClaims.{ProvingRefused, opened_rounds};
+
+use crate::batch::batched;
+use crate::claims::{open_rounds, own_claims};
+use crate::commit::FriData;
+use crate::layers::{Layer, open_layers};
+use crate::phases::{find_witness, fold_all};
+use stark_bench::Coset;
+use stark_fri::{
+    FriCalls, FriProverError, check_claims, draw_places, observe_claims, observe_parameters,
+    observe_values, verify_openings,
+};
+use stark_fri_proof::{FriParameters, FriProof, QueryProof};
+use stark_merkle::{Root, TreeHash};
+use stark_support::{
+    CanObserve, CanSample, ExtensionField, FieldChallenger, GrindingChallenger, OpenedRounds,
+    OpeningClaim, OpeningRound, PolynomialSpace, PrimeField64, SchemeFault, TwoAdicField,
+};
+use std::alloc::{AllocError, Global};
+
+/// Whether there is a list of points for each matrix.
+fn has_points<F: TwoAdicField, EF>(data: &FriData<F>, points: &[Vec<EF>]) -> bool
+    ensures { IsTrue result ↔ length points.now ≡ length data.now.matrices.items }
+{
+    points.len() == data.matrices().len()
+}
+
+/// Whether each round has a list of points for each of its matrices.
+fn have_points<F: TwoAdicField, EF>(rounds: &[OpeningRound<'_, EF, FriData<F>>]) -> bool
+    ensures { IsTrue result ↔ AllByRecursion
+        (λ r. length r.1 ≡ length r.0.matrices.items) (map round_view rounds.now) }
+{
+    for round in rounds {
+        if !has_points(round.0, &round.1) {
+            return false;
+        }
+    }
+    true
+}
+
+/// What is opened at a place: a row of each matrix of each round, and of each layer the value that is
+/// paired with the one on the way.
+fn open_query<F: TwoAdicField, EF: ExtensionField<F>>(
+    alloc: Global,
+    rounds: &[OpeningRound<'_, EF, FriData<F>>],
+    layers: &[Layer<EF>],
+    place: usize,
+) -> Result<QueryProof<F, EF>, AllocError> {
+    let mut inputs = Vec::new(alloc);
+    for round in rounds {
+        let input = round.0.open_at(alloc, place)?;
+        inputs.push(input)?;
+    }
+    let layers = open_layers(alloc, layers, place)?;
+    Ok(QueryProof::new(inputs, layers))
+}
+
+/// What is opened at each of the places.
+fn open_queries<F: TwoAdicField, EF: ExtensionField<F>>(
+    alloc: Global,
+    rounds: &[OpeningRound<'_, EF, FriData<F>>],
+    layers: &[Layer<EF>],
+    places: &[usize],
+) -> Result<Vec<QueryProof<F, EF>>, AllocError> {
+    let mut queries = Vec::with_capacity(alloc, places.len())?;
+    for place in places {
+        let query = open_query(alloc, rounds, layers, *place)?;
+        queries.push(query)?;
+    }
+    Ok(queries)
+}
+
+/// The proof of claims that fit, of columns of `2^log_height` coefficients, from the challenger's
+/// state. It isn't checked yet. None where no witness passes.
+fn proof_of<C, F, EF, H>(
+    alloc: Global,
+    parameters: &FriParameters,
+    rounds: &[OpeningRound<'_, EF, FriData<F>>],
+    claims: &[OpeningClaim<'_, EF, Root, Coset<F>>],
+    log_height: usize,
+    challenger: &mut C,
+) -> Result<Option<FriProof<F, EF>>, AllocError>
+where
+    F: TwoAdicField + PrimeField64,
+    EF: ExtensionField<F>,
+    H: TreeHash,
+    C: FieldChallenger<F> + CanObserve<Root> + CanSample<EF> + GrindingChallenger<Witness = F>,
+    requires { log_height + parameters.now.log_blowup ≤ F.TWO_ADICITY }
+{
+    let bits = log_height + parameters.log_blowup();
+    observe_parameters::<C, F, EF>(&mut *challenger, parameters);
+    observe_claims::<C, EF, Coset<F>>(&mut *challenger, claims);
+    // Bound before alpha: the parameters, and all that the verifier reads of the claims.
+    let alpha = <C as CanSample<EF>>::sample(&mut *challenger);
+    let batch = batched(alloc, rounds, alpha, 1 << log_height)?;
+    let folds = fold_all::<C, F, EF, H>(
+        alloc,
+        parameters.commit_proof_of_work_bits(),
+        log_height - log_height.min(parameters.log_final_poly_len()),
+        batch,
+        Coset::new(F::GENERATOR, bits),
+        &mut *challenger,
+    )?;
+    let Some(folds) = folds else {
+        return Ok(None);
+    };
+    observe_values::<C, F, EF>(&mut *challenger, &folds.last);
+    // The work comes behind all that the proof commits to: other places cost it again.
+    let query_bits = parameters.query_proof_of_work_bits();
+    let Some(query_witness) = find_witness::<C, F>(&mut *challenger, query_bits) else {
+        return Ok(None);
+    };
+    let places = draw_places::<C, F, EF>(alloc, challenger, bits, parameters.num_queries())?;
+    let queries = open_queries(alloc, rounds, &folds.layers, &places)?;
+    Ok(Some(FriProof::new(folds.phases, folds.last, query_witness, queries)))
+}
+
+/// A proof of the claims, which the verifier accepts from the second challenger's state.
+fn checked_proof<C, F, EF, H>(
+    alloc: Global,
+    parameters: &FriParameters,
+    rounds: &[OpeningRound<'_, EF, FriData<F>>],
+    claims: &[OpeningClaim<'_, EF, Root, Coset<F>>],
+    challenger: &mut C,
+    verifier: &mut C,
+) -> Result<FriProof<F, EF>, SchemeFault<FriProverError>>
+where
+    F: TwoAdicField + PrimeField64,
+    EF: ExtensionField<F>,
+    H: TreeHash,
+    C: FieldChallenger<F> + CanObserve<Root> + CanSample<EF> + GrindingChallenger<Witness = F>,
+    ensures accepted { IfOk result (λ proof. Accepted ⟦<C as FriCalls<F, EF, H>>⟧.fri_ops
+        (instance_of parameters.now (rounds_in ⟦<Coset<F> as PolynomialSpace>⟧.coset_of claims.now)
+        proof verifier.old)) }
+    ensures refused { IfErr result (λ fault. IfRefused fault
+        (ProvingRefused ⟦<C as FriCalls<F, EF, H>>⟧.fri_ops parameters.now
+        (rounds_in ⟦<Coset<F> as PolynomialSpace>⟧.coset_of claims.now) verifier.old)) }
+{
+    let log_height = match check_claims::<EF, Coset<F>>(parameters, claims) {
+        Ok(log_height) => log_height,
+        Err(error) => return Err(SchemeFault::Refused(FriProverError::OwnProof(error))),
+    };
+    let made = proof_of::<C, F, EF, H>(alloc, parameters, rounds, claims, log_height, challenger)?;
+    let Some(proof) = made else {
+        return Err(SchemeFault::Refused(FriProverError::NoWork));
+    };
+    match verify_openings::<C, EF, Coset<F>, H>(alloc, parameters, claims, &proof, verifier) {
+        Ok(()) => Ok(proof),
+        Err(SchemeFault::Refused(error)) => {
+            Err(SchemeFault::Refused(FriProverError::OwnProof(error)))
+        }
+        Err(SchemeFault::OutOfMemory) => Err(SchemeFault::OutOfMemory),
+    }
+}
+
+/// The values of the rounds' columns at the points, and a proof of them, which the verifier accepts
+/// from the challenger's state. Otherwise it is `Refused` with `Points` where a round has another
+/// number of lists of points than matrices, with `NoWork` where no witness passes, and with
+/// `OwnProof` where the verifier would refuse: where a point lies on the larger coset, or the rounds
+/// have columns of different lengths.
+pub(crate) fn open<C, F, EF, H>(
+    alloc: Global,
+    parameters: &FriParameters,
+    rounds: &[OpeningRound<'_, EF, FriData<F>>],
+    challenger: &mut C,
+) -> Result<(OpenedRounds<EF>, FriProof<F, EF>), SchemeFault<FriProverError>>
+where
+    F: TwoAdicField + PrimeField64,
+    EF: ExtensionField<F>,
+    H: TreeHash,
+    C: FieldChallenger<F> + CanObserve<Root> + CanSample<EF> + GrindingChallenger<Witness = F>,
+    ensures values { IfOk result (λ made. opened_view made.0 ≡ opened_rounds EF.ring EF.embed
+        (λ d. map columns_list d.matrices.items) (map round_view rounds.now)) }
+    ensures accepted { IfOk result (λ made. Accepted ⟦<C as FriCalls<F, EF, H>>⟧.fri_ops
+        (instance_of parameters.now (own_rounds ⟦<C as FriCalls<F, EF, H>>⟧.fri_ops
+        (map (λ r. (record { root = r.0.root; log_height = r.0.domain.log_size; matrices = map columns_list r.0.matrices.items; extended = r.0.extended.items }, r.1)) (map round_view rounds.now)))
+        made.1 challenger.old)) }
+    ensures refused { IfErr result (λ fault. IfRefused fault
+        (OpeningRefused ⟦<C as FriCalls<F, EF, H>>⟧.fri_ops parameters.now
+        (map (λ r. (record { root = r.0.root; log_height = r.0.domain.log_size; matrices = map columns_list r.0.matrices.items; extended = r.0.extended.items }, r.1)) (map round_view rounds.now))
+        challenger.old)) }
+{
+    if !have_points(rounds) {
+        return Err(SchemeFault::Refused(FriProverError::Points));
+    }
+    // The state that a verifier begins with.
+    let mut verifier = challenger.duplicate(alloc)?;
+    let opened = open_rounds::<F, EF>(alloc, rounds)?;
+    let claims = own_claims(alloc, rounds, &opened)?;
+    let made = checked_proof::<C, F, EF, H>(
+        alloc,
+        parameters,
+        rounds,
+        &claims,
+        challenger,
+        &mut verifier,
+    );
+    drop(claims);
+    match made {
+        Ok(proof) => Ok((opened, proof)),
+        Err(fault) => Err(fault),
+    }
+}

@@ -1,0 +1,271 @@
+//! The scheme.
+ghost use Rattle.std.specs.Prelude.{◌≡◌, ◌≤◌, ◌+◌, ◌-◌, ◌/◌, ◌*◌, ◌^◌, ⊤, false, ◌∷◌, [], map, length, IfErr, IfOk};
+ghost use Rattle.std.specs.Int.{IsPowerOfTwo};
+ghost use Rattle.stark_support.specs.Claims.{IfRefused, claim_view, opened_view, round_view};
+ghost use Rattle.stark_support.specs.Coset.{coset_size};
+ghost use Rattle.stark_support.specs.PeriodicTable.{HasPeriodicValues};
+ghost use Rattle.stark_support.specs.Scheme.{zk_bits};
+ghost use Rattle.stark_columns.specs.Columns.{columns_list};
+ghost use Rattle.stark_fri.specs.Scheme.{fri_calls, fri_scheme};
+ghost use Rattle.stark_fri.specs.SchemeFacts.{fri_laws};
+ghost use Rattle.stark_fri_prover.specs.Commit.{AreExtended, IsRootOver, extension_of};
+ghost use Rattle.stark_fri_prover.specs.SchemeClauses.{CommitsChunks, CommitsRows, OpensTrueValues, ProvesTrueClaims};
+
+use crate::commit::{FriData, commit_columns};
+use crate::opening::open;
+use stark_bench::Coset;
+use stark_columns::{chunks_of, columns_of, rows_on};
+use stark_dft::periodic_lde_table;
+use stark_fri::{FriCalls, FriError, FriProverError, verify_openings};
+use stark_fri_proof::{FriParameters, FriProof};
+use stark_merkle::{Root, TreeHash};
+use stark_support::{
+    CanObserve, CanSample, ExtensionField, FieldChallenger, GrindingChallenger, OpenedRounds,
+    OpeningClaim, OpeningRound, Pcs, PeriodicColumns, PeriodicLdeTable, PolynomialSpace,
+    PrimeField64, RowMajorMatrix, SchemeFault, TwoAdicField, UnivariateStarkPcs, log2_strict_usize,
+};
+use std::alloc::{AllocError, Global};
+use std::marker::PhantomData;
+
+/// A scheme that commits to columns by the root of a Merkle tree over their values on a larger coset,
+/// and opens them by FRI, folding by two. `H` is the hash of the trees.
+pub struct FriPcs<F: TwoAdicField, H> {
+    parameters: FriParameters,
+    field: PhantomData<F>,
+    hash: PhantomData<H>,
+    pub ghost within: { parameters.log_blowup ≤ F.TWO_ADICITY },
+}
+
+impl<F: TwoAdicField, H> Clone for FriPcs<F, H> {
+    ghost is_clone = { λ x y. y ≡ x };
+
+    ghost is_infallible = { λ _. ⊤ };
+
+    fn clone(&self) -> Result<FriPcs<F, H>, AllocError> {
+        Ok(*self)
+    }
+}
+
+impl<F: TwoAdicField, H> Copy for FriPcs<F, H> {}
+
+impl<F: TwoAdicField, H> FriPcs<F, H> {
+    /// The scheme with these parameters. It takes no memory.
+    pub fn new(parameters: FriParameters) -> FriPcs<F, H>
+        requires { parameters.log_blowup ≤ F.TWO_ADICITY }
+        ensures { result.parameters ≡ parameters }
+    {
+        FriPcs {
+            parameters,
+            field: PhantomData,
+            hash: PhantomData,
+        }
+    }
+
+    /// What it is run with.
+    pub fn parameters(&self) -> FriParameters
+        ensures { result ≡ self.now.parameters }
+    {
+        self.parameters
+    }
+}
+
+type Committed<F> = Result<(Root, FriData<F>), SchemeFault<FriProverError>>;
+
+/// The commitment to one matrix.
+fn commit_alone<F: TwoAdicField + PrimeField64, H: TreeHash>(
+    alloc: Global,
+    log_height: usize,
+    log_blowup: usize,
+    columns: Vec<Vec<F>>,
+) -> Result<(Root, FriData<F>), AllocError>
+    requires { log_height + log_blowup ≤ F.TWO_ADICITY }
+    ensures commitment { IfOk result (λ made. made.0 ≡ made.1.root) }
+    ensures height { IfOk result (λ made. made.1.domain.log_size ≡ log_height) }
+    ensures columns { IfOk result (λ made.
+        map columns_list made.1.matrices.items ≡ columns_list columns ∷ []) }
+    ensures rows { IfOk result (λ made. AreExtended F.ring F.root
+        (extension_of F.GENERATOR (log_height + log_blowup))
+        (columns_list columns ∷ []) made.1.extended.items) }
+    ensures root { IfOk result (λ made. IsRootOver F.ring F.root H.digest_of F.number_of
+        (extension_of F.GENERATOR (log_height + log_blowup)) (columns_list columns ∷ [])
+        made.0.bytes) }
+{
+    let mut matrices = Vec::new(alloc);
+    matrices.push(columns)?;
+    let made = commit_columns::<F, H>(alloc, log_height, log_blowup, matrices)?;
+    Ok(made)
+}
+
+impl<F, EF, C, H> Pcs<EF, C> for FriPcs<F, H>
+where
+    F: TwoAdicField + PrimeField64,
+    EF: ExtensionField<F>,
+    C: FieldChallenger<F> + CanObserve<Root> + CanSample<EF> + GrindingChallenger<Witness = F>,
+    H: TreeHash,
+{
+    type Domain = Coset<F>;
+
+    type Commitment = Root;
+
+    type ProverData = FriData<F>;
+
+    type Proof = FriProof<F, EF>;
+
+    type Error = FriError;
+
+    type ProverError = FriProverError;
+
+    ghost ZK = { false };
+
+    ghost scheme = { fri_scheme ⟦<C as FriCalls<F, EF, H>>⟧.fri_ops (λ s. s.parameters)
+        (λ d. record { root = d.root; log_height = d.domain.log_size; matrices = map columns_list d.matrices.items; extended = d.extended.items }) (λ p. p)
+        (fri_calls F.ring F.root (λ d. record { root = d.root; log_height = d.domain.log_size; matrices = map columns_list d.matrices.items; extended = d.extended.items })) };
+
+    const ZK: bool = false;
+
+    fn natural_domain_for_degree(&self, degree: usize) -> Coset<F> {
+        Coset::subgroup(log2_strict_usize(degree))
+    }
+
+    fn copy_commitment(&self, _alloc: Global, commitment: &Root) -> Result<Root, AllocError> {
+        Ok(*commitment)
+    }
+
+    fn commit(&self, alloc: Global, domain: Coset<F>, matrix: RowMajorMatrix<F>) -> Committed<F>
+        requires power { IsPowerOfTwo (length matrix.values.items / matrix.width) }
+        requires within { coset_size (⟦<Coset<F> as PolynomialSpace>⟧.coset_of domain) ≤ 2 ^ (F.TWO_ADICITY - self.now.parameters.log_blowup) }
+        requires room { length matrix.values.items / matrix.width ≤ coset_size (⟦<Coset<F> as PolynomialSpace>⟧.coset_of domain) }
+        ensures stands { IfOk result (CommitsRows ⟦<FriPcs<F, H> as Pcs<EF, C>>⟧.scheme F.ring F.root self.now (⟦<Coset<F> as PolynomialSpace>⟧.coset_of domain) matrix.values.items matrix.width) }
+        ensures made { IfOk result (⟦<FriPcs<F, H> as Pcs<EF, C>>⟧.scheme.calls.Commits self.now (⟦<Coset<F> as PolynomialSpace>⟧.coset_of domain) matrix.values.items matrix.width) }
+        ensures refused { IfErr result (λ fault. IfRefused fault (⟦<FriPcs<F, H> as Pcs<EF, C>>⟧.scheme.RefusesCommit self.now (⟦<Coset<F> as PolynomialSpace>⟧.coset_of domain) matrix.values.items matrix.width)) }
+    {
+        let columns = columns_of(alloc, &domain, &matrix)?;
+        let log_blowup = self.parameters.log_blowup();
+        let made = commit_alone::<F, H>(alloc, domain.log_size, log_blowup, columns)?;
+        Ok(made)
+    }
+
+    fn get_evaluations_on_domain(
+        &self,
+        alloc: Global,
+        prover_data: &FriData<F>,
+        index: usize,
+        domain: Coset<F>,
+    ) -> Result<RowMajorMatrix<F>, AllocError> {
+        let rows = rows_on(alloc, prover_data.matrices(), index, &domain)?;
+        Ok(rows)
+    }
+}
+
+impl<F, EF, C, H> UnivariateStarkPcs<EF, C> for FriPcs<F, H>
+where
+    F: TwoAdicField + PrimeField64,
+    EF: ExtensionField<F>,
+    C: FieldChallenger<F> + CanObserve<Root> + CanSample<EF> + GrindingChallenger<Witness = F>,
+    H: TreeHash,
+{
+    fn log_min_trace_height(&self) -> usize {
+        0
+    }
+
+    fn log_max_trace_height(&self) -> usize {
+        F::TWO_ADICITY - self.parameters.log_blowup()
+    }
+
+    fn commit_preprocessing(
+        &self,
+        alloc: Global,
+        domain: Coset<F>,
+        matrix: RowMajorMatrix<F>,
+    ) -> Committed<F>
+        requires power { IsPowerOfTwo (length matrix.values.items / matrix.width) }
+        requires within { coset_size (⟦<Coset<F> as PolynomialSpace>⟧.coset_of domain) ≤ 2 ^ (F.TWO_ADICITY - self.now.parameters.log_blowup) }
+        requires room { length matrix.values.items / matrix.width ≤ coset_size (⟦<Coset<F> as PolynomialSpace>⟧.coset_of domain) }
+        ensures stands { IfOk result (CommitsRows ⟦<FriPcs<F, H> as Pcs<EF, C>>⟧.scheme F.ring F.root self.now (⟦<Coset<F> as PolynomialSpace>⟧.coset_of domain) matrix.values.items matrix.width) }
+        ensures made { IfOk result (⟦<FriPcs<F, H> as Pcs<EF, C>>⟧.scheme.calls.CommitsPreprocessing self.now (⟦<Coset<F> as PolynomialSpace>⟧.coset_of domain) matrix.values.items matrix.width) }
+        ensures refused { IfErr result (λ fault. IfRefused fault (⟦<FriPcs<F, H> as Pcs<EF, C>>⟧.scheme.RefusesPreprocessing self.now (⟦<Coset<F> as PolynomialSpace>⟧.coset_of domain) matrix.values.items matrix.width)) }
+    {
+        // Nothing is masked, so that what is known is committed to as a trace is.
+        <FriPcs<F, H> as Pcs<EF, C>>::commit(self, alloc, domain, matrix)
+    }
+
+    fn commit_quotient(
+        &self,
+        alloc: Global,
+        domain: Coset<F>,
+        flat: RowMajorMatrix<F>,
+        num_chunks: usize,
+    ) -> Committed<F>
+        requires height { length flat.values.items ≡ coset_size (⟦<Coset<F> as PolynomialSpace>⟧.coset_of domain) * flat.width }
+        requires power { IsPowerOfTwo num_chunks }
+        requires parts { num_chunks ≤ coset_size (⟦<Coset<F> as PolynomialSpace>⟧.coset_of domain) }
+        requires within { coset_size (⟦<Coset<F> as PolynomialSpace>⟧.coset_of domain) * 2 ^ zk_bits false ≤ num_chunks * 2 ^ (F.TWO_ADICITY - self.now.parameters.log_blowup) }
+        ensures stands { IfOk result (CommitsChunks ⟦<FriPcs<F, H> as Pcs<EF, C>>⟧.scheme F.ring F.root EF.ring EF.inverse_of EF.embed false self.now (⟦<Coset<F> as PolynomialSpace>⟧.coset_of domain) flat.values.items flat.width num_chunks) }
+        ensures made { IfOk result (⟦<FriPcs<F, H> as Pcs<EF, C>>⟧.scheme.calls.CommitsQuotient self.now (⟦<Coset<F> as PolynomialSpace>⟧.coset_of domain) flat.values.items flat.width num_chunks) }
+        ensures refused { IfErr result (λ fault. IfRefused fault (⟦<FriPcs<F, H> as Pcs<EF, C>>⟧.scheme.RefusesQuotient self.now (⟦<Coset<F> as PolynomialSpace>⟧.coset_of domain) flat.values.items flat.width num_chunks)) }
+    {
+        let chunks = chunks_of(alloc, &domain, &flat, num_chunks)?;
+        let log_height = domain.log_size - log2_strict_usize(num_chunks);
+        let log_blowup = self.parameters.log_blowup();
+        let made = commit_columns::<F, H>(alloc, log_height, log_blowup, chunks)?;
+        Ok(made)
+    }
+
+    fn get_opt_randomization_poly_commitment(
+        &self,
+        _alloc: Global,
+        _domain: Coset<F>,
+    ) -> Result<Option<(Root, FriData<F>)>, SchemeFault<FriProverError>> {
+        Ok(None)
+    }
+
+    fn build_periodic_lde_table(
+        &self,
+        alloc: Global,
+        columns: &PeriodicColumns<'_, F>,
+        trace_domain: Coset<F>,
+        quotient_domain: Coset<F>,
+    ) -> Result<PeriodicLdeTable<F>, AllocError>
+        requires { columns.now.trace_len ≡ coset_size (⟦<Coset<F> as PolynomialSpace>⟧.coset_of trace_domain) }
+        ensures { IfOk result (λ table. HasPeriodicValues F.ring F.inverse_of F.root (⟦<Coset<F> as PolynomialSpace>⟧.coset_of trace_domain) (⟦<Coset<F> as PolynomialSpace>⟧.coset_of quotient_domain)
+            (map (λ column. column.items) columns.now.columns.now) table.values.items table.width table.period) }
+    {
+        let table = periodic_lde_table(alloc, columns, &trace_domain, &quotient_domain)?;
+        Ok(table)
+    }
+
+    fn open_with_preprocessing(
+        &self,
+        alloc: Global,
+        rounds: Vec<OpeningRound<'_, EF, FriData<F>>>,
+        challenger: &mut C,
+        _preprocessed_index: Option<usize>,
+    ) -> Result<(OpenedRounds<EF>, FriProof<F, EF>), SchemeFault<FriProverError>>
+        ensures true_values { IfOk result (λ opened. OpensTrueValues ⟦<FriPcs<F, H> as Pcs<EF, C>>⟧.scheme EF.ring EF.embed self.now (map round_view rounds.entry.items) (opened_view opened.0)) }
+        ensures whole { IfOk result (λ opened. ProvesTrueClaims ⟦<FriPcs<F, H> as Pcs<EF, C>>⟧.scheme EF.ring EF.embed self.now (map round_view rounds.entry.items) opened.1 challenger.old _preprocessed_index) }
+        ensures refused { IfErr result (λ fault. IfRefused fault (⟦<FriPcs<F, H> as Pcs<EF, C>>⟧.scheme.RefusesOpening self.now (map round_view rounds.entry.items) challenger.old _preprocessed_index)) }
+    {
+        match open::<C, F, EF, H>(alloc, &self.parameters, &rounds, challenger) {
+            Ok(opened) => Ok(opened),
+            Err(fault) => Err(fault),
+        }
+    }
+
+    fn verify_with_preprocessing(
+        &self,
+        alloc: Global,
+        claims: Vec<OpeningClaim<'_, EF, Root, Coset<F>>>,
+        proof: &FriProof<F, EF>,
+        challenger: &mut C,
+        _preprocessed_index: Option<usize>,
+    ) -> Result<(), SchemeFault<FriError>>
+        ensures accepted { IfOk result (λ _. ⟦<FriPcs<F, H> as Pcs<EF, C>>⟧.scheme.Accepts self.now (map (claim_view ⟦<Coset<F> as PolynomialSpace>⟧.coset_of) claims.entry.items) proof.now challenger.old _preprocessed_index) }
+        ensures refused { IfErr result (λ fault. IfRefused fault (⟦<FriPcs<F, H> as Pcs<EF, C>>⟧.scheme.Refuses self.now (map (claim_view ⟦<Coset<F> as PolynomialSpace>⟧.coset_of) claims.entry.items) proof.now challenger.old _preprocessed_index)) }
+    {
+        verify_openings::<C, EF, Coset<F>, H>(alloc, &self.parameters, &claims, proof, challenger)
+    }
+
+    ghost scheme_laws = { fri_laws ⟦<C as FriCalls<F, EF, H>>⟧.fri_ops (λ s. s.parameters)
+        (λ d. record { root = d.root; log_height = d.domain.log_size; matrices = map columns_list d.matrices.items; extended = d.extended.items }) (λ p. p)
+        (fri_calls F.ring F.root (λ d. record { root = d.root; log_height = d.domain.log_size; matrices = map columns_list d.matrices.items; extended = d.extended.items })) F.two_adic.bounded };
+}

@@ -8,16 +8,15 @@ use p3_uni_stark::{
     prove_and_verify, setup_preprocessed,
 };
 use stark_air::BaseAir;
-use stark_fri_prover::FriPcs;
 use stark_fri_proof::FriParameters;
-use stark_merkle::Sha256Tree;
+use stark_fri_prover::FriPcs;
+use stark_merkle::{Root, Sha256Tree};
 use stark_parts::{Com, StarkChallenger};
 use stark_protocol::{PcsProverData, power_of_two};
 use stark_support::{
     JsonFault, NeverNull, PackedExtensionField, PackedField, PrimeField64, RowMajorMatrix,
     TwoAdicField, UnivariateStarkPcs, list_from_json, value_from_bytes,
 };
-use stark_merkle::Root;
 use stark_tree_air::TreeAir;
 use std::alloc::{AllocError, Global};
 use std::test::Fail;

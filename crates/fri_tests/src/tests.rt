@@ -35,7 +35,14 @@ const LINES: [Line; 6] = [
     ([2, 1, 2, 0, 0], COUNTER, 0, "[5]", "[5]", "accepted"),
     ([1, 0, 3, 1, 2], COUNTER, 1, "[5,7]", "[5]", "refused"),
     ([1, 1, 2, 0, 1], PERIODIC, 2, "[4,6,6,8]", "[]", "accepted"),
-    ([3, 0, 2, 0, 0], PREPROCESSED, 2, "[4,18,40,14]", "[]", "accepted"),
+    (
+        [3, 0, 2, 0, 0],
+        PREPROCESSED,
+        2,
+        "[4,18,40,14]",
+        "[]",
+        "accepted",
+    ),
     ([1, 0, 2, 1, 1], EXTENSION, 1, "[1,7,7,1]", "[]", "accepted"),
 ];
 
@@ -68,12 +75,11 @@ fn proofs(rt: HostRuntime) -> Result<(), Fail> {
             &rows,
         )?;
         assert_eq!(rt; baby, line.5);
-        let koala = proved::<KoalaBearField, Ext4<KoalaBearField>, Sha256Challenger<KoalaBearField>>(
-            alloc,
-            Sha256Challenger::new(),
-            line.0,
-            &rows,
-        )?;
+        let koala = proved::<
+            KoalaBearField,
+            Ext4<KoalaBearField>,
+            Sha256Challenger<KoalaBearField>,
+        >(alloc, Sha256Challenger::new(), line.0, &rows)?;
         assert_eq!(rt; koala, line.5);
     }
     Ok(())

@@ -2,7 +2,7 @@
 use Rattle.std.proofs.Common.{◌≡◌, ◌∙◌, ℕ, ◌+◌, ◌*◌, ◌-◌, ◌^◌, ◌≤◌, List, [], ◌∷◌, add-zero, ap, arith, false, map, subst, suc, sym}
 use Rattle.std.proofs.lemmas.Nat.{pow-add}
 use Rattle.std.specs.List.{AllByRecursion}
-use Rattle.stark_support.specs.Coset.{TwoAdicCoset, coset_part}
+use Rattle.stark_support.specs.Coset.{TwoAdicCoset}
 use Rattle.stark_support.specs.LogarithmFacts.{exponent_at_most}
 use Rattle.stark_support.specs.Polynomial.{HasDegreeBelow, value}
 use Rattle.stark_support.specs.Ring.{RingOps}

@@ -1,8 +1,7 @@
 -- One fold more.
-use Rattle.std.proofs.Common.{◌≡◌, ◌∙◌, ℕ, suc, ◌+◌, List, [], ◌∷◌, ◌++◌, ap, arith, length, refl, subst, sym}
+use Rattle.std.proofs.Common.{◌≡◌, ◌∙◌, ℕ, ◌+◌, List, [], ◌∷◌, ◌++◌, ap, arith, length, refl, subst, sym}
 use Rattle.std.proofs.lemmas.List.{length-append}
 use Rattle.std.specs.List.{AllByRecursion}
-use Rattle.stark_support.specs.PointFacts.{all_append}
 use Rattle.stark_support.specs.Ring.{RingOps}
 use Rattle.stark_folding.specs.Fold.{folded}
 use Rattle.stark_folding.specs.Walk.{folded_all}

@@ -10,7 +10,7 @@ use Rattle.stark_support.specs.declared.matrix.RowMajorMatrix.{RowMajorMatrix}
 use Rattle.stark_support.specs.Scheme.{CommittedMatrix, CommittingCalls, OpenedRound, RoundStands, handed, row_at, true_matrices, true_values}
 use Rattle.stark_support.specs.declared.scheme.SchemeFault.{SchemeFault}
 use Rattle.stark_support.specs.declared.scheme.SchemeFault.TheVariants.{OutOfMemory, Refused}
-use Rattle.stark_columns.specs.Opened.{matrices_at, opened_round}
+use Rattle.stark_columns.specs.Opened.{matrices_at}
 use Rattle.stark_columns.specs.OpenedFacts.{one_is_done}
 use Rattle.stark_merkle.specs.declared.root.Root.{Root}
 use Rattle.stark_fri.specs.Claims.{own_claim, own_matrices}
@@ -20,7 +20,7 @@ use Rattle.stark_fri.specs.declared.error.FriProverError.{FriProverError}
 use Rattle.stark_fri.specs.declared.error.FriProverError.TheVariants.{NoWork, OwnProof, Points}
 use Rattle.stark_fri_proof.specs.declared.parameters.FriParameters.{FriParameters}
 use Rattle.stark_fri_proof.specs.Parts.{FriProofView}
-use Rattle.stark_fri_prover.specs.OwnClaims.{ProvingRefused, matrix_claims, opened_rounds, paired_with, point_claims, round_claims}
+use Rattle.stark_fri_prover.specs.OwnClaims.{ProvingRefused, matrix_claims, opened_rounds, paired_with, round_claims}
 
 module _ {A B D X Y : Type 0} (h : X → Y → D) (f : A → X) (g : B → Y) (xs : List A) (ys : List B) where
   abbrev from : ℕ → List D

@@ -1,5 +1,5 @@
 -- What the prover opens, claims and answers.
-use Rattle.std.specs.Prelude.{◌≡◌, ℕ, ⊤, List, [], ◌∷◌, map}
+use Rattle.std.specs.Prelude.{ℕ, ⊤, List, [], ◌∷◌, map}
 use Rattle.stark_columns.specs.Opened.{opened_round}
 use Rattle.stark_fri.specs.Accept.{Refused}
 use Rattle.stark_fri.specs.Claims.{MatrixRead, RoundRead}

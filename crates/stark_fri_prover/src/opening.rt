@@ -27,10 +27,10 @@ use stark_support::{
 use std::alloc::{AllocError, Global};
 
 /// Whether there is a list of points for each matrix.
-fn has_points<F: TwoAdicField, EF>(data: &FriData<F>, points: &[Vec<EF>]) -> bool
-    ensures { IsTrue result ↔ length points.now ≡ length data.now.matrices.items }
+fn has_points<F: TwoAdicField, EF>(kept: &FriData<F>, points: &[Vec<EF>]) -> bool
+    ensures { IsTrue result ↔ length points.now ≡ length kept.now.matrices.items }
 {
-    points.len() == data.matrices().len()
+    points.len() == kept.matrices().len()
 }
 
 /// Whether each round has a list of points for each of its matrices.

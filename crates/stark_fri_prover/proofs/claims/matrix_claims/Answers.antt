@@ -1,4 +1,4 @@
-use Rattle.std.proofs.Common.{◌∙◌, ℕ, List, ap, arith, map}
+use Rattle.std.proofs.Common.{◌∙◌, List, ap, arith, map}
 use Rattle.std.proofs.lemmas.List.{map-append}
 use Rattle.stark_columns.specs.Columns.{column_list, columns_list}
 use Rattle.stark_support.specs.Claims.{point_view}

@@ -1,5 +1,5 @@
 use Rattle.std.proofs.Common.{◌≡◌, ◌++◌, drop, map}
-use Rattle.stark_support.specs.Claims.{opened_view, round_view}
+use Rattle.stark_support.specs.Claims.{opened_view}
 use Rattle.stark_columns.specs.Columns.{columns_list}
 use Rattle.stark_columns.specs.Opened.{matrices_at}
 use Rattle.stark_fri_prover.proofs.claims.open_rounds.Given as goal

@@ -1,4 +1,3 @@
-use Rattle.std.proofs.Common.{map}
 use Rattle.stark_support.proofs.Loops.{Left}
 use Rattle.stark_fri_prover.specs.Commit.{HasRow}
 use Rattle.stark_fri_prover.proofs.commit.have_row.Given as goal

@@ -1,9 +1,9 @@
-use Rattle.std.proofs.Common.{◌≡◌, ◌∙◌, List, ap, length, map, sym}
+use Rattle.std.proofs.Common.{◌∙◌, ap, length, map, sym}
 use Rattle.std.proofs.lemmas.Bool.{false≢true}
 use Rattle.std.proofs.lemmas.List.{length-map}
 use Rattle.stark_columns.specs.Columns.{columns_list}
 use Rattle.stark_support.specs.Claims.{round_view}
-use Rattle.stark_fri.specs.Claims.{RoundRead, own_claim, rounds_in}
+use Rattle.stark_fri.specs.Claims.{rounds_in}
 use Rattle.stark_fri_prover.specs.OwnClaims.{round_claims}
 use Rattle.stark_fri_prover.proofs.PairSteps.{data_of, opening_refused, points_counted, rounds_claimed}
 use Rattle.stark_merkle.specs.Bytes.{pair_bytes_of, row_bytes_of}

@@ -1,5 +1,4 @@
-use Rattle.std.proofs.Common.{◌-◌, arith, map, subst, sym}
-use Rattle.std.specs.List.{AllByRecursion}
+use Rattle.std.proofs.Common.{◌-◌, arith, subst, sym}
 use Rattle.stark_support.specs.LogarithmFacts.{exponent_at_most}
 use Rattle.stark_columns.specs.Columns.{columns_list}
 use Rattle.stark_columns.specs.ColumnPoints.{height_of}

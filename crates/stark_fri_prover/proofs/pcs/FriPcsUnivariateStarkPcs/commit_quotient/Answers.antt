@@ -1,4 +1,4 @@
-use Rattle.std.proofs.Common.{◌≡◌, ◌∙◌, ◌+◌, ◌-◌, ◌^◌, List, ap, arith, false, map, subst, sym}
+use Rattle.std.proofs.Common.{◌≡◌, ◌∙◌, ◌+◌, ◌-◌, List, ap, arith, false, map, subst, sym}
 use Rattle.std.specs.List.{AllByRecursion}
 use Rattle.stark_support.specs.Coset.{TwoAdicCoset}
 use Rattle.stark_support.specs.LogarithmFacts.{same_exponent}

@@ -1,0 +1,53 @@
+//! Conjectured bits, worked by hand.
+use crate::{conjectured_security_bits, fri_regime};
+use stark_fri_proof::FriParameters;
+use stark_security::StarkSecurityParams;
+use std::test::Fail;
+
+/// Five numbers of FRI; the bits of the field and of collisions; constraints, degree, batched functions
+/// and chunks; the height's logarithm; and the bits.
+type Line = ([usize; 5], [usize; 2], [usize; 4], usize, usize);
+
+// A field of 31 bits has 123 in its extension of degree 4, one of 12289 elements 54.
+const LINES: [Line; 7] = [
+    // The queries: 84 + 16.
+    ([1, 0, 84, 0, 16], [123, 128], [8, 2, 20, 1], 16, 99),
+    // The batch: 123 - 16 - 3 - 5, where the queries have 3 * 28 + 16.
+    ([3, 0, 28, 0, 16], [123, 128], [8, 2, 20, 1], 16, 98),
+    // Zeta: 123 - 16 - 7 - 1, where the batch has 123 - 16 - 1 - 5.
+    ([1, 0, 200, 0, 0], [123, 128], [8, 2, 20, 65], 16, 98),
+    // Alpha: 123 - 30.
+    ([1, 0, 200, 0, 0], [123, 128], [1073741824, 2, 1, 1], 4, 92),
+    // A small field: 54 - 8 - 1 - 5.
+    ([1, 0, 100, 0, 0], [54, 128], [2, 2, 20, 1], 8, 39),
+    // The hash.
+    ([1, 0, 200, 0, 0], [256, 128], [2, 2, 20, 1], 8, 127),
+    // Nothing below zero.
+    ([1, 0, 1, 0, 0], [54, 0], [0, 0, 0, 0], 63, 0),
+];
+
+#[test]
+fn worked_by_hand(rt: HostRuntime) -> Result<(), Fail> {
+    for line in &LINES {
+        let (numbers, field, shape, log_height, bits) = *line;
+        let parameters = FriParameters::new(
+            numbers[0], numbers[1], numbers[2], numbers[3], numbers[4],
+        );
+        let parameters = parameters.ok().ok_or("no parameters")?;
+        if shape[1] > 2 {
+            return Err(Fail::new("no such degree"));
+        }
+        let params = StarkSecurityParams::new(
+            fri_regime(&parameters),
+            field[0],
+            field[1],
+            shape[0],
+            shape[1],
+            2,
+            shape[2],
+            shape[3],
+        );
+        assert_eq!(rt; conjectured_security_bits(&params, log_height), bits);
+    }
+    Ok(())
+}

@@ -104,7 +104,7 @@ def large_airs():
         ("64 squarings", chain(64, lambda place: ["mul", place, place]), shown, size, size),
         *((f"a chain of {n}", chain(n, lambda place: ["neg", place]), shown, shape, proof) for n in (10_000, 30_000)),
         ("16000 nodes over 20 doublings", {**half, "nodes": half["nodes"] + [["add", 20, 20]] * 16_000}, shown, shape, proof),
-        *((f"{n} preprocessed columns of 4096", fixed(n), shown, keyless, bad) for n in (1, 32, 64)),
+        *((f"{n} preprocessed columns of 4096", fixed(n), shown, keyless, bad) for n in (1, 32, 64, 128)),
         ("257 preprocessed columns of 4096", fixed(257), large, large, large),
         ("64 periodic columns of 4096", {"periodic": [[1] * 4096] * 64}, shown, shape, b"refused PeriodicColumn"),
         ("a degree of 4098", {"max_constraint_degree": 4098}, shown, size, size),

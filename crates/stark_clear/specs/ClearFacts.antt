@@ -14,6 +14,7 @@ use Rattle.stark_columns.specs.Columns.{IsFull, columns_of}
 use Rattle.stark_clear.specs.ClearScheme.{RefusesClaims, clear_scheme}
 use Rattle.stark_clear.specs.Stops.{StopsAt}
 use Rattle.stark_columns.specs.Opened.{matrices_at, opened_round}
+use Rattle.stark_columns.specs.OpenedFacts.{opened_are_true}
 use Rattle.stark_clear.specs.declared.clear.call.ClearCall.{ClearCall}
 use Rattle.stark_clear.specs.declared.clear.call.ClearCall.TheVariants.{Verify}
 use Rattle.stark_clear.specs.declared.clear.check.ClearError.{ClearError}
@@ -78,12 +79,6 @@ module _ {F E : Type 0} (ring : RingOps E) (embed : F → E) where
   are_true (m ∷ matrices) [] number = absurd (omega arith)
   are_true (m ∷ matrices) (xs ∷ points) number = (all_values m.columns xs, are_true matrices points (omega arith))
 
-  opened_are_true : (matrices : List (CommittedMatrix F)) (points : List (List E)) → matrices_at ring embed (columns_of matrices) points ≡ true_matrices ring embed matrices points
-  unfolding matrices_at
-  opened_are_true [] points = refl
-  opened_are_true (m ∷ matrices) [] = refl
-  opened_are_true (m ∷ matrices) (xs ∷ points) = ap (λ t. map (row_at ring embed m.columns) xs ∷ t) (opened_are_true matrices points)
-
   module _ {S : Type 0} (C : Type 0) (adicity : ℕ) (stops : S → Option ClearCall) (calls : CommittingCalls S F (List (List (List F))) (List (List (List F)))) (s : S) where
     -- What is claimed of rounds that stand is true.
     pub true_claims : (made : List (OpenedRound F E (List (List (List F))) (List (List (List F))))) → AllByRecursion (RoundStands (clear_scheme {C = C} ring embed adicity stops calls) s) made → ClaimsAreTrue ring embed (map (true_claim ring embed) made)
@@ -101,7 +96,7 @@ module _ {F E : Type 0} (ring : RingOps E) (embed : F → E) where
     true_openings [] all = refl
     true_openings (round ∷ made) all =
         ap (λ t. matrices_at ring embed t round.points ∷ map (opened_round ring embed) (map handed made)) all.0.stands.1
-        ∙ ap (λ t. t ∷ map (opened_round ring embed) (map handed made)) (opened_are_true round.matrices round.points)
+        ∙ ap (λ t. t ∷ map (opened_round ring embed) (map handed made)) (opened_are_true ring embed round.matrices round.points)
         ∙ ap (λ t. true_values ring embed round ∷ t) (true_openings made all.1)
 
 pub clear_laws : {S F E C : Type 0} (ring : RingOps E) (embed : F → E) (adicity : ℕ) (stops : S → Option ClearCall) (calls : CommittingCalls S F (List (List (List F))) (List (List (List F)))) → adicity < 64

@@ -4,5 +4,4 @@ pub mod ClearFacts
 pub mod ClearJson
 pub mod ClearScheme
 pub mod Masks
-pub mod SchemeClauses
 pub mod Stops

@@ -6,3 +6,4 @@ pub mod OpenedFacts
 pub mod PlainChunkFacts
 pub mod PlainChunks
 pub mod RowFacts
+pub mod SchemeClauses

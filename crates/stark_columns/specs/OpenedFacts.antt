@@ -5,8 +5,9 @@ use Rattle.std.proofs.Common.{inl, inr, sym, ap, ◌∙◌, arith, append_assoc,
 use Rattle.std.proofs.lemmas.List.{append-nil, drop_all}
 use Rattle.std.proofs.lemmas.List.Concat.{flat_map-cons}
 use Rattle.stark_support.specs.Ring.{RingOps}
-use Rattle.stark_support.specs.Scheme.{row_at}
+use Rattle.stark_support.specs.Scheme.{CommittedMatrix, row_at, true_matrices}
 use Rattle.stark_support.proofs.Places.{from_place}
+use Rattle.stark_columns.specs.Columns.{columns_of}
 use Rattle.stark_columns.specs.Opened.{matrices_at}
 
 -- Where all places of both lists are past the end of one, that one is done.
@@ -49,3 +50,11 @@ pub one_more_row : {K : Type 0} (f : K → List K) (xs : List K) (i : ℕ) (x : 
 one_more_row f xs i x done after whole h is pushed so_far =
     ap (λ t. t ++ flat_map f (drop (i + 1) xs)) pushed ∙ append_assoc done (f x) (flat_map f (drop (i + 1) xs)) ∙ ap (λ t. done ++ t) (sym (flat_map-cons f x (drop (i + 1) xs)))
     ∙ ap (λ t. done ++ flat_map f t) (sym (from_place xs i (i + 1) x refl h is)) ∙ so_far
+
+-- What is opened of matrices' columns are the true values.
+module _ {F E : Type 0} (ring : RingOps E) (embed : F → E) where
+  pub opened_are_true : (matrices : List (CommittedMatrix F)) (points : List (List E)) → matrices_at ring embed (columns_of matrices) points ≡ true_matrices ring embed matrices points
+  unfolding matrices_at
+  opened_are_true [] points = refl
+  opened_are_true (m ∷ matrices) [] = refl
+  opened_are_true (m ∷ matrices) (xs ∷ points) = ap (λ t. map (row_at ring embed m.columns) xs ∷ t) (opened_are_true matrices points)

@@ -11,7 +11,7 @@ use Rattle.stark_support.specs.Scheme.{CommittedMatrix, CommittingCalls, OpenedR
 use Rattle.stark_support.specs.declared.scheme.SchemeFault.{SchemeFault}
 use Rattle.stark_support.specs.declared.scheme.SchemeFault.TheVariants.{OutOfMemory, Refused}
 use Rattle.stark_columns.specs.Opened.{matrices_at}
-use Rattle.stark_columns.specs.OpenedFacts.{one_is_done}
+use Rattle.stark_columns.specs.OpenedFacts.{one_is_done, opened_are_true}
 use Rattle.stark_merkle.specs.declared.root.Root.{Root}
 use Rattle.stark_fri.specs.Claims.{own_claim, own_matrices}
 use Rattle.stark_fri.specs.Parts.{FriDataView, FriOps}
@@ -96,13 +96,6 @@ module _ {C F E : Type 0} (ops : FriOps C F E) (s : FriParameters) (rounds : Lis
   opening_refused (Refused Points) refused = absurd refused
   opening_refused (Refused NoWork) refused = tt
   opening_refused (Refused (OwnProof error)) refused = refused
-
-module _ {F E : Type 0} (ring : RingOps E) (embed : F → E) where
-  opened_are_true : (matrices : List (CommittedMatrix F)) (points : List (List E)) → matrices_at ring embed (columns_of matrices) points ≡ true_matrices ring embed matrices points
-  unfolding matrices_at
-  opened_are_true [] points = refl
-  opened_are_true (m ∷ matrices) [] = refl
-  opened_are_true (m ∷ matrices) (xs ∷ points) = ap (λ t. map (row_at ring embed m.columns) xs ∷ t) (opened_are_true matrices points)
 
 module _ {C F E S T P : Type 0} (ops : FriOps C F E) (parameters_of : S → FriParameters) (data_view : T → FriDataView F) (proof_view : P → FriProofView F E) (calls : CommittingCalls S F Root T) (s : S) where
   -- What is opened of rounds that stand are the true values.

@@ -2,4 +2,3 @@ pub mod Commit
 pub mod CommitFacts
 pub mod Folds
 pub mod OwnClaims
-pub mod SchemeClauses

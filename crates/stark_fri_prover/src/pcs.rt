@@ -9,7 +9,7 @@ ghost use Rattle.stark_columns.specs.Columns.{columns_list};
 ghost use Rattle.stark_fri.specs.Scheme.{fri_calls, fri_scheme};
 ghost use Rattle.stark_fri.specs.SchemeFacts.{fri_laws};
 ghost use Rattle.stark_fri_prover.specs.Commit.{AreExtended, IsRootOver, extension_of};
-ghost use Rattle.stark_fri_prover.specs.SchemeClauses.{CommitsChunks, CommitsRows, OpensTrueValues, ProvesTrueClaims};
+ghost use Rattle.stark_columns.specs.SchemeClauses.{CommitsChunks, CommitsRows, OpensTrueValues, ProvesTrueClaims};
 
 use crate::commit::{FriData, commit_columns};
 use crate::opening::open;

@@ -12,7 +12,7 @@ ghost use Rattle.stark_clear.specs.ClearCalls.{clear_calls};
 ghost use Rattle.stark_clear.specs.ClearScheme.{clear_pcs, clear_scheme, stopping_pcs};
 ghost use Rattle.stark_columns.specs.ColumnPoints.{IsPolynomialBelow};
 ghost use Rattle.stark_clear.specs.Stops.{StopsAt};
-ghost use Rattle.stark_clear.specs.SchemeClauses.{CommitsChunks, CommitsRows, OpensTrueValues, ProvesTrueClaims};
+ghost use Rattle.stark_columns.specs.SchemeClauses.{CommitsChunks, CommitsRows, OpensTrueValues, ProvesTrueClaims};
 
 use crate::clear::call::ClearCall;
 use crate::clear::check::{ClearError, check_claims};

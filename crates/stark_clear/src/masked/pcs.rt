@@ -11,7 +11,7 @@ ghost use Rattle.stark_clear.specs.ClearCalls.{masked_calls};
 ghost use Rattle.stark_clear.specs.ClearScheme.{clear_scheme};
 ghost use Rattle.stark_columns.specs.ColumnPoints.{IsPolynomialBelow};
 ghost use Rattle.stark_clear.specs.Stops.{StopsAt};
-ghost use Rattle.stark_clear.specs.SchemeClauses.{CommitsChunks, CommitsRows, OpensTrueValues, ProvesTrueClaims};
+ghost use Rattle.stark_columns.specs.SchemeClauses.{CommitsChunks, CommitsRows, OpensTrueValues, ProvesTrueClaims};
 ghost use Rattle.stark_clear.specs.Masks.{AreMaskedBy, AreMaskedChunks, mask_lists, quotient_masks};
 
 use crate::clear::{

@@ -7,7 +7,7 @@ use Rattle.std.specs.List.{AllByRecursion}
 use Rattle.stark_support.specs.Claims.{IfRefused, RoundPoints}
 use Rattle.stark_support.specs.Ring.{RingOps}
 use Rattle.stark_support.specs.declared.matrix.RowMajorMatrix.{RowMajorMatrix}
-use Rattle.stark_support.specs.Scheme.{CommittedMatrix, CommittingCalls, OpenedRound, RoundStands, handed, row_at, true_matrices, true_values}
+use Rattle.stark_support.specs.Scheme.{CommittingCalls, OpenedRound, RoundStands, handed, row_at, true_values}
 use Rattle.stark_support.specs.declared.scheme.SchemeFault.{SchemeFault}
 use Rattle.stark_support.specs.declared.scheme.SchemeFault.TheVariants.{OutOfMemory, Refused}
 use Rattle.stark_columns.specs.Opened.{matrices_at}
@@ -15,7 +15,7 @@ use Rattle.stark_columns.specs.OpenedFacts.{one_is_done, opened_are_true}
 use Rattle.stark_merkle.specs.declared.root.Root.{Root}
 use Rattle.stark_fri.specs.Claims.{own_claim, own_matrices}
 use Rattle.stark_fri.specs.Parts.{FriDataView, FriOps}
-use Rattle.stark_fri.specs.Scheme.{OpeningRefused, columns_of, fri_scheme, own_rounds}
+use Rattle.stark_fri.specs.Scheme.{OpeningRefused, fri_scheme, own_rounds}
 use Rattle.stark_fri.specs.declared.error.FriProverError.{FriProverError}
 use Rattle.stark_fri.specs.declared.error.FriProverError.TheVariants.{NoWork, OwnProof, Points}
 use Rattle.stark_fri_proof.specs.declared.parameters.FriParameters.{FriParameters}

@@ -5,7 +5,11 @@ use Rattle.stark_support.specs.Coset.{TwoAdicCoset, coset_point}
 use Rattle.stark_support.specs.Ring.{RingOps}
 use Rattle.stark_support.specs.Scheme.{matrix_row, row_at}
 use Rattle.stark_support.specs.declared.matrix.RowMajorMatrix.{RowMajorMatrix}
+use Rattle.std.specs.declared.vec.Vec.{Vec}
+use Rattle.stark_columns.specs.Columns.{columns_list}
+use Rattle.stark_fri.specs.Parts.{FriDataView}
 use Rattle.stark_merkle.specs.Bytes.{row_bytes_of}
+use Rattle.stark_merkle.specs.declared.root.Root.{Root}
 use Rattle.stark_merkle.specs.Tree.{layer_above, leaf_of, node_of}
 pub use Rattle.stark_fri.specs.Scheme.{AreExtended, IsExtended, extension_of}
 
@@ -35,3 +39,7 @@ extended_row ring root coset matrices i = map (λ columns. row_at ring (λ c. c)
 abbrev pub IsRootOver : {F : Type 0} → RingOps F → (ℕ → F) → (List ℕ → List ℕ) → (F → ℕ) → TwoAdicCoset F → List (List (List F)) → List ℕ → Type 0
 IsRootOver ring root hash number_of coset matrices top =
     layer_above (node_of hash) coset.log_size (map (λ i. leaf_of hash (row_bytes_of number_of (extended_row ring root coset matrices i))) (range_with_len 0 (2 ^ coset.log_size))) ≡ top ∷ []
+
+-- The prover's data, as the scheme's definitions read them.
+abbrev pub data_seen : {F A B G J : Type 0} → Root → ℕ → Vec (Vec (Vec F A) B) G → Vec (RowMajorMatrix F) J → FriDataView F
+data_seen root log_height matrices extended = record { root = root; log_height = log_height; matrices = map columns_list matrices.items; extended = extended.items }

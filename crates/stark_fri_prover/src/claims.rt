@@ -57,7 +57,8 @@ fn matrix_claims<'a, F: TwoAdicField, EF: Copy>(
 ) -> Result<Vec<MatrixClaim<'a, EF, Coset<F>>>, AllocError>
     ensures { IfOk result (λ claims.
         map (matrix_seen ⟦<Coset<F> as PolynomialSpace>⟧.coset_of) claims.items
-        ≡ matrix_claims domain.log_size (map column_list points.now) (map columns_list opened.now)) }
+        ≡ matrix_claims domain.log_size (map column_list points.now)
+        (map columns_list opened.now)) }
 {
     let mut claims = Vec::new(alloc);
     for i in 0..points.len().min(opened.len()) {

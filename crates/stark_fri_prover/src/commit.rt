@@ -14,9 +14,9 @@ use stark_merkle::{Root, TreeHash, leaf, path_in, root_in, row_bytes, tree_layer
 use stark_support::{DomainShape, PrimeField64, RowMajorMatrix, TwoAdicField};
 use std::alloc::{AllocError, Global};
 
-/// What the prover keeps of a commitment: the root, the natural domain of the columns' length, their
-/// coefficients, and their values on the larger coset, a matrix of rows for each matrix, with the
-/// tree's layers over these rows.
+/// What the prover keeps of a commitment: the root, the natural domain of the columns' length,
+/// their coefficients, and their values on the larger coset, a matrix of rows for each matrix, with
+/// the tree's layers over these rows.
 #[derive(Drop)]
 pub struct FriData<F: TwoAdicField> {
     root: Root,
@@ -48,8 +48,8 @@ impl<F: TwoAdicField> FriData<F> {
         &self.matrices
     }
 
-    /// The rows of matrix `index` on the larger coset; no rows where there is no such matrix. It is Err
-    /// only where memory was refused.
+    /// The rows of matrix `index` on the larger coset; no rows where there is no such matrix. It is
+    /// Err only where memory was refused.
     pub fn rows_of(&self, alloc: Global, index: usize) -> Result<RowMajorMatrix<F>, AllocError>
         ensures { IfOk result (λ rows. (stored : RowMajorMatrix F)
             → slice_get self.now.extended.items index ≡ Some stored
@@ -94,7 +94,8 @@ fn extended_rows<F: TwoAdicField>(
     domain: &Coset<F>,
 ) -> Result<Vec<RowMajorMatrix<F>>, AllocError>
     ensures { IfOk result (λ extended.
-        AreExtended F.ring F.root (coset_from domain.now.shift domain.now.log_size) (map columns_list matrices.now) extended.items) }
+        AreExtended F.ring F.root (coset_from domain.now.shift domain.now.log_size)
+        (map columns_list matrices.now) extended.items) }
 {
     let mut extended = Vec::new(alloc);
     for index in 0..matrices.len() {
@@ -168,7 +169,8 @@ fn leaves<F: PrimeField64, H: TreeHash>(
     count: usize,
 ) -> Result<Vec<[u8; 32]>, AllocError>
     requires { HaveRows count extended.now }
-    ensures { IfOk result (λ leaves. leaves.items ≡ leaves_of H.digest_of F.number_of extended.now count) }
+    ensures { IfOk result (λ leaves.
+        leaves.items ≡ leaves_of H.digest_of F.number_of extended.now count) }
 {
     let mut leaves = Vec::new(alloc);
     for place in 0..count {
@@ -196,7 +198,8 @@ pub fn commit_columns<F: TwoAdicField + PrimeField64, H: TreeHash>(
         (extension_of F.GENERATOR (log_height + log_blowup))
         (map columns_list matrices.items) made.1.extended.items) }
     ensures root { IfOk result (λ made. IsRootOver F.ring F.root H.digest_of F.number_of
-        (extension_of F.GENERATOR (log_height + log_blowup)) (map columns_list matrices.items) made.0.bytes) }
+        (extension_of F.GENERATOR (log_height + log_blowup)) (map columns_list matrices.items)
+        made.0.bytes) }
 {
     let bits = log_height + log_blowup;
     let domain = Coset::new(F::GENERATOR, bits);

@@ -16,8 +16,8 @@ pub(crate) struct Layer<EF> {
     tree: Vec<Vec<[u8; 32]>>,
 }
 
-/// The coordinates of a polynomial's coefficients: a polynomial of the base field for each element of
-/// the basis.
+/// The coordinates of a polynomial's coefficients: a polynomial of the base field for each element
+/// of the basis.
 fn coordinate_columns<F: TwoAdicField, EF: ExtensionField<F>>(
     alloc: Global,
     polynomial: &[EF],
@@ -53,8 +53,8 @@ fn elements_of<F: TwoAdicField, EF: ExtensionField<F>>(
     Ok(elements)
 }
 
-/// The values of a polynomial at the points of a coset: those of its coordinates, by transforms over
-/// the base field.
+/// The values of a polynomial at the points of a coset: those of its coordinates, by transforms
+/// over the base field.
 fn values_of<F: TwoAdicField, EF: ExtensionField<F>>(
     alloc: Global,
     polynomial: &[EF],

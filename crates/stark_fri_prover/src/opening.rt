@@ -6,6 +6,7 @@ ghost use Rattle.stark_columns.specs.Columns.{columns_list};
 ghost use Rattle.stark_fri.specs.Accept.{Accepted};
 ghost use Rattle.stark_fri.specs.Claims.{rounds_in};
 ghost use Rattle.stark_fri.specs.Scheme.{OpeningRefused, instance_of, own_rounds};
+ghost use Rattle.stark_fri_prover.specs.Commit.{data_seen};
 ghost use Rattle.stark_fri_prover.specs.OwnClaims.{ProvingRefused, opened_rounds};
 
 use crate::batch::batched;
@@ -46,8 +47,8 @@ fn have_points<F: TwoAdicField, EF>(rounds: &[OpeningRound<'_, EF, FriData<F>>])
     true
 }
 
-/// What is opened at a place: a row of each matrix of each round, and of each layer the value that is
-/// paired with the one on the way.
+/// What is opened at a place: a row of each matrix of each round, and of each layer the value that
+/// is paired with the one on the way.
 fn open_query<F: TwoAdicField, EF: ExtensionField<F>>(
     alloc: Global,
     rounds: &[OpeningRound<'_, EF, FriData<F>>],
@@ -164,8 +165,8 @@ where
 /// The values of the rounds' columns at the points, and a proof of them, which the verifier accepts
 /// from the challenger's state. Otherwise it is `Refused` with `Points` where a round has another
 /// number of lists of points than matrices, with `NoWork` where no witness passes, and with
-/// `OwnProof` where the verifier would refuse: where a point lies on the larger coset, or the rounds
-/// have columns of different lengths.
+/// `OwnProof` where the verifier would refuse: where a point lies on the larger coset, or the
+/// rounds have columns of different lengths.
 pub(crate) fn open<C, F, EF, H>(
     alloc: Global,
     parameters: &FriParameters,
@@ -181,11 +182,13 @@ where
         (λ d. map columns_list d.matrices.items) (map round_view rounds.now)) }
     ensures accepted { IfOk result (λ made. Accepted ⟦<C as FriCalls<F, EF, H>>⟧.fri_ops
         (instance_of parameters.now (own_rounds ⟦<C as FriCalls<F, EF, H>>⟧.fri_ops
-        (map (λ r. (record { root = r.0.root; log_height = r.0.domain.log_size; matrices = map columns_list r.0.matrices.items; extended = r.0.extended.items }, r.1)) (map round_view rounds.now)))
+        (map (λ r. (data_seen r.0.root r.0.domain.log_size r.0.matrices r.0.extended, r.1))
+        (map round_view rounds.now)))
         made.1 challenger.old)) }
     ensures refused { IfErr result (λ fault. IfRefused fault
         (OpeningRefused ⟦<C as FriCalls<F, EF, H>>⟧.fri_ops parameters.now
-        (map (λ r. (record { root = r.0.root; log_height = r.0.domain.log_size; matrices = map columns_list r.0.matrices.items; extended = r.0.extended.items }, r.1)) (map round_view rounds.now))
+        (map (λ r. (data_seen r.0.root r.0.domain.log_size r.0.matrices r.0.extended, r.1))
+        (map round_view rounds.now))
         challenger.old)) }
 {
     if !have_points(rounds) {

@@ -1,14 +1,16 @@
 //! The scheme.
-ghost use Rattle.std.specs.Prelude.{◌≡◌, ◌≤◌, ◌+◌, ◌-◌, ◌/◌, ◌*◌, ◌^◌, ⊤, false, ◌∷◌, [], map, length, IfErr, IfOk};
+ghost use Rattle.std.specs.Prelude.{◌≡◌, ◌≤◌, ◌+◌, ◌-◌, ◌*◌, ◌^◌, ⊤, false, ◌∷◌, [], map, length, IfErr, IfOk};
 ghost use Rattle.std.specs.Int.{IsPowerOfTwo};
-ghost use Rattle.stark_support.specs.Claims.{IfRefused, claim_view, opened_view, round_view};
-ghost use Rattle.stark_support.specs.Coset.{coset_size};
+ghost use Rattle.stark_support.specs.Claims.{IfRefused, opened_view, round_view};
 ghost use Rattle.stark_support.specs.PeriodicTable.{HasPeriodicValues};
 ghost use Rattle.stark_support.specs.Scheme.{zk_bits};
-ghost use Rattle.stark_columns.specs.Columns.{columns_list};
-ghost use Rattle.stark_fri.specs.Scheme.{fri_calls, fri_scheme};
+ghost use Rattle.stark_columns.specs.ColumnPoints.{coset_from, height_of};
+ghost use Rattle.stark_columns.specs.Columns.{column_list, columns_list};
+ghost use Rattle.stark_fri.specs.Accept.{Accepted};
+ghost use Rattle.stark_fri.specs.Found.{IsRefused};
+ghost use Rattle.stark_fri.specs.Scheme.{ArePlain, claimed_of, claims_in, fri_calls, fri_scheme};
 ghost use Rattle.stark_fri.specs.SchemeFacts.{fri_laws};
-ghost use Rattle.stark_fri_prover.specs.Commit.{AreExtended, IsRootOver, extension_of};
+ghost use Rattle.stark_fri_prover.specs.Commit.{AreExtended, IsRootOver, data_seen, extension_of};
 ghost use Rattle.stark_columns.specs.SchemeClauses.{CommitsChunks, CommitsRows, OpensTrueValues, ProvesTrueClaims};
 
 use crate::commit::{FriData, commit_columns};
@@ -27,8 +29,8 @@ use stark_support::{
 use std::alloc::{AllocError, Global};
 use std::marker::PhantomData;
 
-/// A scheme that commits to columns by the root of a Merkle tree over their values on a larger coset,
-/// and opens them by FRI, folding by two. `H` is the hash of the trees.
+/// A scheme that commits to columns by the root of a Merkle tree over their values on a larger
+/// coset, and opens them by FRI, folding by two. `H` is the hash of the trees.
 pub struct FriPcs<F: TwoAdicField, H> {
     parameters: FriParameters,
     field: PhantomData<F>,
@@ -118,8 +120,8 @@ where
     ghost ZK = { false };
 
     ghost scheme = { fri_scheme ⟦<C as FriCalls<F, EF, H>>⟧.fri_ops (λ s. s.parameters)
-        (λ d. record { root = d.root; log_height = d.domain.log_size; matrices = map columns_list d.matrices.items; extended = d.extended.items }) (λ p. p)
-        (fri_calls F.ring F.root (λ d. record { root = d.root; log_height = d.domain.log_size; matrices = map columns_list d.matrices.items; extended = d.extended.items })) };
+        (λ d. data_seen d.root d.domain.log_size d.matrices d.extended) (λ p. p)
+        (fri_calls F.ring F.root (λ d. data_seen d.root d.domain.log_size d.matrices d.extended)) };
 
     const ZK: bool = false;
 
@@ -132,12 +134,16 @@ where
     }
 
     fn commit(&self, alloc: Global, domain: Coset<F>, matrix: RowMajorMatrix<F>) -> Committed<F>
-        requires power { IsPowerOfTwo (length matrix.values.items / matrix.width) }
-        requires within { coset_size (⟦<Coset<F> as PolynomialSpace>⟧.coset_of domain) ≤ 2 ^ (F.TWO_ADICITY - self.now.parameters.log_blowup) }
-        requires room { length matrix.values.items / matrix.width ≤ coset_size (⟦<Coset<F> as PolynomialSpace>⟧.coset_of domain) }
-        ensures stands { IfOk result (CommitsRows ⟦<FriPcs<F, H> as Pcs<EF, C>>⟧.scheme F.ring F.root self.now (⟦<Coset<F> as PolynomialSpace>⟧.coset_of domain) matrix.values.items matrix.width) }
-        ensures made { IfOk result (⟦<FriPcs<F, H> as Pcs<EF, C>>⟧.scheme.calls.Commits self.now (⟦<Coset<F> as PolynomialSpace>⟧.coset_of domain) matrix.values.items matrix.width) }
-        ensures refused { IfErr result (λ fault. IfRefused fault (⟦<FriPcs<F, H> as Pcs<EF, C>>⟧.scheme.RefusesCommit self.now (⟦<Coset<F> as PolynomialSpace>⟧.coset_of domain) matrix.values.items matrix.width)) }
+        requires power { IsPowerOfTwo (height_of matrix) }
+        requires within { 2 ^ domain.log_size
+            ≤ 2 ^ (F.TWO_ADICITY - self.now.parameters.log_blowup) }
+        requires room { height_of matrix ≤ 2 ^ domain.log_size }
+        ensures stands { IfOk result (CommitsRows ⟦<FriPcs<F, H> as Pcs<EF, C>>⟧.scheme F.ring
+            F.root self.now (coset_from domain.shift domain.log_size) matrix.values.items
+            matrix.width) }
+        ensures made { IfOk result (λ made. ArePlain F.ring (height_of matrix)
+            (map columns_list made.1.matrices.items)) }
+        ensures refused { IfErr result (λ fault. IfRefused fault (λ _. ⊥)) }
     {
         let columns = columns_of(alloc, &domain, &matrix)?;
         let log_blowup = self.parameters.log_blowup();
@@ -178,12 +184,16 @@ where
         domain: Coset<F>,
         matrix: RowMajorMatrix<F>,
     ) -> Committed<F>
-        requires power { IsPowerOfTwo (length matrix.values.items / matrix.width) }
-        requires within { coset_size (⟦<Coset<F> as PolynomialSpace>⟧.coset_of domain) ≤ 2 ^ (F.TWO_ADICITY - self.now.parameters.log_blowup) }
-        requires room { length matrix.values.items / matrix.width ≤ coset_size (⟦<Coset<F> as PolynomialSpace>⟧.coset_of domain) }
-        ensures stands { IfOk result (CommitsRows ⟦<FriPcs<F, H> as Pcs<EF, C>>⟧.scheme F.ring F.root self.now (⟦<Coset<F> as PolynomialSpace>⟧.coset_of domain) matrix.values.items matrix.width) }
-        ensures made { IfOk result (⟦<FriPcs<F, H> as Pcs<EF, C>>⟧.scheme.calls.CommitsPreprocessing self.now (⟦<Coset<F> as PolynomialSpace>⟧.coset_of domain) matrix.values.items matrix.width) }
-        ensures refused { IfErr result (λ fault. IfRefused fault (⟦<FriPcs<F, H> as Pcs<EF, C>>⟧.scheme.RefusesPreprocessing self.now (⟦<Coset<F> as PolynomialSpace>⟧.coset_of domain) matrix.values.items matrix.width)) }
+        requires power { IsPowerOfTwo (height_of matrix) }
+        requires within { 2 ^ domain.log_size
+            ≤ 2 ^ (F.TWO_ADICITY - self.now.parameters.log_blowup) }
+        requires room { height_of matrix ≤ 2 ^ domain.log_size }
+        ensures stands { IfOk result (CommitsRows ⟦<FriPcs<F, H> as Pcs<EF, C>>⟧.scheme F.ring
+            F.root self.now (coset_from domain.shift domain.log_size) matrix.values.items
+            matrix.width) }
+        ensures made { IfOk result (λ made. ArePlain F.ring (height_of matrix)
+            (map columns_list made.1.matrices.items)) }
+        ensures refused { IfErr result (λ fault. IfRefused fault (λ _. ⊥)) }
     {
         // Nothing is masked, so that what is known is committed to as a trace is.
         <FriPcs<F, H> as Pcs<EF, C>>::commit(self, alloc, domain, matrix)
@@ -196,13 +206,18 @@ where
         flat: RowMajorMatrix<F>,
         num_chunks: usize,
     ) -> Committed<F>
-        requires height { length flat.values.items ≡ coset_size (⟦<Coset<F> as PolynomialSpace>⟧.coset_of domain) * flat.width }
+        requires height { length flat.values.items ≡ 2 ^ domain.log_size * flat.width }
         requires power { IsPowerOfTwo num_chunks }
-        requires parts { num_chunks ≤ coset_size (⟦<Coset<F> as PolynomialSpace>⟧.coset_of domain) }
-        requires within { coset_size (⟦<Coset<F> as PolynomialSpace>⟧.coset_of domain) * 2 ^ zk_bits false ≤ num_chunks * 2 ^ (F.TWO_ADICITY - self.now.parameters.log_blowup) }
-        ensures stands { IfOk result (CommitsChunks ⟦<FriPcs<F, H> as Pcs<EF, C>>⟧.scheme F.ring F.root EF.ring EF.inverse_of EF.embed false self.now (⟦<Coset<F> as PolynomialSpace>⟧.coset_of domain) flat.values.items flat.width num_chunks) }
-        ensures made { IfOk result (⟦<FriPcs<F, H> as Pcs<EF, C>>⟧.scheme.calls.CommitsQuotient self.now (⟦<Coset<F> as PolynomialSpace>⟧.coset_of domain) flat.values.items flat.width num_chunks) }
-        ensures refused { IfErr result (λ fault. IfRefused fault (⟦<FriPcs<F, H> as Pcs<EF, C>>⟧.scheme.RefusesQuotient self.now (⟦<Coset<F> as PolynomialSpace>⟧.coset_of domain) flat.values.items flat.width num_chunks)) }
+        requires parts { num_chunks ≤ 2 ^ domain.log_size }
+        requires within { 2 ^ domain.log_size * 2 ^ zk_bits false
+            ≤ num_chunks * 2 ^ (F.TWO_ADICITY - self.now.parameters.log_blowup) }
+        ensures stands { IfOk result (CommitsChunks ⟦<FriPcs<F, H> as Pcs<EF, C>>⟧.scheme F.ring
+            F.root EF.ring EF.inverse_of EF.embed false self.now
+            (coset_from domain.shift domain.log_size) flat.values.items flat.width num_chunks) }
+        ensures made { IfOk result (⟦<FriPcs<F, H> as Pcs<EF, C>>⟧.scheme.calls.CommitsQuotient
+            self.now (coset_from domain.shift domain.log_size) flat.values.items flat.width
+            num_chunks) }
+        ensures refused { IfErr result (λ fault. IfRefused fault (λ _. ⊥)) }
     {
         let chunks = chunks_of(alloc, &domain, &flat, num_chunks)?;
         let log_height = domain.log_size - log2_strict_usize(num_chunks);
@@ -226,9 +241,11 @@ where
         trace_domain: Coset<F>,
         quotient_domain: Coset<F>,
     ) -> Result<PeriodicLdeTable<F>, AllocError>
-        requires { columns.now.trace_len ≡ coset_size (⟦<Coset<F> as PolynomialSpace>⟧.coset_of trace_domain) }
-        ensures { IfOk result (λ table. HasPeriodicValues F.ring F.inverse_of F.root (⟦<Coset<F> as PolynomialSpace>⟧.coset_of trace_domain) (⟦<Coset<F> as PolynomialSpace>⟧.coset_of quotient_domain)
-            (map (λ column. column.items) columns.now.columns.now) table.values.items table.width table.period) }
+        requires { columns.now.trace_len ≡ 2 ^ trace_domain.log_size }
+        ensures { IfOk result (λ table. HasPeriodicValues F.ring F.inverse_of F.root
+            (coset_from trace_domain.shift trace_domain.log_size)
+            (coset_from quotient_domain.shift quotient_domain.log_size)
+            (map column_list columns.now.columns.now) table.values.items table.width table.period) }
     {
         let table = periodic_lde_table(alloc, columns, &trace_domain, &quotient_domain)?;
         Ok(table)
@@ -241,9 +258,15 @@ where
         challenger: &mut C,
         _preprocessed_index: Option<usize>,
     ) -> Result<(OpenedRounds<EF>, FriProof<F, EF>), SchemeFault<FriProverError>>
-        ensures true_values { IfOk result (λ opened. OpensTrueValues ⟦<FriPcs<F, H> as Pcs<EF, C>>⟧.scheme EF.ring EF.embed self.now (map round_view rounds.entry.items) (opened_view opened.0)) }
-        ensures whole { IfOk result (λ opened. ProvesTrueClaims ⟦<FriPcs<F, H> as Pcs<EF, C>>⟧.scheme EF.ring EF.embed self.now (map round_view rounds.entry.items) opened.1 challenger.old _preprocessed_index) }
-        ensures refused { IfErr result (λ fault. IfRefused fault (⟦<FriPcs<F, H> as Pcs<EF, C>>⟧.scheme.RefusesOpening self.now (map round_view rounds.entry.items) challenger.old _preprocessed_index)) }
+        ensures true_values { IfOk result (λ opened. OpensTrueValues
+            ⟦<FriPcs<F, H> as Pcs<EF, C>>⟧.scheme EF.ring EF.embed self.now
+            (map round_view rounds.entry.items) (opened_view opened.0)) }
+        ensures whole { IfOk result (λ opened. ProvesTrueClaims
+            ⟦<FriPcs<F, H> as Pcs<EF, C>>⟧.scheme EF.ring EF.embed self.now
+            (map round_view rounds.entry.items) opened.1 challenger.old _preprocessed_index) }
+        ensures refused { IfErr result (λ fault. IfRefused fault
+            (⟦<FriPcs<F, H> as Pcs<EF, C>>⟧.scheme.RefusesOpening self.now
+            (map round_view rounds.entry.items) challenger.old _preprocessed_index)) }
     {
         match open::<C, F, EF, H>(alloc, &self.parameters, &rounds, challenger) {
             Ok(opened) => Ok(opened),
@@ -259,13 +282,20 @@ where
         challenger: &mut C,
         _preprocessed_index: Option<usize>,
     ) -> Result<(), SchemeFault<FriError>>
-        ensures accepted { IfOk result (λ _. ⟦<FriPcs<F, H> as Pcs<EF, C>>⟧.scheme.Accepts self.now (map (claim_view ⟦<Coset<F> as PolynomialSpace>⟧.coset_of) claims.entry.items) proof.now challenger.old _preprocessed_index) }
-        ensures refused { IfErr result (λ fault. IfRefused fault (⟦<FriPcs<F, H> as Pcs<EF, C>>⟧.scheme.Refuses self.now (map (claim_view ⟦<Coset<F> as PolynomialSpace>⟧.coset_of) claims.entry.items) proof.now challenger.old _preprocessed_index)) }
+        ensures accepted { IfOk result (λ _. Accepted ⟦<C as FriCalls<F, EF, H>>⟧.fri_ops
+            (claimed_of self.now.parameters
+            (claims_in ⟦<Coset<F> as PolynomialSpace>⟧.coset_of claims.entry.items) proof.now
+            challenger.old)) }
+        ensures refused { IfErr result (IsRefused ⟦<C as FriCalls<F, EF, H>>⟧.fri_ops
+            (claimed_of self.now.parameters
+            (claims_in ⟦<Coset<F> as PolynomialSpace>⟧.coset_of claims.entry.items) proof.now
+            challenger.old)) }
     {
         verify_openings::<C, EF, Coset<F>, H>(alloc, &self.parameters, &claims, proof, challenger)
     }
 
     ghost scheme_laws = { fri_laws ⟦<C as FriCalls<F, EF, H>>⟧.fri_ops (λ s. s.parameters)
-        (λ d. record { root = d.root; log_height = d.domain.log_size; matrices = map columns_list d.matrices.items; extended = d.extended.items }) (λ p. p)
-        (fri_calls F.ring F.root (λ d. record { root = d.root; log_height = d.domain.log_size; matrices = map columns_list d.matrices.items; extended = d.extended.items })) F.two_adic.bounded };
+        (λ d. data_seen d.root d.domain.log_size d.matrices d.extended) (λ p. p)
+        (fri_calls F.ring F.root (λ d. data_seen d.root d.domain.log_size d.matrices d.extended))
+        F.two_adic.bounded };
 }

@@ -43,8 +43,8 @@ fn squares<F: TwoAdicField>(coset: &Coset<F>) -> Coset<F>
     Coset::new(coset.shift * coset.shift, coset.log_size.saturating_sub(1))
 }
 
-/// A fold: the layer of a polynomial is committed to, and the polynomial is folded by the challenge that
-/// is drawn behind the work on its root. None where no witness passes.
+/// A fold: the layer of a polynomial is committed to, and the polynomial is folded by the challenge
+/// that is drawn behind the work on its root. None where no witness passes.
 fn fold<C, F, EF, H>(
     alloc: Global,
     bits: usize,

@@ -36,6 +36,10 @@ const PREPROCESSED: &str =
 const EXTENSION: &str =
     r#"{"width":2,"publics":0,"periodic":[],"constants":[7],"nodes":[["main",0],["main",1],["mul",0,1],["constant",0],["sub",2,3]],"constraints":[{"ext":4},{"base":4}]}"#;
 
+// Two counters from one public value.
+const PAIR: &str =
+    r#"{"width":2,"publics":1,"periodic":[],"preprocessed":null,"constants":[1],"nodes":[["main",0],["main",1],["first"],["public",0],["sub",0,3],["mul",2,4],["sub",1,3],["mul",2,6],["transition"],["constant",0],["next",0],["sub",10,0],["sub",11,9],["mul",8,12],["next",1],["sub",14,1],["sub",15,9],["mul",8,16]],"constraints":[{"base":5},{"base":13},{"base":7},{"base":17}]}"#;
+
 /// A row of a table: the parameters, an AIR, the height, a trace, the public values, and the verdict.
 type Line = (
     [usize; 5],
@@ -48,7 +52,7 @@ type Line = (
 
 // A trace that satisfies its AIR, and one that doesn't; blow-ups of 2, 4 and 8, final polynomials of 1
 // to 8 coefficients, with work and without.
-const LINES: [Line; 19] = [
+const LINES: [Line; 21] = [
     (
         [1, 0, 3, 1, 2],
         COUNTER,
@@ -145,6 +149,22 @@ const LINES: [Line; 19] = [
     ),
     ([1, 0, 2, 1, 1], EXTENSION, 1, "[1,7,7,1]", "[]", "accepted"),
     ([1, 0, 2, 1, 1], EXTENSION, 1, "[1,7,7,2]", "[]", "refused"),
+    (
+        [2, 0, 2, 1, 1],
+        PAIR,
+        2,
+        "[5,5,6,6,7,7,8,8]",
+        "[5]",
+        "accepted",
+    ),
+    (
+        [2, 0, 2, 1, 1],
+        PAIR,
+        2,
+        "[5,5,6,6,7,7,8,9]",
+        "[5]",
+        "refused",
+    ),
 ];
 
 fn rows_of(line: &Line) -> Rows {

@@ -1,7 +1,11 @@
-//! Tests of the STARK over the FRI scheme: proofs of traces over three fields, and refused ones.
+//! Tests of the STARK over the FRI scheme: proofs of traces over three fields, and refused ones;
+//! and the guide's code over it.
 #![tactic(auto)]
 
 #[cfg(test)]
 mod proving;
+mod service;
 #[cfg(test)]
 mod tests;
+
+pub use service::{Config, configuration, counted};

@@ -56,9 +56,9 @@ fn spelled<F: PrimeField64 + NeverNull>(alloc: Global, text: &str) -> Result<Tre
     }
 }
 
-/// Whether a trace of `2^log_height` rows and these public values are of an AIR's widths and counts, and the configuration has
-/// room for such a trace.
-fn fits<SC: StarkGenericConfig, A: BaseAir<Val<SC>>>(
+/// Whether a trace of `2^log_height` rows and these public values are of an AIR's widths and
+/// counts, and the configuration has room for such a trace.
+pub fn fits<SC: StarkGenericConfig, A: BaseAir<Val<SC>>>(
     config: &SC,
     air: &A,
     log_height: usize,
@@ -67,8 +67,10 @@ fn fits<SC: StarkGenericConfig, A: BaseAir<Val<SC>>>(
 ) -> bool
     ensures columns { IsTrue result → 0 < trace.now.width }
     ensures width { IsTrue result → trace.now.width ≡ (A.layout air.now).main }
-    ensures height { IsTrue result → length trace.now.values.items ≡ 2 ^ log_height * trace.now.width }
-    ensures within { IsTrue result → log_height + zk_bits SC.Pcs.ZK ≤ SC.Pcs.scheme.log_max_trace_height (SC.config.scheme config.now) }
+    ensures height { IsTrue result
+        → length trace.now.values.items ≡ 2 ^ log_height * trace.now.width }
+    ensures within { IsTrue result → log_height + zk_bits SC.Pcs.ZK
+        ≤ SC.Pcs.scheme.log_max_trace_height (SC.config.scheme config.now) }
     ensures publics { IsTrue result → length publics.now ≡ (A.layout air.now).publics }
     ensures bounded { IsTrue result → log_height ≤ 12 }
 {
@@ -88,7 +90,8 @@ fn stands_at<F: Drop, A: BaseAir<F>>(
     log_height: usize,
 ) -> Result<bool, AllocError>
     requires { log_height ≤ 12 }
-    ensures { IfOk result (λ stands. IsTrue stands → HasHeight log_height (A.preprocessed_trace air.now)) }
+    ensures { IfOk result (λ stands.
+        IsTrue stands → HasHeight log_height (A.preprocessed_trace air.now)) }
 {
     let Some(trace) = air.preprocessed_trace(alloc)? else {
         return Ok(true);
@@ -105,8 +108,8 @@ fn matrix_of<F: Drop, A: BaseAir<F>>(air: &A, values: Vec<F>) -> Result<RowMajor
     Ok(RowMajorMatrix::new(values, width))
 }
 
-/// The verifier's verdict on a proof of a trace: `accepted` or `refused`; `no proof` where the prover
-/// refuses.
+/// The verifier's verdict on a proof of a trace: `accepted` or `refused`; `no proof` where the
+/// prover refuses.
 fn verdict<'p, SC>(
     alloc: Global,
     config: &'p SC,

@@ -1,7 +1,12 @@
 //! Verdicts over three fields.
-use crate::proving::{Rows, proved};
+use crate::proving::{Rows, fits, proved};
+use crate::service::{Config, configuration, counted};
+use p3_uni_stark::{StarkProof, prove};
 use stark_bench::Sha256Challenger;
 use stark_fields::{BabyBearField, Ext4, F12289, KoalaBearField};
+use stark_samples::CounterAir;
+use stark_support::{PrimeField64, RowMajorMatrix};
+use std::alloc::Global;
 use std::test::Fail;
 
 // From the public value on, up by one.
@@ -40,7 +45,8 @@ const EXTENSION: &str =
 const PAIR: &str =
     r#"{"width":2,"publics":1,"periodic":[],"preprocessed":null,"constants":[1],"nodes":[["main",0],["main",1],["first"],["public",0],["sub",0,3],["mul",2,4],["sub",1,3],["mul",2,6],["transition"],["constant",0],["next",0],["sub",10,0],["sub",11,9],["mul",8,12],["next",1],["sub",14,1],["sub",15,9],["mul",8,16]],"constraints":[{"base":5},{"base":13},{"base":7},{"base":17}]}"#;
 
-/// A row of a table: the parameters, an AIR, the height, a trace, the public values, and the verdict.
+/// A row of a table: the parameters, an AIR, the height, a trace, the public values, and the
+/// verdict.
 type Line = (
     [usize; 5],
     &'static str,
@@ -50,8 +56,8 @@ type Line = (
     &'static str,
 );
 
-// A trace that satisfies its AIR, and one that doesn't; blow-ups of 2, 4 and 8, final polynomials of 1
-// to 8 coefficients, with work and without.
+// A trace that satisfies its AIR, and one that doesn't; blow-ups of 2, 4 and 8, final polynomials
+// of 1 to 8 coefficients, with work and without.
 const LINES: [Line; 21] = [
     (
         [1, 0, 3, 1, 2],
@@ -203,5 +209,39 @@ fn proofs(rt: HostRuntime) -> Result<(), Fail> {
         >(alloc, Sha256Challenger::new(), line.0, &rows)?;
         assert_eq!(rt; koala, line.5);
     }
+    Ok(())
+}
+
+/// A proof that the counter counted from 5 to 8, over this configuration.
+fn counter_proof(alloc: Global, config: &Config) -> Result<StarkProof<Config>, Fail> {
+    let elements = [
+        BabyBearField::from_u8(5),
+        BabyBearField::from_u8(6),
+        BabyBearField::from_u8(7),
+        BabyBearField::from_u8(8),
+    ];
+    let trace = RowMajorMatrix::new(Vec::from_slice(alloc, &elements)?, 1);
+    let publics = [BabyBearField::from_u8(5)];
+    if !fits(config, &CounterAir, 2, &trace, &publics) {
+        return Err(Fail::new("no room"));
+    }
+    match prove(alloc, config, &CounterAir, trace, &publics) {
+        Ok(proof) => Ok(proof),
+        Err(_) => Err(Fail::new("no proof")),
+    }
+}
+
+#[test]
+fn as_text(rt: HostRuntime) -> Result<(), Fail> {
+    let alloc = rt.alloc();
+    let Ok(config) = configuration() else {
+        return Err(Fail::new("no configuration"));
+    };
+    let proof = counter_proof(alloc, &config)?;
+    let text = proof.to_json(alloc)?.to_string(alloc)?;
+    let (five, six) = (BabyBearField::from_u8(5), BabyBearField::from_u8(6));
+    assert!(rt; counted(alloc, &config, text.as_bytes(), five)?);
+    assert!(rt; !counted(alloc, &config, text.as_bytes(), six)?);
+    assert!(rt; !counted(alloc, &config, b"{}", five)?);
     Ok(())
 }

@@ -10,7 +10,7 @@ use Rattle.stark_columns.specs.Columns.{columns_list}
 use Rattle.stark_fri.specs.Parts.{FriDataView}
 use Rattle.stark_merkle.specs.Bytes.{row_bytes_of}
 use Rattle.stark_merkle.specs.declared.root.Root.{Root}
-use Rattle.stark_merkle.specs.Tree.{layer_above, leaf_of, node_of}
+use Rattle.stark_merkle.specs.Tree.{HasPath, IsPathIn, layer_above, leaf_of, node_of}
 pub use Rattle.stark_fri.specs.Scheme.{AreExtended, IsExtended, extension_of}
 
 -- Row i of a matrix, and whether it is there.
@@ -20,9 +20,18 @@ row_of i matrix = matrix_row matrix.values.items matrix.width i
 abbrev pub HasRow : {F : Type 0} → ℕ → RowMajorMatrix F → Type 0
 HasRow i matrix = i * matrix.width + matrix.width ≤ length matrix.values.items
 
+-- Each matrix has row i.
+abbrev pub HaveRow : {F : Type 0} → ℕ → List (RowMajorMatrix F) → Type 0
+HaveRow i matrices = AllByRecursion (HasRow i) matrices
+
 -- Each matrix has the first count rows.
 abbrev pub HaveRows : {F : Type 0} → ℕ → List (RowMajorMatrix F) → Type 0
-HaveRows count matrices = (i : ℕ) → i + 1 ≤ count → AllByRecursion (HasRow i) matrices
+HaveRows count matrices = (i : ℕ) → i + 1 ≤ count → HaveRow i matrices
+
+-- The path of a leaf through layers that have one; no digests through others.
+pub record IsPathOrNone (layers : List (List (List ℕ))) (place : ℕ) (digests : List (List ℕ)) : Type 0 where
+  pub path : HasPath layers place → IsPathIn layers place digests
+  pub none : (HasPath layers place → ⊥) → digests ≡ []
 
 -- Leaf i of the tree over the matrices' rows.
 abbrev pub leaf_at : {F : Type 0} → (List ℕ → List ℕ) → (F → ℕ) → List (RowMajorMatrix F) → ℕ → List ℕ

@@ -1,11 +1,12 @@
 //! Commitments to columns: their values on a larger coset, and the tree over these rows.
-ghost use Rattle.std.specs.Prelude.{◌≡◌, ◌≤◌, ◌↔◌, ◌+◌, ◌^◌, IfOk, IsTrue, Some, map};
+ghost use Rattle.std.specs.Prelude.{◌≡◌, ◌≤◌, ◌↔◌, ◌+◌, ◌^◌, [], IfOk, IsTrue, None, Some, map};
 ghost use Rattle.std.specs.List.{AllByRecursion, slice_get};
 ghost use Rattle.stark_columns.specs.ColumnPoints.{coset_from};
 ghost use Rattle.stark_columns.specs.Columns.{columns_list};
-ghost use Rattle.stark_merkle.specs.Tree.{items_of};
+ghost use Rattle.stark_fri_proof.specs.Paths.{digests_of};
+ghost use Rattle.stark_merkle.specs.Tree.{digests_in, items_of, layers_from, node_of};
 ghost use Rattle.stark_support.specs.declared.matrix.RowMajorMatrix.{RowMajorMatrix};
-ghost use Rattle.stark_fri_prover.specs.Commit.{AreExtended, HasRow, HaveRows, IsRootOver, extension_of, leaves_of, row_of};
+ghost use Rattle.stark_fri_prover.specs.Commit.{AreExtended, HasRow, HaveRow, HaveRows, IsPathOrNone, IsRootOver, extension_of, leaves_of, row_of};
 
 use stark_bench::Coset;
 use stark_columns::rows_on;
@@ -51,9 +52,11 @@ impl<F: TwoAdicField> FriData<F> {
     /// The rows of matrix `index` on the larger coset; no rows where there is no such matrix. It is
     /// Err only where memory was refused.
     pub fn rows_of(&self, alloc: Global, index: usize) -> Result<RowMajorMatrix<F>, AllocError>
-        ensures { IfOk result (λ rows. (stored : RowMajorMatrix F)
+        ensures stored { IfOk result (λ rows. (stored : RowMajorMatrix F)
             → slice_get self.now.extended.items index ≡ Some stored
             → (rows.values.items ≡ stored.values.items) × (rows.width ≡ stored.width)) }
+        ensures none { IfOk result (λ rows. slice_get self.now.extended.items index ≡ None
+            → (rows.values.items ≡ []) × (rows.width ≡ 0)) }
     {
         let mut values = Vec::new(alloc);
         let Some(stored) = self.extended.get(index) else {
@@ -65,7 +68,14 @@ impl<F: TwoAdicField> FriData<F> {
 
     /// A row of each matrix at a place of the larger coset, and their path to the root: nothing
     /// where there is no such place. It is Err only where memory was refused.
-    pub fn open_at(&self, alloc: Global, place: usize) -> Result<InputOpening<F>, AllocError> {
+    pub fn open_at(&self, alloc: Global, place: usize) -> Result<InputOpening<F>, AllocError>
+        ensures rows { IfOk result (λ opened. HaveRow place self.now.extended.items
+            → opened.rows ≡ map (row_of place) self.now.extended.items) }
+        ensures path { IfOk result (λ opened. HaveRow place self.now.extended.items
+            → IsPathOrNone (digests_in self.now.layers.items) place (digests_of opened.path)) }
+        ensures none { IfOk result (λ opened. (HaveRow place self.now.extended.items → ⊥)
+            → (opened.rows ≡ []) × (digests_of opened.path ≡ [])) }
+    {
         if !have_row(&self.extended, place) {
             return Ok(InputOpening::new(Vec::new(alloc), MerklePath::new(Vec::new(alloc))));
         }
@@ -80,7 +90,10 @@ pub(crate) fn path_or_none(
     alloc: Global,
     layers: &[Vec<[u8; 32]>],
     place: usize,
-) -> Result<MerklePath, AllocError> {
+) -> Result<MerklePath, AllocError>
+    ensures { IfOk result (λ path.
+        IsPathOrNone (digests_in layers.now) place (digests_of path)) }
+{
     match path_in(alloc, layers, place)? {
         Some(path) => Ok(MerklePath::new(path)),
         None => Ok(MerklePath::new(Vec::new(alloc))),
@@ -200,6 +213,9 @@ pub fn commit_columns<F: TwoAdicField + PrimeField64, H: TreeHash>(
     ensures root { IfOk result (λ made. IsRootOver F.ring F.root H.digest_of F.number_of
         (extension_of F.GENERATOR (log_height + log_blowup)) (map columns_list matrices.items)
         made.0.bytes) }
+    ensures tree { IfOk result (λ made. digests_in made.1.layers.items
+        ≡ layers_from (node_of H.digest_of) (log_height + log_blowup) (leaves_of H.digest_of
+        F.number_of made.1.extended.items (2 ^ (log_height + log_blowup)))) }
 {
     let bits = log_height + log_blowup;
     let domain = Coset::new(F::GENERATOR, bits);

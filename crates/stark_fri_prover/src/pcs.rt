@@ -1,5 +1,5 @@
 //! The scheme.
-ghost use Rattle.std.specs.Prelude.{◌≡◌, ◌≤◌, ◌+◌, ◌-◌, ◌*◌, ◌^◌, ⊤, false, ◌∷◌, [], map, length, IfErr, IfOk};
+ghost use Rattle.std.specs.Prelude.{◌≡◌, ◌≤◌, ◌+◌, ◌-◌, ◌*◌, ◌^◌, ⊤, false, ◌∷◌, [], map, length, IfErr, IfOk, IsTrue};
 ghost use Rattle.std.specs.Int.{IsPowerOfTwo};
 ghost use Rattle.stark_support.specs.Claims.{IfRefused, opened_view, round_view};
 ghost use Rattle.stark_support.specs.PeriodicTable.{HasPeriodicValues};
@@ -98,6 +98,17 @@ fn commit_alone<F: TwoAdicField + PrimeField64, H: TreeHash>(
     Ok(made)
 }
 
+/// Whether a domain is the coset that kept columns were extended on, with this blow-up.
+fn is_extension<F: TwoAdicField>(kept: &FriData<F>, log_blowup: usize, domain: &Coset<F>) -> bool
+    ensures { IsTrue result → coset_from domain.now.shift domain.now.log_size
+        ≡ extension_of F.GENERATOR (kept.now.domain.log_size + log_blowup) }
+{
+    let log_height = kept.domain().log_size;
+    domain.shift == F::GENERATOR
+        && domain.log_size >= log_height
+        && domain.log_size - log_height == log_blowup
+}
+
 impl<F, EF, C, H> Pcs<EF, C> for FriPcs<F, H>
 where
     F: TwoAdicField + PrimeField64,
@@ -158,6 +169,11 @@ where
         index: usize,
         domain: Coset<F>,
     ) -> Result<RowMajorMatrix<F>, AllocError> {
+        if is_extension(prover_data, self.parameters.log_blowup(), &domain) {
+            // The tree is over these rows: they were transformed for it.
+            let rows = prover_data.rows_of(alloc, index)?;
+            return Ok(rows);
+        }
         let rows = rows_on(alloc, prover_data.matrices(), index, &domain)?;
         Ok(rows)
     }

@@ -4,7 +4,7 @@ use Rattle.std.specs.Option.{IsSome}
 use Rattle.std.proofs.lemmas.List.FromFn.{length-map-range_with_len}
 use Rattle.stark_columns.specs.ColumnPoints.{coset_from}
 use Rattle.stark_columns.specs.Columns.{columns_list}
-use Rattle.stark_merkle.specs.Tree.{digests_in, layer_above, node_of, top_of}
+use Rattle.stark_merkle.specs.Tree.{digests_in, layer_above, layers_from, node_of, top_of}
 use Rattle.stark_support.specs.Coset.{TwoAdicCoset}
 use Rattle.stark_merkle.specs.TreeFacts.{full_has_root, top_is_root}
 use Rattle.stark_fri_prover.specs.Commit.{AreExtended, HasRow, extension_of, leaf_at, leaves_of}
@@ -51,3 +51,12 @@ returns-clause-root g c =
     let top = sym (c.root_in.ensures ∙ ap (λ t. top_of (digests_in t)) c.deref-3.ensures.value ∙ ap top_of c.in_ok-layers.ensures) ∙ c.unwrap-top.ensures in
     sym (ap (layer_above (node_of hash) bits) leaves)
     ∙ top_is_root (node_of hash) bits c.in_ok-leaves.leaves.items c.unwrap-top.result top ∙ ap (λ t. t ∷ []) (sym c.new-root.ensures)
+
+pub returns-clause-tree : goal.returns-clause-tree
+returns-clause-tree g c =
+    let hash = g.H.TreeHash.digest_of in
+    let number_of = g.F.PrimeField64.number_of in
+    let bits = c.args.log_height + c.args.log_blowup in
+    let leaves = c.in_ok-leaves.ensures ∙ ap (λ t. leaves_of hash number_of t c.size.result) c.deref-2.ensures.value
+    ∙ ap (leaves_of hash number_of c.in_ok-extended.extended.items) (c.size.ensures ∙ ap (λ n. 2 ^ n) c.new-domain.ensures.size) in
+    c.in_ok-layers.ensures ∙ ap (layers_from (node_of hash) bits) leaves

@@ -291,6 +291,7 @@ rounds | "parameters":[1,1, > "parameters":[1,2, => CommitPhases
 
 # Each two faults that are neighbours in the order: the first is told.
 rounds | "log_height":3 > "log_height":12 & "values":[[ > "values":[[0,0,0,0],[ => MixedHeights { round: 1 }
+rounds | "log_height":3 > "log_height":12 & "log_height":3 > "log_height":12 & "log_height":3 > "log_height":12 & "values":[[ > "values":[[0,0,0,0],[ => TooHigh
 folded | "log_height":1 > "log_height":12 & [474,11738,9406,10019] > [11,0,0,0] => TooHigh
 rounds | "values":[[ > "values":[[0,0,0,0],[ & [9828,1304,8384,2859] > [11,0,0,0] => Widths { round: 0 }
 folded | [474,11738,9406,10019] > [11,0,0,0] & "phases":[ > "phases":[],"unread":[ => PointOnCoset { round: 0 }

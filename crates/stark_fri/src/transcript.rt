@@ -54,10 +54,7 @@ where
 }
 
 /// Observes elements in turn.
-pub fn observe_values<C, F: PrimeField64, EF: ExtensionField<F>>(
-    challenger: &mut C,
-    values: &[EF],
-)
+pub fn observe_values<C, F: PrimeField64, EF: ExtensionField<F>>(challenger: &mut C, values: &[EF])
 where
     C: CanObserve<F> + CanObserve<Root>,
     ensures { challenger.new ≡ observed_all

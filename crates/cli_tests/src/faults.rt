@@ -18,7 +18,8 @@ pub(crate) enum Spoiled {
     Write,
 }
 
-/// Asserts that a row's input, cut before any byte, isn't read, and answers how many runs that took.
+/// Asserts that a row's input, cut before any byte, isn't read, and answers how many runs that
+/// took.
 fn cut_before_each(rt: &impl Abort, alloc: Global, row: &Row) -> Result<usize, Fail> {
     let words = words_of(alloc, &row.commands)?;
     let input = bytes_of(alloc, &row.input)?;
@@ -36,7 +37,8 @@ fn cut_before_each(rt: &impl Abort, alloc: Global, row: &Row) -> Result<usize, F
     Ok(input.len())
 }
 
-/// Asserts that a row's run ends by its reader alone where a read fails, which is any but the last, after which all was read.
+/// Asserts that a row's run ends by its reader alone where a read fails, which is any but the last,
+/// after which all was read.
 fn failing_at_each_read(rt: &impl Abort, alloc: Global, row: &Row) -> Result<usize, Fail> {
     let words = words_of(alloc, &row.commands)?;
     let input = bytes_of(alloc, &row.input)?;
@@ -55,8 +57,8 @@ fn failing_at_each_read(rt: &impl Abort, alloc: Global, row: &Row) -> Result<usi
     Ok(needed.saturating_add(1))
 }
 
-/// Asserts that a row's run ends by its writer where a write fails, and has written the front of its lines. A writer that takes nothing
-/// has failed too.
+/// Asserts that a row's run ends by its writer where a write fails, and has written the front of
+/// its lines. A writer that takes nothing has failed too.
 fn failing_at_each_write(rt: &impl Abort, alloc: Global, row: &Row) -> Result<usize, Fail> {
     let words = words_of(alloc, &row.commands)?;
     let input = bytes_of(alloc, &row.input)?;
@@ -84,7 +86,8 @@ fn failing_at_each_write(rt: &impl Abort, alloc: Global, row: &Row) -> Result<us
     Ok(lines.len() + 2)
 }
 
-/// Asserts what each of a table's runs says that is spoiled at each place in turn, and that there are so many such runs.
+/// Asserts what each of a table's runs says that is spoiled at each place in turn, and that there
+/// are so many such runs.
 pub(crate) fn all_spoiled(
     rt: &impl Abort,
     alloc: Global,
@@ -107,8 +110,8 @@ pub(crate) fn all_spoiled(
     Ok(())
 }
 
-/// Asserts that the words of each line of a text name nothing, and that there are so many lines. The reader would fail at its first
-/// read, so nothing is read.
+/// Asserts that the words of each line of a text name nothing, and that there are so many lines.
+/// The reader would fail at its first read, so nothing is read.
 pub(crate) fn all_unknown(
     rt: &impl Abort,
     alloc: Global,
@@ -131,8 +134,8 @@ pub(crate) fn all_unknown(
     Ok(())
 }
 
-/// Asserts that a run on a text that has a name is accepted and writes these lines, or says that memory is wanting. Where a growth is
-/// refused before the run, nothing is tested.
+/// Asserts that a run on a text that has a name is accepted and writes these lines, or says that
+/// memory is wanting. Where a growth is refused before the run, nothing is tested.
 pub(crate) fn written_or_no_memory(
     rt: &impl Abort,
     alloc: Global,

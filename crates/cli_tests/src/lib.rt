@@ -1,4 +1,5 @@
-//! Runs of both programs on bytes in memory, as tables of text. Each number was found apart from this code. The crate has nothing but tests.
+//! Runs of both programs on bytes in memory, as tables of text. Each number was found apart from
+//! this code. The crate has nothing but tests.
 #![tactic(auto)]
 
 #[cfg(test)]

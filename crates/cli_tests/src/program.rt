@@ -66,7 +66,8 @@ impl Program {
         }
     }
 
-    /// How many reads of a byte a run makes that reads its inputs to their ends: one more than each has bytes.
+    /// How many reads of a byte a run makes that reads its inputs to their ends: one more than each
+    /// has bytes.
     pub(crate) fn reads_of(self, input: &[u8]) -> usize {
         match self {
             Program::StarkRun => input.len().saturating_add(1),

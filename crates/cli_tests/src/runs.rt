@@ -136,7 +136,8 @@ fn last_command(row: &Row) -> &str {
 // What stands behind the trace in the inputs of `stark_run prove`.
 const BEHIND_TRACE: &str = ",\"publics\"";
 
-/// What the last command of a row reads: of two, what the first wrote stands in the input in place of the trace.
+/// What the last command of a row reads: of two, what the first wrote stands in the input in place
+/// of the trace.
 fn last_input(alloc: Global, row: &Row) -> Result<Vec<u8>, Fail> {
     let given = bytes_of(alloc, &row.input)?;
     let Some((first, _second)) = row.commands.split_once(" then ") else {

@@ -31,7 +31,8 @@ impl Read for FailingReader<'_> {
     }
 }
 
-/// Takes one byte a write, or none where it is full, is interrupted before each, and fails at the write after `writes`.
+/// Takes one byte a write, or none where it is full, is interrupted before each, and fails at the
+/// write after `writes`.
 #[derive(Drop)]
 pub(crate) struct FailingWriter {
     pub(crate) bytes: Vec<u8>,

@@ -4,11 +4,12 @@
 //! COMMANDS | INPUT | FROM => TO | .. | LINES
 //! ```
 //!
-//! The commands are the words of one, as `check counter` or `show`, or of two, as `prove counter then verify counter`, where the second
-//! reads what the first wrote in place of the trace. Of a run for a statement the input is the statement, the byte 1e, which is written
-//! `\1e`, and the proof or the trace. In the input each FROM, which must stand in it, is written anew once; then, in the
-//! lines too, `\ff` is the byte 255, and `\(7 ab)` is `ab` seven times. LINES is what the run has to write, without its last newline, and
-//! its first word tells how the run has to end.
+//! The commands are the words of one, as `check counter` or `show`, or of two, as `prove counter
+//! then verify counter`, where the second reads what the first wrote in place of the trace. Of a
+//! run for a statement the input is the statement, the byte 1e, which is written `\1e`, and the
+//! proof or the trace. In the input each FROM, which must stand in it, is written anew once; then,
+//! in the lines too, `\ff` is the byte 255, and `\(7 ab)` is `ab` seven times. LINES is what the
+//! run has to write, without its last newline, and its first word tells how the run has to end.
 use crate::program::Program;
 use std::alloc::{AllocError, Global};
 use std::test::Fail;

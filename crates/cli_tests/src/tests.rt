@@ -98,15 +98,17 @@ fn is_a_verdict(found: &Outcome) -> bool {
     !line.is_empty() && LINES.lines().any(|known| known == line) && end_of(line) == found.end
 }
 
-/// The honest input with the names of its members that are null made unreadable: another name says the same.
+/// The honest input with the names of its members that are null made unreadable: another name says
+/// the same.
 fn marked(alloc: Global, honest: &str) -> Result<String, AllocError> {
     let text = honest.replace(alloc, "random", "??????")?;
     let text = text.replace(alloc, "preprocessed_local", "??????????????????")?;
     text.replace(alloc, "preprocessed_next", "?????????????????")
 }
 
-/// Asserts that a row's input with the byte at a place replaced by any of seven is answered by a verdict, and accepted only where the
-/// byte is the honest one, or is in a name that may be another.
+/// Asserts that a row's input with the byte at a place replaced by any of seven is answered by a
+/// verdict, and accepted only where the byte is the honest one, or is in a name that may be
+/// another.
 fn replaced_at(
     rt: &impl Abort,
     alloc: Global,

@@ -163,7 +163,8 @@ verify | <proved> | "degree_bits":1 => "degree_bits":-1 | bad input
 verify | <proved> | [2893, => [12289, | bad input
 "#;
 
-// AIRs at the limits of what is taken, and past them: nothing else of the statement, the proof or the trace is looked at then.
+// AIRs at the limits of what is taken, and past them: nothing else of the statement, the proof or
+// the trace is looked at then.
 pub(crate) const LARGE: &str = r#"
 # Columns.
 show | <wide> | columns: 65536 main, 0 public, 0 periodic, 0 preprocessed\0a<of nothing>
@@ -192,7 +193,8 @@ verify | <fixed>\1e<proof of two rows> | 65535 => 65536 | refused AirTooLarge
 show | <wide> | 65536,"publics":0 => 65537,"publics":1 | bad input
 "#;
 
-// Inputs by which a stranger tries to have much done: they are small as JSON, or in the AIR that they spell.
+// Inputs by which a stranger tries to have much done: they are small as JSON, or in the AIR that
+// they spell.
 pub(crate) const DEAR: &str = r#"
 # As many public values as there are numbers, without one of them.
 show | {"air":{"width":0,"publics":18446744073709551615,"periodic":[],"constants":[],"nodes":[],"constraints":[]},"public_values":[]} | bad input

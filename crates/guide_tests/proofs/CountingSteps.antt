@@ -13,11 +13,12 @@ use Rattle.stark_support.specs.Subgroup.{group_of}
 use Rattle.stark_samples.specs.Samples.{counter_constraints}
 use Rattle.stark_parts.specs.SizingLaw.{AreSizable, HasSmallBound}
 use Rattle.stark_proof.specs.ProofView.{ProofView}
-use Rattle.stark_protocol.specs.Instance.{FieldsOps, Instance, ProtocolOps}
+use Rattle.stark_support.specs.FieldPair.{FieldsOps}
+use Rattle.stark_protocol.specs.Instance.{Instance, ProtocolOps}
 use Rattle.stark_protocol.specs.Sizes.{log_parts_of}
-use Rattle.stark_honest.specs.RowSatisfaction.{HoldsInEachRow}
-use Rattle.stark_honest.specs.TrueOpenings.{air_over}
-use Rattle.stark_honest.proofs.SelectorRows.{first_elsewhere, transition_at_end}
+use Rattle.stark_completeness.specs.RowSatisfaction.{HoldsInEachRow}
+use Rattle.stark_completeness.specs.TrueOpenings.{air_over}
+use Rattle.stark_completeness.proofs.SelectorRows.{first_elsewhere, transition_at_end}
 use Rattle.p3_uni_stark.proofs.SizedDegrees.{sizable_degrees_fit}
 use Rattle.guide_tests.specs.Counting.{IsDrawnOutside, count_at, counted_from}
 

@@ -30,9 +30,10 @@ fn numbers_from<F: Field>(alloc: Global, start: F, count: usize) -> Result<Vec<F
     Ok(numbers)
 }
 
-/// A proof that a column counted from `start` on, through `2^log_height` rows, and the verifier's verdict on it. Over a scheme
-/// that refuses no true opening, from its least height on, the proof is refused for want of memory alone, unless the zeta that
-/// was drawn lies in H. Nothing is asked of the trace, whose rows satisfy the AIR, nor of degrees.
+/// A proof that a column counted from `start` on, through `2^log_height` rows, and the verifier's
+/// verdict on it. Over a scheme that refuses no true opening, from its least height on, the proof
+/// is refused for want of memory alone, unless the zeta that was drawn lies in H. Nothing is asked
+/// of the trace, whose rows satisfy the AIR, nor of degrees.
 pub fn count<'p, SC: StarkGenericConfig>(
     alloc: Global,
     config: &'p SC,
@@ -48,7 +49,7 @@ where
         ≤ SC.Pcs.scheme.log_max_trace_height (SC.config.scheme config.now) }
     ensures accepted { IfOk result (λ made.
         SC.Pcs.scheme.log_min_trace_height (SC.config.scheme config.now) ≤ log_height
-        → SC.Pcs.scheme.Whole (SC.config.scheme config.now)
+        → SC.Pcs.scheme.IsComplete (SC.config.scheme config.now)
         → IsDrawnOutside ⟦<SC as StarkOperations>⟧.operations
         (⟦<SC as StarkInstance<CounterAir>>⟧.instance config.now (record {}) (start ∷ []) None)
         (proof_view made.0)

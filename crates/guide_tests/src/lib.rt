@@ -1,4 +1,5 @@
-//! The code of README.md and of docs/guide as it stands there (`scripts/documents` compares), and a test that runs each piece.
+//! The code of README.md and of docs/guide as it stands there (`scripts/documents` compares), and a
+//! test that runs each piece.
 #![tactic(auto)]
 
 mod accepted;

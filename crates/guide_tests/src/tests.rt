@@ -34,7 +34,8 @@ const COUNTER: &str =
 const ONES: &str =
     r#"{"constants":[1],"constraints":[{"base":2}],"nodes":[["main",0],["constant",0],["sub",0,1]],"periodic":[],"preprocessed":null,"publics":0,"width":1}"#;
 
-/// Whether both calls of the guide accept the proof of a trace: of the one without a clause, and of the one with it.
+/// Whether both calls of the guide accept the proof of a trace: of the one without a clause, and of
+/// the one with it.
 fn answers_of(alloc: Global, trace: &str) -> Result<(bool, bool), Fail> {
     let statement = STATEMENT.as_bytes();
     let asked = TraceTask::ProveUnchecked;

@@ -1,9 +1,9 @@
 -- What a prover that checks first tells of a check's error.
 use Rattle.std.proofs.Common.{◌≡◌, subst, sym}
-use Rattle.stark_honest.specs.RowCheck.{IsRefusedOr}
-use Rattle.stark_honest.specs.declared.violation.ConstraintViolation.{ConstraintViolation}
-use Rattle.stark_honest.specs.declared.violation.ConstraintCheckError.{ConstraintCheckError}
-use Rattle.stark_honest.specs.declared.violation.ConstraintCheckError.TheVariants.{OutOfMemory, Violation}
+use Rattle.stark_completeness.specs.RowCheck.{IsRefusedOr}
+use Rattle.stark_completeness.specs.declared.violation.ConstraintViolation.{ConstraintViolation}
+use Rattle.stark_completeness.specs.declared.violation.ConstraintCheckError.{ConstraintCheckError}
+use Rattle.stark_completeness.specs.declared.violation.ConstraintCheckError.TheVariants.{OutOfMemory, Violation}
 use Rattle.stark_transcript.specs.declared.error.ProvingError.{ProvingError}
 use Rattle.p3_uni_stark.specs.Checked.{IsViolationOr, checked_error}
 use Rattle.p3_uni_stark.specs.declared.checked.CheckedProvingError.{CheckedProvingError}

@@ -1,24 +1,26 @@
 -- What is proved of a trace that was checked first.
-use Rattle.std.specs.Prelude.{◌≡◌, ℕ, ◌*◌, ◌^◌, ◌≤◌, Option, length}
-use Rattle.stark_support.specs.Scheme.{SchemeOps}
+use Rattle.std.specs.Prelude.{ℕ, ◌+◌, Bool, Option}
+use Rattle.stark_support.specs.Scheme.{SchemeOps, zk_bits}
+use Rattle.stark_support.specs.declared.matrix.RowMajorMatrix.{RowMajorMatrix}
 use Rattle.stark_air.specs.Declaration.{Trace}
-use Rattle.stark_honest.specs.declared.violation.ConstraintViolation.{ConstraintViolation}
-use Rattle.stark_honest.specs.declared.violation.ConstraintCheckError.{ConstraintCheckError}
-use Rattle.stark_honest.specs.declared.violation.ConstraintCheckError.TheVariants.{OutOfMemory, Violation}
+use Rattle.stark_completeness.specs.declared.violation.ConstraintViolation.{ConstraintViolation}
+use Rattle.stark_completeness.specs.declared.violation.ConstraintCheckError.{ConstraintCheckError}
+use Rattle.stark_completeness.specs.declared.violation.ConstraintCheckError.TheVariants.{OutOfMemory, Violation}
 use Rattle.stark_proof.specs.ProofView.{ProofView}
 use Rattle.stark_protocol.specs.Instance.{Instance, ProtocolOps}
 use Rattle.stark_protocol.specs.declared.preprocessed.PreprocessedProverData.{PreprocessedProverData}
 use Rattle.stark_protocol.specs.declared.preprocessed.PreprocessedVerifierKey.{PreprocessedVerifierKey}
+use Rattle.stark_protocol.specs.Preprocessing.{HasHeight}
+use Rattle.stark_prover.specs.Heights.{HasRoom, IsHeldAt, IsOfHeight}
 use Rattle.stark_prover.specs.Honest.{AreSetUp, IsAcceptedOutside}
 use Rattle.stark_transcript.specs.declared.error.ProvingError.{ProvingError}
 use Rattle.p3_uni_stark.specs.declared.checked.CheckedProvingError.{CheckedProvingError}
 use Rattle.p3_uni_stark.specs.declared.checked.CheckedProvingError.TheVariants.{Proving, Violation as Broken}
 
--- The trace has 2 ^ height rows, as many as the scheme takes, and the scheme refuses no true opening.
-pub record IsProvable {S F E C K T P X Y : Type 0} (scheme : SchemeOps S F E C K T P X Y) (s : S) (trace : Trace F) (height : ℕ) : Type 0 where
-  pub rows : length trace.values ≡ 2 ^ height * trace.width
-  pub least : scheme.log_min_trace_height s ≤ height
-  pub whole : scheme.Whole s
+-- The trace has a height for which the scheme has room, at which what is held is committed to, and which is the declared one's.
+abbrev pub FitsSchemeAsDeclared : {S F E C K T P X Y : Type 0} → SchemeOps S F E C K T P X Y → S → Bool → Option (PreprocessedProverData K T) → Option (Trace F) → RowMajorMatrix F → Type 0
+FitsSchemeAsDeclared scheme s is_zk held declared trace =
+    (height : ℕ) × IsOfHeight trace height × HasRoom scheme s is_zk height × IsHeldAt held (height + zk_bits is_zk) × HasHeight height declared
 
 -- With the key that is set up beside what the prover holds, the proof is accepted, unless zeta lies in H.
 abbrev pub IsAcceptedIfSetUp : {S F E C K T P X Y : Type 0} → ProtocolOps S F E C K T P X Y → (Option (PreprocessedVerifierKey K) → Instance S F C K) → Option (Trace F) → Option (PreprocessedProverData K T) → ℕ → ProofView K E P F → Type 0

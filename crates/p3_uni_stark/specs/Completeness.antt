@@ -1,11 +1,18 @@
 -- Which proofs a verifier accepts because a prover made them of a satisfying trace.
-use Rattle.std.specs.Prelude.{◌≡◌, ℕ, Option, Ok}
+use Rattle.std.specs.Prelude.{◌≡◌, ℕ, ◌*◌, ◌^◌, ◌≤◌, Option, Ok, length}
+use Rattle.stark_support.specs.Scheme.{SchemeOps}
 use Rattle.stark_air.specs.Declaration.{Trace}
 use Rattle.stark_proof.specs.ProofView.{ProofView}
 use Rattle.stark_protocol.specs.Acceptance.{IsPointOfH, challenges}
 use Rattle.stark_protocol.specs.Instance.{Instance, ProtocolOps, log_height}
 use Rattle.stark_protocol.specs.declared.preprocessed.PreprocessedProverData.{PreprocessedProverData}
 use Rattle.stark_prover.specs.Honest.{AreSetUp, HasSizedDegrees, IsSatisfied}
+
+-- The trace has 2 ^ height rows, as many as the scheme takes, and the scheme refuses no true opening.
+pub record IsProvable {S F E C K T P X Y : Type 0} (scheme : SchemeOps S F E C K T P X Y) (s : S) (trace : Trace F) (height : ℕ) : Type 0 where
+  pub rows : length trace.values ≡ 2 ^ height * trace.width
+  pub least : scheme.log_min_trace_height s ≤ height
+  pub complete : scheme.IsComplete s
 
 -- Prover's data and key are the two parts of one set-up, or there is neither; the trace satisfies the AIR, whose constraints'
 -- degrees fit the quotient's domain; and the zeta that the proof's replay draws is no point of H.

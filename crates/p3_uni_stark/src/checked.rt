@@ -1,17 +1,26 @@
 //! A proof of a trace that was checked first.
-ghost use Rattle.std.specs.Prelude.{◌≡◌, ◌⊎◌, ◌+◌, ◌*◌, ◌^◌, ◌<◌, ◌≤◌, ℕ, List, IfErr, IfOk, IfSome, is_some, length, ltb, option_map};
-ghost use Rattle.stark_support.specs.Scheme.{zk_bits};
-ghost use Rattle.stark_honest.specs.RowCheck.{trace_of};
+ghost use Rattle.std.specs.Borrow.{Bor};
+ghost use Rattle.std.specs.Option.{option_copied};
+ghost use Rattle.std.specs.Prelude.{◌≡◌, ◌<◌, ℕ, List, IfErr, IfOk, None, Option, is_some, length, ltb};
+ghost use Rattle.stark_support.specs.declared.matrix.RowMajorMatrix.{RowMajorMatrix};
+ghost use Rattle.stark_completeness.specs.RowCheck.{trace_of};
 ghost use Rattle.stark_parts.specs.SizingLaw.{AreSizable};
-ghost use Rattle.stark_protocol.specs.Preprocessing.{HasHeight};
-ghost use Rattle.stark_prover.specs.CommittedColumns.{IsPreprocessedCommitment};
-ghost use Rattle.p3_uni_stark.specs.Checked.{IsProvable, IsViolationOr, checked_error};
+ghost use Rattle.stark_proof.specs.ProofView.{proof_view};
+ghost use Rattle.stark_proof.specs.declared.values.Proof.{Proof};
+ghost use Rattle.stark_protocol.specs.declared.preprocessed.PreprocessedProverData.{PreprocessedProverData};
+ghost use Rattle.stark_prover.specs.Heights.{HoldsColumns};
+ghost use Rattle.stark_prover.specs.Honest.{HasSizedDegrees};
+ghost use Rattle.stark_prover.specs.ProverView.{instance_of};
+ghost use Rattle.p3_uni_stark.specs.Checked.{FitsSchemeAsDeclared, IsAcceptedIfSetUp, IsViolationOr, checked_error};
+ghost use Rattle.p3_uni_stark.specs.Completeness.{IsProvable};
+ghost use Rattle.p3_uni_stark.specs.declared.checked.CheckedProvingError.{CheckedProvingError};
 
-use crate::completeness::StarkCompleteness;
 use stark_air::Air;
-use stark_honest::{ConstraintCheckError, ConstraintViolation, RowChecks, check_declared};
+use stark_completeness::{ConstraintCheckError, ConstraintViolation, RowChecks, check_declared};
 use stark_parts::{Com, PcsProverError, StarkGenericConfig, Val};
-use stark_protocol::{PcsProverData, PreprocessedProverData, StarkProof};
+use stark_protocol::{
+    PcsProverData, PreprocessedProverData, StarkInstance, StarkOperations, StarkProof,
+};
 use stark_prover::{StarkProving, prove_with_preprocessed};
 use stark_support::{
     GrindingChallenger, PackedExtensionField, PackedField, Pcs, RowMajorMatrix, UnivariateStarkPcs,
@@ -58,6 +67,57 @@ impl<F, E> From<ProvingError<E>> for CheckedProvingError<F, E> {
     }
 }
 
+/// What is said of a proof of a trace that was checked first, made with a configuration, for an
+/// AIR, of public values and what a prover holds of the preprocessed columns: with the key that is
+/// set up beside these it is accepted unless zeta lies in the trace's domain, where the AIR's terms
+/// can be sized, and where its degrees fit the quotient's domain; and what its errors name.
+pub trait StarkChecked<A>: StarkGenericConfig {
+    ghost Held: { Type 0 };
+
+    ghost Proof: { Type 0 };
+
+    ghost accepted_if_sizable: { Self → A → List Self.Pcs.Domain.Val → Option Held
+        → RowMajorMatrix Self.Pcs.Domain.Val → Proof → Type 0 };
+
+    ghost accepted_if_sized: { Self → A → List Self.Pcs.Domain.Val → Option Held
+        → RowMajorMatrix Self.Pcs.Domain.Val → Proof → Type 0 };
+
+    ghost is_fault: { Bor Self → Bor A → Bor (List Self.Pcs.Domain.Val) → Option Held
+        → RowMajorMatrix Self.Pcs.Domain.Val
+        → CheckedProvingError Self.Pcs.Domain.Val Self.Pcs.ProverError → Type 0 };
+}
+
+impl<SC, A> StarkChecked<A> for SC
+where
+    SC: StarkGenericConfig,
+    SC::Challenger: GrindingChallenger<Witness = Val<SC>>,
+    A: Air<Val<SC>>,
+{
+    ghost Held = { Bor (PreprocessedProverData SC.Pcs.Commitment SC.Pcs.ProverData) };
+
+    ghost Proof = { Proof SC.Pcs.Commitment SC.Challenge SC.Pcs.Proof SC.Pcs.Domain.Val };
+
+    ghost accepted_if_sizable = { λ config air public_values held trace proof. (height : ℕ)
+        → IsProvable SC.Pcs.scheme (SC.config.scheme config) (trace_of trace) height
+        → AreSizable (A.constraints air)
+        → IsAcceptedIfSetUp ⟦<SC as StarkOperations>⟧.operations
+        (⟦<SC as StarkInstance<A>>⟧.instance config air public_values) (A.preprocessed_trace air)
+        (option_copied held) height (proof_view proof) };
+
+    ghost accepted_if_sized = { λ config air public_values held trace proof. (height : ℕ)
+        → IsProvable SC.Pcs.scheme (SC.config.scheme config) (trace_of trace) height
+        → HasSizedDegrees ⟦<SC as StarkOperations>⟧.operations
+        (⟦<SC as StarkInstance<A>>⟧.instance config air public_values None) height
+        → IsAcceptedIfSetUp ⟦<SC as StarkOperations>⟧.operations
+        (⟦<SC as StarkInstance<A>>⟧.instance config air public_values) (A.preprocessed_trace air)
+        (option_copied held) height (proof_view proof) };
+
+    ghost is_fault = { λ config air public_values held trace. IsViolationOr
+        (⟦<A as RowChecks<Val<SC>>>⟧.is_first_violation air.now (trace_of trace)
+        (A.preprocessed_trace air.now) public_values.now)
+        (⟦<SC as StarkProving<A>>⟧.fault (instance_of config air public_values held) trace) };
+}
+
 /// `check_declared`, and then `prove_with_preprocessed`: a proof of a trace that satisfies the AIR,
 /// with the conditions of both. So the proof is accepted, whatever the trace, with the key that was
 /// set up beside what the prover holds, over a scheme that refuses no true opening and from its
@@ -85,29 +145,20 @@ where
     A: Air<Val<SC>>,
     requires columns { 0 < trace.width }
     requires width { trace.width ≡ (A.layout air.now).main }
-    requires height { (height : ℕ) × (length trace.values.items ≡ 2 ^ height * trace.width)
-        × (height + zk_bits SC.Pcs.ZK ≤ SC.Pcs.scheme.log_max_trace_height (SC.config.scheme config.now))
-        × IfSome (option_map (λ h. h.now) preprocessed) (λ h. h.degree_bits ≡ height + zk_bits SC.Pcs.ZK)
-        × HasHeight height (A.preprocessed_trace air.now) }
+    requires height { FitsSchemeAsDeclared SC.Pcs.scheme (SC.config.scheme config.now) SC.Pcs.ZK
+        (option_copied preprocessed) (A.preprocessed_trace air.now) trace }
     requires publics { length public_values.now ≡ (A.layout air.now).publics }
     requires there { is_some preprocessed ≡ ltb 0 (A.layout air.now).preprocessed }
-    requires stands { (fixed : List (List SC.Pcs.Domain.Val))
-        × IsPreprocessedCommitment SC.Pcs.scheme (SC.config.scheme config.now) SC.Pcs.Domain.Val.ring fixed (option_map (λ h. h.now) preprocessed)
-        × (length fixed ≡ (A.layout air.now).preprocessed) }
-    ensures made { IfOk result (λ proof. (height : ℕ) → length trace.values.items ≡ 2 ^ height * trace.width → (fixed : List (List SC.Pcs.Domain.Val))
-        → IsPreprocessedCommitment SC.Pcs.scheme (SC.config.scheme config.now) SC.Pcs.Domain.Val.ring fixed (option_map (λ h. h.now) preprocessed.entry)
-        → ⟦<SC as StarkProving<A>>⟧.is_proof config.now air.now public_values.now (option_map (λ h. h.now) preprocessed.entry) height (trace_of trace) fixed proof) }
-    ensures accepted { IfOk result (λ proof. (height : ℕ) → IsProvable SC.Pcs.scheme (SC.config.scheme config.now) (trace_of trace) height
-        → AreSizable (A.constraints air.now)
-        → ⟦<SC as StarkCompleteness<A>>⟧.accepted_if_set_up config.now air.now public_values.now (option_map (λ h. h.now) preprocessed.entry) height proof) }
-    ensures sized { IfOk result (λ proof. (height : ℕ) → IsProvable SC.Pcs.scheme (SC.config.scheme config.now) (trace_of trace) height
-        → ⟦<SC as StarkCompleteness<A>>⟧.has_sized_degrees config.now air.now height
-        → ⟦<SC as StarkCompleteness<A>>⟧.accepted_if_set_up config.now air.now public_values.now (option_map (λ h. h.now) preprocessed.entry) height proof) }
-    ensures fault { IfErr result (IsViolationOr
-        (⟦<A as RowChecks<Val<SC>>>⟧.is_first_violation air.now (trace_of trace) (A.preprocessed_trace air.now) public_values.now)
-        (λ reason. (height : ℕ) → length trace.values.items ≡ 2 ^ height * trace.width
-        → (reason ≡ ProvingError.OutOfMemory) ⊎ ⟦<SC as StarkProving<A>>⟧.fault config.now air.now public_values.now
-        (option_map (λ h. h.now) preprocessed.entry) height (height + zk_bits SC.Pcs.ZK) (trace_of trace) reason)) }
+    requires stands { HoldsColumns SC.Pcs.scheme (SC.config.scheme config.now)
+        SC.Pcs.Domain.Val.ring (option_copied preprocessed) (A.layout air.now).preprocessed }
+    ensures made { IfOk result (⟦<SC as StarkProving<A>>⟧.is_proof
+        (instance_of config.entry air.entry public_values.entry preprocessed.entry) trace) }
+    ensures accepted { IfOk result (⟦<SC as StarkChecked<A>>⟧.accepted_if_sizable config.now
+        air.now public_values.now preprocessed.entry trace) }
+    ensures sized { IfOk result (⟦<SC as StarkChecked<A>>⟧.accepted_if_sized config.now air.now
+        public_values.now preprocessed.entry trace) }
+    ensures fault { IfErr result (⟦<SC as StarkChecked<A>>⟧.is_fault config.entry air.entry
+        public_values.entry preprocessed.entry trace) }
 {
     match check_declared(alloc, air, &trace, public_values) {
         Ok(()) => {}

@@ -5,11 +5,11 @@ mod checked;
 mod completeness;
 mod sizing;
 
-pub use checked::{CheckedProvingError, prove_checked};
+pub use checked::{CheckedProvingError, StarkChecked, prove_checked};
 pub use completeness::{StarkCompleteness, VerifiedProof, prove_and_verify};
 pub use sizing::degrees_fit_the_quotient;
 pub use stark_air::{AirLayout, SubAirBuilder, SubSliced};
-pub use stark_honest::{
+pub use stark_completeness::{
     ConstraintCheckError, ConstraintViolation, RowChecks, check_constraints, check_declared,
     satisfaction_is_row_by_row,
 };
@@ -25,7 +25,7 @@ pub use stark_proof::{
 };
 pub use stark_protocol::{
     PcsProof, PreprocessedProverData, PreprocessedVerifierKey, StarkInstance, StarkOperations,
-    StarkProof, recompose_quotient_from_chunks, setup_preprocessed,
+    StarkProof, StarkSetup, recompose_quotient_from_chunks, setup_preprocessed,
 };
 pub use stark_prover::{StarkProving, prove, prove_with_preprocessed};
 pub use stark_prover_folder::{

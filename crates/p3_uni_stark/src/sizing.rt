@@ -1,22 +1,19 @@
 //! A law of the quotient's domain.
-ghost use Rattle.std.specs.Prelude.{ℕ, List, Option};
 ghost use Rattle.stark_parts.specs.SizingLaw.{AreSizable};
-ghost use Rattle.stark_protocol.specs.declared.preprocessed.PreprocessedVerifierKey.{PreprocessedVerifierKey};
-ghost use Rattle.stark_prover.specs.Honest.{HasSizedDegrees};
 
+use crate::completeness::StarkCompleteness;
 use stark_air::Air;
 use stark_parts::{StarkGenericConfig, Val};
-use stark_protocol::{StarkInstance, StarkOperations};
 use stark_support::{GrindingChallenger, Pcs, PolynomialSpace};
 
-/// A law, with no code: where each term of each constraint has at most one transition factor and no degree multiple saturates, the
-/// constraints' degrees fit the quotient's domain, whatever the height. So of these AIRs an honest proof has no premise on degrees.
+/// A law, with no code: where each term of each constraint has at most one transition factor and no
+/// degree multiple saturates, the constraints' degrees fit the quotient's domain, whatever the
+/// height. So of these AIRs an honest proof has no premise on degrees.
 pub fn degrees_fit_the_quotient<SC, A>(_config: &SC, _air: &A)
 where
     SC: StarkGenericConfig,
     SC::Challenger: GrindingChallenger<Witness = Val<SC>>,
     A: Air<Val<SC>>,
     requires sizable { AreSizable (A.constraints _air.now) }
-    ensures { (public_values : List SC.Pcs.Domain.Val) (key : Option (PreprocessedVerifierKey SC.Pcs.Commitment)) (height : ℕ)
-        → HasSizedDegrees ⟦<SC as StarkOperations>⟧.operations (⟦<SC as StarkInstance<A>>⟧.instance _config.now _air.now public_values key) height }
+    ensures { ⟦<SC as StarkCompleteness<A>>⟧.has_sized_degrees _config.now _air.now }
 {}

@@ -33,3 +33,8 @@ read_columns false width = []
 -- Main columns and public values alone.
 abbrev pub main_trace_layout : (width publics : ℕ) (reads_next_row : Bool) → Layout
 main_trace_layout width publics reads_next_row = record { main = width; main_next = next_width (read_columns reads_next_row width) width; preprocessed = 0; preprocessed_next = 0; publics = publics; periodics = 0 }
+
+-- Whatever AIR, the counts of its layout are those of what it declares.
+abbrev pub AreDeclared : {A F : Type 0} → (A → Layout) → (A → Option (Trace F)) → (A → List (List F)) → (A → List ℕ) → (A → List ℕ) → Type 0
+AreDeclared {A = A} layout preprocessed periodic main_next preprocessed_next =
+    (air : A) → IsDeclared (layout air) (preprocessed air) (periodic air) (main_next air) (preprocessed_next air)

@@ -2,6 +2,8 @@
 use Rattle.std.specs.Prelude.{ℕ, ◌<◌, List, map, Option, Some, None}
 use Rattle.stark_support.specs.Operations.{Operations}
 use Rattle.stark_air.specs.Tree.{Tree, Constraint, base, extension, constant, main_current, main_next, preprocessed_current, preprocessed_next, public_value, periodic_value, first_row, last_row, transition, sum, difference, product, negation}
+use Rattle.std.specs.List.{slice_get}
+use Rattle.stark_air.specs.Layout.{Layout}
 
 -- A value for each leaf that is no constant.
 pub record Environment (E : Type 0) : Type 0 where
@@ -48,3 +50,19 @@ IsVariableOf from_gives stands v (Some x) = (y : _) → from_gives x y → stand
 -- The first `count` variables of a row stand for the values.
 pub record Shows {V : Type 0} {E : Type 0} (from_gives : V → E → Type 0) (stands : E → E → Type 0) (values : ℕ → E) (count : ℕ) (row : ℕ → Option V) : Type 0 where
   pub shows : (c : ℕ) → c < count → IsVariableOf from_gives stands (values c) (row c)
+
+-- What a builder lends shows its row: public values and periodic ones,
+abbrev pub ShowsPublicValues : {S V E : Type 0} → (V → E → Type 0) → (E → E → Type 0) → (S → Environment E) → (S → Layout) → S → List V → Type 0
+ShowsPublicValues gives stands environment layout s values = Shows gives stands (environment s).public_value (layout s).publics (slice_get values)
+
+abbrev pub ShowsPeriodicValues : {S V E : Type 0} → (V → E → Type 0) → (E → E → Type 0) → (S → Environment E) → (S → Layout) → S → List V → Type 0
+ShowsPeriodicValues gives stands environment layout s values = Shows gives stands (environment s).periodic_value (layout s).periodics (slice_get values)
+
+-- and both rows of the main columns.
+abbrev pub ShowsMain : {S V E W : Type 0} → (V → E → Type 0) → (E → E → Type 0) → (S → Environment E) → (S → Layout) → S → (W → ℕ → Option V) → (W → ℕ → Option V) → W → Type 0
+ShowsMain gives stands environment layout s current_at next_at w = (Shows gives stands (environment s).main_current (layout s).main (current_at w))
+    × (Shows gives stands (environment s).main_next (layout s).main_next (next_at w))
+
+abbrev pub ShowsPreprocessed : {S V E W : Type 0} → (V → E → Type 0) → (E → E → Type 0) → (S → Environment E) → (S → Layout) → S → (W → ℕ → Option V) → (W → ℕ → Option V) → W → Type 0
+ShowsPreprocessed gives stands environment layout s current_at next_at w = (Shows gives stands (environment s).preprocessed_current (layout s).preprocessed (current_at w))
+    × (Shows gives stands (environment s).preprocessed_next (layout s).preprocessed_next (next_at w))

@@ -2,7 +2,7 @@
 ghost use Rattle.std.specs.Prelude.{◌≡◌, ◌⊎◌, ℕ, List, [], Option, None, IfOk, OnErr, map};
 ghost use Rattle.std.specs.List.{range_with_len};
 ghost use Rattle.std.specs.Option.{option_map};
-ghost use Rattle.stark_air.specs.Declaration.{Trace, IsDeclared};
+ghost use Rattle.stark_air.specs.Declaration.{Trace, AreDeclared};
 ghost use Rattle.stark_air.specs.Emission.{Asserted};
 ghost use Rattle.stark_air.specs.Layout.{Layout, Covers, LeavesWithin};
 ghost use Rattle.stark_air.specs.Tree.{Constraint};
@@ -11,8 +11,8 @@ use crate::builder::ExtensionBuilder;
 use stark_support::{Field, RowMajorMatrix};
 use std::alloc::{AllocError, Global};
 
-/// What an AIR declares of itself: how many columns and values its constraints read, which columns it brings, and what
-/// its author says of its size.
+/// What an AIR declares of itself: how many columns and values its constraints read, which columns
+/// it brings, and what its author says of its size.
 pub trait BaseAir<F> {
     /// How much of each kind the constraints may read.
     ghost layout: { Self → Layout };
@@ -48,7 +48,9 @@ pub trait BaseAir<F> {
 
     /// The preprocessed trace, None without one. Err only where memory was refused.
     fn preprocessed_trace(&self, alloc: Global) -> Result<Option<RowMajorMatrix<F>>, AllocError>
-        ensures { IfOk result (λ trace. option_map (λ m. record { width = m.width; values = m.values.items }) trace ≡ preprocessed_trace self.now) };
+        ensures { IfOk result (λ trace. option_map (λ m.
+            record { width = m.width; values = m.values.items }) trace
+            ≡ preprocessed_trace self.now) };
 
     /// How many public values there are, 0 without any.
     fn num_public_values(&self) -> usize
@@ -65,13 +67,13 @@ pub trait BaseAir<F> {
         self.periodic_columns().len()
     }
 
-    /// The main columns whose next row the constraints read; without any, no next row is opened. Err only where memory was
-    /// refused.
+    /// The main columns whose next row the constraints read; without any, no next row is opened.
+    /// Err only where memory was refused.
     fn main_next_row_columns(&self, alloc: Global) -> Result<Vec<usize>, AllocError>
         ensures { IfOk result (λ columns. columns.items ≡ main_next_row_columns self.now) };
 
-    /// The preprocessed columns whose next row the constraints read; without any, no next row is opened. Err only where
-    /// memory was refused.
+    /// The preprocessed columns whose next row the constraints read; without any, no next row is
+    /// opened. Err only where memory was refused.
     fn preprocessed_next_row_columns(&self, alloc: Global) -> Result<Vec<usize>, AllocError>
         ensures { IfOk result (λ columns. columns.items ≡ preprocessed_next_row_columns self.now) };
 
@@ -87,13 +89,14 @@ pub trait BaseAir<F> {
     fn public_boundary_io(&self) -> &[usize]
         ensures { result.now ≡ public_boundary_io self.now };
 
-    /// The preprocessed width is that of the declared trace, the number of the periodic columns theirs, and a trace whose
-    /// declared next columns are none has no next leaf.
-    ghost as_declared: { (air : Self) → IsDeclared (layout air) (preprocessed_trace air) (periodic_columns air) (main_next_row_columns air) (preprocessed_next_row_columns air) };
+    /// The preprocessed width is that of the declared trace, the number of the periodic columns
+    /// theirs, and a trace whose declared next columns are none has no next leaf.
+    ghost as_declared: { AreDeclared layout preprocessed_trace periodic_columns
+        main_next_row_columns preprocessed_next_row_columns };
 }
 
-/// All columns of a trace of this width, as an AIR declares them that reads the whole next row. Err only where memory was
-/// refused.
+/// All columns of a trace of this width, as an AIR declares them that reads the whole next row. Err
+/// only where memory was refused.
 pub fn every_column(alloc: Global, width: usize) -> Result<Vec<usize>, AllocError>
     ensures { IfOk result (λ columns. columns.items ≡ range_with_len 0 width) }
 {
@@ -104,16 +107,18 @@ pub fn every_column(alloc: Global, width: usize) -> Result<Vec<usize>, AllocErro
     Ok(columns)
 }
 
-/// An AIR: a list of constraints, in one order, each marked as one over the base field or over the extension.
+/// An AIR: a list of constraints, in one order, each marked as one over the base field or over the
+/// extension.
 pub trait Air<F: Field>: BaseAir<F> {
     ghost constraints: { Self → List (Constraint F) };
 
     /// Holds of an AIR whose evaluation takes memory of its own.
     ghost takes_memory: { Self → Type 0 } = { λ _. ⊥ };
 
-    /// Asserts the constraints on a builder whose row has what the AIR reads. An Ok leaves what the builder holds once all
-    /// of them were asserted in their order, an Err what it holds once a beginning of them was. It is Err only where a call
-    /// on the builder was, or where memory of its own was refused.
+    /// Asserts the constraints on a builder whose row has what the AIR reads. An Ok leaves what the
+    /// builder holds once all of them were asserted in their order, an Err what it holds once a
+    /// beginning of them was. It is Err only where a call on the builder was, or where memory of
+    /// its own was refused.
     fn eval<AB: ExtensionBuilder<F = F>>(&self, builder: &mut AB) -> Result<(), AllocError>
         requires { Covers (AB.layout builder.old) (Self.layout self.now) }
         ensures asserted { Asserted AB.after result builder.old (constraints self.now) builder.new }

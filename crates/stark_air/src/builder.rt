@@ -1,10 +1,9 @@
 //! Builders, which an AIR is evaluated on.
-ghost use Rattle.std.specs.Prelude.{◌≡◌, IfOk, IsTrue, OnErr, List, [], ◌∷◌};
-ghost use Rattle.std.specs.List.{slice_get};
-ghost use Rattle.stark_air.specs.Emission.{EmissionLaws};
+ghost use Rattle.std.specs.Prelude.{◌≡◌, IfOk, IsTrue, OnErr, List, []};
+ghost use Rattle.stark_air.specs.Emission.{EmissionLaws, Asserts, AssertsPair, KeepsStanding, StandsForProduct, equal, equal_to};
 ghost use Rattle.stark_air.specs.Layout.{Layout};
-ghost use Rattle.stark_air.specs.Tree.{Tree, Constraint, constant, difference, base, extension};
-ghost use Rattle.stark_air.specs.Value.{Environment, value, Shows};
+ghost use Rattle.stark_air.specs.Tree.{Constraint, base, extension};
+ghost use Rattle.stark_air.specs.Value.{Environment, value, ShowsMain, ShowsPeriodicValues, ShowsPublicValues, ShowsPreprocessed};
 
 use crate::filtered::FilteredAirBuilder;
 use crate::window::WindowAccess;
@@ -12,8 +11,9 @@ use stark_support::{Algebra, Element};
 use std::alloc::AllocError;
 use std::ops::Mul;
 
-/// What a builder gives of its own: a row of values and the one after it, selectors of rows, and what the asserted constraints
-/// leave. An assertion of `x` says that `x` is zero; it is Err only where memory was refused, and then nothing was asserted.
+/// What a builder gives of its own: a row of values and the one after it, selectors of rows, and
+/// what the asserted constraints leave. An assertion of `x` says that `x` is zero; it is Err only
+/// where memory was refused, and then nothing was asserted.
 pub trait BaseAirBuilder {
     type F: Element;
 
@@ -46,16 +46,16 @@ pub trait BaseAirBuilder {
 
     /// The main columns' two rows. Err only where memory was refused.
     fn main(&self) -> Result<Self::MainWindow, AllocError>
-        ensures rows { IfOk result (λ w.
-            (Shows ⟦<Self::Expr as From<Self::Var>>⟧.from_gives Self.Expr.stands (environment self.now).main_current (layout self.now).main (Self.MainWindow.current_at w))
-            × (Shows ⟦<Self::Expr as From<Self::Var>>⟧.from_gives Self.Expr.stands (environment self.now).main_next (layout self.now).main_next (Self.MainWindow.next_at w))) }
+        ensures rows { IfOk result (ShowsMain ⟦<Self::Expr as From<Self::Var>>⟧.from_gives
+            Self.Expr.stands environment layout self.now Self.MainWindow.current_at
+            Self.MainWindow.next_at) }
         ensures memory { OnErr result may_refuse };
 
     /// The preprocessed columns' two rows. Err only where memory was refused.
     fn preprocessed(&self) -> Result<Self::PreprocessedWindow, AllocError>
-        ensures rows { IfOk result (λ w.
-            (Shows ⟦<Self::Expr as From<Self::Var>>⟧.from_gives Self.Expr.stands (environment self.now).preprocessed_current (layout self.now).preprocessed (Self.PreprocessedWindow.current_at w))
-            × (Shows ⟦<Self::Expr as From<Self::Var>>⟧.from_gives Self.Expr.stands (environment self.now).preprocessed_next (layout self.now).preprocessed_next (Self.PreprocessedWindow.next_at w))) }
+        ensures rows { IfOk result (ShowsPreprocessed ⟦<Self::Expr as From<Self::Var>>⟧.from_gives
+            Self.Expr.stands environment layout self.now Self.PreprocessedWindow.current_at
+            Self.PreprocessedWindow.next_at) }
         ensures memory { OnErr result may_refuse };
 
     /// The selector that isn't zero on the first row alone.
@@ -72,11 +72,13 @@ pub trait BaseAirBuilder {
 
     /// The public values.
     fn public_values(&self) -> &[Self::PublicVar]
-        ensures { Shows ⟦<Self::Expr as From<Self::PublicVar>>⟧.from_gives Self.Expr.stands (environment self.now).public_value (layout self.now).publics (slice_get result.now) };
+        ensures { ShowsPublicValues ⟦<Self::Expr as From<Self::PublicVar>>⟧.from_gives
+            Self.Expr.stands environment layout self.now result.now };
 
     /// The periodic columns' values in the row.
     fn periodic_values(&self) -> &[Self::PeriodicVar]
-        ensures { Shows ⟦<Self::Expr as From<Self::PeriodicVar>>⟧.from_gives Self.Expr.stands (environment self.now).periodic_value (layout self.now).periodics (slice_get result.now) };
+        ensures { ShowsPeriodicValues ⟦<Self::Expr as From<Self::PeriodicVar>>⟧.from_gives
+            Self.Expr.stands environment layout self.now result.now };
 
     /// Whether it is seen at once that memory for `x` was refused, so that what is made of `x` is
     /// refused too. It looks at the root alone and takes no memory; `false` promises nothing.
@@ -91,15 +93,19 @@ pub trait BaseAirBuilder {
         ensures kept { keeps self.old self.new }
         ensures same_environment { environment self.new ≡ environment self.old }
         ensures same_layout { layout self.new ≡ layout self.old }
-        ensures asserted { IfOk result (λ _. (t : Tree Self.F) → Self.Expr.stands (value Self.Expr.operations (environment self.old) t) x → after self.old (base t ∷ []) self.new) }
+        ensures asserted { IfOk result (λ _.
+            Asserts Self.Expr.operations Self.Expr.stands environment after base self.old x
+            self.new) }
         ensures refused { OnErr result (after self.old [] self.new) }
         ensures memory { OnErr result may_refuse };
 
-    /// Asserting nothing changes nothing, one list after another is the joined list, and the row stays.
+    /// Asserting nothing changes nothing, one list after another is the joined list, and the row
+    /// stays.
     ghost emission_laws: { EmissionLaws environment layout after };
 }
 
-/// What an AIR is evaluated on: a builder's own calls and those that stand on them. Every `BaseAirBuilder` is one.
+/// What an AIR is evaluated on: a builder's own calls and those that stand on them. Every
+/// `BaseAirBuilder` is one.
 pub trait AirBuilder: BaseAirBuilder {
     /// A builder that asserts `condition * x` for each `x` asserted on it.
     fn when(&mut self, condition: Self::Expr) -> FilteredAirBuilder<'_, Self>
@@ -112,7 +118,9 @@ pub trait AirBuilder: BaseAirBuilder {
         ensures kept { Self.keeps self.old self.new }
         ensures same_environment { Self.environment self.new ≡ Self.environment self.old }
         ensures same_layout { Self.layout self.new ≡ Self.layout self.old }
-        ensures asserted { IfOk result (λ _. (t u : Tree Self.F) → Self.Expr.stands (value Self.Expr.operations (Self.environment self.old) t) a → Self.Expr.stands (value Self.Expr.operations (Self.environment self.old) u) b → Self.after self.old (base (difference t u) ∷ []) self.new) }
+        ensures asserted { IfOk result (λ _.
+            AssertsPair Self.Expr.operations Self.Expr.stands Self.environment Self.after
+            equal self.old a b self.new) }
         ensures refused { OnErr result (Self.after self.old [] self.new) }
         ensures memory { OnErr result Self.may_refuse };
 
@@ -121,7 +129,9 @@ pub trait AirBuilder: BaseAirBuilder {
         ensures kept { Self.keeps self.old self.new }
         ensures same_environment { Self.environment self.new ≡ Self.environment self.old }
         ensures same_layout { Self.layout self.new ≡ Self.layout self.old }
-        ensures asserted { IfOk result (λ _. (t : Tree Self.F) → Self.Expr.stands (value Self.Expr.operations (Self.environment self.old) t) a → Self.after self.old (base (difference t (constant Self.F.ONE)) ∷ []) self.new) }
+        ensures asserted { IfOk result (λ _.
+            Asserts Self.Expr.operations Self.Expr.stands Self.environment Self.after
+            (equal_to Self.F.ONE) self.old a self.new) }
         ensures refused { OnErr result (Self.after self.old [] self.new) }
         ensures memory { OnErr result Self.may_refuse };
 
@@ -129,19 +139,22 @@ pub trait AirBuilder: BaseAirBuilder {
     fn when_first_row(&mut self) -> FilteredAirBuilder<'_, Self>
         ensures same_builder { result.inner.ghost_name ≡ self.entry.ghost_name }
         ensures same_value { result.inner.now ≡ self.old }
-        ensures same_condition { Self.Expr.stands (Self.environment result.inner.now).first_row result.condition };
+        ensures same_condition { Self.Expr.stands (Self.environment result.inner.now).first_row
+            result.condition };
 
     /// `when` on the selector of the last row.
     fn when_last_row(&mut self) -> FilteredAirBuilder<'_, Self>
         ensures same_builder { result.inner.ghost_name ≡ self.entry.ghost_name }
         ensures same_value { result.inner.now ≡ self.old }
-        ensures same_condition { Self.Expr.stands (Self.environment result.inner.now).last_row result.condition };
+        ensures same_condition { Self.Expr.stands (Self.environment result.inner.now).last_row
+            result.condition };
 
     /// `when` on the selector of all rows but the last.
     fn when_transition(&mut self) -> FilteredAirBuilder<'_, Self>
         ensures same_builder { result.inner.ghost_name ≡ self.entry.ghost_name }
         ensures same_value { result.inner.now ≡ self.old }
-        ensures same_condition { Self.Expr.stands (Self.environment result.inner.now).transition result.condition };
+        ensures same_condition { Self.Expr.stands (Self.environment result.inner.now).transition
+            result.condition };
 }
 
 impl<AB: BaseAirBuilder> AirBuilder for AB {
@@ -190,14 +203,18 @@ pub trait ExtensionBuilder: AirBuilder {
         ensures kept { Self.keeps self.old self.new }
         ensures same_environment { Self.environment self.new ≡ Self.environment self.old }
         ensures same_layout { Self.layout self.new ≡ Self.layout self.old }
-        ensures asserted { IfOk result (λ _. (t : Tree Self.F) → stands_above (value Self.Expr.operations (Self.environment self.old) t) x → Self.after self.old (extension t ∷ []) self.new) }
+        ensures asserted { IfOk result (λ _.
+            Asserts Self.Expr.operations stands_above Self.environment Self.after extension
+            self.old x self.new) }
         ensures refused { OnErr result (Self.after self.old [] self.new) }
         ensures memory { OnErr result Self.may_refuse };
 
     /// Any two values of the extension may be multiplied.
     ghost may_multiply: { (x y : Self.ExprEF) → Self.ExprEF.can_mul x y };
 
-    ghost from_stands: { (x : Self.Expr) (y : Self.ExprEF) (v : Self.Expr) → ⟦<Self::ExprEF as From<Self::Expr>>⟧.from_gives x y → Self.Expr.stands v x → stands_above v y };
+    ghost from_stands: { KeepsStanding ⟦<Self::ExprEF as From<Self::Expr>>⟧.from_gives
+        Self.Expr.stands stands_above };
 
-    ghost times_above: { (v w : Self.Expr) (x y z : Self.ExprEF) → Self.ExprEF.mul_gives x y z → stands_above v x → stands_above w y → stands_above (Self.Expr.operations.times v w) z };
+    ghost times_above: { StandsForProduct Self.Expr.operations.times Self.ExprEF.mul_gives
+        stands_above };
 }

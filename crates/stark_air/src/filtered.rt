@@ -44,16 +44,29 @@ impl<AB: BaseAirBuilder> BaseAirBuilder for FilteredAirBuilder<'_, AB> {
 
     ghost layout = { λ s. AB.layout s.inner.now };
 
-    ghost keeps = { λ s t. (t.inner.ghost_name ≡ s.inner.ghost_name) × (t.condition ≡ s.condition) };
+    ghost keeps = { λ s t. (t.inner.ghost_name ≡ s.inner.ghost_name)
+        × (t.condition ≡ s.condition) };
 
     ghost may_refuse = { AB.may_refuse };
 
-    ghost after = { λ s cs t. (t.inner.ghost_name ≡ s.inner.ghost_name) × (t.condition ≡ s.condition)
-        × AfterUnder AB.Expr.operations AB.Expr.stands AB.environment AB.layout AB.after s.condition s.inner.now cs t.inner.now };
+    ghost after = { λ s cs t. (t.inner.ghost_name ≡ s.inner.ghost_name)
+        × (t.condition ≡ s.condition)
+        × AfterUnder AB.Expr.operations AB.Expr.stands AB.environment AB.layout AB.after s.condition
+        s.inner.now cs t.inner.now };
 
     ghost emission_laws = { record {
-      nothing = λ s. (refl, refl, under_nothing AB.emission_laws AB.Expr.operations AB.Expr.stands s.condition s.inner.now);
-      both = λ s t u cs ds h k. (k.0 ∙ h.0, k.1 ∙ h.1, under_both AB.emission_laws AB.Expr.operations AB.Expr.stands cs ds (sym h.1) h.2 k.2);
+      nothing = λ s. (
+        refl,
+        refl,
+        under_nothing AB.emission_laws AB.Expr.operations AB.Expr.stands
+            s.condition s.inner.now,
+      );
+      both = λ s t u cs ds h k. (
+        k.0 ∙ h.0,
+        k.1
+            ∙ h.1,
+        under_both AB.emission_laws AB.Expr.operations AB.Expr.stands cs ds (sym h.1) h.2 k.2,
+      );
       same_environment = λ s t cs h. h.2.same_environment;
       same_layout = λ s t cs h. h.2.same_layout;
     } };

@@ -16,7 +16,8 @@ pub struct AirLayout {
 
 impl Default for AirLayout {
     /// Zeros.
-    ghost is_default = { λ x. (x.preprocessed_width ≡ 0) × (x.main_width ≡ 0) × (x.num_public_values ≡ 0) × (x.num_periodic_columns ≡ 0) };
+    ghost is_default = { λ x. (x.preprocessed_width ≡ 0) × (x.main_width ≡ 0)
+        × (x.num_public_values ≡ 0) × (x.num_periodic_columns ≡ 0) };
 
     fn default() -> AirLayout {
         AirLayout {

@@ -7,8 +7,9 @@ use crate::air::{BaseAir, every_column};
 use stark_support::RowMajorMatrix;
 use std::alloc::{AllocError, Global};
 
-/// An AIR of main columns and public values alone, declared by its numbers. It is a `BaseAir` over every field, without
-/// preprocessed and periodic columns, which reads the whole next row or nothing of it.
+/// An AIR of main columns and public values alone, declared by its numbers. It is a `BaseAir` over
+/// every field, without preprocessed and periodic columns, which reads the whole next row or
+/// nothing of it.
 pub trait MainTraceAir {
     ghost WIDTH: { ℕ };
 

@@ -1,7 +1,7 @@
 //! Equations that an AIR asserts on some rows alone.
-ghost use Rattle.std.specs.Prelude.{◌≡◌, IfOk, OnErr, [], ◌∷◌};
-ghost use Rattle.stark_air.specs.Tree.{Tree, base, difference, first_row, last_row, product, transition};
-ghost use Rattle.stark_air.specs.Value.{value};
+ghost use Rattle.std.specs.Prelude.{◌≡◌, IfOk, OnErr, []};
+ghost use Rattle.stark_air.specs.Tree.{first_row, last_row, transition};
+ghost use Rattle.stark_air.specs.Emission.{AssertsPair, equal_on};
 
 use crate::builder::AirBuilder;
 use std::alloc::AllocError;
@@ -14,7 +14,9 @@ pub fn assert_eq_on_first_row<AB: AirBuilder>(
 ) -> Result<(), AllocError>
     ensures same_environment { AB.environment builder.new ≡ AB.environment builder.old }
     ensures same_layout { AB.layout builder.new ≡ AB.layout builder.old }
-    ensures asserted { IfOk result (λ _. (t u : Tree AB.F) → AB.Expr.stands (value AB.Expr.operations (AB.environment builder.old) t) a → AB.Expr.stands (value AB.Expr.operations (AB.environment builder.old) u) b → AB.after builder.old (base (product first_row (difference t u)) ∷ []) builder.new) }
+    ensures asserted { IfOk result (λ _.
+        AssertsPair AB.Expr.operations AB.Expr.stands AB.environment AB.after
+        (equal_on first_row) builder.old a b builder.new) }
     ensures refused { OnErr result (AB.after builder.old [] builder.new) }
     ensures memory { OnErr result AB.may_refuse }
 {
@@ -29,7 +31,9 @@ pub fn assert_eq_on_last_row<AB: AirBuilder>(
 ) -> Result<(), AllocError>
     ensures same_environment { AB.environment builder.new ≡ AB.environment builder.old }
     ensures same_layout { AB.layout builder.new ≡ AB.layout builder.old }
-    ensures asserted { IfOk result (λ _. (t u : Tree AB.F) → AB.Expr.stands (value AB.Expr.operations (AB.environment builder.old) t) a → AB.Expr.stands (value AB.Expr.operations (AB.environment builder.old) u) b → AB.after builder.old (base (product last_row (difference t u)) ∷ []) builder.new) }
+    ensures asserted { IfOk result (λ _.
+        AssertsPair AB.Expr.operations AB.Expr.stands AB.environment AB.after
+        (equal_on last_row) builder.old a b builder.new) }
     ensures refused { OnErr result (AB.after builder.old [] builder.new) }
     ensures memory { OnErr result AB.may_refuse }
 {
@@ -44,7 +48,9 @@ pub fn assert_eq_on_transition<AB: AirBuilder>(
 ) -> Result<(), AllocError>
     ensures same_environment { AB.environment builder.new ≡ AB.environment builder.old }
     ensures same_layout { AB.layout builder.new ≡ AB.layout builder.old }
-    ensures asserted { IfOk result (λ _. (t u : Tree AB.F) → AB.Expr.stands (value AB.Expr.operations (AB.environment builder.old) t) a → AB.Expr.stands (value AB.Expr.operations (AB.environment builder.old) u) b → AB.after builder.old (base (product transition (difference t u)) ∷ []) builder.new) }
+    ensures asserted { IfOk result (λ _.
+        AssertsPair AB.Expr.operations AB.Expr.stands AB.environment AB.after
+        (equal_on transition) builder.old a b builder.new) }
     ensures refused { OnErr result (AB.after builder.old [] builder.new) }
     ensures memory { OnErr result AB.may_refuse }
 {

@@ -15,8 +15,8 @@ use std::alloc::AllocError;
 use std::marker::PhantomData;
 use std::ops::Range;
 
-/// A window of the columns of another one in a range: column `c` is column `start + c`. Nothing is copied. Columns that the
-/// other window doesn't have aren't there.
+/// A window of the columns of another one in a range: column `c` is column `start + c`. Nothing is
+/// copied. Columns that the other window doesn't have aren't there.
 #[derive(Clone, Drop)]
 pub struct SubSliced<W, T> {
     window: W,
@@ -26,7 +26,8 @@ pub struct SubSliced<W, T> {
 
 /// The columns of a row in a range.
 fn columns_of<'a, T>(row: &'a [T], range: &Range<usize>) -> &'a [T]
-    ensures { (c : ℕ) → slice_get result.now c ≡ columns_at range.now.start range.now.end (slice_get row.now) c }
+    ensures { (c : ℕ) → slice_get result.now c
+        ≡ columns_at range.now.start range.now.end (slice_get row.now) c }
 {
     let end = range.end.min(row.len());
     let start = range.start.min(end);
@@ -35,7 +36,8 @@ fn columns_of<'a, T>(row: &'a [T], range: &Range<usize>) -> &'a [T]
 
 /// The column of this number in a range, None past its end.
 fn column_of(range: &Range<usize>, number: usize) -> Option<usize>
-    ensures { result ≡ (if nat_lt (range.now.start + number) range.now.end then Some (range.now.start + number) else None) }
+    ensures { result ≡ (if nat_lt (range.now.start + number) range.now.end then Some
+        (range.now.start + number) else None) }
 {
     if number < range.end.saturating_sub(range.start) {
         Some(range.start + number)
@@ -68,8 +70,8 @@ impl<T, W: WindowAccess<T>> WindowAccess<T> for SubSliced<W, T> {
     }
 }
 
-/// A builder that lends another one to an AIR of its own: main column `c` is column `start + c` of the parent, all else is
-/// the parent's, and what is asserted goes to the parent, in order.
+/// A builder that lends another one to an AIR of its own: main column `c` is column `start + c` of
+/// the parent, all else is the parent's, and what is asserted goes to the parent, in order.
 pub struct SubAirBuilder<'a, AB: BaseAirBuilder, SubAir: BaseAir<AB::F>, T> {
     inner: &'a mut AB,
     column_range: Range<usize>,
@@ -77,7 +79,8 @@ pub struct SubAirBuilder<'a, AB: BaseAirBuilder, SubAir: BaseAir<AB::F>, T> {
 }
 
 impl<'a, AB: BaseAirBuilder, SubAir: BaseAir<AB::F>, T> SubAirBuilder<'a, AB, SubAir, T> {
-    /// A builder over the main columns in the range, which lies in both rows of the parent's main window.
+    /// A builder over the main columns in the range, which lies in both rows of the parent's main
+    /// window.
     pub fn new(inner: &'a mut AB, column_range: Range<usize>) -> Self
         requires ordered { column_range.start ≤ column_range.end }
         requires current { column_range.end ≤ (AB.layout inner.old).main }
@@ -122,33 +125,57 @@ impl<AB: BaseAirBuilder, SubAir: BaseAir<AB::F>, T> BaseAirBuilder
 
     type PreprocessedWindow = AB::PreprocessedWindow;
 
-    ghost environment = { λ s. shifted_environment s.column_range.start (AB.environment s.inner.now) };
+    ghost environment = { λ s. shifted_environment s.column_range.start
+        (AB.environment s.inner.now) };
 
-    ghost layout = { λ s. shifted_layout s.column_range.start s.column_range.end (AB.layout s.inner.now) };
+    ghost layout = { λ s. shifted_layout s.column_range.start s.column_range.end
+        (AB.layout s.inner.now) };
 
-    ghost keeps = { λ s t. (t.inner.ghost_name ≡ s.inner.ghost_name) × (t.column_range.start ≡ s.column_range.start) × (t.column_range.end ≡ s.column_range.end) };
+    ghost keeps = { λ s t. (t.inner.ghost_name ≡ s.inner.ghost_name)
+        × (t.column_range.start ≡ s.column_range.start)
+        × (t.column_range.end ≡ s.column_range.end) };
 
     ghost may_refuse = { AB.may_refuse };
 
-    ghost after = { λ s cs t. (t.inner.ghost_name ≡ s.inner.ghost_name) × (t.column_range.start ≡ s.column_range.start) × (t.column_range.end ≡ s.column_range.end)
+    ghost after = { λ s cs t. (t.inner.ghost_name ≡ s.inner.ghost_name)
+        × (t.column_range.start ≡ s.column_range.start) × (t.column_range.end ≡ s.column_range.end)
         × AB.after s.inner.now (map (shift s.column_range.start) cs) t.inner.now };
 
     ghost emission_laws = { record {
       nothing = λ s. (refl, refl, refl, AB.emission_laws.nothing s.inner.now);
-      both = λ s t u cs ds h k. (k.0 ∙ h.0, k.1 ∙ h.1, k.2 ∙ h.2, shift_both AB.emission_laws s.column_range.start t.column_range.start s.inner.now t.inner.now cs h.1 h.3 u.inner.now ds k.3);
-      same_environment = λ s t cs h. shift_environment AB.emission_laws s.column_range.start t.column_range.start s.inner.now t.inner.now cs h.1 h.3;
-      same_layout = λ s t cs h. shift_layout AB.emission_laws s.column_range.start t.column_range.start s.inner.now t.inner.now cs h.1 h.3 t.column_range.end s.column_range.end h.2;
+      both = λ s t u cs ds h k. (
+        k.0 ∙ h.0,
+        k.1 ∙ h.1,
+        k.2
+            ∙ h.2,
+        shift_both AB.emission_laws s.column_range.start t.column_range.start s.inner.now
+            t.inner.now cs h.1 h.3 u.inner.now ds k.3,
+      );
+      same_environment = λ s t cs h. shift_environment AB.emission_laws s.column_range.start
+          t.column_range.start s.inner.now t.inner.now cs h.1 h.3;
+      same_layout = λ s t cs h. shift_layout AB.emission_laws s.column_range.start
+          t.column_range.start s.inner.now t.inner.now cs h.1 h.3 t.column_range.end
+          s.column_range.end h.2;
     } };
 
     /// The parent's window, in the range of columns.
     fn main(&self) -> Result<SubSliced<AB::MainWindow, AB::Var>, AllocError>
         ensures rows { IfOk result (λ w.
-            (Shows ⟦<AB::Expr as From<AB::Var>>⟧.from_gives AB.Expr.stands (shifted_environment self.now.column_range.start (AB.environment self.now.inner.now)).main_current
-            (shifted_layout self.now.column_range.start self.now.column_range.end (AB.layout self.now.inner.now)).main (columns_at w.range.start w.range.end (AB.MainWindow.current_at w.window)))
-            × (Shows ⟦<AB::Expr as From<AB::Var>>⟧.from_gives AB.Expr.stands (shifted_environment self.now.column_range.start (AB.environment self.now.inner.now)).main_next
-            (shifted_layout self.now.column_range.start self.now.column_range.end (AB.layout self.now.inner.now)).main_next (columns_at w.range.start w.range.end (AB.MainWindow.next_at w.window)))) }
+            (Shows ⟦<AB::Expr as From<AB::Var>>⟧.from_gives AB.Expr.stands
+            (shifted_environment self.now.column_range.start
+            (AB.environment self.now.inner.now)).main_current
+            (shifted_layout self.now.column_range.start self.now.column_range.end
+            (AB.layout self.now.inner.now)).main
+            (columns_at w.range.start w.range.end (AB.MainWindow.current_at w.window)))
+            × (Shows ⟦<AB::Expr as From<AB::Var>>⟧.from_gives AB.Expr.stands
+            (shifted_environment self.now.column_range.start
+            (AB.environment self.now.inner.now)).main_next
+            (shifted_layout self.now.column_range.start self.now.column_range.end
+            (AB.layout self.now.inner.now)).main_next
+            (columns_at w.range.start w.range.end (AB.MainWindow.next_at w.window)))) }
         ensures memory { OnErr result AB.may_refuse }
-        ensures range { IfOk result (λ w. (w.range.start ≡ self.now.column_range.start) × (w.range.end ≡ self.now.column_range.end)) }
+        ensures range { IfOk result (λ w. (w.range.start ≡ self.now.column_range.start)
+            × (w.range.end ≡ self.now.column_range.end)) }
     {
         let window = self.inner.main()?;
         Ok(SubSliced {
@@ -210,8 +237,9 @@ impl<AB: ExtensionBuilder, SubAir: BaseAir<AB::F>, T> ExtensionBuilder
     }
 }
 
-/// Asserts an AIR's constraints over the main columns in the range, which lies in both rows of the builder's main window:
-/// main column `c` of the AIR is column `start + c`. As `eval`, an Ok asserts all of them in their order, an Err a beginning.
+/// Asserts an AIR's constraints over the main columns in the range, which lies in both rows of the
+/// builder's main window: main column `c` of the AIR is column `start + c`. As `eval`, an Ok
+/// asserts all of them in their order, an Err a beginning.
 pub fn eval_on_columns<F: Field, A: Air<F>, AB: ExtensionBuilder<F = F>>(
     air: &A,
     builder: &mut AB,
@@ -220,8 +248,10 @@ pub fn eval_on_columns<F: Field, A: Air<F>, AB: ExtensionBuilder<F = F>>(
     requires ordered { columns.start ≤ columns.end }
     requires current { columns.end ≤ (AB.layout builder.old).main }
     requires next { columns.end ≤ (AB.layout builder.old).main_next }
-    requires covered { Covers (shifted_layout columns.start columns.end (AB.layout builder.old)) (A.layout air.now) }
-    ensures asserted { Asserted AB.after result builder.old (map (shift columns.start) (A.constraints air.now)) builder.new }
+    requires covered { Covers (shifted_layout columns.start columns.end (AB.layout builder.old))
+        (A.layout air.now) }
+    ensures asserted { Asserted AB.after result builder.old
+        (map (shift columns.start) (A.constraints air.now)) builder.new }
     ensures memory { OnErr result (AB.may_refuse ⊎ A.takes_memory air.now) }
 {
     let mut part: SubAirBuilder<'_, AB, A, AB::Var> = SubAirBuilder::new(builder, columns);

@@ -30,7 +30,8 @@ pub trait WindowAccess<T> {
         ensures { result ≡ next_at self.now i };
 }
 
-/// Two borrowed rows. A builder's window has to name every type whose values the builder borrows: `F` is the one that isn't `T`.
+/// Two borrowed rows. A builder's window has to name every type whose values the builder borrows:
+/// `F` is the one that isn't `T`.
 #[derive(Clone, Copy, Debug)]
 pub struct RowWindow<'a, T, F = ()> {
     pub current: &'a [T],

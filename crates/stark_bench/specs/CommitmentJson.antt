@@ -1,10 +1,11 @@
 -- What JSON values spell of commitments in the clear: arrays of matrices, each an array of columns, each an array of coefficients.
-use Rattle.std.specs.Prelude.{◌≡◌, ◌≢◌, List, Option, Some}
+use Rattle.std.specs.Prelude.{◌≡◌, ◌≢◌, List, Option, Some, map}
 use Rattle.std.proofs.Common.{ap}
 use Rattle.serde_json.specs.Data.{Data, null}
 use Rattle.stark_support.specs.Json.{array_at}
 use Rattle.stark_support.specs.JsonFacts.{list_back, list_written}
 use Rattle.stark_fields.specs.ElementJson.{is_null}
+use Rattle.std.specs.declared.vec.Vec.{Vec}
 
 abbrev pub commitment_at : {F : Type 0} → (Data → Option F) → Data → Option (List (List (List F)))
 commitment_at coefficient_at d = array_at (array_at (array_at coefficient_at)) d
@@ -20,3 +21,7 @@ commitment_reads_back reading writing back matrices =
 
 pub commitment_never_null : {F : Type 0} (writing : F → Data) (matrices : List (List (List F))) → commitment_written writing matrices ≢ null
 commitment_never_null writing matrices e = let told = ap is_null e in absurd (cc)
+
+-- A commitment's matrices, columns and coefficients, as lists.
+abbrev pub matrices_list : {F A B : Type 0} → List (Vec (Vec F A) B) → List (List (List F))
+matrices_list matrices = map (λ matrix. map (λ column. column.items) matrix.items) matrices

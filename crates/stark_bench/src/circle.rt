@@ -3,8 +3,8 @@ ghost use Rattle.std.specs.Prelude.{◌≡◌};
 
 use stark_support::DomainShape;
 
-/// The size of a domain on a circle, which has no points here: its transition selector has the degree of the domain's
-/// size, in place of one.
+/// The size of a domain on a circle, which has no points here: its transition selector has the
+/// degree of the domain's size, in place of one.
 #[derive(Clone, Copy, Debug)]
 pub struct CircleShape {
     pub size: usize,

@@ -3,7 +3,7 @@ ghost use Rattle.std.specs.Prelude.{◌≡◌, IfOk, map};
 ghost use Rattle.serde_json.specs.View.{items_view, view};
 ghost use Rattle.stark_support.specs.Json.{Gives, array_at, each_at};
 ghost use Rattle.stark_support.specs.JsonFacts.{list_written};
-ghost use Rattle.stark_bench.specs.CommitmentJson.{commitment_at, commitment_never_null, commitment_reads_back, commitment_written};
+ghost use Rattle.stark_bench.specs.CommitmentJson.{commitment_at, commitment_never_null, commitment_reads_back, commitment_written, matrices_list};
 
 use crate::challenger::ClearCommitment;
 use serde_json::Value;
@@ -15,7 +15,8 @@ fn matrices_from_json<F: JsonCodec + Drop>(
     alloc: Global,
     values: &[Value],
 ) -> Result<Vec<Vec<Vec<F>>>, JsonFault>
-    ensures { Gives (λ v. map (λ matrix. map (λ column. column.items) matrix.items) v.items) result (each_at (array_at (array_at F.reading)) (items_view values.now)) }
+    ensures { Gives (λ v. matrices_list v.items) result
+        (each_at (array_at (array_at F.reading)) (items_view values.now)) }
 {
     let mut matrices = Vec::new(alloc);
     for value in values {
@@ -38,7 +39,8 @@ fn column_to_json<F: JsonCodec>(alloc: Global, column: &[F]) -> Result<Value, Al
 
 /// The array of a matrix's columns.
 fn matrix_to_json<F: JsonCodec>(alloc: Global, matrix: &[Vec<F>]) -> Result<Value, AllocError>
-    ensures { IfOk result (λ value. view value ≡ list_written (list_written F.writing) (map (λ column. column.items) matrix.now)) }
+    ensures { IfOk result (λ value. view value
+        ≡ list_written (list_written F.writing) (map (λ column. column.items) matrix.now)) }
 {
     let mut columns = Vec::new(alloc);
     for column in matrix {
@@ -52,7 +54,9 @@ fn matrices_to_json<F: JsonCodec>(
     alloc: Global,
     matrices: &[Vec<Vec<F>>],
 ) -> Result<Value, AllocError>
-    ensures { IfOk result (λ value. view value ≡ commitment_written F.writing (map (λ matrix. map (λ column. column.items) matrix.items) matrices.now)) }
+    ensures { IfOk result (λ value. view value
+        ≡ commitment_written F.writing (map (λ matrix. map (λ column. column.items) matrix.items)
+        matrices.now)) }
 {
     let mut values = Vec::new(alloc);
     for matrix in matrices {

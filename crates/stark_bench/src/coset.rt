@@ -1,12 +1,12 @@
 //! The two-adic cosets of a field, as domains.
-ghost use Rattle.std.specs.Prelude.{◌≡◌, ◌≢◌, ◌<◌, ◌≤◌, ◌+◌, ◌-◌, ◌*◌, ℕ, ⊤, ◌^◌, ◌++◌, ◌∷◌, [], All, IfOk, length, map, refl, vec_capacity, vec_len};
+ghost use Rattle.std.specs.Prelude.{◌≡◌, ◌≢◌, ◌<◌, ◌≤◌, ◌+◌, ◌-◌, ◌*◌, ⊤, ◌^◌, ◌++◌, ◌∷◌, [], All, IfOk, length, map, refl, vec_capacity, vec_len};
 ghost use Rattle.std.specs.Simd.Lanes.{zip2};
-ghost use Rattle.stark_support.specs.Coset.{AreDisjoint, AreValuesOn, TwoAdicCoset, coset_size, subgroup_vanishing};
+ghost use Rattle.stark_support.specs.Coset.{AreDisjoint, AreValuesOn, subgroup_vanishing, coset_from};
 ghost use Rattle.stark_support.specs.Ring.{difference};
 ghost use Rattle.stark_support.specs.SelectorFacts.{IsSubgroup};
 ghost use Rattle.stark_support.specs.Selectors.{first_row_selector, last_row_selector, transition_selector};
 ghost use Rattle.stark_support.specs.Subgroup.{group_of};
-ghost use Rattle.stark_bench.specs.PointLists.{AreQuotients, AreRepeated, AreTurned, RepeatOn};
+ghost use Rattle.stark_bench.specs.PointLists.{AreQuotients, AreRepeated, AreTurned, FirstRowsOn, InversesOn, LastRowsOn, TransitionsOn, VanishingRepeatsOn};
 
 use stark_support::{
     DomainShape, Element, ExtensionField, Field, LagrangeSelectors, PeriodicColumns,
@@ -15,7 +15,8 @@ use stark_support::{
 };
 use std::alloc::{AllocError, Global};
 
-/// The points `shift * g^i` for `i` below `2^log_size`, with `g` the field's generator of that order.
+/// The points `shift * g^i` for `i` below `2^log_size`, with `g` the field's generator of that
+/// order.
 pub struct Coset<F: TwoAdicField> {
     pub shift: F,
     pub log_size: usize,
@@ -75,10 +76,14 @@ fn generator_in<F: TwoAdicField, EF: ExtensionField<F>>(log_size: usize) -> EF
 fn group_selectors<E: Field>(generator: E, log_size: usize, point: E) -> LagrangeSelectors<E>
     requires group { IsSubgroup E.ring E.inverse_of (group_of E.inverse_of generator log_size) }
     requires outside { subgroup_vanishing E.ring (2 ^ log_size) point ≢ E.ring.zero }
-    ensures first_row { result.is_first_row ≡ first_row_selector E.ring (λ c. c) (group_of E.inverse_of generator log_size) point }
-    ensures last_row { result.is_last_row ≡ last_row_selector E.ring (λ c. c) (group_of E.inverse_of generator log_size) point }
-    ensures transition { result.is_transition ≡ transition_selector E.ring (λ c. c) (group_of E.inverse_of generator log_size) point }
-    ensures inv_vanishing { result.inv_vanishing ≡ E.inverse_of (subgroup_vanishing E.ring (2 ^ log_size) point) }
+    ensures first_row { result.is_first_row
+        ≡ first_row_selector E.ring (λ c. c) (group_of E.inverse_of generator log_size) point }
+    ensures last_row { result.is_last_row
+        ≡ last_row_selector E.ring (λ c. c) (group_of E.inverse_of generator log_size) point }
+    ensures transition { result.is_transition
+        ≡ transition_selector E.ring (λ c. c) (group_of E.inverse_of generator log_size) point }
+    ensures inv_vanishing { result.inv_vanishing
+        ≡ E.inverse_of (subgroup_vanishing E.ring (2 ^ log_size) point) }
 {
     let vanishing = subgroup_vanishing(point, log_size);
     let transition = point - generator.inverse();
@@ -90,8 +95,8 @@ fn group_selectors<E: Field>(generator: E, log_size: usize, point: E) -> Lagrang
     }
 }
 
-/// What is left of each element where `c` is taken away. There is room for all of them from the start, so that no step asks for it and
-/// the loop can become vector code, as the loops below.
+/// What is left of each element where `c` is taken away. There is room for all of them from the
+/// start, so that no step asks for it and the loop can become vector code, as the loops below.
 fn differences<F: Field>(alloc: Global, elements: &[F], c: F) -> Result<Vec<F>, AllocError>
     ensures { IfOk result (λ left. left.items ≡ map (λ x. difference F.ring x c) elements.now) }
 {
@@ -146,7 +151,8 @@ fn products<F: Field>(alloc: Global, lefts: &[F], rights: &[F]) -> Result<Vec<F>
     Ok(all)
 }
 
-/// The elements of a list over and over, each over the divisor at its place, by an inverse of each divisor.
+/// The elements of a list over and over, each over the divisor at its place, by an inverse of each
+/// divisor.
 fn quotients_by_inverses<F: Field>(
     alloc: Global,
     elements: &[F],
@@ -154,7 +160,8 @@ fn quotients_by_inverses<F: Field>(
 ) -> Result<Vec<F>, AllocError>
     requires some { 0 < length elements.now }
     requires nonzero { All (λ d. d ≢ F.ring.zero) divisors.now }
-    ensures { IfOk result (λ over. AreQuotients F.ring F.inverse_of elements.now divisors.now (length divisors.now) over.items) }
+    ensures { IfOk result (λ over. AreQuotients F.ring F.inverse_of elements.now divisors.now
+        (length divisors.now) over.items) }
 {
     let inverses = batch_multiplicative_inverse(alloc, divisors)?;
     let mut over = Vec::with_capacity(alloc, divisors.len())?;
@@ -164,13 +171,14 @@ fn quotients_by_inverses<F: Field>(
     Ok(over)
 }
 
-/// The elements of a list over and over, each over the divisor at its place. A divisor of the first half and the one at its place in the
-/// second share a quotient, that by their product, if the same element is over both; so half as many are to take, and of these again half,
-/// until few are left.
+/// The elements of a list over and over, each over the divisor at its place. A divisor of the first
+/// half and the one at its place in the second share a quotient, that by their product, if the same
+/// element is over both; so half as many are to take, and of these again half, until few are left.
 fn quotients<F: Field>(alloc: Global, elements: &[F], divisors: &[F]) -> Result<Vec<F>, AllocError>
     requires some { 0 < length elements.now }
     requires nonzero { All (λ d. d ≢ F.ring.zero) divisors.now }
-    ensures { IfOk result (λ over. AreQuotients F.ring F.inverse_of elements.now divisors.now (length divisors.now) over.items) }
+    ensures { IfOk result (λ over. AreQuotients F.ring F.inverse_of elements.now divisors.now
+        (length divisors.now) over.items) }
 {
     let half = divisors.len() / 2;
     if half < 16 || divisors.len() % 2 != 0 || half % elements.len() != 0 {
@@ -193,7 +201,8 @@ fn turned<F: Field>(
     factor: F,
 ) -> Result<Vec<F>, AllocError>
     requires { further ≤ length elements.now }
-    ensures { IfOk result (λ all. AreTurned F.ring factor elements.now further (length elements.now) all.items) }
+    ensures { IfOk result (λ all. AreTurned F.ring factor elements.now further (length elements.now)
+        all.items) }
 {
     let (front, back) = elements.split_at(further);
     let mut all = Vec::with_capacity(alloc, elements.len())?;
@@ -213,7 +222,8 @@ fn filled<F: Field>(alloc: Global, x: F, count: usize) -> Result<Vec<F>, AllocEr
     Ok(all)
 }
 
-/// So many elements, which are those of a list over and over; no place is divided where the list has one.
+/// So many elements, which are those of a list over and over; no place is divided where the list
+/// has one.
 fn repeated<F: Field>(alloc: Global, list: &[F], count: usize) -> Result<Vec<F>, AllocError>
     requires { 0 < length list.now }
     ensures { IfOk result (λ all. AreRepeated list.now count all.items) }
@@ -234,7 +244,8 @@ fn vanishing_values<F: Field>(
     elements: &[F],
     log_size: usize,
 ) -> Result<Vec<F>, AllocError>
-    ensures { IfOk result (λ values. values.items ≡ map (λ x. subgroup_vanishing F.ring (2 ^ log_size) x) elements.now) }
+    ensures { IfOk result (λ values. values.items
+        ≡ map (λ x. subgroup_vanishing F.ring (2 ^ log_size) x) elements.now) }
 {
     let mut values = Vec::with_capacity(alloc, elements.len())?;
     for x in elements {
@@ -251,7 +262,8 @@ fn points_for_each(log_size: usize, log_of_group: usize) -> usize
     1 << log_size.saturating_sub(log_of_group)
 }
 
-/// The vanishing values of a subgroup at the first points, after which they repeat, and the inverses at all of them.
+/// The vanishing values of a subgroup at the first points, after which they repeat, and the
+/// inverses at all of them.
 #[derive(Drop)]
 struct Vanishing<F> {
     values: Vec<F>,
@@ -261,7 +273,9 @@ struct Vanishing<F> {
 impl<F: TwoAdicField> Coset<F> {
     /// The points, in row order: each round doubles them.
     fn points(&self, alloc: Global) -> Result<Vec<F>, AllocError>
-        ensures { IfOk result (λ points. AreValuesOn F.ring F.root (record { shift = self.now.shift; log_size = self.now.log_size }) (2 ^ self.now.log_size) (λ x. x) points.items) }
+        ensures { IfOk result (λ points. AreValuesOn F.ring F.root
+            (coset_from self.now.shift self.now.log_size)
+            (2 ^ self.now.log_size) (λ x. x) points.items) }
     {
         let mut points = Vec::with_capacity(alloc, self.size())?;
         points.push(self.shift)?;
@@ -273,8 +287,8 @@ impl<F: TwoAdicField> Coset<F> {
         Ok(points)
     }
 
-    /// A subgroup's vanishing values at the points of a coset apart from it, once for each coset of the subgroup, as they repeat, and their
-    /// inverses at all the points.
+    /// A subgroup's vanishing values at the points of a coset apart from it, once for each coset of
+    /// the subgroup, as they repeat, and their inverses at all the points.
     fn vanishing_on(
         &self,
         alloc: Global,
@@ -282,10 +296,19 @@ impl<F: TwoAdicField> Coset<F> {
         points: &[F],
     ) -> Result<Vanishing<F>, AllocError>
         requires subgroup { self.now.shift ≡ F.ring.one }
-        requires disjoint { AreDisjoint F.ring F.root (record { shift = self.now.shift; log_size = self.now.log_size }) (record { shift = coset.now.shift; log_size = coset.now.log_size }) }
-        requires points { AreValuesOn F.ring F.root (record { shift = coset.now.shift; log_size = coset.now.log_size }) (2 ^ coset.now.log_size) (λ x. x) points.now }
-        ensures values { IfOk result (λ v. RepeatOn F.ring F.root (record { shift = coset.now.shift; log_size = coset.now.log_size }) (λ x. subgroup_vanishing F.ring (2 ^ self.now.log_size) x) v.values.items) }
-        ensures inverses { IfOk result (λ v. AreValuesOn F.ring F.root (record { shift = coset.now.shift; log_size = coset.now.log_size }) (2 ^ coset.now.log_size) (λ x. F.inverse_of (subgroup_vanishing F.ring (2 ^ self.now.log_size) x)) v.inverses.items) }
+        requires disjoint { AreDisjoint F.ring F.root
+            (coset_from self.now.shift self.now.log_size)
+            (coset_from coset.now.shift coset.now.log_size) }
+        requires points { AreValuesOn F.ring F.root
+            (coset_from coset.now.shift coset.now.log_size)
+            (2 ^ coset.now.log_size) (λ x. x) points.now }
+        ensures values { IfOk result (λ v.
+            VanishingRepeatsOn F.ring F.root self.now.log_size
+            (coset_from coset.now.shift coset.now.log_size) v.values.items) }
+        ensures inverses { IfOk result (λ v.
+            InversesOn F.ring F.inverse_of F.root self.now.log_size
+            (coset_from coset.now.shift coset.now.log_size)
+            v.inverses.items) }
     {
         let period = points_for_each(coset.log_size, self.log_size);
         let values = vanishing_values(alloc, &points[..period], self.log_size)?;
@@ -294,9 +317,9 @@ impl<F: TwoAdicField> Coset<F> {
         Ok(Vanishing { values, inverses })
     }
 
-    /// A subgroup's last row selector at the points of a coset apart from it. Times the generator each point is again one of the coset
-    /// if the coset is as large as the subgroup, and there the first row selector has the value over the generator; else
-    /// the vanishing values are divided.
+    /// A subgroup's last row selector at the points of a coset apart from it. Times the generator
+    /// each point is again one of the coset if the coset is as large as the subgroup, and there the
+    /// first row selector has the value over the generator; else the vanishing values are divided.
     fn last_rows_on(
         &self,
         alloc: Global,
@@ -306,11 +329,19 @@ impl<F: TwoAdicField> Coset<F> {
         transitions: &[F],
     ) -> Result<Vec<F>, AllocError>
         requires subgroup { self.now.shift ≡ F.ring.one }
-        requires disjoint { AreDisjoint F.ring F.root (record { shift = self.now.shift; log_size = self.now.log_size }) (record { shift = coset.now.shift; log_size = coset.now.log_size }) }
-        requires vanishing { RepeatOn F.ring F.root (record { shift = coset.now.shift; log_size = coset.now.log_size }) (λ x. subgroup_vanishing F.ring (2 ^ self.now.log_size) x) vanishing.now }
-        requires first_rows { AreValuesOn F.ring F.root (record { shift = coset.now.shift; log_size = coset.now.log_size }) (2 ^ coset.now.log_size) (first_row_selector F.ring (λ c. c) (group_of F.inverse_of (F.root self.now.log_size) self.now.log_size)) first_rows.now }
-        requires transitions { AreValuesOn F.ring F.root (record { shift = coset.now.shift; log_size = coset.now.log_size }) (2 ^ coset.now.log_size) (transition_selector F.ring (λ c. c) (group_of F.inverse_of (F.root self.now.log_size) self.now.log_size)) transitions.now }
-        ensures { IfOk result (λ l. AreValuesOn F.ring F.root (record { shift = coset.now.shift; log_size = coset.now.log_size }) (2 ^ coset.now.log_size) (last_row_selector F.ring (λ c. c) (group_of F.inverse_of (F.root self.now.log_size) self.now.log_size)) l.items) }
+        requires disjoint { AreDisjoint F.ring F.root
+            (coset_from self.now.shift self.now.log_size)
+            (coset_from coset.now.shift coset.now.log_size) }
+        requires vanishing { VanishingRepeatsOn F.ring F.root self.now.log_size
+            (coset_from coset.now.shift coset.now.log_size) vanishing.now }
+        requires first_rows { FirstRowsOn F.ring F.inverse_of F.root self.now.log_size
+            (coset_from coset.now.shift coset.now.log_size)
+            first_rows.now }
+        requires transitions { TransitionsOn F.ring F.inverse_of F.root self.now.log_size
+            (coset_from coset.now.shift coset.now.log_size)
+            transitions.now }
+        ensures { IfOk result (λ l. LastRowsOn F.ring F.inverse_of F.root self.now.log_size
+            (coset_from coset.now.shift coset.now.log_size) l.items) }
     {
         if self.log_size > coset.log_size {
             return quotients(alloc, vanishing, transitions);

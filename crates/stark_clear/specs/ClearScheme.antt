@@ -36,7 +36,7 @@ abbrev pub clear_scheme : {S F E C : Type 0} → RingOps E → (F → E) → ℕ
 clear_scheme ring embed adicity stops calls = record {
   log_min_trace_height = λ s. 0;
   log_max_trace_height = λ s. adicity;
-  Whole = λ s. StopsAt (stops s) Verify → ⊥;
+  IsComplete = λ s. StopsAt (stops s) Verify → ⊥;
   Stands = λ s commitment prover_data matrices. (commitment ≡ columns_of matrices) × (prover_data ≡ columns_of matrices) × AllByRecursion IsFull matrices;
   calls = calls;
   Accepts = λ s claims proof state index. ClaimsAreTrue ring embed claims × (StopsAt (stops s) Verify → ⊥);
@@ -47,3 +47,7 @@ clear_scheme ring embed adicity stops calls = record {
   RefusesRandomization = λ s domain error. StopsAt (stops s) Randomization;
   RefusesOpening = λ s rounds state index error. StopsAt (stops s) Open;
 }
+
+-- The claims are true, and verifying doesn't stop.
+abbrev pub AcceptsTrue : {F E : Type 0} → RingOps E → (F → E) → Option ClearCall → List (RoundClaim F E (List (List (List F)))) → Type 0
+AcceptsTrue ring embed stops claims = ClaimsAreTrue ring embed claims × (StopsAt stops Verify → ⊥)

@@ -19,6 +19,12 @@ both None second = None
 both (Some bytes) None = None
 both (Some bytes) (Some others) = Some (bytes, others)
 
+-- What a run reads, where that is known, and what its writer holds before it and behind it.
+pub record Exchange (I : Type 0) : Type 0 where
+  pub input : Option I
+  pub old : Option (List ℕ)
+  pub new : Option (List ℕ)
+
 -- A run ended so that found f, and wrote from old to new.
 abbrev pub Says : RunEnd → Finding → Option (List ℕ) → Option (List ℕ) → Type 0
 Says InputFailed f old new = Keeps old new
@@ -26,6 +32,10 @@ Says OutputFailed f old new = (count : ℕ) × Appends old new (take count (find
 Says Accepted f old new = (finding_end f ≡ Accepted) × Appends old new (finding_line f)
 Says Refused f old new = (finding_end f ≡ Refused) × Appends old new (finding_line f)
 Says NotJudged f old new = (finding_end f ≡ NotJudged) × Appends old new (finding_line f)
+
+-- It says that the input is bad.
+abbrev pub SaysBadInput : RunEnd → Option (List ℕ) → Option (List ℕ) → Type 0
+SaysBadInput end old new = Says end (finding.Verdict verdict.BadInput) old new
 
 -- The run wrote these bytes, where it is known what the writer holds.
 abbrev pub Wrote : Option (List ℕ) → Option (List ℕ) → List ℕ → Type 0

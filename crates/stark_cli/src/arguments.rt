@@ -72,7 +72,8 @@ fn input_of(word: &str) -> InputWord<'_>
 
 /// A task, unless standard input would be read twice.
 fn unless_twice<'w>(verb: Verb, statement: InputWord<'w>, second: InputWord<'w>) -> Request<'w>
-    ensures { request_view result ≡ unless_twice verb (input_view statement.entry) (input_view second.entry) }
+    ensures { request_view result ≡ unless_twice verb (input_view statement.entry)
+        (input_view second.entry) }
 {
     match (statement, second) {
         (InputWord::Standard, InputWord::Standard) => Request::Unknown,
@@ -112,7 +113,8 @@ fn with_one<'w>(verb: Option<Verb>, statement: InputWord<'w>) -> Request<'w>
 
 /// What a verb asks for with a statement and a proof or a trace; to show takes none.
 fn with_two<'w>(verb: Option<Verb>, statement: InputWord<'w>, second: InputWord<'w>) -> Request<'w>
-    ensures { request_view result ≡ with_two verb (input_view statement.entry) (input_view second.entry) }
+    ensures { request_view result ≡ with_two verb (input_view statement.entry)
+        (input_view second.entry) }
 {
     match verb {
         Some(Verb::Show) | None => Request::Unknown,

@@ -11,7 +11,8 @@ use std::env::Args;
 use std::process::ExitCode;
 use std::{env, io};
 
-/// The words after the first, each put behind the others: a growth that is refused is told, also one that could be asked for again.
+/// The words after the first, each put behind the others: a growth that is refused is told, also
+/// one that could be asked for again.
 fn words_behind(alloc: Global, mut all: Args) -> Result<Vec<String>, AllocError>
     ensures { IfOk result (λ words. words.items ≡ drop 1 (into_iter_items all)) }
 {
@@ -25,7 +26,8 @@ fn words_behind(alloc: Global, mut all: Args) -> Result<Vec<String>, AllocError>
 
 /// The words after the program's name, or what is said where there are none.
 pub fn words_of(rt: &HostRuntime) -> Result<Vec<String>, Verdict>
-    ensures { IfErr result (λ v. (v ≡ Verdict.BadInput) ⊎ (v ≡ Verdict.Refused Refusal.OutOfMemory)) }
+    ensures { IfErr result (λ v. (v ≡ Verdict.BadInput)
+        ⊎ (v ≡ Verdict.Refused Refusal.OutOfMemory)) }
 {
     match env::args(rt) {
         Ok(all) => match words_behind(rt.alloc(), all) {
@@ -42,8 +44,8 @@ pub fn words_of(rt: &HostRuntime) -> Result<Vec<String>, Verdict>
     }
 }
 
-/// The status of a process whose run ended so. A failed read or write is told on the standard error, and it doesn't matter whether that
-/// fails too.
+/// The status of a process whose run ended so. A failed read or write is told on the standard
+/// error, and it doesn't matter whether that fails too.
 pub fn exit_code(rt: &HostRuntime, end: RunEnd) -> ExitCode
     ensures { exit_status result ≡ status_of end }
 {

@@ -1,4 +1,5 @@
-//! Runs of both programs, from words and bytes to bytes, and what they mean: of `stark_run` in `samples`, of `voskligan` in `statements`.
+//! Runs of both programs, from words and bytes to bytes, and what they mean: of `stark_run` in
+//! `samples`, of `voskligan` in `statements`.
 #![tactic(auto)]
 
 mod arguments;
@@ -18,5 +19,7 @@ pub use host::{exit_code, words_of};
 pub use outcome::tell;
 pub use show::show_statement;
 pub use sources::{WatchedReader, WatchedWriter};
-pub use streams::{InputFault, ReadFailed, Sink, Source, WriteFailed, read_to_end, write_all};
+pub use streams::{
+    InputFault, ReadFailed, RunWith, RunWithBoth, Sink, Source, WriteFailed, read_to_end, write_all,
+};
 pub use words::{Command, named_command};

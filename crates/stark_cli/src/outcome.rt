@@ -19,7 +19,8 @@ pub(crate) fn unread_input(fault: InputFault, memory: Verdict) -> Result<Finding
     }
 }
 
-/// Writes the line of what is found. How it ends says what it wrote; after a failed write a front of it.
+/// Writes the line of what is found. How it ends says what it wrote; after a failed write a front
+/// of it.
 pub fn tell<W: Sink>(finding: &Finding, writer: &mut W) -> RunEnd
     requires { W.has_failed writer.old ≡ false }
     ensures says { Says result finding.now (W.contents writer.old) (W.contents writer.new) }

@@ -17,7 +17,9 @@ const GREATEST_HEIGHT: usize = 12;
 
 /// What is shown of a statement that was read.
 fn showing_of(alloc: Global, statement: &Statement<F12289>) -> Report<Finding>
-    ensures { (result.answer ≡ no_memory) ⊎ IsShownOf (⟦<F12289 as PrimeField64>⟧.number_of) (statement_view statement.now) result.answer }
+    ensures { (result.answer ≡ no_memory)
+        ⊎ IsShownOf (⟦<F12289 as PrimeField64>⟧.number_of) (statement_view statement.now)
+        result.answer }
 {
     match shown::<F12289, Extension>(alloc, &statement.air, GREATEST_HEIGHT) {
         Ok(text) => Report {

@@ -3,6 +3,7 @@
 ghost use Rattle.std.specs.Prelude.{◌≡◌, ◌≤◌, ◌<◌, ℕ, List, Option, Bool, true, false, length, take, IfOk, OnOk, IfSome, IsOk, IsErr, Err};
 ghost use Rattle.std.specs.Io.{ReadsAtMost};
 ghost use Rattle.std.specs.Io.KnownBytes.{Appends, ReadConsumes, WriteAppends};
+ghost use Rattle.stark_cli.specs.Running.{Exchange, both};
 
 use std::alloc::Global;
 
@@ -56,11 +57,40 @@ pub trait Sink {
         ensures ok { IsOk result → has_failed self.new ≡ has_failed self.old };
 }
 
+/// What a run exchanges with a reader and this writer, of their states before and behind it. It has
+/// no code.
+pub trait RunWith<R>: Sink {
+    ghost run: { R → Self → Self → Exchange (List ℕ) };
+}
+
+impl<R: Source, W: Sink> RunWith<R> for W {
+    ghost run = { λ reader old new. record {
+      input = R.remaining reader;
+      old = W.contents old;
+      new = W.contents new;
+    } };
+}
+
+/// What a run exchanges with two readers and this writer.
+pub trait RunWithBoth<S, R>: Sink {
+    ghost run: { S → R → Self → Self → Exchange (List ℕ × List ℕ) };
+}
+
+impl<S: Source, R: Source, W: Sink> RunWithBoth<S, R> for W {
+    ghost run = { λ first second old new. record {
+      input = both (S.remaining first) (R.remaining second);
+      old = W.contents old;
+      new = W.contents new;
+    } };
+}
+
 /// Reads all there is.
 pub fn read_to_end<R: Source>(alloc: Global, reader: &mut R) -> Result<Vec<u8>, InputFault>
-    ensures bytes { IfOk result (λ all. IfSome (R.remaining reader.old) (λ bytes. all.items ≡ bytes)) }
+    ensures bytes { IfOk result (λ all. IfSome (R.remaining reader.old) (λ bytes. all.items
+        ≡ bytes)) }
     ensures failed { result ≡ Err InputFault.Failed → R.has_failed reader.new ≡ true }
-    ensures only { R.has_failed reader.new ≡ true → R.has_failed reader.old ≡ false → result ≡ Err InputFault.Failed }
+    ensures only { R.has_failed reader.new ≡ true → R.has_failed reader.old ≡ false → result
+        ≡ Err InputFault.Failed }
 {
     let mut all = Vec::new(alloc);
     let mut chunk = [0u8; 4096];
@@ -79,8 +109,10 @@ pub fn read_to_end<R: Source>(alloc: Global, reader: &mut R) -> Result<Vec<u8>, 
 
 /// Writes all of the bytes. After an `Err` a front of them is written.
 pub fn write_all<W: Sink>(writer: &mut W, bytes: &[u8]) -> Result<(), WriteFailed>
-    ensures bytes { OnOk result (Appends (W.contents writer.old) (W.contents writer.new) bytes.now) }
-    ensures front { (count : ℕ) × Appends (W.contents writer.old) (W.contents writer.new) (take count bytes.now) }
+    ensures bytes { OnOk result (Appends (W.contents writer.old) (W.contents writer.new)
+        bytes.now) }
+    ensures front { (count : ℕ) × Appends (W.contents writer.old) (W.contents writer.new)
+        (take count bytes.now) }
     ensures err { IsErr result → W.has_failed writer.new ≡ true }
     ensures ok { IsOk result → W.has_failed writer.new ≡ W.has_failed writer.old }
 {

@@ -2,16 +2,14 @@
 use Rattle.std.specs.Prelude.{◌≡◌, ℕ, ◌+◌, ◌*◌, ◌/◌, ◌^◌, ◌<◌, List, length, map}
 use Rattle.std.specs.List.{AllByRecursion}
 use Rattle.stark_support.specs.Ring.{RingOps}
-use Rattle.stark_support.specs.Coset.{TwoAdicCoset, coset_size}
+use Rattle.stark_support.specs.Coset.{TwoAdicCoset, coset_size, coset_from}
 use Rattle.stark_support.specs.Points.{powers_from}
 use Rattle.stark_support.specs.Polynomial.{value}
-use Rattle.stark_support.specs.Scheme.{TakesRows, matrix_row, natural_coset}
+use Rattle.stark_support.specs.Scheme.{TakesRows, matrix_row, natural_coset, HasRows}
 use Rattle.stark_support.specs.declared.matrix.RowMajorMatrix.{RowMajorMatrix}
+use Rattle.std.specs.declared.vec.Vec.{Vec}
+use Rattle.stark_dft.specs.Columns.{column_list}
 pub use Rattle.stark_dft.specs.Columns.{AreColumns, IsPolynomialBelow}
-
--- The coset of 2 ^ log_size points that begins at the shift.
-abbrev pub coset_from : {K : Type 0} → K → ℕ → TwoAdicCoset K
-coset_from shift log_size = record { shift = shift; log_size = log_size }
 
 abbrev pub points_of : {K : Type 0} → RingOps K → (ℕ → K) → TwoAdicCoset K → List K
 points_of ring root coset = map (ring.mul coset.shift) (powers_from ring (root coset.log_size) 0 (coset_size coset))
@@ -35,3 +33,7 @@ TakeMatrix ring root matrix columns = (log_height : ℕ) → 2 ^ log_height ≡ 
 -- As polynomials they are of a degree below the matrix's height.
 abbrev pub ArePlain : {K : Type 0} → RingOps K → RowMajorMatrix K → List (List K) → Type 0
 ArePlain ring matrix columns = AllByRecursion (λ column. IsPolynomialBelow ring (height_of matrix) (value ring column)) columns
+
+-- Values given row after row are those of the columns at the coset's points.
+abbrev pub HasRowsOf : {K A : Type 0} → RingOps K → (ℕ → K) → TwoAdicCoset K → List (Vec K A) → List K → Type 0
+HasRowsOf ring root coset columns values = HasRows ring root coset (map column_list columns) values (length columns)

@@ -6,4 +6,3 @@ pub mod OpenedFacts
 pub mod PlainChunkFacts
 pub mod PlainChunks
 pub mod RowFacts
-pub mod SchemeClauses

@@ -40,7 +40,8 @@ pub fn point_powers<F: Field, EF: ExtensionField<F>>(
     Ok(powers)
 }
 
-/// The same, and no powers at all where memory is refused: then `column_value` takes longer.
+/// The powers of the point, and none at all where memory is refused: then `column_value` takes
+/// longer.
 pub fn powers_or_none<F: Field, EF: ExtensionField<F>>(
     alloc: Global,
     columns: &[Vec<F>],

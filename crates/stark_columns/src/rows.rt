@@ -1,10 +1,11 @@
 //! Rows of values of columns, at points and on domains.
-ghost use Rattle.std.specs.Prelude.{◌≡◌, IfOk, length, map};
+ghost use Rattle.std.specs.Prelude.{◌≡◌, IfOk, map};
 ghost use Rattle.std.specs.List.{flat_map};
-ghost use Rattle.stark_support.specs.Scheme.{HasRows, row_at};
-ghost use Rattle.stark_columns.specs.ColumnPoints.{coset_from};
+ghost use Rattle.stark_support.specs.Scheme.{row_at};
+ghost use Rattle.stark_support.specs.Coset.{coset_from};
 ghost use Rattle.stark_columns.specs.Columns.{column_list, columns_list};
 ghost use Rattle.stark_columns.specs.Opened.{AreRowsOf, matrices_at};
+ghost use Rattle.stark_columns.specs.ColumnPoints.{HasRowsOf};
 
 use crate::columns::domain_points;
 use crate::powers::{column_value, point_powers};
@@ -22,7 +23,8 @@ fn row_at<F: Field, EF: ExtensionField<F>>(
     columns: &[Vec<F>],
     point: EF,
 ) -> Result<Vec<EF>, AllocError>
-    ensures { IfOk result (λ row. row.items ≡ row_at EF.ring EF.embed (map column_list columns.now) point) }
+    ensures { IfOk result (λ row. row.items
+        ≡ row_at EF.ring EF.embed (map column_list columns.now) point) }
 {
     let powers = point_powers::<F, EF>(alloc, columns, point)?;
     let mut row = Vec::new(alloc);
@@ -37,7 +39,8 @@ fn rows_at<F: Field, EF: ExtensionField<F>>(
     columns: &[Vec<F>],
     points: &[EF],
 ) -> Result<Vec<Vec<EF>>, AllocError>
-    ensures { IfOk result (λ rows. map (λ row. row.items) rows.items ≡ map (row_at EF.ring EF.embed (map column_list columns.now)) points.now) }
+    ensures { IfOk result (λ rows. map (λ row. row.items) rows.items
+        ≡ map (row_at EF.ring EF.embed (map column_list columns.now)) points.now) }
 {
     let mut rows = Vec::new(alloc);
     for point in points {
@@ -54,8 +57,9 @@ pub fn matrices_at<F: Field, EF: ExtensionField<F>>(
     matrices: &[Vec<Vec<F>>],
     points: &[Vec<EF>],
 ) -> Result<Vec<Vec<Vec<EF>>>, AllocError>
-    ensures { IfOk result (λ opened. map (λ m. map (λ row. row.items) m.items) opened.items
-        ≡ matrices_at EF.ring EF.embed (map columns_list matrices.now) (map (λ p. p.items) points.now)) }
+    ensures { IfOk result (λ opened. map columns_list opened.items
+        ≡ matrices_at EF.ring EF.embed (map columns_list matrices.now)
+        (map column_list points.now)) }
 {
     let mut opened = Vec::new(alloc);
     for i in 0..matrices.len().min(points.len()) {
@@ -71,7 +75,8 @@ pub fn values_on<F: Field>(
     columns: &[Vec<F>],
     points: &[F],
 ) -> Result<Vec<F>, AllocError>
-    ensures { IfOk result (λ values. values.items ≡ flat_map (row_at F.ring (λ c. c) (map column_list columns.now)) points.now) }
+    ensures { IfOk result (λ values. values.items
+        ≡ flat_map (row_at F.ring (λ c. c) (map column_list columns.now)) points.now) }
 {
     let mut values = Vec::new(alloc);
     for point in points {
@@ -89,8 +94,8 @@ fn domain_values<F: TwoAdicField>(
     columns: &[Vec<F>],
     domain: &Coset<F>,
 ) -> Result<Vec<F>, AllocError>
-    ensures { IfOk result (λ values.
-        HasRows F.ring F.root (coset_from domain.now.shift domain.now.log_size) (map column_list columns.now) values.items (length columns.now)) }
+    ensures { IfOk result (λ values. HasRowsOf F.ring F.root
+        (coset_from domain.now.shift domain.now.log_size) columns.now values.items) }
 {
     if columns_fit(columns, domain.size()) {
         let values = evaluate_columns(alloc, domain.shift, domain.log_size, columns)?;
@@ -109,7 +114,9 @@ pub fn rows_on<F: TwoAdicField>(
     index: usize,
     domain: &Coset<F>,
 ) -> Result<RowMajorMatrix<F>, AllocError>
-    ensures { IfOk result (λ rows. AreRowsOf F.ring F.root (coset_from domain.now.shift domain.now.log_size) (map columns_list matrices.now) index rows) }
+    ensures { IfOk result (λ rows. AreRowsOf F.ring F.root
+        (coset_from domain.now.shift domain.now.log_size) (map columns_list matrices.now) index
+        rows) }
 {
     if index >= matrices.len() {
         return Ok(RowMajorMatrix::new(Vec::new(alloc), 0));

@@ -4,7 +4,7 @@ use Rattle.std.proofs.Math.Nat.{mod-add-div'}
 use Rattle.stark_air.specs.Declaration.{Trace}
 use Rattle.stark_support.specs.declared.matrix.RowMajorMatrix.{RowMajorMatrix}
 use Rattle.stark_protocol.specs.Preprocessing.{HasHeight}
-use Rattle.stark_honest.proofs.HeightSteps.{rows_are}
+use Rattle.stark_completeness.proofs.HeightSteps.{rows_are}
 
 abbrev matrix_trace : {F : Type 0} → RowMajorMatrix F → Trace F
 matrix_trace m = record { width = m.width; values = m.values.items }

@@ -45,10 +45,10 @@ module _ {S F E C K T P X Y : Type 0} (ops : ProtocolOps S F E C K T P X Y) (coo
   lacks_memory answer error is memory = inl (is ∙ ap (λ e. Err e) memory)
 
   -- The answer with what is held is the AIR's.
-  pub answers : (held : Option (PreprocessedProverData K T)) (fixed : List (List F)) → IsHeld ops log_rows scheme declared held → ops.opening.scheme.log_min_trace_height scheme ≡ 0 → ops.opening.scheme.Whole scheme → length trace.values ≡ 2 ^ height * trace.width
+  pub answers : (held : Option (PreprocessedProverData K T)) (fixed : List (List F)) → IsHeld ops log_rows scheme declared held → ops.opening.scheme.log_min_trace_height scheme ≡ 0 → ops.opening.scheme.IsComplete scheme → length trace.values ≡ 2 ^ height * trace.width
       → (answer : Result (Proof K E P F) (ProvingError Y))
       → IfOk answer (λ proof. (h : ℕ) → length trace.values ≡ 2 ^ h * trace.width → IsProofOfTrace ops (instance held) coordinates held h trace fixed (proof_view proof))
-      → IfOk answer (λ proof. (h : ℕ) → length trace.values ≡ 2 ^ h * trace.width → ops.opening.scheme.log_min_trace_height scheme ≤ h → ops.opening.scheme.Whole scheme
+      → IfOk answer (λ proof. (h : ℕ) → length trace.values ≡ 2 ^ h * trace.width → ops.opening.scheme.log_min_trace_height scheme ≤ h → ops.opening.scheme.IsComplete scheme
       → IsAcceptable ops (instance held) (proof_view proof))
       → IfErr answer (λ error. (h : ℕ) → length trace.values ≡ 2 ^ h * trace.width → (error ≡ ProvingError.OutOfMemory) ⊎ IsCause ops coordinates (instance held) held h trace error)
       → AnswersWithHeld ops coordinates log_rows scheme declared instance height trace answer

@@ -1,5 +1,5 @@
 -- The check of an AIR at one point, over the extension of degree four of the field of 12289.
-use Rattle.std.specs.Prelude.{◌≡◌, ◌≤◌, ℕ, ◌+◌, ◌^◌, List, map, length, Option, None, Some, if◌then◌else◌, ◌==◌, nat_le}
+use Rattle.std.specs.Prelude.{◌≡◌, ◌⊎◌, ◌≤◌, ℕ, ◌+◌, ◌^◌, List, map, length, Option, None, Some, if◌then◌else◌, ◌==◌, nat_le}
 use Rattle.stark_support.specs.Ring.{FieldLaws}
 use Rattle.stark_support.specs.FieldFacts.{if_same}
 use Rattle.stark_support.specs.Powers.{power}
@@ -15,11 +15,11 @@ use Rattle.stark_fields.specs.PrimeField.{root}
 use Rattle.stark_fields.specs.Ext4Field.{ext4_inverse, ext4_laws, embedded, basis_of}
 use Rattle.stark_protocol.specs.Equation.{OpenedRows, EquationHolds, folded_constraints}
 use Rattle.stark_commands.specs.Airs.{CheckedAir, IsCutInto, shape_of}
-use Rattle.stark_commands.specs.Input.{CheckNumbers, Base, Extension, elements, has_shape, zeros}
+use Rattle.stark_commands.specs.Input.{CheckNumbers, Base, Extension, elements, has_shape, numbers_in, zeros}
 use Rattle.stark_protocol.specs.Sizes.{chunk_shifts, quotient_coset}
 use Rattle.stark_commands.specs.declared.verdict.Verdict.{Verdict}
 use Rattle.stark_commands.specs.declared.verdict.Verdict.TheVariants.{Accepted, Refused, BadInput}
-use Rattle.stark_commands.specs.declared.verdict.Refusal.TheVariants.{OodPointInDomain, OodEvaluationMismatch, PeriodicColumn, QuotientDomainTooLarge}
+use Rattle.stark_commands.specs.declared.verdict.Refusal.TheVariants.{OodPointInDomain, OodEvaluationMismatch, OutOfMemory, PeriodicColumn, QuotientDomainTooLarge}
 
 abbrev pub inverse_of : Extension → Extension
 inverse_of = ext4_inverse residue_ring residue_inverse (residue 11)
@@ -109,3 +109,15 @@ checked air log_chunks m =
 abbrev pub check_verdict : CheckedAir → ℕ → Option CheckNumbers → Verdict
 check_verdict air log_chunks None = BadInput
 check_verdict air log_chunks (Some m) = if has_shape (shape_of air) m then checked air log_chunks m else BadInput
+
+-- what is found of the bytes of an input
+abbrev pub verdict_on_bytes : CheckedAir → ℕ → List ℕ → Verdict
+verdict_on_bytes air log_chunks bytes = check_verdict air log_chunks (numbers_in (shape_of air) bytes)
+
+-- The domain of a quotient of 2 ^ log_chunks chunks.
+abbrev pub whole_coset : ℕ → ℕ → TwoAdicCoset Base
+whole_coset log_height log_chunks = quotient_coset residue_ring (residue 11) (trace_coset log_height) log_chunks
+
+-- The verdict is the one that is owed, however many chunks an AIR's quotient is cut into, or memory was wanting.
+abbrev pub IsOwed : CheckedAir → (ℕ → Verdict) → Verdict → Type 0
+IsOwed air owed verdict = (log_chunks : ℕ) → IsCutInto air log_chunks → (verdict ≡ owed log_chunks) ⊎ (verdict ≡ Refused OutOfMemory)

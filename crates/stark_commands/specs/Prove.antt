@@ -1,8 +1,9 @@
 -- What a prover finds of an input.
-use Rattle.std.specs.Prelude.{◌≡◌, ◌==◌, ◌⊎◌, ℕ, ◌+◌, ◌*◌, ◌^◌, ◌<◌, ◌≤◌, ◌++◌, length, false, List, Option, None, Some, option_map, Result, Ok, Err, codes, string_bytes}
+use Rattle.std.specs.Prelude.{◌≡◌, ◌==◌, ◌⊎◌, ℕ, ◌+◌, ◌*◌, ◌^◌, ◌<◌, ◌≤◌, ◌++◌, length, Bool, false, List, Option, None, Some, option_map, Result, Ok, Err, codes, string_bytes}
+use Rattle.std.specs.declared.string.String.{String}
 use Rattle.serde_json.specs.Data.{Data}
 use Rattle.serde_json.specs.Written.{compact_text, has_float}
-use Rattle.stark_support.specs.Scheme.{zk_bits}
+use Rattle.stark_support.specs.Scheme.{SchemeOps, zk_bits}
 use Rattle.stark_air.specs.Declaration.{Trace}
 use Rattle.stark_air.specs.Layout.{Layout}
 use Rattle.stark_bench.specs.CommitmentJson.{commitment_written}
@@ -43,6 +44,10 @@ pub record IsTraceFor {F : Type 0} (layout : Layout) (log_rows : ℕ) (trace : T
   pub fixed_rows : 0 < layout.preprocessed → height ≡ log_rows
   pub publics : num_publics ≡ layout.publics
 
+-- It has no more rows than a scheme has room for.
+abbrev pub IsTraceForScheme : {S F E C K T P X Y : Type 0} → SchemeOps S F E C K T P X Y → S → Bool → Layout → ℕ → Trace F → ℕ → Type 0
+IsTraceForScheme scheme s is_zk layout log_rows trace num_publics = IsTraceFor layout log_rows trace num_publics (zk_bits is_zk) (scheme.log_max_trace_height s)
+
 module _ {S F E C K T P X Y : Type 0} (ops : ProtocolOps S F E C K T P X Y) (log_rows : ℕ) where
   -- What is held of an AIR's preprocessed columns: nothing without any, else what is set up for them at 2 ^ log_rows rows.
   abbrev pub IsHeld : S → Option (Trace F) → Option (PreprocessedProverData K T) → Type 0
@@ -75,6 +80,10 @@ module _ {S F E C K T P X Y : Type 0} (ops : ProtocolOps S F E C K T P X Y) (coo
 -- The bytes are a proof's line: its JSON without spaces, and a newline.
 abbrev pub IsLineOf : {K E P F : Type 0} → (ProofView K E P F → Data) → ProofView K E P F → List ℕ → Type 0
 IsLineOf writing p line = line ≡ compact_text (writing p) ++ codes "\n"
+
+-- The text is that line, unless the proof's JSON had a float.
+abbrev pub IsWrittenLine : {K E P F Z : Type 0} → (ProofView K E P F → Data) → Proof K E P F → String Z → Type 0
+IsWrittenLine writing proof line = has_float (writing (proof_view proof)) ≡ false → string_bytes line ≡ compact_text (writing (proof_view proof)) ++ codes "\n"
 
 module _ {K E P F Y : Type 0} (writing : ProofView K E P F → Data) where
   -- The finding is the line of such a proof, unless its JSON had a float; or it names the error.

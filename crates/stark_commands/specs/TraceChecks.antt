@@ -1,11 +1,13 @@
 -- What a check finds of a trace.
-use Rattle.std.specs.Prelude.{◌≡◌, ◌⊎◌, ℕ, List, ◌++◌, Option, None, Some, codes, string_bytes}
+use Rattle.std.specs.Prelude.{◌≡◌, ◌⊎◌, ℕ, ◌*◌, ◌^◌, length, List, ◌++◌, Option, None, Some, codes, string_bytes}
 use Rattle.std.specs.Fmt.{decimal}
+use Rattle.stark_support.specs.declared.matrix.RowMajorMatrix.{RowMajorMatrix}
 use Rattle.stark_air.specs.Declaration.{Trace}
 use Rattle.stark_fields.specs.PrimeField.{root}
 use Rattle.stark_fields.specs.Residues.{residue_inverse, residue_ring}
-use Rattle.stark_honest.specs.RowCheck.{IsFirstOfTrace, IsSatisfiedByTrace}
-use Rattle.stark_honest.specs.declared.violation.ConstraintViolation.{ConstraintViolation}
+use Rattle.stark_completeness.specs.RowCheck.{IsFirstOfTrace, IsSatisfiedByTrace}
+use Rattle.stark_completeness.specs.declared.violation.ConstraintViolation.{ConstraintViolation}
+use Rattle.stark_protocol.specs.Preprocessing.{HasHeight}
 use Rattle.stark_show.specs.Shown.{equation_line}
 use Rattle.stark_statement.specs.StatementView.{StatementView}
 use Rattle.stark_tree_air.specs.TreeJson.{ListView}
@@ -55,3 +57,7 @@ IsCheckedWithRows s log_rows (Some rows) f =
 -- What a check finds stands, unless it finds a trace that satisfies its AIR: then this is found behind it.
 abbrev pub IsFirstChecked : (Finding → Type 0) → (Finding → Type 0) → Finding → Type 0
 IsFirstChecked IsChecked IsFound f = (IsChecked finding.Satisfied × IsFound f) ⊎ ((f ≡ finding.Satisfied → ⊥) × IsChecked f)
+
+-- A trace has the height of the declared one.
+abbrev pub IsAsHighAs : {F : Type 0} → Option (Trace F) → RowMajorMatrix F → Type 0
+IsAsHighAs declared trace = (height : ℕ) × (length trace.values.items ≡ 2 ^ height * trace.width) × HasHeight height declared

@@ -1,5 +1,7 @@
 -- What a verifier finds of an input.
 use Rattle.std.specs.Prelude.{◌≡◌, ◌⊎◌, ℕ, false, List, Option, None, Some, Result, Ok, Err}
+use Rattle.stark_support.specs.Coset.{TwoAdicCoset}
+use Rattle.stark_support.specs.Scheme.{SchemeOps}
 use Rattle.stark_air.specs.Declaration.{Trace}
 use Rattle.stark_transcript.specs.declared.error.VerificationError.{VerificationError}
 use Rattle.stark_transcript.specs.declared.error.VerificationError.TheVariants as error
@@ -33,6 +35,10 @@ instance_of air scheme first_state ood_bits alpha_bits public_values key = recor
   public_values = public_values;
   key = key;
 }
+
+-- The scheme refuses no preprocessed columns.
+abbrev pub SetsUpAll : {S F E C K T P X Y : Type 0} → SchemeOps S F E C K T P X Y → S → Type 0
+SetsUpAll {F = F} {Y = Y} scheme s = (coset : TwoAdicCoset F) (values : List F) (width : ℕ) (reason : Y) → scheme.RefusesPreprocessing s coset values width reason → ⊥
 
 -- The answer is Ok where a fact holds, or else a fault.
 abbrev pub Answers : {X : Type 0} → Type 0 → (VerificationError X → Type 0) → Result (Unit {0}) (VerificationError X) → Type 0

@@ -11,5 +11,7 @@ pub trait DeclaredAir {
 }
 
 impl<A: Air<F12289>> DeclaredAir for A {
-    ghost declared = { λ air. checked_air (A.layout air) (A.main_next_row_columns air) (A.periodic_columns air) (A.degree_hint air) (A.constraints air) (A.preprocessed_trace air) (A.preprocessed_next_row_columns air) };
+    ghost declared = { λ air. checked_air (A.layout air) (A.main_next_row_columns air)
+        (A.periodic_columns air) (A.degree_hint air) (A.constraints air)
+        (A.preprocessed_trace air) (A.preprocessed_next_row_columns air) };
 }

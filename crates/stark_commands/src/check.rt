@@ -1,13 +1,10 @@
 //! The command `check`: the equation of a proof at one point, of numbers that are read.
 
-ghost use Rattle.std.specs.Prelude.{◌≡◌, ◌≢◌, ◌≤◌, ◌+◌, ◌^◌, ◌⊎◌, ℕ, true, length, map};
-ghost use Rattle.stark_support.specs.Coset.{coset_size, coset_vanishing};
-ghost use Rattle.stark_fields.specs.Residues.{residue, residue_ring};
-ghost use Rattle.stark_commands.specs.Airs.{IsCutInto, log_chunks_of, sample, shape_of};
-ghost use Rattle.stark_commands.specs.Check.{IsBalanced, check_verdict, checked, found_at_point, trace_coset, vanishing};
-ghost use Rattle.stark_commands.specs.Input.{elements, has_shape, numbers_in};
+ghost use Rattle.std.specs.Prelude.{◌≡◌, ◌≢◌, ◌≤◌, ◌^◌, ◌⊎◌, true, length, map};
+ghost use Rattle.stark_commands.specs.Airs.{log_chunks_of, sample, shape_of};
+ghost use Rattle.stark_commands.specs.Check.{IsBalanced, IsOwed, checked, found_at_point, trace_coset, vanishing, verdict_on_bytes, whole_coset};
+ghost use Rattle.stark_commands.specs.Input.{elements, has_shape};
 ghost use Rattle.stark_commands.specs.Numbers.{numbers};
-ghost use Rattle.stark_protocol.specs.Sizes.{quotient_coset};
 ghost use Rattle.stark_commands.specs.Point.{TellsEquation};
 
 use crate::airs::DeclaredAir;
@@ -31,14 +28,19 @@ fn check_columns<A: Air<F12289>>(
     log_chunks: usize,
     columns: &PeriodicColumns<'_, F12289>,
 ) -> Verdict
-    requires shape { has_shape (shape_of (⟦<A as DeclaredAir>⟧.declared air.now)) (numbers input.now) ≡ true }
-    requires trace { ⟦<Coset<F12289> as PolynomialSpace>⟧.coset_of trace_domain ≡ trace_coset input.now.log_height }
-    requires quotient { ⟦<Coset<F12289> as PolynomialSpace>⟧.coset_of quotient_domain ≡ quotient_coset residue_ring (residue 11) (trace_coset input.now.log_height) log_chunks }
+    requires shape { has_shape (shape_of (⟦<A as DeclaredAir>⟧.declared air.now))
+        (numbers input.now) ≡ true }
+    requires trace { ⟦<Coset<F12289> as PolynomialSpace>⟧.coset_of trace_domain
+        ≡ trace_coset input.now.log_height }
+    requires quotient { ⟦<Coset<F12289> as PolynomialSpace>⟧.coset_of quotient_domain
+        ≡ whole_coset input.now.log_height log_chunks }
     requires chunks { length (numbers input.now).chunks ≡ 2 ^ log_chunks }
     requires outside { vanishing (numbers input.now) ≢ elements.zero }
-    requires columns { map (λ column. column.items) columns.now.columns.now ≡ A.periodic_columns air.now }
+    requires columns { map (λ column. column.items) columns.now.columns.now
+        ≡ A.periodic_columns air.now }
     requires trace_len { columns.now.trace_len ≡ 2 ^ input.now.log_height }
-    ensures { TellsEquation (IsBalanced (⟦<A as DeclaredAir>⟧.declared air.now) log_chunks (numbers input.now)) result }
+    ensures { TellsEquation (IsBalanced (⟦<A as DeclaredAir>⟧.declared air.now) log_chunks
+        (numbers input.now)) result }
 {
     let Ok(preprocessed_next) = zeros(alloc, air.preprocessed_width()) else {
         return Verdict::Refused(Refusal::OutOfMemory);
@@ -61,8 +63,8 @@ fn check_columns<A: Air<F12289>>(
     )
 }
 
-/// What is found at zeta: whether it is a point of H, whether a periodic column doesn't fit H, and whether the equation
-/// holds.
+/// What is found at zeta: whether it is a point of H, whether a periodic column doesn't fit H, and
+/// whether the equation holds.
 fn check_point<A: Air<F12289>>(
     alloc: Global,
     air: &A,
@@ -71,11 +73,15 @@ fn check_point<A: Air<F12289>>(
     quotient_domain: Coset<F12289>,
     log_chunks: usize,
 ) -> Verdict
-    requires shape { has_shape (shape_of (⟦<A as DeclaredAir>⟧.declared air.now)) (numbers input.now) ≡ true }
-    requires trace { ⟦<Coset<F12289> as PolynomialSpace>⟧.coset_of trace_domain ≡ trace_coset input.now.log_height }
-    requires quotient { ⟦<Coset<F12289> as PolynomialSpace>⟧.coset_of quotient_domain ≡ quotient_coset residue_ring (residue 11) (trace_coset input.now.log_height) log_chunks }
+    requires shape { has_shape (shape_of (⟦<A as DeclaredAir>⟧.declared air.now))
+        (numbers input.now) ≡ true }
+    requires trace { ⟦<Coset<F12289> as PolynomialSpace>⟧.coset_of trace_domain
+        ≡ trace_coset input.now.log_height }
+    requires quotient { ⟦<Coset<F12289> as PolynomialSpace>⟧.coset_of quotient_domain
+        ≡ whole_coset input.now.log_height log_chunks }
     requires chunks { length (numbers input.now).chunks ≡ 2 ^ log_chunks }
-    ensures { (result ≡ found_at_point (⟦<A as DeclaredAir>⟧.declared air.now) log_chunks (numbers input.now)) ⊎ (result ≡ Verdict.Refused Refusal.OutOfMemory) }
+    ensures { (result ≡ found_at_point (⟦<A as DeclaredAir>⟧.declared air.now) log_chunks
+        (numbers input.now)) ⊎ (result ≡ Verdict.Refused Refusal.OutOfMemory) }
 {
     if vanishes_at(&trace_domain, input.zeta) {
         return Verdict::Refused(Refusal::OodPointInDomain);
@@ -103,9 +109,11 @@ fn check_cut<A: Air<F12289>>(
     input: &CheckInput,
     log_chunks: usize,
 ) -> Verdict
-    requires shape { has_shape (shape_of (⟦<A as DeclaredAir>⟧.declared air.now)) (numbers input.now) ≡ true }
+    requires shape { has_shape (shape_of (⟦<A as DeclaredAir>⟧.declared air.now))
+        (numbers input.now) ≡ true }
     requires height { input.now.log_height ≤ 12 }
-    ensures { (result ≡ checked (⟦<A as DeclaredAir>⟧.declared air.now) log_chunks (numbers input.now)) ⊎ (result ≡ Verdict.Refused Refusal.OutOfMemory) }
+    ensures { (result ≡ checked (⟦<A as DeclaredAir>⟧.declared air.now) log_chunks
+        (numbers input.now)) ⊎ (result ≡ Verdict.Refused Refusal.OutOfMemory) }
 {
     let log_height = input.log_height as usize;
     let trace_domain: Coset<F12289> = Coset::subgroup(log_height);
@@ -120,10 +128,11 @@ fn check_cut<A: Air<F12289>>(
 
 /// What is found of numbers in the AIR's widths and counts.
 fn check<A: Air<F12289>>(alloc: Global, air: &A, input: &CheckInput) -> Verdict
-    requires shape { has_shape (shape_of (⟦<A as DeclaredAir>⟧.declared air.now)) (numbers input.now) ≡ true }
+    requires shape { has_shape (shape_of (⟦<A as DeclaredAir>⟧.declared air.now))
+        (numbers input.now) ≡ true }
     requires height { input.now.log_height ≤ 12 }
-    ensures { (log_chunks : ℕ) → IsCutInto (⟦<A as DeclaredAir>⟧.declared air.now) log_chunks
-        → (result ≡ checked (⟦<A as DeclaredAir>⟧.declared air.now) log_chunks (numbers input.now)) ⊎ (result ≡ Verdict.Refused Refusal.OutOfMemory) }
+    ensures { IsOwed (⟦<A as DeclaredAir>⟧.declared air.now) (λ log_chunks.
+        checked (⟦<A as DeclaredAir>⟧.declared air.now) log_chunks (numbers input.now)) result }
 {
     let layout = AirLayout::from_air(air);
     let trace_len = 1 << input.log_height;
@@ -135,10 +144,8 @@ fn check<A: Air<F12289>>(alloc: Global, air: &A, input: &CheckInput) -> Verdict
 
 /// What the check of an AIR finds of the bytes of an input.
 fn check_air<A: Air<F12289>>(alloc: Global, air: &A, bytes: &[u8]) -> Verdict
-    ensures { (log_chunks : ℕ) → IsCutInto (⟦<A as DeclaredAir>⟧.declared air.now) log_chunks
-        → (result ≡ check_verdict (⟦<A as DeclaredAir>⟧.declared air.now) log_chunks
-        (numbers_in (shape_of (⟦<A as DeclaredAir>⟧.declared air.now)) bytes.now))
-        ⊎ (result ≡ Verdict.Refused Refusal.OutOfMemory) }
+    ensures { IsOwed (⟦<A as DeclaredAir>⟧.declared air.now) (λ log_chunks.
+        verdict_on_bytes (⟦<A as DeclaredAir>⟧.declared air.now) log_chunks bytes.now) result }
 {
     let Ok(shape) = CheckShape::from_air(alloc, air) else {
         return Verdict::Refused(Refusal::OutOfMemory);
@@ -158,7 +165,8 @@ fn check_air<A: Air<F12289>>(alloc: Global, air: &A, bytes: &[u8]) -> Verdict
 
 /// What the check of a sample AIR finds of the bytes of an input.
 pub fn check_sample(alloc: Global, air: SampleAir, bytes: &[u8]) -> Verdict
-    ensures { (result ≡ check_verdict (sample air) (log_chunks_of air) (numbers_in (shape_of (sample air)) bytes.now)) ⊎ (result ≡ Verdict.Refused Refusal.OutOfMemory) }
+    ensures { (result ≡ verdict_on_bytes (sample air) (log_chunks_of air) bytes.now)
+        ⊎ (result ≡ Verdict.Refused Refusal.OutOfMemory) }
 {
     match sample_air(alloc, air) {
         Ok(sample) => check_air(alloc, &sample, bytes),

@@ -18,8 +18,8 @@ pub type ProgramConfig<C> = ClearConfig<F12289, Extension, C>;
 /// The proofs of the programs' configuration.
 pub type ProgramProof = Proof<ClearCommitment<F12289>, Extension, ClearProof, F12289>;
 
-/// The scheme in the clear that stops nowhere, a challenger in its first state, and so many bits of work before the point out of
-/// the domain and before alpha.
+/// The scheme in the clear that stops nowhere, a challenger in its first state, and so many bits of
+/// work before the point out of the domain and before alpha.
 pub(crate) fn clear_config<F, EF, C>(
     challenger: C,
     ood_bits: usize,

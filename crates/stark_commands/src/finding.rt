@@ -5,7 +5,7 @@ ghost use Rattle.stark_commands.specs.Finding.{finding_end, finding_line};
 
 use crate::verdict::{RunEnd, Verdict};
 use stark_bench::F12289;
-use stark_honest::ConstraintViolation;
+use stark_completeness::ConstraintViolation;
 
 /// A row of a trace that breaks a constraint.
 #[derive(Debug, Drop)]

@@ -80,7 +80,8 @@ impl CheckInput {
 
 /// Whether each list has so many members.
 pub(crate) fn have_length<T>(lists: &[Vec<T>], count: usize) -> bool
-    ensures { result ≡ list_all (λ list. length list == count) (map (λ list. list.items) lists.now) }
+    ensures { result ≡ list_all (λ list.
+        length list == count) (map (λ list. list.items) lists.now) }
 {
     for list in lists {
         if list.len() != count {
@@ -124,7 +125,8 @@ fn row_or_zeros(
     width: usize,
     is_read: bool,
 ) -> Result<Vec<Extension>, JsonFault>
-    ensures { Gives (λ row. row.items) result (row_or_zeros key.now width is_read (view value.now)) }
+    ensures { Gives (λ row. row.items) result
+        (row_or_zeros key.now width is_read (view value.now)) }
 {
     if is_read {
         list_from_json::<Extension>(alloc, field_of(value, key)?)

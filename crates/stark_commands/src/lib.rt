@@ -1,11 +1,14 @@
-//! The commands of the programs, from bytes to an answer: a check of opened numbers, a verification, a check of a trace, a proof.
+//! The commands of the programs, from bytes to an answer: a check of opened numbers, a
+//! verification, a check of a trace, a proof.
 //!
-//! `check`, `verify` and `prove` of a sample AIR read one JSON text; of a statement they read the statement and a proof or a trace.
+//! `check`, `verify` and `prove` of a sample AIR read one JSON text; of a statement they read the
+//! statement and a proof or a trace.
 #![tactic(auto)]
 
 mod airs;
 mod check;
 mod config;
+mod contracts;
 mod finding;
 mod input;
 mod point;

@@ -27,20 +27,23 @@ pub enum NoScheme {}
 
 /// Whether the domain's vanishing value at a point is zero.
 pub fn vanishes_at<D: PolynomialSpace, EF: ExtensionField<D::Val>>(domain: &D, point: EF) -> bool
-    ensures { IsTrue result ↔ (coset_vanishing EF.ring (λ c. c) EF.inverse_of (coset_size (D.coset_of domain.now)) (EF.embed (D.coset_of domain.now).shift) point ≡ EF.ring.zero) }
+    ensures { IsTrue result ↔ (coset_vanishing EF.ring (λ c. c) EF.inverse_of
+        (coset_size (D.coset_of domain.now)) (EF.embed (D.coset_of domain.now).shift) point
+        ≡ EF.ring.zero) }
 {
     domain.vanishing_poly_at_point(point) == EF::ZERO
 }
 
-/// The domain of a quotient of `2^log_chunks` chunks: disjoint from the trace's, and as many times larger. None exactly
-/// where the field has no group of that size.
+/// The domain of a quotient of `2^log_chunks` chunks: disjoint from the trace's, and as many times
+/// larger. None exactly where the field has no group of that size.
 pub fn quotient_domain_of<D: PolynomialSpace>(
     trace_domain: &D,
     log_height: usize,
     log_chunks: usize,
 ) -> Option<D>
     requires { log_height ≡ (D.coset_of trace_domain.now).log_size }
-    ensures domain { IfSome result (λ d. D.coset_of d ≡ quotient_coset D.Val.ring D.Val.GENERATOR (D.coset_of trace_domain.now) log_chunks) }
+    ensures domain { IfSome result (λ d. D.coset_of d
+        ≡ quotient_coset D.Val.ring D.Val.GENERATOR (D.coset_of trace_domain.now) log_chunks) }
     ensures none { IsNone result ↔ (D.Val.TWO_ADICITY < log_height + log_chunks) }
 {
     let (_log_size, size) = checked_log_size_sum(log_height, log_chunks)?;
@@ -62,12 +65,33 @@ pub fn check_equation<SC: StarkGenericConfig, A: Air<Val<SC>>>(
     quotient: SC::Challenge,
 ) -> Verdict
     requires subgroup { (SC.Pcs.Domain.coset_of trace_domain).shift ≡ SC.Pcs.Domain.Val.ring.one }
-    requires outside { coset_vanishing SC.Challenge.ring (λ c. c) SC.Challenge.inverse_of (coset_size (SC.Pcs.Domain.coset_of trace_domain)) (SC.Challenge.embed (SC.Pcs.Domain.coset_of trace_domain).shift) zeta ≢ SC.Challenge.ring.zero }
+    requires outside { coset_vanishing SC.Challenge.ring (λ c. c) SC.Challenge.inverse_of
+        (coset_size (SC.Pcs.Domain.coset_of trace_domain))
+        (SC.Challenge.embed (SC.Pcs.Domain.coset_of trace_domain).shift) zeta ≢
+        SC.Challenge.ring.zero }
     requires one_width { length preprocessed_local.now ≡ length preprocessed_next.now }
-    requires widths { let rows : OpenedRows SC.Pcs.Domain.Val SC.Challenge = record { local = local.now; next = next.now; preprocessed_local = preprocessed_local.now; preprocessed_next = preprocessed_next.now; periodic = periodic_values.now; publics = publics.now } in
+    requires widths { let rows : OpenedRows SC.Pcs.Domain.Val SC.Challenge = record {
+      local = local.now;
+      next = next.now;
+      preprocessed_local = preprocessed_local.now;
+      preprocessed_next = preprocessed_next.now;
+      periodic = periodic_values.now;
+      publics =
+          publics.now;
+    } in
         Covers (opened_layout rows) (A.layout air.now) }
-    ensures { EquationVerdict SC.Pcs.Domain.Val.ring SC.Challenge.ring SC.Challenge.embed (subgroup_of SC.Challenge.inverse_of SC.Challenge.embed SC.Pcs.Domain.Val.root (SC.Pcs.Domain.coset_of trace_domain)) (A.constraints air.now)
-        (record { local = local.now; next = next.now; preprocessed_local = preprocessed_local.now; preprocessed_next = preprocessed_next.now; periodic = periodic_values.now; publics = publics.now })
+    ensures { EquationVerdict SC.Pcs.Domain.Val.ring SC.Challenge.ring SC.Challenge.embed
+        (subgroup_of SC.Challenge.inverse_of SC.Challenge.embed SC.Pcs.Domain.Val.root
+        (SC.Pcs.Domain.coset_of trace_domain)) (A.constraints air.now)
+        (record {
+          local = local.now;
+          next = next.now;
+          preprocessed_local = preprocessed_local.now;
+          preprocessed_next = preprocessed_next.now;
+          periodic = periodic_values.now;
+          publics =
+              publics.now;
+        })
         zeta alpha quotient result }
 {
     let found = verify_constraints::<SC, A, NoScheme>(
@@ -92,7 +116,8 @@ pub fn check_equation<SC: StarkGenericConfig, A: Air<Val<SC>>>(
     }
 }
 
-/// The same, where the periodic columns and the quotient's chunks are first taken at zeta.
+/// What a verifier finds at zeta, where the periodic columns and the quotient's chunks are first
+/// taken there.
 #[tactic(auto, unfolding(crate::specs::Point::PointVerdict, crate::specs::Point::IsOutsideCoset))]
 pub fn equation_at<SC: StarkGenericConfig, A: Air<Val<SC>>>(
     alloc: Global,
@@ -115,14 +140,36 @@ pub fn equation_at<SC: StarkGenericConfig, A: Air<Val<SC>>>(
     requires within { log_chunks ≤ (SC.Pcs.Domain.coset_of quotient_domain).log_size }
     requires dimension { All (λ chunk. vec_len chunk ≡ SC.Challenge.DIMENSION) chunks.now }
     requires subgroup { (SC.Pcs.Domain.coset_of trace_domain).shift ≡ SC.Pcs.Domain.Val.ring.one }
-    requires outside { IsOutsideCoset SC.Challenge.ring SC.Challenge.inverse_of SC.Challenge.embed (SC.Pcs.Domain.coset_of trace_domain) zeta }
+    requires outside { IsOutsideCoset SC.Challenge.ring SC.Challenge.inverse_of SC.Challenge.embed
+        (SC.Pcs.Domain.coset_of trace_domain) zeta }
     requires one_width { length preprocessed_local.now ≡ length preprocessed_next.now }
-    requires widths { (periodic : List SC.Challenge) → length periodic ≡ length columns.now.columns.now
-        → let rows : OpenedRows SC.Pcs.Domain.Val SC.Challenge = record { local = local.now; next = next.now; preprocessed_local = preprocessed_local.now; preprocessed_next = preprocessed_next.now; periodic = periodic; publics = publics.now } in
+    requires widths { (periodic : List SC.Challenge) → length periodic
+        ≡ length columns.now.columns.now
+        → let rows : OpenedRows SC.Pcs.Domain.Val SC.Challenge = record {
+          local = local.now;
+          next = next.now;
+          preprocessed_local = preprocessed_local.now;
+          preprocessed_next = preprocessed_next.now;
+          periodic = periodic;
+          publics = publics.now;
+        }
+        in
         Covers (opened_layout rows) (A.layout air.now) }
-    ensures { PointVerdict SC.Pcs.Domain.Val.ring SC.Pcs.Domain.Val.inverse_of SC.Pcs.Domain.Val.root SC.Challenge.ring SC.Challenge.inverse_of SC.Challenge.embed SC.Challenge.basis
-        (SC.Pcs.Domain.coset_of trace_domain) (SC.Pcs.Domain.coset_of quotient_domain) log_chunks (A.constraints air.now) (λ column. column.items) columns.now.columns.now (λ chunk. chunk.items) chunks.now
-        (λ periodic. record { local = local.now; next = next.now; preprocessed_local = preprocessed_local.now; preprocessed_next = preprocessed_next.now; periodic = periodic; publics = publics.now })
+    ensures { PointVerdict SC.Pcs.Domain.Val.ring SC.Pcs.Domain.Val.inverse_of
+        SC.Pcs.Domain.Val.root SC.Challenge.ring SC.Challenge.inverse_of SC.Challenge.embed
+        SC.Challenge.basis
+        (SC.Pcs.Domain.coset_of trace_domain) (SC.Pcs.Domain.coset_of quotient_domain) log_chunks
+        (A.constraints air.now) (λ column. column.items) columns.now.columns.now (λ chunk.
+        chunk.items) chunks.now
+        (λ periodic. record {
+          local = local.now;
+          next = next.now;
+          preprocessed_local =
+              preprocessed_local.now;
+          preprocessed_next = preprocessed_next.now;
+          periodic = periodic;
+          publics = publics.now;
+        })
         zeta alpha result }
 {
     let Ok(periodic_values) = trace_domain.evaluate_periodic_columns_at(alloc, columns, zeta) else {
@@ -146,7 +193,8 @@ pub fn equation_at<SC: StarkGenericConfig, A: Air<Val<SC>>>(
     )
 }
 
-/// The same with a scheme in the clear, over any field and extension. A call of this one writes out no scheme.
+/// `equation_at` with a scheme in the clear, over any field and extension. A call of this one
+/// writes out no scheme.
 #[tactic(auto, unfolding(crate::specs::Point::PointVerdict, crate::specs::Point::IsOutsideCoset))]
 pub fn equation_over<F, EF, C, A>(
     alloc: Global,
@@ -169,19 +217,41 @@ where
     EF: ExtensionField<F>,
     C: FieldChallenger<F> + CanObserve<ClearCommitment<F>> + ExtensionChallenger<F, EF> + Clone,
     A: Air<F>,
-    requires trace_len { columns.now.trace_len ≡ coset_size (⟦<Coset<F> as PolynomialSpace>⟧.coset_of trace_domain) }
+    requires trace_len { columns.now.trace_len
+        ≡ coset_size (⟦<Coset<F> as PolynomialSpace>⟧.coset_of trace_domain) }
     requires number { length chunks.now ≡ 2 ^ log_chunks }
-    requires within { log_chunks ≤ (⟦<Coset<F> as PolynomialSpace>⟧.coset_of quotient_domain).log_size }
+    requires within { log_chunks ≤ (⟦<Coset<F> as PolynomialSpace>⟧.coset_of
+        quotient_domain).log_size }
     requires dimension { All (λ chunk. vec_len chunk ≡ EF.DIMENSION) chunks.now }
     requires subgroup { (⟦<Coset<F> as PolynomialSpace>⟧.coset_of trace_domain).shift ≡ F.ring.one }
-    requires outside { IsOutsideCoset EF.ring EF.inverse_of EF.embed (⟦<Coset<F> as PolynomialSpace>⟧.coset_of trace_domain) zeta }
+    requires outside { IsOutsideCoset EF.ring EF.inverse_of EF.embed
+        (⟦<Coset<F> as PolynomialSpace>⟧.coset_of trace_domain) zeta }
     requires one_width { length preprocessed_local.now ≡ length preprocessed_next.now }
     requires widths { (periodic : List EF) → length periodic ≡ length columns.now.columns.now
-        → let rows : OpenedRows F EF = record { local = local.now; next = next.now; preprocessed_local = preprocessed_local.now; preprocessed_next = preprocessed_next.now; periodic = periodic; publics = publics.now } in
+        → let rows : OpenedRows F EF = record {
+          local = local.now;
+          next = next.now;
+          preprocessed_local = preprocessed_local.now;
+          preprocessed_next = preprocessed_next.now;
+          periodic = periodic;
+          publics = publics.now;
+        }
+        in
         Covers (opened_layout rows) (A.layout air.now) }
     ensures { PointVerdict F.ring F.inverse_of F.root EF.ring EF.inverse_of EF.embed EF.basis
-        (⟦<Coset<F> as PolynomialSpace>⟧.coset_of trace_domain) (⟦<Coset<F> as PolynomialSpace>⟧.coset_of quotient_domain) log_chunks (A.constraints air.now) (λ column. column.items) columns.now.columns.now (λ chunk. chunk.items) chunks.now
-        (λ periodic. record { local = local.now; next = next.now; preprocessed_local = preprocessed_local.now; preprocessed_next = preprocessed_next.now; periodic = periodic; publics = publics.now })
+        (⟦<Coset<F> as PolynomialSpace>⟧.coset_of trace_domain)
+        (⟦<Coset<F> as PolynomialSpace>⟧.coset_of quotient_domain) log_chunks
+        (A.constraints air.now) (λ column. column.items) columns.now.columns.now (λ chunk.
+        chunk.items) chunks.now
+        (λ periodic. record {
+          local = local.now;
+          next = next.now;
+          preprocessed_local =
+              preprocessed_local.now;
+          preprocessed_next = preprocessed_next.now;
+          periodic = periodic;
+          publics = publics.now;
+        })
         zeta alpha result }
 {
     equation_at::<ClearConfig<F, EF, C>, A>(

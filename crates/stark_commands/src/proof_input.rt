@@ -79,7 +79,9 @@ fn proof_from_json<Com: NeverNull + Drop, PcsProof: JsonCodec + Drop>(
     alloc: Global,
     value: &Value,
 ) -> Result<Proof<Com, Extension, PcsProof, F12289>, JsonFault>
-    ensures { Gives proof_view result (ok_of (proof_reading Com.reading (element_at base_at) PcsProof.reading base_at residue_ring.zero (view value.now))) }
+    ensures { Gives proof_view result (ok_of
+        (proof_reading Com.reading (element_at base_at) PcsProof.reading base_at
+        residue_ring.zero (view value.now))) }
 {
     match Proof::from_json(alloc, value) {
         Ok(proof) => Ok(proof),
@@ -88,14 +90,15 @@ fn proof_from_json<Com: NeverNull + Drop, PcsProof: JsonCodec + Drop>(
     }
 }
 
-/// What a JSON value has under the names `proof`, `publics`, `challenger`, `ood_bits` and `alpha_bits`, of which the last two
-/// may be missing.
+/// What a JSON value has under the names `proof`, `publics`, `challenger`, `ood_bits` and
+/// `alpha_bits`, of which the last two may be missing.
 #[tactic(auto, unfolding(crate::specs::ProofInput::proof_numbers_at))]
 fn proof_input_of<Com: NeverNull + Drop, PcsProof: JsonCodec + Drop>(
     alloc: Global,
     value: &Value,
 ) -> Result<ProofInput<Com, PcsProof>, JsonFault>
-    ensures reads { Gives proof_numbers result (proof_numbers_at Com.reading PcsProof.reading (view value.now)) }
+    ensures reads { Gives proof_numbers result
+        (proof_numbers_at Com.reading PcsProof.reading (view value.now)) }
     ensures some { IfOk result (λ input. HasSomeNumber input.challenger) }
 {
     let proof = proof_from_json(alloc, field_of(value, "proof")?)?;
@@ -118,7 +121,8 @@ pub fn proof_input_from<Com: NeverNull + Drop, PcsProof: JsonCodec + Drop>(
     alloc: Global,
     bytes: &[u8],
 ) -> Result<ProofInput<Com, PcsProof>, JsonFault>
-    ensures reads { Gives proof_numbers result (proof_numbers_in Com.reading PcsProof.reading bytes.now) }
+    ensures reads { Gives proof_numbers result
+        (proof_numbers_in Com.reading PcsProof.reading bytes.now) }
     ensures some { IfOk result (λ input. HasSomeNumber input.challenger) }
 {
     let value = value_from_bytes(alloc, bytes)?;

@@ -62,7 +62,8 @@ pub enum ProofRefusal {
     OpenedValuesDimensionMismatch,
     /// The witness of work before alpha isn't zero where no work is asked for there.
     NonCanonicalAlphaPowWitness,
-    /// The witness of work before the out-of-domain point isn't zero where no work is asked for there.
+    /// The witness of work before the out-of-domain point isn't zero where no work is asked for
+    /// there.
     NonCanonicalOodPowWitness,
 }
 
@@ -178,7 +179,8 @@ fn shape_refusal_of(error: &InvalidProofShapeError) -> Refusal
     }
 }
 
-/// What is said of a proof that isn't accepted: the name of the error, and of a shape's error its own.
+/// What is said of a proof that isn't accepted: the name of the error, and of a shape's error its
+/// own.
 fn refusal_of<PcsErr>(error: &VerificationError<PcsErr>) -> Refusal
     ensures { result ≡ refusal_of error.now }
 {

@@ -13,7 +13,8 @@ use stark_statement::AirTooLarge;
 use std::alloc::Global;
 use std::fmt::Display;
 
-/// An answer, and in words why it isn't another, where there is something to say and memory to say it. No clause speaks of the words.
+/// An answer, and in words why it isn't another, where there is something to say and memory to say
+/// it. No clause speaks of the words.
 #[derive(Debug, Drop)]
 pub struct Report<T> {
     pub answer: T,
@@ -39,7 +40,8 @@ impl Report<Verdict> {
         }
     }
 
-    /// The rows are no trace of the AIR's: their number, their width or the number of public values is another.
+    /// The rows are no trace of the AIR's: their number, their width or the number of public values
+    /// is another.
     pub(crate) fn unfit_trace(alloc: Global) -> Report<Verdict>
         ensures { result.answer ≡ Verdict.BadInput }
     {

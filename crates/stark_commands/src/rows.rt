@@ -8,12 +8,14 @@ use stark_air::Air;
 use stark_bench::F12289;
 use std::alloc::{AllocError, Global};
 
-/// The logarithm of the rows of an AIR's preprocessed columns, 0 without any; None where they are no power of two from 1 to 4096.
-/// Err only where memory was refused.
+/// The logarithm of the rows of an AIR's preprocessed columns, 0 without any; None where they are
+/// no power of two from 1 to 4096. Err only where memory was refused.
 pub fn log_rows_of<A: Air<F12289>>(alloc: Global, air: &A) -> Result<Option<usize>, AllocError>
-    ensures height { IfOk result (λ found. IfSome found (λ log_rows. HasHeight log_rows (A.preprocessed_trace air.now))) }
+    ensures height { IfOk result (λ found.
+        IfSome found (λ log_rows. HasHeight log_rows (A.preprocessed_trace air.now))) }
     ensures within { IfOk result (λ found. IfSome found (λ log_rows. log_rows ≤ 12)) }
-    ensures none { IfOk result (λ found. IsNone found → (log_rows : ℕ) → log_rows ≤ 12 → HasHeight log_rows (A.preprocessed_trace air.now) → ⊥) }
+    ensures none { IfOk result (λ found. IsNone found → (log_rows : ℕ) → log_rows ≤ 12
+        → HasHeight log_rows (A.preprocessed_trace air.now) → ⊥) }
 {
     let Some(trace) = air.preprocessed_trace(alloc)? else {
         return Ok(Some(0));

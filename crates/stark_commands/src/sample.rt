@@ -31,7 +31,8 @@ pub enum SampleAir {
     Pair,
 }
 
-/// The AIR of lists that are written out. Err only where memory was refused, since none of the lists here has a fault.
+/// The AIR of lists that are written out. Err only where memory was refused, since none of the
+/// lists here has a fault.
 fn written_out<const N: usize, const M: usize, const K: usize>(
     alloc: Global,
     columns: TreeColumns<F12289>,
@@ -39,7 +40,8 @@ fn written_out<const N: usize, const M: usize, const K: usize>(
     nodes: [TreeNode; M],
     constraints: [TreeConstraint; K],
 ) -> Result<TreeAir<F12289>, AllocError>
-    ensures { IfOk result (λ air. air_view air.declaration air.list ≡ view_of_lists (columns_view columns) constants.entry nodes.entry constraints.entry) }
+    ensures { IfOk result (λ air. air_view air.declaration air.list
+        ≡ view_of_lists (columns_view columns) constants.entry nodes.entry constraints.entry) }
 {
     let declaration = TreeDeclaration::without_hints(columns);
     match TreeAir::of(alloc, declaration, constants, nodes, constraints) {
@@ -49,7 +51,8 @@ fn written_out<const N: usize, const M: usize, const K: usize>(
 }
 
 fn counter(alloc: Global) -> Result<TreeAir<F12289>, AllocError>
-    ensures { IfOk result (λ air. ⟦<TreeAir<F12289> as DeclaredAir>⟧.declared air ≡ sample Counter) }
+    ensures { IfOk result (λ air. ⟦<TreeAir<F12289> as DeclaredAir>⟧.declared air
+        ≡ sample Counter) }
 {
     let nodes = [
         TreeNode::FirstRow,
@@ -82,7 +85,8 @@ fn cubic(alloc: Global) -> Result<TreeAir<F12289>, AllocError>
 }
 
 fn fibonacci(alloc: Global) -> Result<TreeAir<F12289>, AllocError>
-    ensures { IfOk result (λ air. ⟦<TreeAir<F12289> as DeclaredAir>⟧.declared air ≡ sample Fibonacci) }
+    ensures { IfOk result (λ air. ⟦<TreeAir<F12289> as DeclaredAir>⟧.declared air
+        ≡ sample Fibonacci) }
 {
     let nodes = [
         TreeNode::FirstRow,
@@ -119,7 +123,8 @@ fn fibonacci(alloc: Global) -> Result<TreeAir<F12289>, AllocError>
 }
 
 fn periodic(alloc: Global) -> Result<TreeAir<F12289>, AllocError>
-    ensures { IfOk result (λ air. ⟦<TreeAir<F12289> as DeclaredAir>⟧.declared air ≡ sample Periodic) }
+    ensures { IfOk result (λ air. ⟦<TreeAir<F12289> as DeclaredAir>⟧.declared air
+        ≡ sample Periodic) }
 {
     let nodes = [
         TreeNode::MainCurrent(0),
@@ -141,7 +146,8 @@ fn periodic(alloc: Global) -> Result<TreeAir<F12289>, AllocError>
 }
 
 fn preprocessed(alloc: Global) -> Result<TreeAir<F12289>, AllocError>
-    ensures { IfOk result (λ air. ⟦<TreeAir<F12289> as DeclaredAir>⟧.declared air ≡ sample Preprocessed) }
+    ensures { IfOk result (λ air. ⟦<TreeAir<F12289> as DeclaredAir>⟧.declared air
+        ≡ sample Preprocessed) }
 {
     let nodes = [
         TreeNode::MainCurrent(0),
@@ -195,12 +201,15 @@ fn pair(alloc: Global) -> Result<TreeAir<F12289>, AllocError>
     written_out(alloc, columns, [F12289::ONE], nodes, constraints)
 }
 
-/// The sample AIR of a name, which has main columns, and four rows of preprocessed ones if any. Err only where memory was
-/// refused.
+/// The sample AIR of a name, which has main columns, and four rows of preprocessed ones if any. Err
+/// only where memory was refused.
 pub fn sample_air(alloc: Global, name: SampleAir) -> Result<TreeAir<F12289>, AllocError>
-    ensures declared { IfOk result (λ air. ⟦<TreeAir<F12289> as DeclaredAir>⟧.declared air ≡ sample name) }
-    ensures height { IfOk result (λ air. HasHeight 2 (⟦<TreeAir<F12289> as BaseAir<F12289>>⟧.preprocessed_trace air)) }
-    ensures columns { IfOk result (λ air. 0 < (⟦<TreeAir<F12289> as BaseAir<F12289>>⟧.layout air).main) }
+    ensures declared { IfOk result (λ air. ⟦<TreeAir<F12289> as DeclaredAir>⟧.declared air
+        ≡ sample name) }
+    ensures height { IfOk result (λ air.
+        HasHeight 2 (⟦<TreeAir<F12289> as BaseAir<F12289>>⟧.preprocessed_trace air)) }
+    ensures columns { IfOk result (λ air.
+        0 < (⟦<TreeAir<F12289> as BaseAir<F12289>>⟧.layout air).main) }
 {
     match name {
         SampleAir::Counter => counter(alloc),

@@ -1,11 +1,11 @@
 //! The check of a trace: whether it satisfies a statement's AIR.
 
-ghost use Rattle.std.specs.Prelude.{◌≡◌, ◌*◌, ◌^◌, ◌<◌, ℕ, IfOk, Some, length, string_bytes};
-ghost use Rattle.stark_honest.specs.RowCheck.{trace_of};
+ghost use Rattle.std.specs.Prelude.{◌≡◌, ◌<◌, IfOk, Some, length, string_bytes};
+ghost use Rattle.stark_completeness.specs.RowCheck.{trace_of};
 ghost use Rattle.stark_protocol.specs.Preprocessing.{HasHeight};
 ghost use Rattle.stark_statement.specs.StatementView.{statement_view};
 ghost use Rattle.stark_tree_air.specs.TreeJson.{list_view};
-ghost use Rattle.stark_commands.specs.TraceChecks.{IsCheckedTrace, IsCheckedWithRows, OrLacksMemory, broken_lines};
+ghost use Rattle.stark_commands.specs.TraceChecks.{IsAsHighAs, IsCheckedTrace, IsCheckedWithRows, OrLacksMemory, broken_lines};
 ghost use Rattle.stark_commands.specs.TraceInput.{rows_of};
 
 use crate::airs::DeclaredAir;
@@ -15,7 +15,7 @@ use crate::report::Report;
 use crate::trace_input::{log_height_of_rows, values_of};
 use stark_air::BaseAir;
 use stark_bench::F12289;
-use stark_honest::{ConstraintCheckError, ConstraintViolation, check_declared};
+use stark_completeness::{ConstraintCheckError, ConstraintViolation, check_declared};
 use stark_show::equation;
 use stark_statement::Statement;
 use stark_support::{PrimeField64, RowMajorMatrix};
@@ -53,8 +53,8 @@ fn check_trace(
     requires columns { 0 < trace.now.width }
     requires width { trace.now.width
         ≡ (⟦<TreeAir<F12289> as BaseAir<F12289>>⟧.layout air.now).main }
-    requires height { (height : ℕ) × (length trace.now.values.items ≡ 2 ^ height * trace.now.width)
-        × HasHeight height (⟦<TreeAir<F12289> as BaseAir<F12289>>⟧.preprocessed_trace air.now) }
+    requires height { IsAsHighAs (⟦<TreeAir<F12289> as BaseAir<F12289>>⟧.preprocessed_trace
+        air.now) trace.now }
     requires publics { length publics.now
         ≡ (⟦<TreeAir<F12289> as BaseAir<F12289>>⟧.layout air.now).publics }
     ensures { OrLacksMemory (IsCheckedTrace (⟦<TreeAir<F12289> as DeclaredAir>⟧.declared air.now)

@@ -28,11 +28,13 @@ pub struct TraceInput {
 }
 
 impl TraceInput {
-    /// The logarithm of the trace's height, where it is a power of two from 1 to 4096, and `2^log_rows` beside preprocessed columns,
-    /// and the rows are as wide and the public values as many as those of the shape; else None.
+    /// The logarithm of the trace's height, where it is a power of two from 1 to 4096, and
+    /// `2^log_rows` beside preprocessed columns, and the rows are as wide and the public values as
+    /// many as those of the shape; else None.
     pub fn log_height(&self, shape: CheckShape, log_rows: usize) -> Option<usize>
         ensures some { IfSome result (HasTraceShape shape log_rows (trace_numbers self.now)) }
-        ensures none { IsNone result → (log_height : ℕ) → HasTraceShape shape log_rows (trace_numbers self.now) log_height → ⊥ }
+        ensures none { IsNone result → (log_height : ℕ)
+            → HasTraceShape shape log_rows (trace_numbers self.now) log_height → ⊥ }
     {
         log_height_of_rows(&self.rows, &self.publics, shape, log_rows)
     }
@@ -80,7 +82,8 @@ pub fn log_of_height(height: usize) -> Option<usize>
 
 /// The values of rows, one row after the other.
 pub fn values_of(alloc: Global, rows: &[Vec<F12289>]) -> Result<Vec<F12289>, AllocError>
-    ensures { IfOk result (λ values. values.items ≡ flat_map (λ row. row) (map (λ row. row.items) rows.now)) }
+    ensures { IfOk result (λ values. values.items
+        ≡ flat_map (λ row. row) (map (λ row. row.items) rows.now)) }
 {
     let mut values = Vec::new(alloc);
     for row in rows {
@@ -89,8 +92,8 @@ pub fn values_of(alloc: Global, rows: &[Vec<F12289>]) -> Result<Vec<F12289>, All
     Ok(values)
 }
 
-/// What a JSON value has under the names `trace`, `publics`, `challenger`, `ood_bits` and `alpha_bits`, of which the last two
-/// may be missing.
+/// What a JSON value has under the names `trace`, `publics`, `challenger`, `ood_bits` and
+/// `alpha_bits`, of which the last two may be missing.
 #[tactic(auto, unfolding(crate::specs::TraceInput::trace_numbers_at))]
 fn trace_input_of(alloc: Global, value: &Value) -> Result<TraceInput, JsonFault>
     ensures reads { Gives trace_numbers result (trace_numbers_at (view value.now)) }

@@ -41,7 +41,7 @@ trait RowAnswers {
     ghost told_rows: { TraceTask → StatementView Base → ℕ → Option (List (List Base))
         → Finding → Type 0 };
 
-    /// The same where the columns' height is still to be found.
+    /// By what is asked for the trace, where the columns' height is still to be found.
     ghost told: { TraceTask → Option (List (List Base)) → StatementView Base
         → Finding → Type 0 };
 }

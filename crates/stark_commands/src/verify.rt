@@ -1,7 +1,6 @@
 //! The command `verify`: a verifier's verdict on a proof that is read.
 
 ghost use Rattle.std.specs.Prelude.{◌≡◌, ◌⊎◌, ◌+◌, ◌≤◌, ℕ, List, replicate};
-ghost use Rattle.stark_support.specs.Coset.{TwoAdicCoset};
 ghost use Rattle.stark_support.specs.Scheme.{zk_bits};
 ghost use Rattle.stark_protocol.specs.Preprocessing.{HasHeight};
 ghost use Rattle.stark_proof.specs.ProofView.{proof_view};
@@ -9,11 +8,11 @@ ghost use Rattle.stark_clear.specs.ClearScheme.{clear_pcs};
 ghost use Rattle.stark_commands.specs.Airs.{sample};
 ghost use Rattle.stark_commands.specs.ProofInput.{HasSomeNumber, named_challenger, proof_numbers_in};
 ghost use Rattle.stark_commands.specs.SoundRun.{IsSoundlyRead};
-ghost use Rattle.stark_commands.specs.Verify.{IsAnswerWithKey, IsVerdict, IsVerdictBy, IsVerified};
+ghost use Rattle.stark_commands.specs.Verify.{IsVerified, SetsUpAll};
 ghost use Rattle.stark_commands.specs.declared.verdict.Verdict.{Verdict};
 
-use crate::airs::DeclaredAir;
 use crate::config::{ClearConfig, ProgramConfig, ProgramProof, clear_config};
+use crate::contracts::{AnswersWithColumns, ProgramAir, ProgramRun};
 use crate::input::Extension;
 use crate::proof_input::{ChosenChallenger, ProofInput, proof_input_from};
 use crate::refusal::{verdict_of, words_of_refusal};
@@ -21,7 +20,7 @@ use crate::report::Report;
 use crate::sample::{SampleAir, sample_air};
 use crate::verdict::{Refusal, Verdict};
 use p3_uni_stark::{
-    Proof, ProvingError, StarkInstance, StarkOperations, StarkProof, setup_preprocessed, verify,
+    Proof, ProvingError, StarkOperations, StarkProof, setup_preprocessed, verify,
     verify_with_preprocessed,
 };
 use stark_air::Air;
@@ -34,8 +33,9 @@ use stark_support::{
 use stark_transcript::VerificationError;
 use std::alloc::{AllocError, Global};
 
-/// What a verifier finds of the bytes of an input, by the verifier's own acceptance, and that the columns which the proof in them
-/// lists break no constraint, unless a challenge is bad. It has no code.
+/// What a verifier finds of the bytes of an input, by the verifier's own acceptance, and that the
+/// columns which the proof in them lists break no constraint, unless a challenge is bad. It has no
+/// code.
 pub trait VerifiedInput {
     ghost verified: { Self → List ℕ → Verdict → Type 0 };
 
@@ -44,18 +44,22 @@ pub trait VerifiedInput {
 
 impl VerifiedInput for SampleAir {
     ghost verified = { λ air input v. IsVerified
-        (⟦<ProgramConfig<Sha256Challenger<F12289>> as StarkOperations>⟧.operations) (⟦<ProgramConfig<ScriptChallenger<F12289>> as StarkOperations>⟧.operations)
+        (⟦<ProgramConfig<Sha256Challenger<F12289>> as StarkOperations>⟧.operations)
+        (⟦<ProgramConfig<ScriptChallenger<F12289>> as StarkOperations>⟧.operations)
         2 clear_pcs (replicate 32 0) (λ numbers. (numbers, 0)) (sample air)
-        (proof_numbers_in (⟦<ClearCommitment<F12289> as JsonCodec>⟧.reading) (⟦<ClearProof as JsonCodec>⟧.reading) input) v };
+        (proof_numbers_in (⟦<ClearCommitment<F12289> as JsonCodec>⟧.reading)
+        (⟦<ClearProof as JsonCodec>⟧.reading) input) v };
 
     ghost sound = { λ air input. IsSoundlyRead
-        (⟦<ProgramConfig<Sha256Challenger<F12289>> as StarkOperations>⟧.operations) (⟦<ProgramConfig<ScriptChallenger<F12289>> as StarkOperations>⟧.operations)
+        (⟦<ProgramConfig<Sha256Challenger<F12289>> as StarkOperations>⟧.operations)
+        (⟦<ProgramConfig<ScriptChallenger<F12289>> as StarkOperations>⟧.operations)
         2 clear_pcs (replicate 32 0) (λ numbers. (numbers, 0)) (sample air)
-        (proof_numbers_in (⟦<ClearCommitment<F12289> as JsonCodec>⟧.reading) (⟦<ClearProof as JsonCodec>⟧.reading) input) };
+        (proof_numbers_in (⟦<ClearCommitment<F12289> as JsonCodec>⟧.reading)
+        (⟦<ClearProof as JsonCodec>⟧.reading) input) };
 }
 
-/// The verifier's answer for a proof, with the key of the AIR's preprocessed columns, which have `2^log_rows` rows. The scheme
-/// sets up all columns.
+/// The verifier's answer for a proof, with the key of the AIR's preprocessed columns, which have
+/// `2^log_rows` rows. The scheme sets up all columns.
 fn verify_with_key<SC, A>(
     alloc: Global,
     config: &SC,
@@ -69,13 +73,16 @@ where
     SC::Challenger: GrindingChallenger<Witness = Val<SC>>,
     A: Air<Val<SC>>,
     requires height { HasHeight log_rows (A.preprocessed_trace air.now) }
-    requires within { log_rows + zk_bits SC.Pcs.ZK ≤ SC.Pcs.scheme.log_max_trace_height (SC.config.scheme config.now) }
-    requires sets_up { (coset : TwoAdicCoset SC.Pcs.Domain.Val) (values : List SC.Pcs.Domain.Val) (width : ℕ) (reason : SC.Pcs.ProverError) → SC.Pcs.scheme.RefusesPreprocessing (SC.config.scheme config.now) coset values width reason → ⊥ }
-    ensures { IsAnswerWithKey ⟦<SC as StarkOperations>⟧.operations log_rows (SC.config.scheme config.now) (A.preprocessed_trace air.now) (⟦<SC as StarkInstance<A>>⟧.instance config.now air.now publics.now) (proof_view proof.now) result }
+    requires within { log_rows + zk_bits SC.Pcs.ZK ≤ SC.Pcs.scheme.log_max_trace_height
+        (SC.config.scheme config.now) }
+    requires sets_up { SetsUpAll SC.Pcs.scheme (SC.config.scheme config.now) }
+    ensures { ⟦<SC as AnswersWithColumns<A>>⟧.verifies log_rows config.now air.now proof.now
+        publics.now result }
 {
     match setup_preprocessed(alloc, config, air, log_rows) {
         Ok(None) => verify(alloc, config, air, proof, publics),
-        // The set-up is the verifier's own, from the declared columns: the prover's half of it isn't wanted here.
+        // The set-up is the verifier's own, from the declared columns: the prover's half of it
+        // isn't wanted here.
         Ok(Some((_data, key))) => {
             verify_with_preprocessed(alloc, config, air, proof, publics, Some(&key))
         }
@@ -84,8 +91,8 @@ where
     }
 }
 
-/// The answer with the scheme in the clear that stops nowhere, over any field and extension: a call of this function writes out
-/// no scheme, so that its proof is short.
+/// The answer with the scheme in the clear that stops nowhere, over any field and extension: a call
+/// of this function writes out no scheme, so that its proof is short.
 fn verify_in_the_clear<F, EF, C, A>(
     alloc: Global,
     config: &ClearConfig<F, EF, C>,
@@ -102,13 +109,15 @@ where
     requires height { HasHeight log_rows (A.preprocessed_trace air.now) }
     requires within { log_rows ≤ F.TWO_ADICITY }
     requires stops_nowhere { config.now.pcs ≡ clear_pcs }
-    ensures { IsAnswerWithKey ⟦<ClearConfig<F, EF, C> as StarkOperations>⟧.operations log_rows config.now.pcs (A.preprocessed_trace air.now) (⟦<ClearConfig<F, EF, C> as StarkInstance<A>>⟧.instance config.now air.now publics.now) (proof_view proof.now) result }
+    ensures { ⟦<ClearConfig<F, EF, C> as AnswersWithColumns<A>>⟧.verifies log_rows config.now
+        air.now proof.now publics.now result }
 {
     verify_with_key(alloc, config, air, log_rows, proof, publics)
 }
 
-/// What the verifier answers for a proof, with a challenger in its first state, and so many bits of work before the point out of
-/// the domain and before alpha; and in words what a proof is refused for.
+/// What the verifier answers for a proof, with a challenger in its first state, and so many bits of
+/// work before the point out of the domain and before alpha; and in words what a proof is refused
+/// for.
 pub(crate) fn verify_proof<C, A>(
     alloc: Global,
     air: &A,
@@ -124,8 +133,8 @@ where
     A: Air<F12289>,
     requires height { HasHeight log_rows (A.preprocessed_trace air.now) }
     requires within { log_rows ≤ 12 }
-    ensures { (result.answer ≡ Verdict.Refused Refusal.OutOfMemory) ⊎ IsVerdict (⟦<ProgramConfig<C> as StarkOperations>⟧.operations) log_rows clear_pcs challenger
-        (⟦<A as DeclaredAir>⟧.declared air.now) (proof_view proof.now) publics.now ood_bits alpha_bits result.answer }
+    ensures { ⟦<C as ProgramRun<A>>⟧.judges log_rows challenger air.now (proof_view proof.now)
+        publics.now ood_bits alpha_bits result.answer }
 {
     let config: ProgramConfig<C> = clear_config(challenger, ood_bits, alpha_bits);
     let answer = verify_in_the_clear(alloc, &config, air, log_rows, proof, publics);
@@ -149,10 +158,8 @@ fn verify_by<A: Air<F12289>>(
     requires height { HasHeight log_rows (A.preprocessed_trace air.now) }
     requires within { log_rows ≤ 12 }
     requires some { HasSomeNumber challenger }
-    ensures { (result ≡ Verdict.Refused Refusal.OutOfMemory) ⊎ IsVerdictBy
-        (⟦<ProgramConfig<Sha256Challenger<F12289>> as StarkOperations>⟧.operations) (⟦<ProgramConfig<ScriptChallenger<F12289>> as StarkOperations>⟧.operations)
-        log_rows clear_pcs (replicate 32 0) (λ numbers. (numbers, 0)) (⟦<A as DeclaredAir>⟧.declared air.now)
-        (record { proof = proof_view proof.now; publics = publics.now; challenger = named_challenger challenger; ood_bits = ood_bits; alpha_bits = alpha_bits }) (named_challenger challenger) result }
+    ensures { ⟦<A as ProgramAir>⟧.judges log_rows air.now (proof_view proof.now) publics.now
+        (named_challenger challenger) ood_bits alpha_bits result }
 {
     match challenger {
         ChosenChallenger::Sha256 => {
@@ -172,15 +179,13 @@ fn verify_by<A: Air<F12289>>(
     }
 }
 
-/// The verdict on the bytes of an input, for an AIR whose preprocessed columns have `2^log_rows` rows.
+/// The verdict on the bytes of an input, for an AIR whose preprocessed columns have `2^log_rows`
+/// rows.
 #[tactic(auto, unfolding(crate::specs::Verify::IsVerified))]
 fn verify_input<A: Air<F12289>>(alloc: Global, air: &A, log_rows: usize, bytes: &[u8]) -> Verdict
     requires height { HasHeight log_rows (A.preprocessed_trace air.now) }
     requires within { log_rows ≤ 12 }
-    ensures { (result ≡ Verdict.Refused Refusal.OutOfMemory) ⊎ IsVerified
-        (⟦<ProgramConfig<Sha256Challenger<F12289>> as StarkOperations>⟧.operations) (⟦<ProgramConfig<ScriptChallenger<F12289>> as StarkOperations>⟧.operations)
-        log_rows clear_pcs (replicate 32 0) (λ numbers. (numbers, 0)) (⟦<A as DeclaredAir>⟧.declared air.now)
-        (proof_numbers_in (⟦<ClearCommitment<F12289> as JsonCodec>⟧.reading) (⟦<ClearProof as JsonCodec>⟧.reading) bytes.now) result }
+    ensures { ⟦<A as ProgramAir>⟧.judges_bytes log_rows air.now bytes.now result }
 {
     match proof_input_from::<ClearCommitment<F12289>, ClearProof>(alloc, bytes) {
         Ok(input) => {
@@ -200,12 +205,11 @@ fn verify_input<A: Air<F12289>>(alloc: Global, air: &A, log_rows: usize, bytes: 
     }
 }
 
-/// The verdict of a sample AIR's verifier on the bytes of an input: `bad input` where they spell no proof.
+/// The verdict of a sample AIR's verifier on the bytes of an input: `bad input` where they spell no
+/// proof.
 pub fn verify_sample(alloc: Global, air: SampleAir, bytes: &[u8]) -> Verdict
-    ensures verified { IsVerified
-        (⟦<ProgramConfig<Sha256Challenger<F12289>> as StarkOperations>⟧.operations) (⟦<ProgramConfig<ScriptChallenger<F12289>> as StarkOperations>⟧.operations)
-        2 clear_pcs (replicate 32 0) (λ numbers. (numbers, 0)) (sample air)
-        (proof_numbers_in (⟦<ClearCommitment<F12289> as JsonCodec>⟧.reading) (⟦<ClearProof as JsonCodec>⟧.reading) bytes.now) result ⊎ (result ≡ Verdict.Refused Refusal.OutOfMemory) }
+    ensures verified { ⟦<SampleAir as VerifiedInput>⟧.verified air bytes.now result
+        ⊎ (result ≡ Verdict.Refused Refusal.OutOfMemory) }
     ensures sound { result ≡ Verdict.Accepted → ⟦<SampleAir as VerifiedInput>⟧.sound air bytes.now }
 {
     match sample_air(alloc, air) {

@@ -1,5 +1,5 @@
 -- The lists that columns are, and columns that take given values at the points of a coset.
-use Rattle.std.specs.Prelude.{◌≡◌, ℕ, ◌+◌, ◌*◌, ◌<◌, List, length, Some}
+use Rattle.std.specs.Prelude.{◌≡◌, ℕ, ◌+◌, ◌*◌, ◌<◌, List, length, Some, [], get_or}
 use Rattle.std.specs.List.{slice_get}
 use Rattle.std.specs.declared.vec.Vec.{Vec}
 use Rattle.stark_support.specs.Ring.{RingOps}
@@ -35,3 +35,7 @@ pub record AreSplit {K : Type 0} (ring : RingOps K) (rows : List K) (width heigh
   pub number : length columns ≡ count
   pub column : (c : ℕ) (p : List K) → slice_get columns c ≡ Some p → length p ≡ size
   pub same : (c : ℕ) (p : List K) → slice_get columns c ≡ Some p → (x : K) → value ring p x ≡ value ring (strided (entry ring rows) c width height) x
+
+-- The first `height` entries of so many columns stand row after row; behind a column's end stands zero.
+abbrev pub AreInRows : {K : Type 0} → RingOps K → List (List K) → ℕ → ℕ → List K → Type 0
+AreInRows ring columns width height rows = (t c : ℕ) → t < height → c < width → entry ring rows (t * width + c) ≡ entry ring (get_or columns c []) t

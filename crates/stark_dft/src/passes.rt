@@ -1,12 +1,14 @@
-//! One pass of a transform: from values at the squares of points to values at the points and their opposites, and back.
+//! One pass of a transform: from values at the squares of points to values at the points and their
+//! opposites, and back.
 ghost use Rattle.std.specs.Prelude.{◌≡◌, ◌+◌, ◌*◌, ◌<◌, length};
 ghost use Rattle.stark_dft.specs.Passes.{IsEvaluationPass, IsInterpolationPass};
 
 use stark_support::Field;
 
-/// From the even and the odd coefficients' values at the squares of points to the values at the points and their
-/// opposites. Block `i` of `source` has `half` values of even coefficients and `half` of odd ones, at the square of the point
-/// `first * ratio^i`; block `i` of `target` gets those at the point, and block `blocks + i` those at its opposite.
+/// From the even and the odd coefficients' values at the squares of points to the values at the
+/// points and their opposites. Block `i` of `source` has `half` values of even coefficients and
+/// `half` of odd ones, at the square of the point `first * ratio^i`; block `i` of `target` gets
+/// those at the point, and block `blocks + i` those at its opposite.
 pub fn evaluation_pass<F: Field>(
     source: &[F],
     target: &mut [F],
@@ -34,9 +36,10 @@ pub fn evaluation_pass<F: Field>(
     }
 }
 
-/// From the values at points and their opposites to twice the even and the odd coefficients' values at the points'
-/// squares. Blocks `i` and `blocks + i` of `source` have `half` values each, at the point whose inverse is `first * ratio^i`
-/// and at its opposite; block `i` of `target` gets `half` of even coefficients and `half` of odd ones.
+/// From the values at points and their opposites to twice the even and the odd coefficients' values
+/// at the points' squares. Blocks `i` and `blocks + i` of `source` have `half` values each, at the
+/// point whose inverse is `first * ratio^i` and at its opposite; block `i` of `target` gets `half`
+/// of even coefficients and `half` of odd ones.
 pub fn interpolation_pass<F: Field>(
     source: &[F],
     target: &mut [F],

@@ -2,12 +2,11 @@
 ghost use Rattle.std.specs.Prelude.{◌≡◌, ◌≤◌, ◌<◌, ◌%◌, ◌^◌, ℕ, List, Some, IfOk, length, map};
 ghost use Rattle.std.specs.Int.{IsPowerOfTwo};
 ghost use Rattle.std.specs.List.{slice_get};
-ghost use Rattle.stark_support.specs.Coset.{AreValuesOn, coset_point, coset_size};
-ghost use Rattle.stark_support.specs.Periodic.{periodic_value};
-ghost use Rattle.stark_support.specs.PeriodicTable.{HasPeriodicValues};
+ghost use Rattle.stark_support.specs.Coset.{coset_size, TakesOn, coset_from};
 ghost use Rattle.stark_support.specs.Polynomial.{value};
 ghost use Rattle.stark_dft.specs.Columns.{column_list};
-ghost use Rattle.stark_dft.specs.Repeated.{AreExtended, AreRowsOf, row_round};
+ghost use Rattle.stark_dft.specs.Repeated.{AreRowsOf, row_round, IsExtended, AreColumnsExtended};
+ghost use Rattle.stark_support.specs.SchemeClauses.{IsTableOver};
 
 use crate::columns::{evaluate_on_coset, interpolate_on_coset, picked_rows};
 use stark_support::{
@@ -28,9 +27,8 @@ fn values_on_part<F: TwoAdicField>(
     requires size { log_size ≤ F.TWO_ADICITY }
     requires degree { log_degree ≤ F.TWO_ADICITY }
     requires room { length coefficients.now ≤ 2 ^ log_degree }
-    ensures { IfOk result (λ values.
-        AreValuesOn F.ring F.root (record { shift = shift; log_size = log_size })
-        (2 ^ log_size) (value F.ring coefficients.now) values.items) }
+    ensures { IfOk result (λ values. TakesOn F.ring F.root (coset_from shift log_size)
+        (value F.ring coefficients.now) values.items) }
 {
     let log_whole = log_size.max(log_degree);
     let whole = evaluate_on_coset(alloc, shift, log_whole, coefficients)?;
@@ -53,10 +51,9 @@ fn extended_column<F: TwoAdicField>(
     requires power { IsPowerOfTwo (length column.now) }
     requires within { length column.now ≤ 2 ^ log_height }
     ensures power { IfOk result (λ values. IsPowerOfTwo (length values.items)) }
-    ensures rows { IfOk result (λ values. (r : ℕ)
-        → slice_get values.items (r % length values.items) ≡ Some (periodic_value F.ring
-        F.inverse_of (F.root log_height) (2 ^ log_height) F.ring (λ x. x) column.now
-        (coset_point F.ring F.root (record { shift = shift; log_size = log_size }) r))) }
+    ensures rows { IfOk result (λ values.
+        IsExtended F.ring F.inverse_of F.root log_height (coset_from shift log_size) column.now
+        values.items) }
 {
     let log_column = log2_strict_usize(column.len());
     let log_repeats = log_height - log_column;
@@ -71,7 +68,7 @@ fn extended_column<F: TwoAdicField>(
     Ok(values)
 }
 
-/// The same of each column.
+/// The values of each column at the points of a coset, as far as they differ.
 fn extended_columns<F: TwoAdicField>(
     alloc: Global,
     columns: &PeriodicColumns<'_, F>,
@@ -82,11 +79,8 @@ fn extended_columns<F: TwoAdicField>(
     requires height { log_height ≤ F.TWO_ADICITY }
     requires size { log_size ≤ F.TWO_ADICITY }
     requires rows { columns.now.trace_len ≡ 2 ^ log_height }
-    ensures { IfOk result (λ extended.
-        AreExtended F.ring F.root (record { shift = shift; log_size = log_size })
-        (periodic_value F.ring F.inverse_of (F.root log_height) (2 ^ log_height) F.ring (λ x. x))
-        (map column_list columns.now.columns.now) (length columns.now.columns.now)
-        (map column_list extended.items)) }
+    ensures { IfOk result (λ lists. AreColumnsExtended F.ring F.inverse_of F.root log_height
+        (coset_from shift log_size) columns.now.columns.now lists.items) }
 {
     let mut extended = Vec::new(alloc);
     for column in columns.columns {
@@ -139,10 +133,8 @@ pub fn periodic_lde_table<D: PolynomialSpace>(
     quotient_domain: &D,
 ) -> Result<PeriodicLdeTable<D::Val>, AllocError>
     requires { columns.now.trace_len ≡ coset_size (D.coset_of trace_domain.now) }
-    ensures { IfOk result (λ table. HasPeriodicValues D.Val.ring D.Val.inverse_of D.Val.root
-        (D.coset_of trace_domain.now) (D.coset_of quotient_domain.now)
-        (map (λ column. column.items) columns.now.columns.now)
-        table.values.items table.width table.period) }
+    ensures { IfOk result (IsTableOver D.Val.ring D.Val.inverse_of D.Val.root D.coset_of
+        trace_domain.now quotient_domain.now columns.now) }
 {
     let log_height = log2_strict_usize(trace_domain.size());
     let log_size = log2_strict_usize(quotient_domain.size());

@@ -9,7 +9,7 @@ use stark_support::{Element, Field, TwoAdicField, power_of, squared_times};
 use std::alloc::{AllocError, Global};
 use std::mem;
 
-/// The same values, and zeros behind them up to `size`.
+/// The values, and zeros behind them up to `size`.
 fn filled_up<F: Field>(alloc: Global, values: &[F], size: usize) -> Result<Vec<F>, AllocError>
     requires { length values.now ≤ size }
     ensures number { IfOk result (λ filled. length filled.items ≡ size) }
@@ -35,7 +35,8 @@ fn scaled<F: Field>(factor: F, values: Vec<F>) -> Vec<F>
     multiple
 }
 
-/// `evaluate_rows` where all coefficients are there, in a list that serves as one of the two buffers.
+/// `evaluate_rows` where all coefficients are there, in a list that serves as one of the two
+/// buffers.
 pub fn evaluated<F: TwoAdicField>(
     alloc: Global,
     shift: F,
@@ -45,7 +46,8 @@ pub fn evaluated<F: TwoAdicField>(
 ) -> Result<Vec<F>, AllocError>
     requires within { log_size ≤ F.TWO_ADICITY }
     requires size { length coefficients.items ≡ width * 2 ^ log_size }
-    ensures { IfOk result (λ values. AreRowsOn F.ring F.root (record { shift = shift; log_size = log_size })
+    ensures { IfOk result (λ values. AreRowsOn F.ring F.root
+        (record { shift = shift; log_size = log_size })
         width coefficients.items values.items) }
 {
     let mut source = coefficients;
@@ -74,8 +76,10 @@ pub fn interpolated<F: TwoAdicField>(
     requires within { log_size ≤ F.TWO_ADICITY }
     requires nonzero { shift ≢ F.ring.zero }
     requires size { length values.items ≡ width * 2 ^ log_size }
-    ensures number { IfOk result (λ coefficients. length coefficients.items ≡ width * 2 ^ log_size) }
-    ensures rows { IfOk result (λ coefficients. AreRowsOn F.ring F.root (record { shift = shift; log_size = log_size })
+    ensures number { IfOk result (λ coefficients. length coefficients.items
+        ≡ width * 2 ^ log_size) }
+    ensures rows { IfOk result (λ coefficients.
+        AreRowsOn F.ring F.root (record { shift = shift; log_size = log_size })
         width coefficients.items values.items) }
 {
     let half = (F::ONE + F::ONE).inverse();
@@ -94,10 +98,11 @@ pub fn interpolated<F: TwoAdicField>(
     Ok(source)
 }
 
-/// The values of `width` polynomials at the `2^log_size` points of a coset, row after row: row `i` has the polynomials'
-/// values at point `i`, so that there are `width * 2^log_size` in all. The coefficients stand row after row too: row `t` has
-/// those of `x^t`, the constants first. There may be fewer than values: those that are missing at the end are zeros.
-/// `Err` only where memory is wanting.
+/// The values of `width` polynomials at the `2^log_size` points of a coset, row after row: row `i`
+/// has the polynomials' values at point `i`, so that there are `width * 2^log_size` in all. The
+/// coefficients stand row after row too: row `t` has those of `x^t`, the constants first. There may
+/// be fewer than values: those that are missing at the end are zeros. `Err` only where memory is
+/// wanting.
 pub fn evaluate_rows<F: TwoAdicField>(
     alloc: Global,
     shift: F,
@@ -108,7 +113,8 @@ pub fn evaluate_rows<F: TwoAdicField>(
     requires within { log_size ≤ F.TWO_ADICITY }
     requires room { length coefficients.now ≤ width * 2 ^ log_size }
     requires fits { width * 2 ^ log_size < 2 ^ 64 }
-    ensures { IfOk result (λ values. AreRowsOn F.ring F.root (record { shift = shift; log_size = log_size })
+    ensures { IfOk result (λ values. AreRowsOn F.ring F.root
+        (record { shift = shift; log_size = log_size })
         width coefficients.now values.items) }
 {
     let whole = filled_up(alloc, coefficients, width * (1 << log_size))?;
@@ -116,10 +122,10 @@ pub fn evaluate_rows<F: TwoAdicField>(
     Ok(values)
 }
 
-/// The coefficients of `width` polynomials from their values at the `2^log_size` points of a coset, whose shift isn't zero.
-/// The values stand row after row: row `i` has those at point `i`. The coefficients do too, as many as values: row `t` has
-/// those of `x^t`, the constants first. They are the only ones of that number with these values. `Err` only where memory is
-/// wanting.
+/// The coefficients of `width` polynomials from their values at the `2^log_size` points of a coset,
+/// whose shift isn't zero. The values stand row after row: row `i` has those at point `i`. The
+/// coefficients do too, as many as values: row `t` has those of `x^t`, the constants first. They
+/// are the only ones of that number with these values. `Err` only where memory is wanting.
 pub fn interpolate_rows<F: TwoAdicField>(
     alloc: Global,
     shift: F,
@@ -130,8 +136,10 @@ pub fn interpolate_rows<F: TwoAdicField>(
     requires within { log_size ≤ F.TWO_ADICITY }
     requires nonzero { shift ≢ F.ring.zero }
     requires size { length values.now ≡ width * 2 ^ log_size }
-    ensures number { IfOk result (λ coefficients. length coefficients.items ≡ width * 2 ^ log_size) }
-    ensures rows { IfOk result (λ coefficients. AreRowsOn F.ring F.root (record { shift = shift; log_size = log_size })
+    ensures number { IfOk result (λ coefficients. length coefficients.items
+        ≡ width * 2 ^ log_size) }
+    ensures rows { IfOk result (λ coefficients.
+        AreRowsOn F.ring F.root (record { shift = shift; log_size = log_size })
         width coefficients.items values.now) }
 {
     let mut copy: Vec<F> = Vec::new(alloc);

@@ -1,5 +1,5 @@
 -- Four elements of the extension, by the lanes of their coordinates.
-use Rattle.std.specs.Prelude.{◌≡◌, ℕ, ◌<◌, List, map, refl}
+use Rattle.std.specs.Prelude.{◌≡◌, ℕ, ◌<◌, List, map, refl, Some}
 use Rattle.std.proofs.Common.{◌∙◌, ap}
 use Rattle.stark_support.specs.Ring.{RingOps}
 use Rattle.stark_support.specs.KeepsRing.{KeepsRing, kept_sum, kept_product, kept_difference}
@@ -7,12 +7,13 @@ use Rattle.stark_support.specs.Operations.{ring_operations}
 use Rattle.stark_support.specs.Lanes.{IsLaneByLane}
 use Rattle.stark_fields.specs.Residues.{residue, residue_ring}
 use Rattle.stark_fields.specs.Quartic.{Quartic, quartic_ring, renamed_ring}
-use Rattle.stark_fields.specs.Ext4Field.{of_coordinates, ext4, ext4_ring, embedded}
+use Rattle.stark_fields.specs.Ext4Field.{of_coordinates, ext4, ext4_ring, embedded, basis_of}
 use Rattle.stark_fields.specs.ResidueLanes.{in_fours, in_fours_same, lane, lanes_of, in_each_lane, lanes_ring, same_lanes, lane_of_each, lane_keeps}
 use Rattle.stark_fields.specs.SmallResidues.{Residue12289}
 use Rattle.stark_fields.specs.declared.ext4.Ext4.{Ext4}
 use Rattle.stark_fields.specs.declared.lanes.Lanes.{Lanes}
 use Rattle.stark_fields.specs.declared.extension_lanes.ExtensionLanes.{ExtensionLanes}
+use Rattle.std.specs.List.{slice_get}
 
 -- the element in a lane
 abbrev pub element : {M : Type 0} → ExtensionLanes M → ℕ → Ext4 (Residue12289 M)
@@ -111,3 +112,8 @@ module _ {M : Type 0} where
   embedded_elements x y e =
       ap elements_of e
       ∙ in_fours_same (element (embedded_lanes x)) (λ i. embedded residue_ring (lane x i)) (λ i h. let zero = lane_of_each (residue 0) i h in λ t. ext4 (lane x i) (zero t) (zero t) (zero t))
+
+-- Lane by lane an element of the basis times a residue, and the rest.
+abbrev pub AddsCoordinate : {M : Type 0} → ℕ → Lanes M → ExtensionLanes M → ExtensionLanes M → Type 0
+AddsCoordinate {M} index residues rest sum = (unit : Ext4 (Residue12289 M)) → slice_get (basis_of residue_ring) index ≡ Some unit → (i : ℕ) → i < 4
+    → element sum i ≡ (ext4_ring residue_ring (residue 11)).add ((ext4_ring residue_ring (residue 11)).mul unit (embedded residue_ring (lane residues i))) (element rest i)

@@ -130,3 +130,10 @@ module _ {M : Type 0} where
     times = λ x y. in_fours_same _ _ (λ i h. (lane_keeps i h).mul x y);
     negated = λ x. in_fours_same _ _ (λ i h. (lane_keeps i h).neg x);
   }
+
+-- The product of two factors, lane by lane, and with something added to it.
+abbrev pub product : {M : Type 0} → Lanes M × Lanes M → Lanes M
+product factors = lanes_ring.mul factors.0 factors.1
+
+abbrev pub plus_product : {M : Type 0} → Lanes M × Lanes M → Lanes M → Lanes M
+plus_product factors rest = lanes_ring.add (product factors) rest

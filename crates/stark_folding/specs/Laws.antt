@@ -1,7 +1,7 @@
 -- What folding and batching promise.
 use Rattle.std.specs.Prelude.{◌≡◌, ◌≢◌, ℕ, suc, ◌+◌, ◌-◌, ◌*◌, ◌^◌, ◌<◌, ◌≤◌, List, length, map}
 use Rattle.std.specs.List.{AllByRecursion}
-use Rattle.stark_support.specs.Coset.{AreValuesOn, IsTwoAdicCoset, TwoAdicCoset, coset_point, coset_size}
+use Rattle.stark_support.specs.Coset.{AreValuesOn, IsTwoAdicCoset, TwoAdicCoset, coset_point, coset_size, coset_from}
 use Rattle.stark_support.specs.Polynomial.{HasDegreeBelow, value}
 use Rattle.stark_support.specs.Ring.{RingOps}
 use Rattle.stark_folding.specs.Fold.{folded, folded_pair, squared_coset}
@@ -26,10 +26,6 @@ module _ {K : Type 0} (ring : RingOps K) (inverse : K → K) (adicity : ℕ) (ro
   WalksEnd = (c : TwoAdicCoset K) → IsTwoAdicCoset ring adicity c → (betas : List K) → length betas ≤ c.log_size → (p : List K) (i : ℕ) → i < coset_size c
       → walked ring inverse root c i (value ring p (coset_point ring root c i)) (honest_steps ring root c i p betas)
       ≡ value ring (folded_all ring betas p) (coset_point ring root (last_coset ring (length betas) c) (last_place ring (length betas) c i))
-
--- The coset of 2 ^ log_size points that begins at the shift.
-abbrev pub coset_from : {K : Type 0} → K → ℕ → TwoAdicCoset K
-coset_from shift log_size = record { shift = shift; log_size = log_size }
 
 -- The values of a polynomial on that coset become those of the folded polynomial on the coset of the squares.
 abbrev pub FoldsOn : {K : Type 0} → RingOps K → (ℕ → K) → K → ℕ → K → List K → List K → Type 0

@@ -30,7 +30,7 @@ pub fn fold_pair<F: TwoAdicField>(beta: F, x: F, at: F, at_opposite: F) -> F
     (F::ONE + F::ONE).inverse() * (at + at_opposite + beta * x.inverse() * (at - at_opposite))
 }
 
-/// The same of values in an extension, at `x` of the base field.
+/// The fold of two values in an extension, of a pair at `x` of the base field and its opposite.
 pub fn fold_pair_in<F: TwoAdicField, EF: ExtensionField<F>>(
     beta: EF,
     x: F,
@@ -64,10 +64,10 @@ pub fn walks_end<F: TwoAdicField>(_some: F)
     ensures { WalksEnd F.ring F.inverse_of F.TWO_ADICITY F.root }
 {}
 
-/// A codeword of `2^log_size` values on the coset of the shift, folded by `beta`: the value at place
-/// `i` is made of those at `i` and half the size further, half as many. The values of a polynomial
-/// become those of the folded polynomial on the coset of the squares. It is Err only where memory
-/// was refused.
+/// A codeword of `2^log_size` values on the coset of the shift, folded by `beta`: the value at
+/// place `i` is made of those at `i` and half the size further, half as many. The values of a
+/// polynomial become those of the folded polynomial on the coset of the squares. It is Err only
+/// where memory was refused.
 pub fn fold_codeword<F: TwoAdicField>(
     alloc: Global,
     shift: F,
@@ -79,7 +79,8 @@ pub fn fold_codeword<F: TwoAdicField>(
     requires some { 1 ≤ log_size }
     requires within { log_size ≤ F.TWO_ADICITY }
     requires size { length codeword.now ≡ 2 ^ log_size }
-    ensures { IfOk result (λ half. FoldsOn F.ring F.root shift log_size beta codeword.now half.items) }
+    ensures { IfOk result (λ half. FoldsOn F.ring F.root shift log_size beta codeword.now
+        half.items) }
 {
     let generator = F::two_adic_generator(log_size);
     let count = codeword.len() / 2;
@@ -92,7 +93,7 @@ pub fn fold_codeword<F: TwoAdicField>(
     Ok(half)
 }
 
-/// The same of a codeword over an extension, on a coset of the base field.
+/// The fold of a codeword over an extension, on a coset of the base field.
 pub fn fold_codeword_in<F: TwoAdicField, EF: ExtensionField<F>>(
     alloc: Global,
     shift: F,
@@ -104,7 +105,8 @@ pub fn fold_codeword_in<F: TwoAdicField, EF: ExtensionField<F>>(
     requires some { 1 ≤ log_size }
     requires within { log_size ≤ F.TWO_ADICITY }
     requires size { length codeword.now ≡ 2 ^ log_size }
-    ensures { IfOk result (λ half. FoldsOn EF.ring (λ k. EF.embed (F.root k)) (EF.embed shift) log_size beta codeword.now half.items) }
+    ensures { IfOk result (λ half. FoldsOn EF.ring (λ k. EF.embed (F.root k)) (EF.embed shift)
+        log_size beta codeword.now half.items) }
 {
     let generator = F::two_adic_generator(log_size);
     let count = codeword.len() / 2;

@@ -5,8 +5,8 @@ ghost use Rattle.stark_folding.specs.Reduce.{reduced_at};
 
 use stark_support::Field;
 
-/// The sum of `(p(x) - v) / (x - z)` over the claims, each times the next power of `alpha`, the first
-/// one times 1. A claim is the triple of `p(x)`, the claimed value `v` and its point `z`.
+/// The sum of `(p(x) - v) / (x - z)` over the claims, each times the next power of `alpha`, the
+/// first one times 1. A claim is the triple of `p(x)`, the claimed value `v` and its point `z`.
 pub fn reduce_claims<F: Field>(alpha: F, x: F, claims: &[(F, F, F)]) -> F
     requires { IsApart x claims.now }
     ensures { result ≡ reduced_at F.ring F.inverse_of alpha x claims.now }

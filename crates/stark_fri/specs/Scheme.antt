@@ -15,7 +15,7 @@ use Rattle.stark_merkle.specs.declared.root.Root.{Root}
 use Rattle.stark_fri_proof.specs.declared.parameters.FriParameters.{FriParameters}
 use Rattle.stark_fri_proof.specs.Parts.{FriProofView}
 use Rattle.stark_fri.specs.Accept.{Accepted, Refused}
-use Rattle.stark_fri.specs.Claims.{RoundRead, own_claim, round_read}
+use Rattle.stark_fri.specs.Claims.{RoundRead, own_claim, round_read, rounds_in}
 use Rattle.stark_fri.specs.Parts.{FriDataView, FriOps}
 use Rattle.stark_fri.specs.Transcript.{Instance}
 use Rattle.stark_fri.specs.declared.error.FriError.{FriError}
@@ -38,6 +38,13 @@ claimed_of s claims proof state = instance_of s (map round_read claims) proof st
 -- The views of claims in memory.
 abbrev pub claims_in : {F E D A B : Type 0} → (D → TwoAdicCoset F) → List (Bor Root × Vec (D × Vec (E × Bor (List E)) A) B) → List (RoundClaim F E Root)
 claims_in coset_of claims = map (claim_view coset_of) claims
+
+-- What is asked of claims as they stand in memory: by what of them is read, and by the claims.
+abbrev pub asked_of : {C F E D A B : Type 0} → (D → TwoAdicCoset F) → FriParameters → List (Bor Root × Vec (D × Vec (E × Bor (List E)) A) B) → FriProofView F E → C → Instance C F E
+asked_of coset_of s claims proof state = instance_of s (rounds_in coset_of claims) proof state
+
+abbrev pub claimed_by : {C F E D A B : Type 0} → (D → TwoAdicCoset F) → FriParameters → List (Bor Root × Vec (D × Vec (E × Bor (List E)) A) B) → FriProofView F E → C → Instance C F E
+claimed_by coset_of s claims proof state = claimed_of s (claims_in coset_of claims) proof state
 
 -- The coset of 2 ^ bits points on which columns are extended.
 abbrev pub extension_of : {F : Type 0} → F → ℕ → TwoAdicCoset F
@@ -92,7 +99,7 @@ module _ {C F E : Type 0} (ops : FriOps C F E) where
     fri_scheme calls = record {
       log_min_trace_height = λ s. 0;
       log_max_trace_height = λ s. ops.fields.adicity - (parameters_of s).log_blowup;
-      Whole = λ s. ⊤;
+      IsComplete = λ s. ⊤;
       Stands = λ s root prover_data matrices. FriStands (parameters_of s) root (data_view prover_data) matrices;
       calls = calls;
       Accepts = λ s claims proof state index. Accepted ops (asked_instance s claims proof state);

@@ -108,7 +108,7 @@ fn points_are_off<F: TwoAdicField + PrimeField64, EF: ExtensionField<F>>(
     true
 }
 
-/// The same of all points of matrices.
+/// Whether all points of the matrices are off the larger coset.
 fn matrices_are_off<EF, D>(matrices: &[MatrixClaim<'_, EF, D>], bits: usize) -> bool
 where
     D: PolynomialSpace<Val: PrimeField64>,
@@ -161,8 +161,7 @@ fn first_on_coset<EF, D>(claims: &[OpeningClaim<'_, EF, Root, D>], bits: usize) 
 where
     D: PolynomialSpace<Val: PrimeField64>,
     EF: ExtensionField<D::Val>,
-    ensures { let fields = ⟦<EF as FoldingFields<D::Val>>⟧.folding in
-        FindsFirstFault (PointsAreOff fields (2 ^ bits))
+    ensures { FindsFirstFault (PointsAreOff ⟦<EF as FoldingFields<D::Val>>⟧.folding (2 ^ bits))
         (map (round_seen D.coset_of) claims.now) result }
 {
     for i in 0..claims.len() {

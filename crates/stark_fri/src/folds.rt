@@ -1,6 +1,6 @@
 //! A query's way through the folds.
 ghost use Rattle.std.specs.Prelude.{◌≡◌, ◌≢◌, ◌<◌, ◌≤◌, ◌-◌, ◌^◌, IfOk, length};
-ghost use Rattle.stark_support.specs.Coset.{coset_point};
+ghost use Rattle.stark_support.specs.Coset.{coset_point, coset_from};
 ghost use Rattle.stark_fri.specs.Found.{Steps, WalksFrom};
 
 use crate::fields::FoldingFields;
@@ -43,7 +43,7 @@ fn step<F: TwoAdicField + PrimeField64, EF: ExtensionField<F>, H: TreeHash>(
     requires some { 1 ≤ log_size }
     requires within { log_size ≤ F.TWO_ADICITY }
     ensures { IfOk result (Steps ⟦<EF as FoldingFields<F>>⟧.folding H.digest_of
-        (record { shift = EF.embed shift; log_size = log_size }) beta place value root.now
+        (coset_from (EF.embed shift) log_size) beta place value root.now
         layer.now) }
 {
     let half = half_size(log_size);

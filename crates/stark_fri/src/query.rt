@@ -1,13 +1,12 @@
 //! The checks of one query.
 ghost use Rattle.std.specs.Prelude.{◌≡◌, ◌<◌, ◌≤◌, ◌^◌, ◌↔◌, IfOk, IsTrue, length, map};
-ghost use Rattle.std.specs.List.{AllByRecursion, zip};
 ghost use Rattle.stark_support.specs.Faults.{PlaceByPlace};
 ghost use Rattle.stark_support.specs.Polynomial.{value};
 ghost use Rattle.stark_merkle.specs.Bytes.{row_bytes_of};
 ghost use Rattle.stark_merkle.specs.Tree.{LeadsTo, items_of};
 ghost use Rattle.stark_fri_proof.specs.Paths.{digests_of};
 ghost use Rattle.stark_fri.specs.Claims.{AreOff, matrices_in, rounds_in};
-ghost use Rattle.stark_fri.specs.Found.{FindsFaultAt, FindsInputFault};
+ghost use Rattle.stark_fri.specs.Found.{FindsInputFault, FindsFaultIn};
 ghost use Rattle.stark_fri.specs.Query.{QueryFits, RowFits, extension_coset, last_point};
 
 use crate::claims::points_have_count;
@@ -76,7 +75,7 @@ fn input_leads<F: PrimeField64, H: TreeHash>(
     bits: usize,
     place: usize,
 ) -> Result<bool, AllocError>
-    ensures { IfOk result (λ leads. IsTrue leads ↔ LeadsTo H.digest_of root.now.bytes bits place
+    ensures { IfOk result (λ l. IsTrue l ↔ LeadsTo H.digest_of root.now.bytes bits place
         (row_bytes_of F.number_of input.now.rows) (digests_of input.now.path)) }
 {
     let bytes = row_bytes(alloc, input.rows())?;
@@ -150,8 +149,8 @@ where
     requires within { bits ≤ D.Val.TWO_ADICITY }
     requires off { AreOff ⟦<EF as FoldingFields<D::Val>>⟧.folding bits (rounds_in D.coset_of
         claims.now) }
-    ensures { IfOk result (FindsFaultAt ⟦<EF as FoldingFields<D::Val>>⟧.folding H.digest_of
-        (rounds_in D.coset_of claims.now) bits drawn.now proof.now place query.now) }
+    ensures { IfOk result (FindsFaultIn ⟦<EF as FoldingFields<D::Val>>⟧.folding H.digest_of
+        D.coset_of claims.now bits drawn.now proof.now place query.now) }
 {
     let phases = proof.phases();
     if !query_fits::<EF, D>(claims, phases.len(), query) {

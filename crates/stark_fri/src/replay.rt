@@ -1,8 +1,7 @@
 //! The transcript of a proof, replayed.
-ghost use Rattle.std.specs.Prelude.{◌≡◌, ◌<◌, ◌≤◌, Err, IfOk, MatchResult, Ok, map};
-ghost use Rattle.stark_fri.specs.Claims.{rounds_in};
+ghost use Rattle.std.specs.Prelude.{◌≡◌, ◌<◌, Err, IfOk, Ok};
 ghost use Rattle.stark_fri.specs.Found.{Replays};
-ghost use Rattle.stark_fri.specs.Scheme.{instance_of};
+ghost use Rattle.stark_fri.specs.Scheme.{asked_of};
 ghost use Rattle.stark_fri.specs.Transcript.{index_of, places_from};
 
 use crate::error::FriError;
@@ -91,8 +90,8 @@ where
         + CanSampleBits<usize>
         + GrindingChallenger<Witness = D::Val>,
     requires { bits < 64 }
-    ensures { IfOk result (Replays ⟦<C as FriSponge<D::Val, EF>>⟧.sponge_calls (instance_of
-        parameters.now (rounds_in D.coset_of claims.now) proof.now challenger.old) bits) }
+    ensures { IfOk result (Replays ⟦<C as FriSponge<D::Val, EF>>⟧.sponge_calls
+        (asked_of D.coset_of parameters.now claims.now proof.now challenger.old) bits) }
 {
     observe_parameters::<C, D::Val, EF>(&mut *challenger, parameters);
     observe_claims::<C, EF, D>(&mut *challenger, claims);

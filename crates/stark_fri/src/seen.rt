@@ -1,10 +1,9 @@
 //! The claims with the values of the rows that a query opens, and their batched value.
 ghost use Rattle.std.specs.Prelude.{◌≡◌, ◌++◌, ◌^◌, ◌≤◌, IfOk, OnOk, map};
-ghost use Rattle.std.specs.List.{AllByRecursion, flat_map, zip};
 ghost use Rattle.stark_support.specs.Claims.{point_view};
-ghost use Rattle.stark_merkle.specs.Tree.{items_of};
-ghost use Rattle.stark_fri.specs.Claims.{AreOff, matrices_in, rounds_in};
-ghost use Rattle.stark_fri.specs.Query.{batched_at, rows_seen, seen_at_point, seen_at_points, seen_of};
+ghost use Rattle.stark_fri.specs.Claims.{AreOff, rounds_in};
+ghost use Rattle.stark_fri.specs.Query.{batched_at, seen_at_point, seen_at_points, seen_of};
+ghost use Rattle.stark_fri.specs.Found.{seen_in};
 
 use crate::fields::FoldingFields;
 use crate::folds::point_at;
@@ -22,8 +21,9 @@ fn push_point<F: TwoAdicField + PrimeField64, EF: ExtensionField<F>>(
     row: &[F],
     point: &(EF, &[EF]),
 ) -> Result<(), AllocError>
-    ensures { OnOk result (let fields = ⟦<EF as FoldingFields<F>>⟧.folding in
-        seen.new.items ≡ seen.old.items ++ seen_at_point fields row.now (point_view point.now)) }
+    ensures { OnOk result (seen.new.items
+        ≡ seen.old.items ++ seen_at_point ⟦<EF as FoldingFields<F>>⟧.folding row.now
+        (point_view point.now)) }
 {
     let claimed = point.1;
     for c in 0..row.len().min(claimed.len()) {
@@ -56,9 +56,9 @@ fn push_round<EF, D>(
 where
     D: PolynomialSpace<Val: PrimeField64>,
     EF: ExtensionField<D::Val>,
-    ensures { OnOk result (seen.new.items ≡ seen.old.items ++ rows_seen
-        ⟦<EF as FoldingFields<D::Val>>⟧.folding (matrices_in D.coset_of matrices.now) (map
-        items_of rows.now)) }
+    ensures { OnOk result (seen.new.items
+        ≡ seen.old.items ++ seen_in ⟦<EF as FoldingFields<D::Val>>⟧.folding D.coset_of matrices.now
+        rows.now) }
 {
     for m in 0..matrices.len().min(rows.len()) {
         let matrix = &matrices[m];
@@ -76,8 +76,9 @@ fn seen_of<EF, D>(
 where
     D: PolynomialSpace<Val: PrimeField64>,
     EF: ExtensionField<D::Val>,
-    ensures { IfOk result (λ seen. let fields = ⟦<EF as FoldingFields<D::Val>>⟧.folding in
-        seen.items ≡ seen_of fields (rounds_in D.coset_of claims.now) inputs.now) }
+    ensures { IfOk result (λ seen. seen.items
+        ≡ seen_of ⟦<EF as FoldingFields<D::Val>>⟧.folding (rounds_in D.coset_of claims.now)
+        inputs.now) }
 {
     let mut seen = Vec::new(alloc);
     for r in 0..claims.len().min(inputs.len()) {

@@ -1,9 +1,8 @@
 //! Whether claims hold by a proof.
 ghost use Rattle.std.specs.Prelude.{◌≡◌, ◌≤◌, IfErr, IfOk, length};
-ghost use Rattle.stark_fri.specs.Accept.{Accepted, log_final};
+ghost use Rattle.stark_fri.specs.Accept.{log_final};
 ghost use Rattle.stark_fri.specs.Claims.{AreOff, rounds_in};
-ghost use Rattle.stark_fri.specs.Found.{FindsFirstQuery, IsRefused, ShapeFits};
-ghost use Rattle.stark_fri.specs.Scheme.{claimed_of, claims_in, instance_of};
+ghost use Rattle.stark_fri.specs.Found.{FindsFirstQuery, ShapeFits, AcceptsClaimed, AcceptsRounds, RefusesClaimed, RefusesRounds};
 
 use crate::claims::check_claims;
 use crate::error::{FriError, QueryFault};
@@ -98,10 +97,11 @@ where
         + CanSample<EF>
         + CanSampleBits<usize>
         + GrindingChallenger<Witness = D::Val>,
-    ensures accepted { IfOk result (λ _. Accepted ⟦<C as FriCalls<D::Val, EF, H>>⟧.fri_ops
-        (instance_of parameters.now (rounds_in D.coset_of claims.now) proof.now challenger.old)) }
-    ensures refused { IfErr result (IsRefused ⟦<C as FriCalls<D::Val, EF, H>>⟧.fri_ops
-        (instance_of parameters.now (rounds_in D.coset_of claims.now) proof.now challenger.old)) }
+    ensures accepted { IfOk result (λ _.
+        AcceptsRounds ⟦<C as FriCalls<D::Val, EF, H>>⟧.fri_ops D.coset_of parameters.now
+        claims.now challenger.old proof.now) }
+    ensures refused { IfErr result (RefusesRounds ⟦<C as FriCalls<D::Val, EF, H>>⟧.fri_ops
+        D.coset_of parameters.now claims.now challenger.old proof.now) }
 {
     let log_height = match check_claims::<EF, D>(parameters, claims) {
         Ok(log_height) => log_height,
@@ -144,12 +144,11 @@ where
         + CanSample<EF>
         + CanSampleBits<usize>
         + GrindingChallenger<Witness = D::Val>,
-    ensures accepted { IfOk result (λ _. Accepted ⟦<C as FriCalls<D::Val, EF, H>>⟧.fri_ops
-        (claimed_of parameters.now (claims_in D.coset_of claims.now) proof.now
-        challenger.old)) }
-    ensures refused { IfErr result (IsRefused ⟦<C as FriCalls<D::Val, EF, H>>⟧.fri_ops
-        (claimed_of parameters.now (claims_in D.coset_of claims.now) proof.now
-        challenger.old)) }
+    ensures accepted { IfOk result (λ _.
+        AcceptsClaimed ⟦<C as FriCalls<D::Val, EF, H>>⟧.fri_ops D.coset_of parameters.now
+        claims.now challenger.old proof.now) }
+    ensures refused { IfErr result (RefusesClaimed ⟦<C as FriCalls<D::Val, EF, H>>⟧.fri_ops
+        D.coset_of parameters.now claims.now challenger.old proof.now) }
 {
     check::<C, EF, D, H>(alloc, parameters, claims, proof, challenger)
 }

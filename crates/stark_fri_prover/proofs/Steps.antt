@@ -1,8 +1,9 @@
 -- Lists that grow place by place.
-use Rattle.std.proofs.Common.{◌≡◌, ℕ, ◌+◌, ◌<◌, ◌≤◌, List, [], ◌∷◌, ◌++◌, drop, get_or, length, map, refl, subst, sym, take}
-use Rattle.std.specs.List.{AllByRecursion, slice_get}
+use Rattle.std.proofs.Common.{◌≡◌, ℕ, ◌+◌, ◌<◌, ◌≤◌, List, [], ◌∷◌, ◌++◌, drop, ap, arith, get_or, length, map, refl, subst, sym, take, ◌∙◌}
+use Rattle.std.specs.List.{AllByRecursion, range_with_len, slice_get}
 use Rattle.std.specs.Prelude.{Some}
 use Rattle.std.proofs.lemmas.List.{take_all, take_more}
+use Rattle.std.proofs.lemmas.List.FromFn.{map-range_with_len_more}
 use Rattle.std.proofs.lemmas.Option.{slice_get-get_or}
 use Rattle.stark_support.proofs.Loops.{one_more_mapped}
 use Rattle.stark_support.proofs.Places.{all_mapped_front, from_place}
@@ -50,3 +51,11 @@ module _ {A B : Type 0} (P : A → Type 0) (f : A → B) (xs : List A) where
 
   pub read_all : (i : ℕ) (made : List B) → length xs ≤ i → IsReadTo i made → made ≡ map f xs
   read_all i made ended so_far = all_mapped_front made f xs i ended so_far.1
+
+-- ---- what is computed of each place in turn
+
+pub place_more : {A : Type 0} (f : ℕ → A) (n : ℕ) (x : A) (before after : List A) → after ≡ before ++ x ∷ []
+    → before ≡ map f (range_with_len 0 n) → x ≡ f n → after ≡ map f (range_with_len 0 (n + 1))
+place_more f n x before after pushed so_far is =
+    pushed ∙ ap (λ t. t ++ x ∷ []) so_far ∙ ap (λ t. map f (range_with_len 0 n) ++ t ∷ []) is
+    ∙ sym (map-range_with_len_more f 0 n n (omega arith))

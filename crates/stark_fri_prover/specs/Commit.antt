@@ -10,7 +10,7 @@ use Rattle.stark_columns.specs.Columns.{columns_list}
 use Rattle.stark_fri.specs.Parts.{FriDataView}
 use Rattle.stark_merkle.specs.Bytes.{row_bytes_of}
 use Rattle.stark_merkle.specs.declared.root.Root.{Root}
-use Rattle.stark_merkle.specs.Tree.{HasPath, IsPathIn, layer_above, leaf_of, node_of}
+use Rattle.stark_merkle.specs.Tree.{HasPath, IsPathIn, layer_above, leaf_of, node_of, layers_from}
 pub use Rattle.stark_fri.specs.Scheme.{AreExtended, IsExtended, extension_of}
 
 -- Row i of a matrix, and whether it is there.
@@ -52,3 +52,26 @@ IsRootOver ring root hash number_of coset matrices top =
 -- The prover's data, as the scheme's definitions read them.
 abbrev pub data_seen : {F A B G J : Type 0} → Root → ℕ → Vec (Vec (Vec F A) B) G → Vec (RowMajorMatrix F) J → FriDataView F
 data_seen root log_height matrices extended = record { root = root; log_height = log_height; matrices = map columns_list matrices.items; extended = extended.items }
+
+-- ---- of columns in memory
+
+-- A matrix has the rows of another.
+abbrev pub HasRowsOf : {F : Type 0} → RowMajorMatrix F → RowMajorMatrix F → Type 0
+HasRowsOf stored rows = (rows.values.items ≡ stored.values.items) × (rows.width ≡ stored.width)
+
+-- The columns' values on a coset are kept, and the root is that of the tree over them: of several matrices, and of one.
+abbrev pub AreKept : {F A B J : Type 0} → RingOps F → (ℕ → F) → TwoAdicCoset F → List (Vec (Vec F A) B) → Vec (RowMajorMatrix F) J → Type 0
+AreKept ring root coset matrices kept = AreExtended ring root coset (map columns_list matrices) kept.items
+
+abbrev pub IsTopOver : {F A B : Type 0} → RingOps F → (ℕ → F) → (List ℕ → List ℕ) → (F → ℕ) → TwoAdicCoset F → List (Vec (Vec F A) B) → Root → Type 0
+IsTopOver ring root hash number_of coset matrices top = IsRootOver ring root hash number_of coset (map columns_list matrices) top.bytes
+
+abbrev pub IsKept : {F A B J : Type 0} → RingOps F → (ℕ → F) → TwoAdicCoset F → Vec (Vec F A) B → Vec (RowMajorMatrix F) J → Type 0
+IsKept ring root coset columns kept = AreExtended ring root coset (columns_list columns ∷ []) kept.items
+
+abbrev pub IsTopOf : {F A B : Type 0} → RingOps F → (ℕ → F) → (List ℕ → List ℕ) → (F → ℕ) → TwoAdicCoset F → Vec (Vec F A) B → Root → Type 0
+IsTopOf ring root hash number_of coset columns top = IsRootOver ring root hash number_of coset (columns_list columns ∷ []) top.bytes
+
+-- The layers of the tree over the first 2 ^ bits rows.
+abbrev pub AreLayersOver : {F : Type 0} → (List ℕ → List ℕ) → (F → ℕ) → ℕ → List (RowMajorMatrix F) → List (List (List ℕ)) → Type 0
+AreLayersOver hash number_of bits extended layers = layers ≡ layers_from (node_of hash) bits (leaves_of hash number_of extended (2 ^ bits))

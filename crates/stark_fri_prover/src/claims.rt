@@ -2,8 +2,7 @@
 ghost use Rattle.std.specs.Prelude.{◌≡◌, IfOk, map};
 ghost use Rattle.stark_support.specs.Claims.{opened_view, point_view, round_view};
 ghost use Rattle.stark_columns.specs.Columns.{column_list, columns_list};
-ghost use Rattle.stark_fri.specs.Claims.{matrix_seen, rounds_in};
-ghost use Rattle.stark_fri_prover.specs.OwnClaims.{matrix_claims, opened_rounds, point_claims, round_claims};
+ghost use Rattle.stark_fri_prover.specs.OwnClaims.{matrix_claims, opened_rounds, point_claims, AreMatrixClaims, AreOwnClaims};
 
 use crate::commit::FriData;
 use stark_bench::Coset;
@@ -55,10 +54,8 @@ fn matrix_claims<'a, F: TwoAdicField, EF: Copy>(
     points: &[Vec<EF>],
     opened: &'a [Vec<Vec<EF>>],
 ) -> Result<Vec<MatrixClaim<'a, EF, Coset<F>>>, AllocError>
-    ensures { IfOk result (λ claims.
-        map (matrix_seen ⟦<Coset<F> as PolynomialSpace>⟧.coset_of) claims.items
-        ≡ matrix_claims domain.log_size (map column_list points.now)
-        (map columns_list opened.now)) }
+    ensures { IfOk result (λ c. AreMatrixClaims ⟦<Coset<F> as PolynomialSpace>⟧.coset_of
+        domain.log_size points.now opened.now c.items) }
 {
     let mut claims = Vec::new(alloc);
     for i in 0..points.len().min(opened.len()) {
@@ -74,9 +71,8 @@ pub(crate) fn own_claims<'a, F: TwoAdicField, EF: Copy>(
     rounds: &'a [OpeningRound<'_, EF, FriData<F>>],
     opened: &'a [Vec<Vec<Vec<EF>>>],
 ) -> Result<Vec<OpeningClaim<'a, EF, Root, Coset<F>>>, AllocError>
-    ensures { IfOk result (λ claims. rounds_in ⟦<Coset<F> as PolynomialSpace>⟧.coset_of claims.items
-        ≡ round_claims (λ d. d.root) (λ d. d.domain.log_size) (map round_view rounds.now)
-        (map (λ round. map columns_list round.items) opened.now)) }
+    ensures { IfOk result (λ c. AreOwnClaims ⟦<Coset<F> as PolynomialSpace>⟧.coset_of (λ d. d.root)
+        (λ d. d.domain.log_size) rounds.now opened.now c.items) }
 {
     let mut claims = Vec::new(alloc);
     for i in 0..rounds.len().min(opened.len()) {

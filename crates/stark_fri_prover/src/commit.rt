@@ -1,17 +1,18 @@
 //! Commitments to columns: their values on a larger coset, and the tree over these rows.
-ghost use Rattle.std.specs.Prelude.{◌≡◌, ◌≤◌, ◌↔◌, ◌+◌, ◌^◌, [], IfOk, IsTrue, None, Some, map};
+ghost use Rattle.std.specs.Prelude.{◌≡◌, ◌≤◌, ◌<◌, ◌↔◌, ◌+◌, ◌*◌, ◌^◌, ℕ, [], IfOk, IsTrue, None, Some, map, slice_index_or};
 ghost use Rattle.std.specs.List.{AllByRecursion, slice_get};
-ghost use Rattle.stark_columns.specs.ColumnPoints.{coset_from};
+ghost use Rattle.stark_support.specs.Coset.{coset_from};
 ghost use Rattle.stark_columns.specs.Columns.{columns_list};
 ghost use Rattle.stark_fri_proof.specs.Paths.{digests_of};
-ghost use Rattle.stark_merkle.specs.Tree.{digests_in, items_of, layers_from, node_of};
+ghost use Rattle.stark_merkle.specs.Bytes.{row_bytes_of};
+ghost use Rattle.stark_merkle.specs.Tree.{digests_in, items_of};
 ghost use Rattle.stark_support.specs.declared.matrix.RowMajorMatrix.{RowMajorMatrix};
-ghost use Rattle.stark_fri_prover.specs.Commit.{AreExtended, HasRow, HaveRow, HaveRows, IsPathOrNone, IsRootOver, extension_of, leaves_of, row_of};
+ghost use Rattle.stark_fri_prover.specs.Commit.{AreExtended, AreKept, AreLayersOver, HasRow, HasRowsOf, HaveRow, HaveRows, IsPathOrNone, IsTopOver, extension_of, leaf_at, leaves_of, row_of};
 
 use stark_bench::Coset;
 use stark_columns::rows_on;
 use stark_fri_proof::{InputOpening, MerklePath};
-use stark_merkle::{Root, TreeHash, leaf, path_in, root_in, row_bytes, tree_layers};
+use stark_merkle::{Root, TreeHash, four_leaves, leaf, path_in, root_in, row_bytes, tree_layers};
 use stark_support::{DomainShape, PrimeField64, RowMajorMatrix, TwoAdicField};
 use std::alloc::{AllocError, Global};
 
@@ -53,8 +54,7 @@ impl<F: TwoAdicField> FriData<F> {
     /// Err only where memory was refused.
     pub fn rows_of(&self, alloc: Global, index: usize) -> Result<RowMajorMatrix<F>, AllocError>
         ensures stored { IfOk result (λ rows. (stored : RowMajorMatrix F)
-            → slice_get self.now.extended.items index ≡ Some stored
-            → (rows.values.items ≡ stored.values.items) × (rows.width ≡ stored.width)) }
+            → slice_get self.now.extended.items index ≡ Some stored → HasRowsOf stored rows) }
         ensures none { IfOk result (λ rows. slice_get self.now.extended.items index ≡ None
             → (rows.values.items ≡ []) × (rows.width ≡ 0)) }
     {
@@ -175,6 +175,38 @@ fn rows_at<F: Copy>(
     Ok(rows)
 }
 
+/// The bytes of row `place` of each matrix, which its leaf commits to.
+fn bytes_at<F: PrimeField64>(
+    alloc: Global,
+    extended: &[RowMajorMatrix<F>],
+    place: usize,
+) -> Result<Vec<u8>, AllocError>
+    requires { AllByRecursion (HasRow place) extended.now }
+    ensures { IfOk result (λ bytes.
+        bytes.items ≡ row_bytes_of F.number_of (map (row_of place) extended.now)) }
+{
+    let rows = rows_at(alloc, extended, place)?;
+    row_bytes(alloc, &rows)
+}
+
+/// The leaves over four rows, from row `place` on.
+fn four_leaves_of<F: PrimeField64, H: TreeHash>(
+    alloc: Global,
+    extended: &[RowMajorMatrix<F>],
+    place: usize,
+) -> Result<[[u8; 32]; 4], AllocError>
+    requires room { place + 4 < 2 ^ 64 }
+    requires rows { HaveRows (place + 4) extended.now }
+    ensures { IfOk result (λ leaves. (j : ℕ) → j < 4 → slice_index_or leaves j []
+        ≡ leaf_at H.digest_of F.number_of extended.now (place + j)) }
+{
+    let one = bytes_at(alloc, extended, place)?;
+    let two = bytes_at(alloc, extended, place + 1)?;
+    let three = bytes_at(alloc, extended, place + 2)?;
+    let four = bytes_at(alloc, extended, place + 3)?;
+    Ok(four_leaves::<H>([&one, &two, &three, &four]))
+}
+
 /// The leaves over the first `count` rows.
 fn leaves<F: PrimeField64, H: TreeHash>(
     alloc: Global,
@@ -186,9 +218,15 @@ fn leaves<F: PrimeField64, H: TreeHash>(
         leaves.items ≡ leaves_of H.digest_of F.number_of extended.now count) }
 {
     let mut leaves = Vec::new(alloc);
-    for place in 0..count {
-        let rows = rows_at(alloc, extended, place)?;
-        let bytes = row_bytes(alloc, &rows)?;
+    let groups = count / 4;
+    for group in 0..groups {
+        let four = four_leaves_of::<F, H>(alloc, extended, 4 * group)?;
+        for j in 0..4 {
+            leaves.push(four[j])?;
+        }
+    }
+    for place in 4 * groups..count {
+        let bytes = bytes_at(alloc, extended, place)?;
         leaves.push(leaf::<H>(&bytes))?;
     }
     Ok(leaves)
@@ -207,15 +245,13 @@ pub fn commit_columns<F: TwoAdicField + PrimeField64, H: TreeHash>(
     ensures commitment { IfOk result (λ made. made.0 ≡ made.1.root) }
     ensures height { IfOk result (λ made. made.1.domain.log_size ≡ log_height) }
     ensures columns { IfOk result (λ made. made.1.matrices.items ≡ matrices.items) }
-    ensures rows { IfOk result (λ made. AreExtended F.ring F.root
-        (extension_of F.GENERATOR (log_height + log_blowup))
-        (map columns_list matrices.items) made.1.extended.items) }
-    ensures root { IfOk result (λ made. IsRootOver F.ring F.root H.digest_of F.number_of
-        (extension_of F.GENERATOR (log_height + log_blowup)) (map columns_list matrices.items)
-        made.0.bytes) }
-    ensures tree { IfOk result (λ made. digests_in made.1.layers.items
-        ≡ layers_from (node_of H.digest_of) (log_height + log_blowup) (leaves_of H.digest_of
-        F.number_of made.1.extended.items (2 ^ (log_height + log_blowup)))) }
+    ensures rows { IfOk result (λ made.
+        AreKept F.ring F.root (extension_of F.GENERATOR (log_height + log_blowup))
+        matrices.items made.1.extended) }
+    ensures root { IfOk result (λ m. IsTopOver F.ring F.root H.digest_of F.number_of
+        (extension_of F.GENERATOR (log_height + log_blowup)) matrices.items m.0) }
+    ensures tree { IfOk result (λ m. AreLayersOver H.digest_of F.number_of (log_height + log_blowup)
+        m.1.extended.items (digests_in m.1.layers.items)) }
 {
     let bits = log_height + log_blowup;
     let domain = Coset::new(F::GENERATOR, bits);

@@ -1,10 +1,11 @@
 //! The layers of a folding: the words that are folded, and the trees over their pairs.
+ghost use Rattle.std.specs.Prelude.{◌≡◌, length};
 
 use crate::commit::path_or_none;
 use stark_bench::Coset;
 use stark_columns::rows_on;
 use stark_fri_proof::LayerOpening;
-use stark_merkle::{Root, TreeHash, leaf, pair_bytes, root_in, tree_layers};
+use stark_merkle::{Root, TreeHash, four_leaves, leaf, pair_bytes, root_in, tree_layers};
 use stark_support::{DomainShape, ExtensionField, PrimeField64, TwoAdicField};
 use std::alloc::{AllocError, Global};
 
@@ -67,6 +68,46 @@ fn values_of<F: TwoAdicField, EF: ExtensionField<F>>(
     elements_of(alloc, &rows.values, domain.size())
 }
 
+/// The leaves over four pairs.
+fn four_pair_leaves<F: PrimeField64, EF: ExtensionField<F>, H: TreeHash>(
+    alloc: Global,
+    firsts: &[EF],
+    seconds: &[EF],
+) -> Result<[[u8; 32]; 4], AllocError>
+    requires firsts { length firsts.now ≡ 4 }
+    requires seconds { length seconds.now ≡ 4 }
+{
+    let one = pair_bytes::<F, EF>(alloc, firsts[0], seconds[0])?;
+    let two = pair_bytes::<F, EF>(alloc, firsts[1], seconds[1])?;
+    let three = pair_bytes::<F, EF>(alloc, firsts[2], seconds[2])?;
+    let four = pair_bytes::<F, EF>(alloc, firsts[3], seconds[3])?;
+    Ok(four_leaves::<H>([&one, &two, &three, &four]))
+}
+
+/// The leaves over a word's pairs, of a value in the first half and the one half the word further.
+fn pair_leaves<F: PrimeField64, EF: ExtensionField<F>, H: TreeHash>(
+    alloc: Global,
+    values: &[EF],
+) -> Result<Vec<[u8; 32]>, AllocError> {
+    let half = values.len() / 2;
+    let mut leaves = Vec::with_capacity(alloc, half)?;
+    let groups = half / 4;
+    for group in 0..groups {
+        let at = 4 * group;
+        let firsts = &values[at..at + 4];
+        let seconds = &values[half + at..half + at + 4];
+        let four = four_pair_leaves::<F, EF, H>(alloc, firsts, seconds)?;
+        for j in 0..4 {
+            leaves.push(four[j])?;
+        }
+    }
+    for i in 4 * groups..half {
+        let bytes = pair_bytes::<F, EF>(alloc, values[i], values[i + half])?;
+        leaves.push(leaf::<H>(&bytes))?;
+    }
+    Ok(leaves)
+}
+
 /// The layer of a polynomial on a coset, and its root; None where the coset has one point.
 pub(crate) fn layer_of<F: TwoAdicField + PrimeField64, EF: ExtensionField<F>, H: TreeHash>(
     alloc: Global,
@@ -74,12 +115,7 @@ pub(crate) fn layer_of<F: TwoAdicField + PrimeField64, EF: ExtensionField<F>, H:
     domain: &Coset<F>,
 ) -> Result<Option<(Root, Layer<EF>)>, AllocError> {
     let values = values_of(alloc, polynomial, domain)?;
-    let half = values.len() / 2;
-    let mut leaves = Vec::with_capacity(alloc, half)?;
-    for i in 0..half {
-        let bytes = pair_bytes::<F, EF>(alloc, values[i], values[i + half])?;
-        leaves.push(leaf::<H>(&bytes))?;
-    }
+    let leaves = pair_leaves::<F, EF, H>(alloc, &values)?;
     let tree = tree_layers::<H>(alloc, leaves, domain.log_size.saturating_sub(1))?;
     match root_in(&tree) {
         Some(root) => Ok(Some((Root::new(root), Layer { values, tree }))),

@@ -1,13 +1,13 @@
 //! Openings: a proof that claims hold, and the prover's own check of it.
 ghost use Rattle.std.specs.Prelude.{◌≡◌, ◌+◌, ◌≤◌, ◌↔◌, IfErr, IfOk, IsTrue, length, map};
 ghost use Rattle.std.specs.List.{AllByRecursion};
-ghost use Rattle.stark_support.specs.Claims.{IfRefused, opened_view, round_view};
+ghost use Rattle.stark_support.specs.Claims.{IfRefused, opened_view, round_view, IfRefusal};
 ghost use Rattle.stark_columns.specs.Columns.{columns_list};
 ghost use Rattle.stark_fri.specs.Accept.{Accepted};
-ghost use Rattle.stark_fri.specs.Claims.{rounds_in};
 ghost use Rattle.stark_fri.specs.Scheme.{OpeningRefused, instance_of, own_rounds};
 ghost use Rattle.stark_fri_prover.specs.Commit.{data_seen};
-ghost use Rattle.stark_fri_prover.specs.OwnClaims.{ProvingRefused, opened_rounds};
+ghost use Rattle.stark_fri_prover.specs.OwnClaims.{opened_rounds, RefusesOwn};
+ghost use Rattle.stark_fri.specs.Found.{AcceptsRounds};
 
 use crate::batch::batched;
 use crate::claims::{open_rounds, own_claims};
@@ -138,12 +138,11 @@ where
     EF: ExtensionField<F>,
     H: TreeHash,
     C: FieldChallenger<F> + CanObserve<Root> + CanSample<EF> + GrindingChallenger<Witness = F>,
-    ensures accepted { IfOk result (λ proof. Accepted ⟦<C as FriCalls<F, EF, H>>⟧.fri_ops
-        (instance_of parameters.now (rounds_in ⟦<Coset<F> as PolynomialSpace>⟧.coset_of claims.now)
-        proof verifier.old)) }
-    ensures refused { IfErr result (λ fault. IfRefused fault
-        (ProvingRefused ⟦<C as FriCalls<F, EF, H>>⟧.fri_ops parameters.now
-        (rounds_in ⟦<Coset<F> as PolynomialSpace>⟧.coset_of claims.now) verifier.old)) }
+    ensures accepted { IfOk result (AcceptsRounds ⟦<C as FriCalls<F, EF, H>>⟧.fri_ops
+        ⟦<Coset<F> as PolynomialSpace>⟧.coset_of parameters.now claims.now verifier.old) }
+    ensures refused { IfRefusal result
+        (RefusesOwn ⟦<C as FriCalls<F, EF, H>>⟧.fri_ops ⟦<Coset<F> as PolynomialSpace>⟧.coset_of
+        parameters.now claims.now verifier.old) }
 {
     let log_height = match check_claims::<EF, Coset<F>>(parameters, claims) {
         Ok(log_height) => log_height,
@@ -178,8 +177,9 @@ where
     EF: ExtensionField<F>,
     H: TreeHash,
     C: FieldChallenger<F> + CanObserve<Root> + CanSample<EF> + GrindingChallenger<Witness = F>,
-    ensures values { IfOk result (λ made. opened_view made.0 ≡ opened_rounds EF.ring EF.embed
-        (λ d. map columns_list d.matrices.items) (map round_view rounds.now)) }
+    ensures values { IfOk result (λ m. opened_view m.0
+        ≡ opened_rounds EF.ring EF.embed (λ d. map columns_list d.matrices.items)
+        (map round_view rounds.now)) }
     ensures accepted { IfOk result (λ made. Accepted ⟦<C as FriCalls<F, EF, H>>⟧.fri_ops
         (instance_of parameters.now (own_rounds ⟦<C as FriCalls<F, EF, H>>⟧.fri_ops
         (map (λ r. (data_seen r.0.root r.0.domain.log_size r.0.matrices r.0.extended, r.1))

@@ -1,17 +1,17 @@
 //! The scheme.
 ghost use Rattle.std.specs.Prelude.{◌≡◌, ◌≤◌, ◌+◌, ◌-◌, ◌*◌, ◌^◌, ⊤, false, ◌∷◌, [], map, length, IfErr, IfOk, IsTrue};
 ghost use Rattle.std.specs.Int.{IsPowerOfTwo};
-ghost use Rattle.stark_support.specs.Claims.{IfRefused, opened_view, round_view};
-ghost use Rattle.stark_support.specs.PeriodicTable.{HasPeriodicValues};
+ghost use Rattle.stark_support.specs.Claims.{IfRefusal, rounds_view};
 ghost use Rattle.stark_support.specs.Scheme.{zk_bits};
-ghost use Rattle.stark_columns.specs.ColumnPoints.{coset_from, height_of};
-ghost use Rattle.stark_columns.specs.Columns.{column_list, columns_list};
+ghost use Rattle.stark_support.specs.Coset.{coset_from};
+ghost use Rattle.stark_columns.specs.ColumnPoints.{height_of};
+ghost use Rattle.stark_columns.specs.Columns.{columns_list};
 ghost use Rattle.stark_fri.specs.Accept.{Accepted};
 ghost use Rattle.stark_fri.specs.Found.{IsRefused};
 ghost use Rattle.stark_fri.specs.Scheme.{ArePlain, claimed_of, claims_in, fri_calls, fri_scheme};
 ghost use Rattle.stark_fri.specs.SchemeFacts.{fri_laws};
-ghost use Rattle.stark_fri_prover.specs.Commit.{AreExtended, IsRootOver, data_seen, extension_of};
-ghost use Rattle.stark_columns.specs.SchemeClauses.{CommitsChunks, CommitsRows, OpensTrueValues, ProvesTrueClaims};
+ghost use Rattle.stark_fri_prover.specs.Commit.{data_seen, extension_of, IsKept, IsTopOf};
+ghost use Rattle.stark_support.specs.SchemeClauses.{CommitsChunks, CommitsRows, OpensTrueValues, ProvesTrueClaims, IsTableOver};
 
 use crate::commit::{FriData, commit_columns};
 use crate::opening::open;
@@ -23,7 +23,7 @@ use stark_fri_proof::{FriParameters, FriProof};
 use stark_merkle::{Root, TreeHash};
 use stark_support::{
     CanObserve, CanSample, ExtensionField, FieldChallenger, GrindingChallenger, OpenedRounds,
-    OpeningClaim, OpeningRound, Pcs, PeriodicColumns, PeriodicLdeTable, PolynomialSpace,
+    Opening, OpeningClaim, OpeningRound, Pcs, PeriodicColumns, PeriodicLdeTable, PolynomialSpace,
     PrimeField64, RowMajorMatrix, SchemeFault, TwoAdicField, UnivariateStarkPcs, log2_strict_usize,
 };
 use std::alloc::{AllocError, Global};
@@ -85,12 +85,11 @@ fn commit_alone<F: TwoAdicField + PrimeField64, H: TreeHash>(
     ensures height { IfOk result (λ made. made.1.domain.log_size ≡ log_height) }
     ensures columns { IfOk result (λ made.
         map columns_list made.1.matrices.items ≡ columns_list columns ∷ []) }
-    ensures rows { IfOk result (λ made. AreExtended F.ring F.root
-        (extension_of F.GENERATOR (log_height + log_blowup))
-        (columns_list columns ∷ []) made.1.extended.items) }
-    ensures root { IfOk result (λ made. IsRootOver F.ring F.root H.digest_of F.number_of
-        (extension_of F.GENERATOR (log_height + log_blowup)) (columns_list columns ∷ [])
-        made.0.bytes) }
+    ensures rows { IfOk result (λ made.
+        IsKept F.ring F.root (extension_of F.GENERATOR (log_height + log_blowup)) columns
+        made.1.extended) }
+    ensures root { IfOk result (λ m. IsTopOf F.ring F.root H.digest_of F.number_of
+        (extension_of F.GENERATOR (log_height + log_blowup)) columns m.0) }
 {
     let mut matrices = Vec::new(alloc);
     matrices.push(columns)?;
@@ -150,11 +149,10 @@ where
             ≤ 2 ^ (F.TWO_ADICITY - self.now.parameters.log_blowup) }
         requires room { height_of matrix ≤ 2 ^ domain.log_size }
         ensures stands { IfOk result (CommitsRows ⟦<FriPcs<F, H> as Pcs<EF, C>>⟧.scheme F.ring
-            F.root self.now (coset_from domain.shift domain.log_size) matrix.values.items
-            matrix.width) }
+            F.root self.now (coset_from domain.shift domain.log_size) matrix) }
         ensures made { IfOk result (λ made. ArePlain F.ring (height_of matrix)
             (map columns_list made.1.matrices.items)) }
-        ensures refused { IfErr result (λ fault. IfRefused fault (λ _. ⊥)) }
+        ensures refused { IfRefusal result (λ _. ⊥) }
     {
         let columns = columns_of(alloc, &domain, &matrix)?;
         let log_blowup = self.parameters.log_blowup();
@@ -205,11 +203,10 @@ where
             ≤ 2 ^ (F.TWO_ADICITY - self.now.parameters.log_blowup) }
         requires room { height_of matrix ≤ 2 ^ domain.log_size }
         ensures stands { IfOk result (CommitsRows ⟦<FriPcs<F, H> as Pcs<EF, C>>⟧.scheme F.ring
-            F.root self.now (coset_from domain.shift domain.log_size) matrix.values.items
-            matrix.width) }
+            F.root self.now (coset_from domain.shift domain.log_size) matrix) }
         ensures made { IfOk result (λ made. ArePlain F.ring (height_of matrix)
             (map columns_list made.1.matrices.items)) }
-        ensures refused { IfErr result (λ fault. IfRefused fault (λ _. ⊥)) }
+        ensures refused { IfRefusal result (λ _. ⊥) }
     {
         // Nothing is masked, so that what is known is committed to as a trace is.
         <FriPcs<F, H> as Pcs<EF, C>>::commit(self, alloc, domain, matrix)
@@ -227,13 +224,13 @@ where
         requires parts { num_chunks ≤ 2 ^ domain.log_size }
         requires within { 2 ^ domain.log_size * 2 ^ zk_bits false
             ≤ num_chunks * 2 ^ (F.TWO_ADICITY - self.now.parameters.log_blowup) }
-        ensures stands { IfOk result (CommitsChunks ⟦<FriPcs<F, H> as Pcs<EF, C>>⟧.scheme F.ring
-            F.root EF.ring EF.inverse_of EF.embed false self.now
-            (coset_from domain.shift domain.log_size) flat.values.items flat.width num_chunks) }
+        ensures stands { IfOk result (CommitsChunks
+            ⟦<FriPcs<F, H> as Opening<EF, C>>⟧.opening self.now
+            (coset_from domain.shift domain.log_size) flat num_chunks) }
         ensures made { IfOk result (⟦<FriPcs<F, H> as Pcs<EF, C>>⟧.scheme.calls.CommitsQuotient
             self.now (coset_from domain.shift domain.log_size) flat.values.items flat.width
             num_chunks) }
-        ensures refused { IfErr result (λ fault. IfRefused fault (λ _. ⊥)) }
+        ensures refused { IfRefusal result (λ _. ⊥) }
     {
         let chunks = chunks_of(alloc, &domain, &flat, num_chunks)?;
         let log_height = domain.log_size - log2_strict_usize(num_chunks);
@@ -258,10 +255,8 @@ where
         quotient_domain: Coset<F>,
     ) -> Result<PeriodicLdeTable<F>, AllocError>
         requires { columns.now.trace_len ≡ 2 ^ trace_domain.log_size }
-        ensures { IfOk result (λ table. HasPeriodicValues F.ring F.inverse_of F.root
-            (coset_from trace_domain.shift trace_domain.log_size)
-            (coset_from quotient_domain.shift quotient_domain.log_size)
-            (map column_list columns.now.columns.now) table.values.items table.width table.period) }
+        ensures { IfOk result (IsTableOver F.ring F.inverse_of F.root
+            ⟦<Coset<F> as PolynomialSpace>⟧.coset_of trace_domain quotient_domain columns.now) }
     {
         let table = periodic_lde_table(alloc, columns, &trace_domain, &quotient_domain)?;
         Ok(table)
@@ -274,15 +269,12 @@ where
         challenger: &mut C,
         _preprocessed_index: Option<usize>,
     ) -> Result<(OpenedRounds<EF>, FriProof<F, EF>), SchemeFault<FriProverError>>
-        ensures true_values { IfOk result (λ opened. OpensTrueValues
-            ⟦<FriPcs<F, H> as Pcs<EF, C>>⟧.scheme EF.ring EF.embed self.now
-            (map round_view rounds.entry.items) (opened_view opened.0)) }
-        ensures whole { IfOk result (λ opened. ProvesTrueClaims
-            ⟦<FriPcs<F, H> as Pcs<EF, C>>⟧.scheme EF.ring EF.embed self.now
-            (map round_view rounds.entry.items) opened.1 challenger.old _preprocessed_index) }
-        ensures refused { IfErr result (λ fault. IfRefused fault
-            (⟦<FriPcs<F, H> as Pcs<EF, C>>⟧.scheme.RefusesOpening self.now
-            (map round_view rounds.entry.items) challenger.old _preprocessed_index)) }
+        ensures true_values { IfOk result (OpensTrueValues ⟦<FriPcs<F, H> as Pcs<EF, C>>⟧.scheme
+            EF.ring EF.embed self.now rounds.entry) }
+        ensures whole { IfOk result (ProvesTrueClaims ⟦<FriPcs<F, H> as Pcs<EF, C>>⟧.scheme EF.ring
+            EF.embed self.now rounds.entry challenger.old _preprocessed_index) }
+        ensures refused { IfRefusal result (⟦<FriPcs<F, H> as Pcs<EF, C>>⟧.scheme.RefusesOpening
+            self.now (rounds_view rounds.entry) challenger.old _preprocessed_index) }
     {
         match open::<C, F, EF, H>(alloc, &self.parameters, &rounds, challenger) {
             Ok(opened) => Ok(opened),

@@ -7,20 +7,21 @@ use stark_support::log2_ceil_usize;
 /// The conjectured bits of security of proofs for an AIR over traces of `2^log_height` rows: one
 /// less than the least of
 ///
-/// - `fri_log_blowup * fri_num_queries + fri_query_proof_of_work_bits`: each query lets a word that is
-///   far from the code by with a chance of the rate, and the work is done before they are drawn;
-/// - `num_modulus_bits - log_height - fri_log_blowup - log2(num_batched_functions)`: a challenge that
-///   batches or folds is bad for at most as many values as there are places and batched functions;
-/// - `num_modulus_bits - log_height - log2(max(air_max_constraint_degree, num_quotient_chunks)) - 1`
-///   and `num_modulus_bits - log2(num_constraints)`: the bad zetas and alphas, which
+/// - `fri_log_blowup * fri_num_queries + fri_query_proof_of_work_bits`: each query lets a word that
+///   is far from the code by with a chance of the rate, and the work is done before they are drawn;
+/// - `num_modulus_bits - log_height - fri_log_blowup - log2(num_batched_functions)`: a challenge
+///   that batches or folds is bad for at most as many values as there are places and batched
+///   functions;
+/// - `num_modulus_bits - log_height - log2(max(air_max_constraint_degree, num_quotient_chunks)) -
+///   1` and `num_modulus_bits - log2(num_constraints)`: the bad zetas and alphas, which
 ///   `ood_error_bound` counts;
 /// - `collision_resistance`;
 ///
 /// logarithms rounded up, and nothing below zero. This is the conjecture of ethSTARK (StarkWare,
-/// "ethSTARK Documentation", ePrint 2021/582, section 5.10) with the counts of challenges beside it.
-/// **No theorem here stands behind it**: what it says of far words is unproved in general, and works
-/// of 2025 (ePrint 2025/2010, 2025/2046) show it too hopeful where words are about as far as words
-/// can be. Leave a margin.
+/// "ethSTARK Documentation", ePrint 2021/582, section 5.10) with the counts of challenges beside
+/// it. **No theorem here stands behind it**: what it says of far words is unproved in general, and
+/// works of 2025 (ePrint 2025/2010, 2025/2046) show it too hopeful where words are about as far as
+/// words can be. Leave a margin.
 pub fn conjectured_security_bits(params: &StarkSecurityParams, log_height: usize) -> usize
     ensures { IsConjectured params.now log_height result }
 {

@@ -4,8 +4,8 @@ use stark_fri_proof::FriParameters;
 use stark_security::StarkSecurityParams;
 use std::test::Fail;
 
-/// Five numbers of FRI; the bits of the field and of collisions; constraints, degree, batched functions
-/// and chunks; the height's logarithm; and the bits.
+/// Five numbers of FRI; the bits of the field and of collisions; constraints, degree, batched
+/// functions and chunks; the height's logarithm; and the bits.
 type Line = ([usize; 5], [usize; 2], [usize; 4], usize, usize);
 
 // A field of 31 bits has 123 in its extension of degree 4, one of 12289 elements 54.

@@ -1,5 +1,5 @@
 -- Binary trees of digests, their paths, and collisions.
-use Rattle.std.specs.Prelude.{◌≡◌, ◌≢◌, ℕ, zero, suc, ◌+◌, ◌-◌, ◌/◌, ◌%◌, ◌^◌, ◌<◌, eqb, cond, ⊤, List, [], ◌∷◌, ◌++◌, length, map, IsSome, None, Option, Some}
+use Rattle.std.specs.Prelude.{◌≡◌, ◌≢◌, ℕ, zero, suc, ◌+◌, ◌*◌, ◌-◌, ◌/◌, ◌%◌, ◌^◌, ◌<◌, eqb, cond, ⊤, List, [], ◌∷◌, ◌++◌, length, map, slice_index_or, IsSome, None, Option, Some}
 use Rattle.std.specs.List.{AllByRecursion, slice_get}
 use Rattle.std.specs.declared.vec.Vec.{Vec}
 
@@ -18,6 +18,11 @@ leaf_of hash row = hash (0 ∷ row)
 
 abbrev pub node_of : (List ℕ → List ℕ) → List ℕ → List ℕ → List ℕ
 node_of hash left right = hash (1 ∷ (left ++ right))
+
+-- Nodes first to first + 3 of the layer above, side by side.
+abbrev pub AreNodesOf : (List ℕ → List ℕ) → List (List ℕ) → ℕ → List (List ℕ) → Type 0
+AreNodesOf hash layer first nodes = (i : ℕ) → i < 4
+    → slice_index_or nodes i [] ≡ node_of hash (slice_index_or layer (2 * (first + i)) []) (slice_index_or layer (2 * (first + i) + 1) [])
 
 abbrev pub IsDigest : List ℕ → Type 0
 IsDigest x = length x ≡ 32

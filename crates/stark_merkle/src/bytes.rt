@@ -29,7 +29,8 @@ fn push_coordinates<F: PrimeField64, EF: ExtensionField<F>>(
     bytes: &mut Vec<u8>,
     x: EF,
 ) -> Result<(), AllocError>
-    ensures { OnOk result (bytes.new.items ≡ bytes.old.items ++ elements_bytes F.number_of (EF.coordinates x)) }
+    ensures { OnOk result (bytes.new.items
+        ≡ bytes.old.items ++ elements_bytes F.number_of (EF.coordinates x)) }
 {
     for index in 0..EF::DIMENSION {
         push_number(&mut *bytes, x.coordinate(index).as_canonical_u64())?;
@@ -41,7 +42,8 @@ fn push_coordinates<F: PrimeField64, EF: ExtensionField<F>>(
 /// how many elements it has and the elements' numbers; every number in 8 bytes, the high one first.
 /// It is Err only where memory was refused.
 pub fn row_bytes<F: PrimeField64>(alloc: Global, rows: &[Vec<F>]) -> Result<Vec<u8>, AllocError>
-    ensures { IfOk result (λ bytes. bytes.items ≡ row_bytes_of F.number_of (map items_of rows.now)) }
+    ensures { IfOk result (λ bytes. bytes.items
+        ≡ row_bytes_of F.number_of (map items_of rows.now)) }
 {
     let mut bytes = Vec::new(alloc);
     push_number(&mut bytes, rows.len() as u64)?;
@@ -60,7 +62,8 @@ pub fn pair_bytes<F: PrimeField64, EF: ExtensionField<F>>(
     first: EF,
     second: EF,
 ) -> Result<Vec<u8>, AllocError>
-    ensures { IfOk result (λ bytes. bytes.items ≡ pair_bytes_of F.number_of EF.coordinates first second) }
+    ensures { IfOk result (λ bytes. bytes.items
+        ≡ pair_bytes_of F.number_of EF.coordinates first second) }
 {
     let mut bytes = Vec::new(alloc);
     push_coordinates::<F, EF>(&mut bytes, first)?;
@@ -78,8 +81,8 @@ pub fn pair_bytes_tell_pairs<F: PrimeField64, EF: ExtensionField<F>>(_some: &EF)
     ensures { PairBytesTell F.number_of EF.coordinates }
 {}
 
-/// A law, with no code: two openings of different rows that lead to one root from one place show two
-/// texts with one digest.
+/// A law, with no code: two openings of different rows that lead to one root from one place show
+/// two texts with one digest.
 pub fn opened_rows_bind<F: PrimeField64, H: TreeHash>(_some: &F, _depth: usize, _index: usize)
     ensures { OpenedRowsBind H.digest_of F.number_of _depth _index }
 {}

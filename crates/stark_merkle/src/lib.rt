@@ -14,10 +14,10 @@ mod tree;
 pub use bytes::{
     opened_rows_bind, pair_bytes, pair_bytes_tell_pairs, row_bytes, row_bytes_tell_rows,
 };
-pub use hash::{Sha256Tree, TreeHash, leaf, node};
+pub use hash::{Sha256Tree, TreeHash, four_leaves, leaf, node};
 pub use path::{
     full_trees_have_paths, full_trees_have_roots, is_path_to, own_rows_lead_to_roots, paths_bind,
     root_of_path, rows_bind, tops_are_roots, trees_lead_to_roots,
 };
 pub use root::Root;
-pub use tree::{next_layer, path_in, root_in, tree_layers};
+pub use tree::{leaves, next_layer, path_in, root_in, tree_layers};

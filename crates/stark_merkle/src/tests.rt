@@ -1,7 +1,7 @@
 //! Worked rows of trees over SHA-256. Row i of a tree is the text `row i`. The digests were
 //! computed in Python with hashlib, and which altered claims are refused by a verifier written
 //! there.
-use crate::{Root, Sha256Tree, TreeHash, is_path_to, leaf, path_in, root_in, tree_layers};
+use crate::{Root, Sha256Tree, TreeHash, is_path_to, leaf, leaves, path_in, root_in, tree_layers};
 use serde_json::Value;
 use stark_support::{JsonCodec, JsonFault, value_from_bytes};
 use std::alloc::Global;
@@ -14,6 +14,9 @@ root | 1 => 000c835b247f77f7f1a2ade1f76cd63e3760a4b5407fb46a7969c55413496358
 root | 2 => 6f30c90fee3730f57dbb469964df952a2e98e969be8a383424ad72be9103e045
 root | 4 => e718ef09d8e1f8c3ebf5ef632ee8a2e434c55e53e6ebb2cd7607bd6373044c22
 root | 8 => a94b4fe4b79e2f7254de09d24255b17837de9fbc890e8d2570c84383454a4ccf
+root | 16 => dd58e88824ee4f12417af5226687a58ea354fcfee6c2fe4b6b73e49023bb9497
+root | 32 => f59a306dfa46ab0dca03c0e092c870ea696a977ecd3289d55646345f54bdc839
+root | 128 => 0986554862e96fddd32de59c774fffa6ea92d495ae7e1e7efb2366a2444bfa49
 
 # How many leaves, and a place. Answered are the first bytes of the path's digests, lowest first.
 path | 1 0 => no digests
@@ -137,12 +140,13 @@ fn depth_of(leaves: usize) -> usize {
 }
 
 /// The layers of the tree with so many leaves.
-fn layers_of<H: TreeHash>(alloc: Global, leaves: usize) -> Result<Vec<Vec<[u8; 32]>>, Fail> {
-    let mut digests = Vec::new(alloc);
-    for index in 0..leaves {
-        digests.push(leaf::<H>(&row_at(alloc, index)?))?;
+fn layers_of<H: TreeHash>(alloc: Global, count: usize) -> Result<Vec<Vec<[u8; 32]>>, Fail> {
+    let mut rows = Vec::new(alloc);
+    for index in 0..count {
+        rows.push(row_at(alloc, index)?)?;
     }
-    Ok(tree_layers::<H>(alloc, digests, depth_of(leaves))?)
+    let digests = leaves::<H>(alloc, &rows)?;
+    Ok(tree_layers::<H>(alloc, digests, depth_of(count))?)
 }
 
 /// The true claim of a leaf.
@@ -330,6 +334,6 @@ fn rows_are_answered(rt: HostRuntime) -> Result<(), Fail> {
             count = count.saturating_add(1);
         }
     }
-    assert_eq!(rt; count, 96);
+    assert_eq!(rt; count, 99);
     Ok(())
 }

@@ -1,9 +1,30 @@
 //! Trees, layer by layer.
-ghost use Rattle.std.specs.Prelude.{◌≡◌, ◌+◌, ◌<◌, ◌^◌, ◌↔◌, IfOk, IfSome, IsSome};
-ghost use Rattle.stark_merkle.specs.Tree.{HasPath, IsPathIn, digests_in, layers_from, neighbour, node_of, paired, sole, top_of};
+ghost use Rattle.std.specs.Prelude.{◌≡◌, ◌+◌, ◌<◌, ◌^◌, ◌↔◌, IfOk, IfSome, IsSome, map};
+ghost use Rattle.stark_merkle.specs.Tree.{HasPath, IsPathIn, digests_in, items_of, layers_from, leaf_of, neighbour, node_of, paired, sole, top_of};
 
-use crate::hash::{TreeHash, node};
+use crate::hash::{TreeHash, four_leaves, four_nodes, leaf, node};
 use std::alloc::{AllocError, Global};
+
+/// The leaves over rows, of which the bytes are given, in order. It is Err only where memory was
+/// refused.
+pub fn leaves<H: TreeHash>(alloc: Global, rows: &[Vec<u8>]) -> Result<Vec<[u8; 32]>, AllocError>
+    ensures { IfOk result (λ leaves.
+        leaves.items ≡ map (leaf_of H.digest_of) (map items_of rows.now)) }
+{
+    let mut leaves = Vec::new(alloc);
+    let groups = rows.len() / 4;
+    for group in 0..groups {
+        let at = 4 * group;
+        let four = four_leaves::<H>([&rows[at], &rows[at + 1], &rows[at + 2], &rows[at + 3]]);
+        for j in 0..4 {
+            leaves.push(four[j])?;
+        }
+    }
+    for i in 4 * groups..rows.len() {
+        leaves.push(leaf::<H>(&rows[i]))?;
+    }
+    Ok(leaves)
+}
 
 /// The layer above: for each two neighbours one node, the even place's digest first. A last digest
 /// without a neighbour is left out. It is Err only where memory was refused.
@@ -14,7 +35,14 @@ pub fn next_layer<H: TreeHash>(
     ensures { IfOk result (λ above. above.items ≡ paired (node_of H.digest_of) layer.now) }
 {
     let mut above = Vec::new(alloc);
-    for i in 0..layer.len() / 2 {
+    let groups = layer.len() / 8;
+    for group in 0..groups {
+        let nodes = four_nodes::<H>(layer, group);
+        for j in 0..4 {
+            above.push(nodes[j])?;
+        }
+    }
+    for i in 4 * groups..layer.len() / 2 {
         above.push(node::<H>(&layer[2 * i], &layer[2 * i + 1]))?;
     }
     Ok(above)

@@ -4,12 +4,13 @@ use Rattle.std.proofs.Common.{sym, ◌∙◌, ap, subst}
 use Rattle.stark_support.specs.Ring.{RingOps}
 use Rattle.stark_support.specs.Operations.{Operations, ring_operations, exact_binary}
 use Rattle.stark_air.specs.Tree.{Tree, Constraint}
-use Rattle.stark_air.specs.Layout.{Layout}
+use Rattle.stark_air.specs.Layout.{Layout, Covers}
 use Rattle.stark_air.specs.Value.{Environment, value, constraint_value, constraint_values}
-use Rattle.stark_air.specs.Emission.{EmissionLaws}
+use Rattle.stark_air.specs.Emission.{EmissionLaws, Asserts}
 use Rattle.stark_air.specs.Rows.{environment_of, layout_of}
 use Rattle.stark_parts.specs.Folded.{accumulated, accumulated_append}
 use Rattle.stark_parts.specs.declared.folder.VerifierConstraintFolder.{VerifierConstraintFolder}
+use Rattle.stark_support.specs.FieldPair.{FieldsOps}
 
 -- The folder's types, in its declared order: configuration, scheme, extension, challenger, domain, commitment, prover's data, opening
 -- proof, the verifier's and the prover's error, and base field. F is the base field and E the extension.
@@ -24,6 +25,13 @@ module _ {S P E C D K T A X Y F : Type 0} (base : RingOps F) (ring : RingOps E) 
   -- Nothing but the accumulator is changed, and it carries the constraints' values on.
   abbrev pub after_folding : VerifierConstraintFolder S P E C D K T A X Y F → List (Constraint F) → VerifierConstraintFolder S P E C D K T A X Y F → Type 0
   after_folding s cs t = t ≡ record s { accumulator = accumulated ring s.alpha s.accumulator (constraint_values (ring_operations ring embed) (folder_environment s) cs) }
+
+  -- Two folders show the same row, and have the same layout.
+  abbrev pub ShowsSameRow : VerifierConstraintFolder S P E C D K T A X Y F → VerifierConstraintFolder S P E C D K T A X Y F → Type 0
+  ShowsSameRow s t = folder_environment t ≡ folder_environment s
+
+  abbrev pub HasSameLayout : VerifierConstraintFolder S P E C D K T A X Y F → VerifierConstraintFolder S P E C D K T A X Y F → Type 0
+  HasSameLayout s t = folder_layout t ≡ folder_layout s
 
   pub folding_laws : EmissionLaws folder_environment folder_layout after_folding
   folding_laws = record {
@@ -43,3 +51,14 @@ module _ {F : Type 0} {E : Type 0} (ring : RingOps E) {embed : F → E} {o : Ope
   -- A base value that is turned into an extension's stands for its embedding.
   pub exact_embedding : (stands : E → E → Type 0) (k : F) (x : E) → stands (o.embed k) x → stands (embed k) x
   exact_embedding stands k x h = subst (λ (b : Operations F E). stands (b.embed k) x) exact h
+
+-- Of whatever tree the value stands for, this constraint was folded in.
+abbrev pub FoldsIn : {S P E C D K T A X Y F : Type 0} → FieldsOps F E → Operations F E → (E → E → Type 0) → (Tree F → Constraint F)
+    → VerifierConstraintFolder S P E C D K T A X Y F → E → VerifierConstraintFolder S P E C D K T A X Y F → Type 0
+FoldsIn fields o stands constraint s x t =
+    Asserts o stands (folder_environment fields.base fields.ring fields.embed) (after_folding fields.base fields.ring fields.embed) constraint s x t
+
+-- An AIR's layout is covered by two rows of a trace, two preprocessed ones, public and periodic values.
+abbrev pub CoversRows : {F E : Type 0} → List E → List E → List E → List E → List F → List E → Layout → Type 0
+CoversRows current next preprocessed_current preprocessed_next publics periodic layout =
+    Covers (layout_of current next preprocessed_current preprocessed_next publics periodic) layout

@@ -11,3 +11,7 @@ constraint_degree d cs hint = max (greatest_degree d cs) (unwrap_or hint 0)
 -- as 2 at least, and as one more under zero knowledge.
 abbrev pub quotient_multiple : ℕ → ℕ → ℕ
 quotient_multiple degree is_zk = max (saturated (degree + is_zk)) 2 - 1
+
+-- That bound for constraints, with an author's own bound on their degrees; d for the transition selector.
+abbrev pub multiple_of : {F : Type 0} → ℕ → List (Constraint F) → Option ℕ → ℕ → ℕ
+multiple_of d cs hint is_zk = quotient_multiple (constraint_degree d cs hint) is_zk

@@ -4,8 +4,9 @@ use stark_support::{
     PrimeField64,
 };
 
-/// A challenger that takes commitments of type `K` and does all that a prover and a verifier over the field `F` and its
-/// extension `EF` ask of one. Every type with these traits is one: it is a name for the list of them.
+/// A challenger that takes commitments of type `K` and does all that a prover and a verifier over
+/// the field `F` and its extension `EF` ask of one. Every type with these traits is one: it is a
+/// name for the list of them.
 pub trait StarkChallenger<F: PrimeField64, EF: ExtensionField<F>, K>: FieldChallenger<F>
     + CanObserve<K>
     + ExtensionChallenger<F, EF>

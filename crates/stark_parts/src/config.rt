@@ -76,8 +76,8 @@ pub trait StarkGenericConfig: Clone {
         if Self::Pcs::ZK { 1 } else { 0 }
     }
 
-    /// How many bits of work are asked for before the challenges of lookups. A STARK of one AIR has none and reads no such
-    /// number.
+    /// How many bits of work are asked for before the challenges of lookups. A STARK of one AIR has
+    /// none and reads no such number.
     fn lookup_proof_of_work_bits(&self) -> usize
         ensures { result ≡ config.lookup_bits self.now };
 
@@ -143,7 +143,8 @@ impl<P, Challenge, Challenger> StarkConfig<P, Challenge, Challenger> {
         }
     }
 
-    /// The same configuration, which asks for so many bits of work before the challenges of lookups.
+    /// The same configuration, which asks for so many bits of work before the challenges of
+    /// lookups.
     pub fn with_lookup_proof_of_work_bits(
         self,
         bits: usize,
@@ -202,7 +203,8 @@ where
     }
 }
 
-/// The places of the rounds in an opening argument. Where the scheme masks, the random commitment comes first.
+/// The places of the rounds in an opening argument. Where the scheme masks, the random commitment
+/// comes first.
 #[derive(Clone, Copy, Debug)]
 pub struct StarkOpeningLayout {
     /// The place of the trace.
@@ -214,7 +216,8 @@ pub struct StarkOpeningLayout {
 }
 
 impl StarkOpeningLayout {
-    /// Trace, quotient, preprocessed at 0, 1, 2; each one higher where the scheme masks. It takes no memory.
+    /// Trace, quotient, preprocessed at 0, 1, 2; each one higher where the scheme masks. It takes
+    /// no memory.
     pub fn new(is_zk: bool) -> StarkOpeningLayout
         ensures trace { result.trace ≡ zk_bits is_zk }
         ensures quotient { result.quotient ≡ 1 + zk_bits is_zk }

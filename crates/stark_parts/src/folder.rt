@@ -1,24 +1,23 @@
 //! The verifier's folder: it carries on one accumulator.
-ghost use Rattle.std.specs.Prelude.{◌≡◌, [], ◌∷◌, IfOk, OnErr};
+ghost use Rattle.std.specs.Prelude.{◌≡◌, [], IfOk, OnErr};
 ghost use Rattle.std.proofs.Common.{sym, subst};
-ghost use Rattle.stark_air.specs.Layout.{Covers};
-ghost use Rattle.stark_air.specs.Rows.{environment_of, layout_of};
-ghost use Rattle.stark_air.specs.Tree.{Tree, base, extension};
+ghost use Rattle.stark_air.specs.Rows.{environment_of};
+ghost use Rattle.stark_air.specs.Tree.{base, extension};
 ghost use Rattle.stark_air.specs.Value.{constraint_values, value};
 ghost use Rattle.stark_support.specs.Operations.{ring_operations};
 ghost use Rattle.stark_parts.specs.Folded.{folded};
-ghost use Rattle.stark_parts.specs.Folding.{folder_environment, folder_layout, after_folding, folding_laws};
+ghost use Rattle.stark_parts.specs.Folding.{folder_environment, folder_layout, after_folding, folding_laws, CoversRows, FoldsIn, HasSameLayout, ShowsSameRow};
 
 use crate::config::{StarkGenericConfig, Val};
 use stark_air::{Air, BaseAirBuilder, ExtensionBuilder, RowWindow};
 use stark_support::{
-    ExtensionField, Field, LagrangeSelectors, PolynomialSpace, RowMajorMatrixView, VerticalPair,
-    ViewPair,
+    ExtensionField, Field, FieldPair, LagrangeSelectors, PolynomialSpace, RowMajorMatrixView,
+    VerticalPair, ViewPair,
 };
 use std::alloc::AllocError;
 
-/// Evaluates an AIR's constraints at the opened rows, and folds their values: each assertion multiplies the accumulator by
-/// alpha and adds the asserted value.
+/// Evaluates an AIR's constraints at the opened rows, and folds their values: each assertion
+/// multiplies the accumulator by alpha and adds the asserted value.
 #[derive(Drop)]
 pub struct VerifierConstraintFolder<'a, SC: StarkGenericConfig> {
     /// The main columns' two rows.
@@ -51,7 +50,8 @@ impl<'a, SC: StarkGenericConfig> BaseAirBuilder for VerifierConstraintFolder<'a,
 
     type PreprocessedWindow = RowWindow<'a, SC::Challenge, Val<SC>>;
 
-    ghost environment = { folder_environment SC.Pcs.Domain.Val.ring SC.Challenge.ring SC.Challenge.embed };
+    ghost environment = { folder_environment SC.Pcs.Domain.Val.ring SC.Challenge.ring
+        SC.Challenge.embed };
 
     ghost layout = { folder_layout SC.Pcs.Domain.Val.ring SC.Challenge.ring SC.Challenge.embed };
 
@@ -62,7 +62,8 @@ impl<'a, SC: StarkGenericConfig> BaseAirBuilder for VerifierConstraintFolder<'a,
 
     ghost after = { after_folding SC.Pcs.Domain.Val.ring SC.Challenge.ring SC.Challenge.embed };
 
-    ghost emission_laws = { folding_laws SC.Pcs.Domain.Val.ring SC.Challenge.ring SC.Challenge.embed };
+    ghost emission_laws = { folding_laws SC.Pcs.Domain.Val.ring SC.Challenge.ring
+        SC.Challenge.embed };
 
     fn main(&self) -> Result<RowWindow<'a, SC::Challenge, Val<SC>>, AllocError> {
         Ok(RowWindow::from_two_rows(self.main.top.values, self.main.bottom.values).over())
@@ -99,12 +100,18 @@ impl<'a, SC: StarkGenericConfig> BaseAirBuilder for VerifierConstraintFolder<'a,
     /// The accumulator becomes itself times alpha, and `x`.
     fn assert_zero(&mut self, x: SC::Challenge) -> Result<(), AllocError>
         ensures kept { self.new ≡ record self.old { accumulator = self.new.accumulator } }
-        ensures same_environment { folder_environment SC.Pcs.Domain.Val.ring SC.Challenge.ring SC.Challenge.embed self.new ≡ folder_environment SC.Pcs.Domain.Val.ring SC.Challenge.ring SC.Challenge.embed self.old }
-        ensures same_layout { folder_layout SC.Pcs.Domain.Val.ring SC.Challenge.ring SC.Challenge.embed self.new ≡ folder_layout SC.Pcs.Domain.Val.ring SC.Challenge.ring SC.Challenge.embed self.old }
-        ensures asserted { IfOk result (λ _. (t : Tree SC.Pcs.Domain.Val) → SC.Challenge.stands (value SC.Challenge.operations (folder_environment SC.Pcs.Domain.Val.ring SC.Challenge.ring SC.Challenge.embed self.old) t) x → after_folding SC.Pcs.Domain.Val.ring SC.Challenge.ring SC.Challenge.embed self.old (base t ∷ []) self.new) }
-        ensures refused { OnErr result (after_folding SC.Pcs.Domain.Val.ring SC.Challenge.ring SC.Challenge.embed self.old [] self.new) }
+        ensures same_environment { ShowsSameRow SC.Pcs.Domain.Val.ring SC.Challenge.ring
+            SC.Challenge.embed self.old self.new }
+        ensures same_layout { HasSameLayout SC.Pcs.Domain.Val.ring SC.Challenge.ring
+            SC.Challenge.embed self.old self.new }
+        ensures asserted { IfOk result (λ _.
+            FoldsIn ⟦<SC::Challenge as FieldPair<Val<SC>>>⟧.fields SC.Challenge.operations
+            SC.Challenge.stands base self.old x self.new) }
+        ensures refused { OnErr result (after_folding SC.Pcs.Domain.Val.ring SC.Challenge.ring
+            SC.Challenge.embed self.old [] self.new) }
         ensures memory { OnErr result ⊥ }
-        ensures carried { self.new.accumulator ≡ SC.Challenge.ring.add (SC.Challenge.ring.mul self.old.accumulator self.old.alpha) x }
+        ensures carried { self.new.accumulator
+            ≡ SC.Challenge.ring.add (SC.Challenge.ring.mul self.old.accumulator self.old.alpha) x }
     {
         self.accumulator = self.accumulator * self.alpha + x;
         Ok(())
@@ -127,20 +134,27 @@ impl<'a, SC: StarkGenericConfig> ExtensionBuilder for VerifierConstraintFolder<'
     /// The accumulator becomes itself times alpha, and `x`.
     fn assert_zero_ext(&mut self, x: SC::Challenge) -> Result<(), AllocError>
         ensures kept { self.new ≡ record self.old { accumulator = self.new.accumulator } }
-        ensures same_environment { folder_environment SC.Pcs.Domain.Val.ring SC.Challenge.ring SC.Challenge.embed self.new ≡ folder_environment SC.Pcs.Domain.Val.ring SC.Challenge.ring SC.Challenge.embed self.old }
-        ensures same_layout { folder_layout SC.Pcs.Domain.Val.ring SC.Challenge.ring SC.Challenge.embed self.new ≡ folder_layout SC.Pcs.Domain.Val.ring SC.Challenge.ring SC.Challenge.embed self.old }
-        ensures asserted { IfOk result (λ _. (t : Tree SC.Pcs.Domain.Val) → SC.Challenge.stands (value SC.Challenge.operations (folder_environment SC.Pcs.Domain.Val.ring SC.Challenge.ring SC.Challenge.embed self.old) t) x → after_folding SC.Pcs.Domain.Val.ring SC.Challenge.ring SC.Challenge.embed self.old (extension t ∷ []) self.new) }
-        ensures refused { OnErr result (after_folding SC.Pcs.Domain.Val.ring SC.Challenge.ring SC.Challenge.embed self.old [] self.new) }
+        ensures same_environment { ShowsSameRow SC.Pcs.Domain.Val.ring SC.Challenge.ring
+            SC.Challenge.embed self.old self.new }
+        ensures same_layout { HasSameLayout SC.Pcs.Domain.Val.ring SC.Challenge.ring
+            SC.Challenge.embed self.old self.new }
+        ensures asserted { IfOk result (λ _.
+            FoldsIn ⟦<SC::Challenge as FieldPair<Val<SC>>>⟧.fields SC.Challenge.operations
+            SC.Challenge.stands extension self.old x self.new) }
+        ensures refused { OnErr result (after_folding SC.Pcs.Domain.Val.ring SC.Challenge.ring
+            SC.Challenge.embed self.old [] self.new) }
         ensures memory { OnErr result ⊥ }
-        ensures carried { self.new.accumulator ≡ SC.Challenge.ring.add (SC.Challenge.ring.mul self.old.accumulator self.old.alpha) x }
+        ensures carried { self.new.accumulator
+            ≡ SC.Challenge.ring.add (SC.Challenge.ring.mul self.old.accumulator self.old.alpha) x }
     {
         self.assert_zero(x)
     }
 }
 
-/// The folded sum of an AIR's constraints over two opened rows, `alpha^(n - 1 - j)` times constraint `j` for each of the `n`.
-/// The rows and values have at least the lengths that the AIR declares; a trace without preprocessed columns has empty
-/// rows of them. The folder takes no memory: Err only where the AIR's `eval` takes some of its own, and was refused it.
+/// The folded sum of an AIR's constraints over two opened rows, `alpha^(n - 1 - j)` times
+/// constraint `j` for each of the `n`. The rows and values have at least the lengths that the AIR
+/// declares; a trace without preprocessed columns has empty rows of them. The folder takes no
+/// memory: Err only where the AIR's `eval` takes some of its own, and was refused it.
 pub fn fold_constraints<SC: StarkGenericConfig, A: Air<Val<SC>>>(
     air: &A,
     main_current: &[SC::Challenge],
@@ -152,9 +166,15 @@ pub fn fold_constraints<SC: StarkGenericConfig, A: Air<Val<SC>>>(
     selectors: LagrangeSelectors<SC::Challenge>,
     alpha: SC::Challenge,
 ) -> Result<SC::Challenge, AllocError>
-    requires { Covers (layout_of main_current.now main_next.now preprocessed_current.now preprocessed_next.now public_values.now periodic_values.now) (A.layout air.now) }
-    ensures folded { IfOk result (λ sum. sum ≡ folded SC.Challenge.ring alpha (constraint_values (ring_operations SC.Challenge.ring SC.Challenge.embed)
-        (environment_of (ring_operations SC.Challenge.ring SC.Challenge.embed) SC.Pcs.Domain.Val.ring.zero SC.Challenge.ring.zero main_current.now main_next.now preprocessed_current.now preprocessed_next.now public_values.now periodic_values.now selectors.is_first_row selectors.is_last_row selectors.is_transition)
+    requires { CoversRows main_current.now main_next.now preprocessed_current.now
+        preprocessed_next.now public_values.now periodic_values.now (A.layout air.now) }
+    ensures folded { IfOk result (λ sum. sum
+        ≡ folded SC.Challenge.ring alpha (constraint_values
+        (ring_operations SC.Challenge.ring SC.Challenge.embed)
+        (environment_of (ring_operations SC.Challenge.ring SC.Challenge.embed)
+        SC.Pcs.Domain.Val.ring.zero SC.Challenge.ring.zero main_current.now main_next.now
+        preprocessed_current.now preprocessed_next.now public_values.now periodic_values.now
+        selectors.is_first_row selectors.is_last_row selectors.is_transition)
         (A.constraints air.now))) }
     ensures memory { OnErr result (A.takes_memory air.now) }
 {

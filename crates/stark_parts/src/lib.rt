@@ -1,5 +1,5 @@
-//! The parts that a prover and a verifier share, transcripts aside: configurations, the verifier's folder and the number of a
-//! quotient's chunks.
+//! The parts that a prover and a verifier share, transcripts aside: configurations, the verifier's
+//! folder and the number of a quotient's chunks.
 #![tactic(auto)]
 
 mod challenger;

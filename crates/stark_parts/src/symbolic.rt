@@ -3,7 +3,7 @@ ghost use Rattle.std.specs.Prelude.{◌≡◌, ◌≤◌, ◌+◌, ℕ, max, unw
 ghost use Rattle.stark_support.specs.Logarithm.{IsCeilingOfLog};
 ghost use Rattle.stark_air.specs.Layout.{Covers};
 ghost use Rattle.stark_air.specs.SymbolicLayout.{symbolic_layout};
-ghost use Rattle.stark_parts.specs.Sizing.{constraint_degree, quotient_multiple};
+ghost use Rattle.stark_parts.specs.Sizing.{constraint_degree, quotient_multiple, multiple_of};
 ghost use Rattle.stark_parts.specs.SizingLaw.{AreSizable, HasSmallBound};
 
 use stark_air::{Air, AirLayout, BaseAir};
@@ -42,10 +42,11 @@ pub fn get_log_num_quotient_chunks_for_degree<F, A: BaseAir<F>>(
     log_chunks_of_degree(at_least_the_hint(air, degree), is_zk)
 }
 
-/// The logarithm of the number of chunks that the quotient of the AIR's constraints, base and extension, is cut into over a
-/// two-adic domain: `log2_ceil(max(degree + is_zk, 2) - 1)`, where the degree is the greater of the greatest degree multiple
-/// and the author's own bound, and a sum above the greatest `usize` counts as that. The trace's length decides nothing.
-/// Under zero knowledge `is_zk` is 1, and else 0. Err only where memory was refused.
+/// The logarithm of the number of chunks that the quotient of the AIR's constraints, base and
+/// extension, is cut into over a two-adic domain: `log2_ceil(max(degree + is_zk, 2) - 1)`, where
+/// the degree is the greater of the greatest degree multiple and the author's own bound, and a sum
+/// above the greatest `usize` counts as that. The trace's length decides nothing. Under zero
+/// knowledge `is_zk` is 1, and else 0. Err only where memory was refused.
 pub fn get_log_quotient_degree_extension<F: Field, EF, A: Air<F>>(
     alloc: Global,
     air: &A,
@@ -55,13 +56,16 @@ pub fn get_log_quotient_degree_extension<F: Field, EF, A: Air<F>>(
 ) -> Result<usize, AllocError>
     requires covered { Covers (symbolic_layout layout) (A.layout air.now) }
     requires flag { is_zk ≤ 1 }
-    ensures { IfOk result (λ log. IsCeilingOfLog log (quotient_multiple (constraint_degree 0 (A.constraints air.now) (A.degree_hint air.now)) is_zk)) }
+    ensures { IfOk result (λ log. IsCeilingOfLog log
+        (quotient_multiple (constraint_degree 0 (A.constraints air.now) (A.degree_hint air.now))
+        is_zk)) }
 {
     let degree = get_max_constraint_degree_extension::<F, EF, A>(alloc, air, layout, trace_len)?;
     Ok(get_log_num_quotient_chunks_for_degree(air, degree, is_zk))
 }
 
-/// `get_log_quotient_degree_extension` where the constraints over the extension are over the field itself.
+/// `get_log_quotient_degree_extension` where the constraints over the extension are over the field
+/// itself.
 pub fn get_log_num_quotient_chunks<F: Field, A: Air<F>>(
     alloc: Global,
     air: &A,
@@ -71,14 +75,17 @@ pub fn get_log_num_quotient_chunks<F: Field, A: Air<F>>(
 ) -> Result<usize, AllocError>
     requires covered { Covers (symbolic_layout layout) (A.layout air.now) }
     requires flag { is_zk ≤ 1 }
-    ensures { IfOk result (λ log. IsCeilingOfLog log (quotient_multiple (constraint_degree 0 (A.constraints air.now) (A.degree_hint air.now)) is_zk)) }
+    ensures { IfOk result (λ log. IsCeilingOfLog log
+        (quotient_multiple (constraint_degree 0 (A.constraints air.now) (A.degree_hint air.now))
+        is_zk)) }
 {
     get_log_quotient_degree_extension::<F, F, A>(alloc, air, layout, trace_len, is_zk)
 }
 
-/// The same over any domain, whose `transition_degree_multiple` is the degree of the transition selector. Where each term of
-/// each constraint has at most one transition factor and no degree multiple saturates, a quotient's domain of so many
-/// chunks is large enough: the greatest degree bound of a constraint, over columns of degree below the committed height, is
+/// The logarithm of the number of chunks over any domain, whose `transition_degree_multiple` is the
+/// degree of the transition selector. Where each term of each constraint has at most one transition
+/// factor and no degree multiple saturates, a quotient's domain of so many chunks is large enough:
+/// the greatest degree bound of a constraint, over columns of degree below the committed height, is
 /// below the trace's height plus the size of that domain.
 pub fn get_log_num_quotient_chunks_for_domain<F: Field, A: Air<F>, D: DomainShape>(
     alloc: Global,
@@ -89,8 +96,11 @@ pub fn get_log_num_quotient_chunks_for_domain<F: Field, A: Air<F>, D: DomainShap
 ) -> Result<usize, AllocError>
     requires covered { Covers (symbolic_layout layout) (A.layout air.now) }
     requires flag { is_zk ≤ 1 }
-    ensures log { IfOk result (λ log. IsCeilingOfLog log (quotient_multiple (constraint_degree (D.transition_multiple domain.now) (A.constraints air.now) (A.degree_hint air.now)) is_zk)) }
-    ensures enough { IfOk result (λ log. AreSizable (A.constraints air.now) → (height : ℕ) → HasSmallBound (A.constraints air.now) height (height + is_zk) log) }
+    ensures log { IfOk result (λ log. IsCeilingOfLog log
+        (multiple_of (D.transition_multiple domain.now) (A.constraints air.now)
+        (A.degree_hint air.now) is_zk)) }
+    ensures enough { IfOk result (λ log. AreSizable (A.constraints air.now) → (height : ℕ)
+        → HasSmallBound (A.constraints air.now) height (height + is_zk) log) }
 {
     let transition_degree = domain.transition_degree_multiple();
     let degree = get_max_constraint_degree_with_transition::<F, F, A>(

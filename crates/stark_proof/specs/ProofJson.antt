@@ -6,8 +6,10 @@ use Rattle.stark_support.specs.Json.{array_at, whole_at}
 use Rattle.stark_proof.specs.declared.values.Commitments.{Commitments}
 use Rattle.stark_proof.specs.declared.error.OpeningsDecodeError.{OpeningsDecodeError}
 use Rattle.stark_proof.specs.declared.error.ProofDecodeError.{ProofDecodeError}
-use Rattle.stark_proof.specs.ProofView.{PreprocessedView, OpeningsView, ProofView}
+use Rattle.stark_proof.specs.ProofView.{PreprocessedView, OpeningsView, ProofView, proof_view}
 use Rattle.stark_support.specs.JsonFacts.{list_written}
+use Rattle.std.specs.declared.vec.Vec.{Vec}
+use Rattle.stark_proof.specs.declared.values.Proof.{Proof}
 
 -- Why a JSON value is not read: a field, by its name, or a fault of another kind.
 pub data DecodeFault (X : Type 0) : Type 0 where
@@ -246,3 +248,37 @@ module _ {K : Type 0} {E : Type 0} {P : Type 0} {F : Type 0} where
   -- what was written of a proof is read back where its opened values keep their rule, and of any other their fault is found
   abbrev pub proof_read_back : ProofView K E P F → Result (ProofView K E P F) ProofFault
   proof_read_back p = unless_fault (option_map (λ fault. other (Some fault)) (openings_rule_fault p.opened_values)) p
+
+-- ---- of values, by the data that they are
+
+abbrev row_items : {E A : Type 0} → Option (Vec E A) → Option (List E)
+row_items row = option_map (λ r. r.items) row
+
+-- The preprocessed rows of two lists.
+abbrev pub opened_rows : {E A B : Type 0} → Option (Vec E A) → Option (Vec E B) → Result (Option (PreprocessedView E)) OpeningsFault
+opened_rows local next = preprocessed_rows (row_items local) (row_items next)
+
+-- A proof was read, or its first fault told.
+abbrev pub DecodesProof : {Com Challenge PcsProof Val : Type 0} → Result (Proof Com Challenge PcsProof Val) ProofDecodeError → Result (ProofView Com Challenge PcsProof Val) ProofFault → Type 0
+DecodesProof result reading = Decodes proof_view proof_fault result reading
+
+-- The object of openings, the members of a proof and the object that they make.
+abbrev pub openings_of : {V : Type 0} → (V → Data) → V → V → V → V → V → V → Data
+openings_of view trace_local trace_next local next quotient_chunks random =
+    openings_object (view trace_local) (view trace_next) (view local) (view next) (view quotient_chunks) (view random)
+
+abbrev pub members_of : {V : Type 0} → (V → Data) → V → V → V → V → V → Members
+members_of view commitments opened_values opening_proof degree_bits ood_pow_witness =
+    proof_members (view commitments) (view opened_values) (view opening_proof) (view degree_bits) (view ood_pow_witness)
+
+abbrev pub object_of : {V : Type 0} → (V → Data) → Option V → V → V → V → V → V → Data
+object_of view alpha_pow_witness commitments opened_values opening_proof degree_bits ood_pow_witness = proof_object (option_map view alpha_pow_witness)
+    (view commitments) (view opened_values) (view opening_proof) (view degree_bits) (view ood_pow_witness)
+
+-- A value is this data.
+abbrev pub Writes : {V : Type 0} → (V → Data) → Data → V → Type 0
+Writes view written value = view value ≡ written
+
+-- It is read as the proof, or as the proof's own fault.
+abbrev pub ReadBack : {V K E P F : Type 0} → (V → Data) → (Data → Result (ProofView K E P F) ProofFault) → ProofView K E P F → V → Type 0
+ReadBack view reading p value = reading (view value) ≡ proof_read_back p

@@ -16,7 +16,8 @@ fn commitments_object(
     quotient_chunks: Value,
     random: Value,
 ) -> Result<Value, AllocError>
-    ensures { IfOk result (λ value. view value ≡ commitments_object (view trace) (view quotient_chunks) (view random)) }
+    ensures { IfOk result (λ value. view value
+        ≡ commitments_object (view trace) (view quotient_chunks) (view random)) }
 {
     json!(in alloc; {
         "trace": trace,
@@ -26,9 +27,9 @@ fn commitments_object(
 }
 
 impl<Com: NeverNull + Drop> Commitments<Com> {
-    /// The commitments that an object spells. Its fields are read in the order `trace`, `quotient_chunks`, `random`, others
-    /// are ignored, and the first fault is answered. The first two are required, and `random` is None where it is missing or
-    /// null.
+    /// The commitments that an object spells. Its fields are read in the order `trace`,
+    /// `quotient_chunks`, `random`, others are ignored, and the first fault is answered. The first
+    /// two are required, and `random` is None where it is missing or null.
     ///
     /// - `WrongKind` with the name `commitments` where the value isn't an object.
     /// - `MissingField` where a required field isn't there.
@@ -36,7 +37,8 @@ impl<Com: NeverNull + Drop> Commitments<Com> {
     /// - `OutOfMemory` wherever a growth was refused.
     #[tactic(auto, unfolding(crate::specs::ProofJson::commitments_reading))]
     pub fn from_json(alloc: Global, value: &Value) -> Result<Commitments<Com>, ProofDecodeError>
-        ensures decoded { Decodes (λ c. c) proof_fault result (commitments_reading Com.reading (view value.now)) }
+        ensures decoded { Decodes (λ c. c) proof_fault result
+            (commitments_reading Com.reading (view value.now)) }
     {
         if !value.is_object() {
             return Err(ProofDecodeError::WrongKind {
@@ -53,11 +55,14 @@ impl<Com: NeverNull + Drop> Commitments<Com> {
         })
     }
 
-    /// An object with all three keys; an absent commitment is null. It is read back as these commitments.
+    /// An object with all three keys; an absent commitment is null. It is read back as these
+    /// commitments.
     #[tactic(auto, unfolding(crate::specs::ProofJson::commitments_writing))]
     pub fn to_json(&self, alloc: Global) -> Result<Value, AllocError>
-        ensures written { IfOk result (λ value. view value ≡ commitments_writing Com.writing self.now) }
-        ensures read_back { IfOk result (λ value. commitments_reading Com.reading (view value) ≡ Ok self.now) }
+        ensures written { IfOk result (λ value. view value
+            ≡ commitments_writing Com.writing self.now) }
+        ensures read_back { IfOk result (λ value. commitments_reading Com.reading (view value)
+            ≡ Ok self.now) }
     {
         let trace = self.trace.to_json(alloc)?;
         let quotient_chunks = self.quotient_chunks.to_json(alloc)?;

@@ -34,8 +34,8 @@ pub enum ProofDecodeError {
     /// A required field isn't there.
     #[error("the field {field} is missing")]
     MissingField { field: &'static str },
-    /// The commitments aren't an object, or the degree bits no whole number that fits; the proof isn't an object where the
-    /// name is empty.
+    /// The commitments aren't an object, or the degree bits no whole number that fits; the proof
+    /// isn't an object where the name is empty.
     #[error("the field {field} is of the wrong kind")]
     WrongKind { field: &'static str },
     /// A commitment, the opening proof or a witness is refused.

@@ -14,7 +14,8 @@ pub(crate) fn required<'a>(
     value: &'a Value,
     field: &'static str,
 ) -> Result<&'a Value, ProofDecodeError>
-    ensures { Decodes (λ v. view v.now) proof_fault result (ok_or (get field.now (view value.now)) (missing_field field.now)) }
+    ensures { Decodes (λ v. view v.now) proof_fault result
+        (ok_or (get field.now (view value.now)) (missing_field field.now)) }
 {
     match value.get(field) {
         Some(found) => Ok(found),
@@ -42,7 +43,8 @@ pub(crate) fn required_value<T: JsonCodec>(
     value: &Value,
     field: &'static str,
 ) -> Result<T, ProofDecodeError>
-    ensures { Decodes (λ x. x) proof_fault result (required field.now (value_at T.reading field.now) (view value.now)) }
+    ensures { Decodes (λ x. x) proof_fault result
+        (required field.now (value_at T.reading field.now) (view value.now)) }
 {
     let found = required(value, field)?;
     value_from_json(alloc, found, field)
@@ -54,7 +56,8 @@ pub(crate) fn optional_value<T: JsonCodec>(
     value: &Value,
     field: &'static str,
 ) -> Result<Option<T>, ProofDecodeError>
-    ensures { Decodes (λ x. x) proof_fault result (optional field.now (value_at T.reading field.now) (view value.now)) }
+    ensures { Decodes (λ x. x) proof_fault result
+        (optional field.now (value_at T.reading field.now) (view value.now)) }
 {
     let Some(found) = value.get(field) else {
         return Ok(None);
@@ -78,7 +81,8 @@ pub(crate) fn element_or_zero<F: Field + JsonCodec>(
     value: &Value,
     field: &'static str,
 ) -> Result<F, ProofDecodeError>
-    ensures { Decodes (λ x. x) proof_fault result (optional_or F.ring.zero field.now (value_at F.reading field.now) (view value.now)) }
+    ensures { Decodes (λ x. x) proof_fault result
+        (optional_or F.ring.zero field.now (value_at F.reading field.now) (view value.now)) }
 {
     match optional_value(alloc, value, field)? {
         Some(element) => Ok(element),
@@ -104,7 +108,8 @@ pub(crate) fn nonzero_to_json<F: Field + JsonCodec>(
     alloc: Global,
     element: F,
 ) -> Result<Option<Value>, AllocError>
-    ensures { IfOk result (λ written. option_map view written ≡ option_map F.writing (nonzero F.eq F.ring.zero element)) }
+    ensures { IfOk result (λ written. option_map view written
+        ≡ option_map F.writing (nonzero F.eq F.ring.zero element)) }
 {
     if is_zero(element) {
         return Ok(None);
@@ -120,7 +125,8 @@ pub(crate) fn put_value(
     field: &str,
     value: Option<Value>,
 ) -> Result<(), AllocError>
-    ensures { OnOk result (members_view map.new.entries ≡ with_value field.now (option_map view value) (members_view map.old.entries)) }
+    ensures { OnOk result (members_view map.new.entries
+        ≡ with_value field.now (option_map view value) (members_view map.old.entries)) }
 {
     match value {
         Some(value) => put(map, alloc, field, value),

@@ -1,7 +1,7 @@
 //! Opened values in JSON.
 ghost use Rattle.std.specs.Prelude.{◌≡◌, IfOk, option_map};
 ghost use Rattle.serde_json.specs.View.{view};
-ghost use Rattle.stark_proof.specs.ProofJson.{Decodes, openings_fault, openings_object, openings_read_back, openings_reading, openings_writing, preprocessed_rows, value_or_null};
+ghost use Rattle.stark_proof.specs.ProofJson.{Decodes, openings_fault, openings_object, openings_read_back, openings_reading, openings_writing, preprocessed_rows, value_or_null, opened_rows, openings_of};
 ghost use Rattle.stark_proof.specs.ProofView.{openings_view, preprocessed_view};
 ghost use Rattle.stark_support.specs.JsonFacts.{list_written};
 
@@ -20,7 +20,7 @@ fn preprocessed_rows<E: Drop>(
     next: Option<Vec<E>>,
 ) -> Result<Option<PreprocessedOpenedValues<E>>, OpeningsDecodeError>
     ensures { Decodes (option_map preprocessed_view) openings_fault result
-        (preprocessed_rows (option_map (λ row. row.items) local) (option_map (λ row. row.items) next)) }
+        (opened_rows local next) }
 {
     let Some(local) = local else {
         return match next {
@@ -53,24 +53,27 @@ fn elements_of<E>(row: &Option<Vec<E>>) -> Option<&[E]>
 }
 
 impl<Challenge: JsonCodec + Drop> OpenedValues<Challenge> {
-    /// The opened values that an object spells. Its fields are read in the order `trace_local`, `trace_next`,
-    /// `preprocessed_local`, `preprocessed_next`, `quotient_chunks`, `random`, others are ignored, and the first fault is
-    /// answered. A row is an array of elements, `quotient_chunks` an array of rows. `trace_local` and `quotient_chunks` are
-    /// required; the other four are None where they are missing or null.
+    /// The opened values that an object spells. Its fields are read in the order `trace_local`,
+    /// `trace_next`, `preprocessed_local`, `preprocessed_next`, `quotient_chunks`, `random`, others
+    /// are ignored, and the first fault is answered. A row is an array of elements,
+    /// `quotient_chunks` an array of rows. `trace_local` and `quotient_chunks` are required; the
+    /// other four are None where they are missing or null.
     ///
     /// - `WrongKind` with an empty name where the value isn't an object.
     /// - `MissingField` where a required field isn't there.
     /// - `WrongKind` where a field that is there, or a row of it, isn't an array.
     /// - `Element` where an element is refused.
-    /// - After all fields: `NextWithoutCurrent` where the next preprocessed row stands alone, `EmptyCurrent` where the current
-    ///   one has no element, `WidthMismatch` where the next one has another number of elements.
+    /// - After all fields: `NextWithoutCurrent` where the next preprocessed row stands alone,
+    ///   `EmptyCurrent` where the current one has no element, `WidthMismatch` where the next one
+    ///   has another number of elements.
     /// - `OutOfMemory` wherever a growth was refused.
     #[tactic(auto, unfolding(crate::specs::ProofJson::openings_reading))]
     pub fn from_json(
         alloc: Global,
         value: &Value,
     ) -> Result<OpenedValues<Challenge>, OpeningsDecodeError>
-        ensures decoded { Decodes openings_view openings_fault result (openings_reading Challenge.reading (view value.now)) }
+        ensures decoded { Decodes openings_view openings_fault result
+            (openings_reading Challenge.reading (view value.now)) }
     {
         if !value.is_object() {
             return Err(OpeningsDecodeError::WrongKind { field: "" });
@@ -97,7 +100,9 @@ fn trace_next_to_json<Challenge: JsonCodec>(
     alloc: Global,
     opened_values: &OpenedValues<Challenge>,
 ) -> Result<Value, AllocError>
-    ensures { IfOk result (λ value. view value ≡ value_or_null (list_written Challenge.writing) (openings_view opened_values.now).trace_next) }
+    ensures { IfOk result (λ value. view value
+        ≡ value_or_null (list_written Challenge.writing)
+        (openings_view opened_values.now).trace_next) }
 {
     row_or_null(alloc, elements_of(&opened_values.trace_next))
 }
@@ -111,7 +116,9 @@ fn openings_object(
     quotient_chunks: Value,
     random: Value,
 ) -> Result<Value, AllocError>
-    ensures { IfOk result (λ value. view value ≡ openings_object (view trace_local) (view trace_next) (view preprocessed_local) (view preprocessed_next) (view quotient_chunks) (view random)) }
+    ensures { IfOk result (λ value. view value
+        ≡ openings_of view trace_local trace_next preprocessed_local preprocessed_next
+        quotient_chunks random) }
 {
     json!(in alloc; {
         "trace_local": trace_local,
@@ -124,12 +131,14 @@ fn openings_object(
 }
 
 impl<Challenge: JsonCodec> OpenedValues<Challenge> {
-    /// An object with all six keys; an absent row is null. It is read back as these values, unless they break the rule of the
-    /// preprocessed rows: then that fault is found.
+    /// An object with all six keys; an absent row is null. It is read back as these values, unless
+    /// they break the rule of the preprocessed rows: then that fault is found.
     #[tactic(auto, unfolding(crate::specs::ProofJson::openings_writing))]
     pub fn to_json(&self, alloc: Global) -> Result<Value, AllocError>
-        ensures written { IfOk result (λ value. view value ≡ openings_writing Challenge.writing (openings_view self.now)) }
-        ensures read_back { IfOk result (λ value. openings_reading Challenge.reading (view value) ≡ openings_read_back (openings_view self.now)) }
+        ensures written { IfOk result (λ value. view value
+            ≡ openings_writing Challenge.writing (openings_view self.now)) }
+        ensures read_back { IfOk result (λ value. openings_reading Challenge.reading (view value)
+            ≡ openings_read_back (openings_view self.now)) }
     {
         let trace_local = row_to_json(alloc, &self.trace_local)?;
         let trace_next = trace_next_to_json(alloc, self)?;

@@ -13,7 +13,8 @@ use std::alloc::{AllocError, Global};
 
 /// What an object has under a required name.
 fn required<'a>(value: &'a Value, field: &'static str) -> Result<&'a Value, OpeningsDecodeError>
-    ensures { Decodes (λ v. view v.now) openings_fault result (ok_or (get field.now (view value.now)) (missing_field field.now)) }
+    ensures { Decodes (λ v. view v.now) openings_fault result
+        (ok_or (get field.now (view value.now)) (missing_field field.now)) }
 {
     match value.get(field) {
         Some(found) => Ok(found),
@@ -26,7 +27,8 @@ fn row_from_json<E: JsonCodec + Drop>(
     value: &Value,
     field: &'static str,
 ) -> Result<Vec<E>, OpeningsDecodeError>
-    ensures { Decodes (λ row. row.items) openings_fault result (row_at E.reading field.now (view value.now)) }
+    ensures { Decodes (λ row. row.items) openings_fault result
+        (row_at E.reading field.now (view value.now)) }
 {
     if !value.is_array() {
         return Err(OpeningsDecodeError::WrongKind { field });
@@ -43,7 +45,8 @@ fn each_row_from_json<E: JsonCodec + Drop>(
     values: &[Value],
     field: &'static str,
 ) -> Result<Vec<Vec<E>>, OpeningsDecodeError>
-    ensures { Decodes (λ rows. map (λ row. row.items) rows.items) openings_fault result (each_of (row_at E.reading field.now) (items_view values.now)) }
+    ensures { Decodes (λ rows. map (λ row. row.items) rows.items) openings_fault result
+        (each_of (row_at E.reading field.now) (items_view values.now)) }
 {
     let mut rows = Vec::new(alloc);
     for value in values {
@@ -59,7 +62,8 @@ pub(crate) fn required_row<E: JsonCodec + Drop>(
     value: &Value,
     field: &'static str,
 ) -> Result<Vec<E>, OpeningsDecodeError>
-    ensures { Decodes (λ row. row.items) openings_fault result (required field.now (row_at E.reading field.now) (view value.now)) }
+    ensures { Decodes (λ row. row.items) openings_fault result
+        (required field.now (row_at E.reading field.now) (view value.now)) }
 {
     let found = required(value, field)?;
     row_from_json(alloc, found, field)
@@ -71,7 +75,8 @@ pub(crate) fn required_rows<E: JsonCodec + Drop>(
     value: &Value,
     field: &'static str,
 ) -> Result<Vec<Vec<E>>, OpeningsDecodeError>
-    ensures { Decodes (λ rows. map (λ row. row.items) rows.items) openings_fault result (required field.now (rows_at E.reading field.now) (view value.now)) }
+    ensures { Decodes (λ rows. map (λ row. row.items) rows.items) openings_fault result
+        (required field.now (rows_at E.reading field.now) (view value.now)) }
 {
     let found = required(value, field)?;
     let Some(values) = found.as_array() else {
@@ -86,7 +91,8 @@ pub(crate) fn optional_row<E: JsonCodec + Drop>(
     value: &Value,
     field: &'static str,
 ) -> Result<Option<Vec<E>>, OpeningsDecodeError>
-    ensures { Decodes (option_map (λ row. row.items)) openings_fault result (optional field.now (row_at E.reading field.now) (view value.now)) }
+    ensures { Decodes (option_map (λ row. row.items)) openings_fault result
+        (optional field.now (row_at E.reading field.now) (view value.now)) }
 {
     let Some(found) = value.get(field) else {
         return Ok(None);
@@ -114,7 +120,8 @@ pub(crate) fn row_or_null<E: JsonCodec>(
     alloc: Global,
     row: Option<&[E]>,
 ) -> Result<Value, AllocError>
-    ensures { IfOk result (λ value. view value ≡ value_or_null (list_written E.writing) (option_map (λ r. r.now) row.entry)) }
+    ensures { IfOk result (λ value. view value
+        ≡ value_or_null (list_written E.writing) (option_map (λ r. r.now) row.entry)) }
 {
     match row {
         Some(row) => row_to_json(alloc, row),
@@ -127,7 +134,8 @@ pub(crate) fn rows_to_json<E: JsonCodec>(
     alloc: Global,
     rows: &[Vec<E>],
 ) -> Result<Value, AllocError>
-    ensures { IfOk result (λ value. view value ≡ list_written (list_written E.writing) (map (λ row. row.items) rows.now)) }
+    ensures { IfOk result (λ value. view value
+        ≡ list_written (list_written E.writing) (map (λ row. row.items) rows.now)) }
 {
     let mut values = Vec::new(alloc);
     for row in rows {

@@ -13,8 +13,8 @@ pub struct Commitments<Com> {
     pub random: Option<Com>,
 }
 
-/// The preprocessed trace at the point out of the domain, and at the next point where the AIR reads the next row. A next
-/// row stands only beside a current one.
+/// The preprocessed trace at the point out of the domain, and at the next point where the AIR reads
+/// the next row. A next row stands only beside a current one.
 #[derive(Clone, Debug, PartialEq, Eq, Drop)]
 pub struct PreprocessedOpenedValues<Challenge> {
     /// At the point.
@@ -32,7 +32,8 @@ pub struct OpenedValues<Challenge> {
     pub trace_next: Option<Vec<Challenge>>,
     /// The preprocessed trace; None where the AIR has no preprocessed columns.
     pub preprocessed: Option<PreprocessedOpenedValues<Challenge>>,
-    /// The coordinates of each chunk of the quotient, in the order in which the chunks are committed.
+    /// The coordinates of each chunk of the quotient, in the order in which the chunks are
+    /// committed.
     pub quotient_chunks: Vec<Vec<Challenge>>,
     /// The random polynomial; None but in zero knowledge.
     pub random: Option<Vec<Challenge>>,
@@ -41,7 +42,8 @@ pub struct OpenedValues<Challenge> {
 impl<Challenge> OpenedValues<Challenge> {
     /// The preprocessed trace at the point; None where no preprocessed row is opened.
     pub fn preprocessed_local(&self) -> Option<&[Challenge]>
-        ensures { option_map (λ row. row.now) result ≡ option_map (λ rows. rows.local) (openings_view self.now).preprocessed }
+        ensures { option_map (λ row. row.now) result
+            ≡ option_map (λ rows. rows.local) (openings_view self.now).preprocessed }
     {
         match &self.preprocessed {
             Some(rows) => Some(rows.local.as_slice()),
@@ -49,9 +51,11 @@ impl<Challenge> OpenedValues<Challenge> {
         }
     }
 
-    /// The preprocessed trace at the next point; None where no preprocessed row is opened, or the current one alone.
+    /// The preprocessed trace at the next point; None where no preprocessed row is opened, or the
+    /// current one alone.
     pub fn preprocessed_next(&self) -> Option<&[Challenge]>
-        ensures { option_map (λ row. row.now) result ≡ option_and_then (λ rows. rows.next) (openings_view self.now).preprocessed }
+        ensures { option_map (λ row. row.now) result
+            ≡ option_and_then (λ rows. rows.next) (openings_view self.now).preprocessed }
     {
         match &self.preprocessed {
             Some(rows) => match &rows.next {
@@ -72,7 +76,8 @@ pub struct Proof<Com, Challenge, PcsProof, Val> {
     pub opening_proof: PcsProof,
     /// The logarithm of the committed trace's height.
     pub degree_bits: usize,
-    /// The witness of the work before the point out of the domain is drawn; zero where no work is asked for.
+    /// The witness of the work before the point out of the domain is drawn; zero where no work is
+    /// asked for.
     pub ood_pow_witness: Val,
     /// The witness of the work before alpha is drawn; zero where no work is asked for.
     pub alpha_pow_witness: Val,

@@ -1,8 +1,8 @@
 //! Whole proofs in JSON.
-ghost use Rattle.std.specs.Prelude.{◌≡◌, IfOk, option_map};
+ghost use Rattle.std.specs.Prelude.{◌≡◌, IfOk};
 ghost use Rattle.serde_json.specs.Data.{number, unsigned};
 ghost use Rattle.serde_json.specs.View.{members_view, view};
-ghost use Rattle.stark_proof.specs.ProofJson.{Decodes, degree_bits_at, openings_reading, proof_fault, proof_members, proof_object, proof_read_back, proof_reading, proof_writing, within_openings};
+ghost use Rattle.stark_proof.specs.ProofJson.{Decodes, degree_bits_at, openings_reading, proof_fault, proof_members, proof_object, proof_reading, proof_writing, within_openings, Writes, members_of, object_of, DecodesProof, ReadBack};
 ghost use Rattle.stark_proof.specs.ProofView.{openings_view, proof_view};
 
 use crate::error::{OpeningsDecodeError, ProofDecodeError};
@@ -36,7 +36,8 @@ fn openings_from_json<Challenge: JsonCodec + Drop>(
     alloc: Global,
     value: &Value,
 ) -> Result<OpenedValues<Challenge>, ProofDecodeError>
-    ensures { Decodes openings_view proof_fault result (within_openings (openings_reading Challenge.reading (view value.now))) }
+    ensures { Decodes openings_view proof_fault result
+        (within_openings (openings_reading Challenge.reading (view value.now))) }
 {
     match OpenedValues::from_json(alloc, value) {
         Ok(opened_values) => Ok(opened_values),
@@ -53,7 +54,8 @@ fn proof_members(
     degree_bits: Value,
     ood_pow_witness: Value,
 ) -> Result<Map<String, Value>, AllocError>
-    ensures { IfOk result (λ map. members_view map.entries ≡ proof_members (view commitments) (view opened_values) (view opening_proof) (view degree_bits) (view ood_pow_witness)) }
+    ensures { IfOk result (λ map. members_view map.entries
+        ≡ members_of view commitments opened_values opening_proof degree_bits ood_pow_witness) }
 {
     let mut map = Map::new(alloc);
     put(&mut map, alloc, "commitments", commitments)?;
@@ -74,7 +76,9 @@ fn proof_object(
     degree_bits: Value,
     ood_pow_witness: Value,
 ) -> Result<Value, AllocError>
-    ensures { IfOk result (λ value. view value ≡ proof_object (option_map view alpha_pow_witness) (view commitments) (view opened_values) (view opening_proof) (view degree_bits) (view ood_pow_witness)) }
+    ensures { IfOk result (λ value. view value
+        ≡ object_of view alpha_pow_witness commitments opened_values opening_proof degree_bits
+        ood_pow_witness) }
 {
     let mut map = proof_members(
         alloc,
@@ -94,20 +98,24 @@ impl<
     PcsProof: JsonCodec + Drop,
     Val: Field + NeverNull,
 > Proof<Com, Challenge, PcsProof, Val> {
-    /// The proof that an object spells. Its fields are read in the order `commitments`, `opened_values`, `opening_proof`,
-    /// `degree_bits`, `ood_pow_witness`, `alpha_pow_witness`, others are ignored, and the first fault is answered. The first five
-    /// are required, and `alpha_pow_witness` is zero where it is missing or null.
+    /// The proof that an object spells. Its fields are read in the order `commitments`,
+    /// `opened_values`, `opening_proof`, `degree_bits`, `ood_pow_witness`, `alpha_pow_witness`,
+    /// others are ignored, and the first fault is answered. The first five are required, and
+    /// `alpha_pow_witness` is zero where it is missing or null.
     ///
     /// - `WrongKind` with an empty name where the value isn't an object.
     /// - `MissingField` where a required field isn't there, also one of the commitments.
-    /// - `WrongKind` where the commitments aren't an object, or the degree bits aren't a whole number that fits: one with a
-    ///   fraction or an exponent is none.
+    /// - `WrongKind` where the commitments aren't an object, or the degree bits aren't a whole
+    ///   number that fits: one with a fraction or an exponent is none.
     /// - `Element` where a commitment, the opening proof or a witness is refused.
-    /// - `Openings` where the opened values are not read, with their own error, which is not `OutOfMemory`.
+    /// - `Openings` where the opened values are not read, with their own error, which is not
+    ///   `OutOfMemory`.
     /// - `OutOfMemory` wherever a growth was refused.
     #[tactic(auto, unfolding(crate::specs::ProofJson::proof_reading))]
     pub fn from_json(alloc: Global, value: &Value) -> Result<Self, ProofDecodeError>
-        ensures decoded { Decodes proof_view proof_fault result (proof_reading Com.reading Challenge.reading PcsProof.reading Val.reading Val.ring.zero (view value.now)) }
+        ensures decoded { DecodesProof result
+            (proof_reading Com.reading Challenge.reading PcsProof.reading Val.reading
+            Val.ring.zero (view value.now)) }
     {
         if !value.is_object() {
             return Err(ProofDecodeError::WrongKind { field: "" });
@@ -128,12 +136,17 @@ impl<
         })
     }
 
-    /// An object with the five required keys, and with `alpha_pow_witness` where that witness isn't zero. It is read back as this
-    /// proof, unless its opened values break the rule of the preprocessed rows: then that fault is found.
+    /// An object with the five required keys, and with `alpha_pow_witness` where that witness isn't
+    /// zero. It is read back as this proof, unless its opened values break the rule of the
+    /// preprocessed rows: then that fault is found.
     #[tactic(auto, unfolding(crate::specs::ProofJson::proof_writing))]
     pub fn to_json(&self, alloc: Global) -> Result<Value, AllocError>
-        ensures written { IfOk result (λ value. view value ≡ proof_writing Com.writing Challenge.writing PcsProof.writing Val.writing Val.eq Val.ring.zero (proof_view self.now)) }
-        ensures read_back { IfOk result (λ value. proof_reading Com.reading Challenge.reading PcsProof.reading Val.reading Val.ring.zero (view value) ≡ proof_read_back (proof_view self.now)) }
+        ensures written { IfOk result (Writes view
+            (proof_writing Com.writing Challenge.writing PcsProof.writing Val.writing Val.eq
+            Val.ring.zero (proof_view self.now))) }
+        ensures read_back { IfOk result (ReadBack view
+            (proof_reading Com.reading Challenge.reading PcsProof.reading Val.reading
+            Val.ring.zero) (proof_view self.now)) }
     {
         let commitments = self.commitments.to_json(alloc)?;
         let opened_values = self.opened_values.to_json(alloc)?;

@@ -18,7 +18,8 @@ use Rattle.stark_transcript.specs.declared.error.VerificationError.{Verification
 use Rattle.stark_transcript.specs.declared.error.VerificationError.TheVariants.{InvalidProofShape}
 use Rattle.stark_protocol.specs.Challenges.{challenges_outcome}
 use Rattle.stark_protocol.specs.Equation.{EquationHolds, OpenedRows}
-use Rattle.stark_protocol.specs.Instance.{FieldsOps, Instance, ProtocolOps, log_height, trace_coset}
+use Rattle.stark_support.specs.FieldPair.{FieldsOps}
+use Rattle.stark_protocol.specs.Instance.{Instance, ProtocolOps, log_height, trace_coset}
 use Rattle.stark_protocol.specs.OpenedClaims.{OpeningsHold}
 use Rattle.stark_proof.specs.ProofView.{OpeningsView, PreprocessedView, ProofView}
 use Rattle.stark_protocol.specs.ShapeFaults.{degree_fault, opened_fault, preprocessed_fault, quotient_fault, randomization_fault, width_in_force}

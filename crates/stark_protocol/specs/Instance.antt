@@ -1,33 +1,13 @@
 -- What a verifier is given besides a proof, and what the types of a configuration compute.
 use Rattle.std.specs.Prelude.{ℕ, ◌-◌, Bool, List, Option}
 use Rattle.stark_support.specs.Ring.{RingOps}
+use Rattle.stark_support.specs.SchemeClauses.{OpeningOps}
 use Rattle.stark_support.specs.Coset.{TwoAdicCoset}
-use Rattle.stark_support.specs.Scheme.{SchemeOps, natural_coset, zk_bits}
+use Rattle.stark_support.specs.Scheme.{natural_coset, zk_bits}
 use Rattle.stark_support.specs.Sponge.{SpongeOps}
 use Rattle.stark_air.specs.Tree.{Constraint}
 use Rattle.stark_air.specs.Layout.{Layout}
 use Rattle.stark_protocol.specs.declared.preprocessed.PreprocessedVerifierKey.{PreprocessedVerifierKey}
-
--- F is the base field, with its two-adic roots; E is the extension.
-pub record FieldsOps (F E : Type 0) : Type 0 where
-  pub base : RingOps F
-  pub base_inverse : F → F
-  pub same : F → F → Bool
-  pub adicity : ℕ
-  pub root : ℕ → F
-  pub generator : F
-  pub ring : RingOps E
-  pub inverse : E → E
-  pub embed : F → E
-  pub dimension : ℕ
-  pub basis : List E
-
--- What an opening argument is about. S is the scheme, C the challenger, K the commitment, T the prover's data, P the opening
--- proof, X the verifier's error and Y the prover's.
-pub record OpeningOps (S F E C K T P X Y : Type 0) : Type 1 where
-  pub fields : FieldsOps F E
-  pub is_zk : Bool
-  pub scheme : SchemeOps S F E C K T P X Y
 
 -- All that the types of a configuration compute.
 pub record ProtocolOps (S F E C K T P X Y : Type 0) : Type 1 where

@@ -8,5 +8,6 @@ pub mod Equation
 pub mod ChunkFactors
 pub mod ShapeFaults
 pub mod Preprocessing
+pub mod Recomposed
 pub mod QuotientFacts
 pub mod AcceptanceFacts

@@ -7,7 +7,8 @@ use Rattle.stark_transcript.specs.declared.error.VerificationError.{Verification
 use Rattle.stark_transcript.specs.declared.error.VerificationError.TheVariants.{InvalidOpeningArgument, OutOfMemory}
 use Rattle.stark_protocol.specs.declared.preprocessed.PreprocessedVerifierKey.{PreprocessedVerifierKey}
 use Rattle.stark_proof.specs.ProofView.{PreprocessedView, OpeningsView, ProofView}
-use Rattle.stark_protocol.specs.Instance.{OpeningOps, log_height}
+use Rattle.stark_support.specs.SchemeClauses.{OpeningOps}
+use Rattle.stark_protocol.specs.Instance.{log_height}
 
 -- the current row at zeta, and the next one, where it is opened, at the next point
 abbrev pub row_points : {E : Type 0} → E → E → List E → Option (List E) → List (E × List E)

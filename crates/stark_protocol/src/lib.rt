@@ -1,5 +1,6 @@
-//! What prover and verifier share: the definitions of a proof's shape, replay, claims and acceptance over a configuration's
-//! types, the sizes and domains, the preprocessed columns' set-up, and the quotient's value from its chunks'.
+//! What prover and verifier share: the definitions of a proof's shape, replay, claims and
+//! acceptance over a configuration's types, the sizes and domains, the preprocessed columns'
+//! set-up, and the quotient's value from its chunks'.
 #![tactic(auto)]
 
 mod heights;
@@ -10,7 +11,9 @@ mod recomposition;
 mod transcript;
 
 pub use heights::{natural_domain, power_of_two};
-pub use operations::{PcsProof, StarkInstance, StarkOperations, StarkProof, StarkRun};
+pub use operations::{
+    PcsProof, StarkDescription, StarkInstance, StarkOperations, StarkProof, StarkSetup,
+};
 pub use preprocessed::{
     PcsProverData, PreprocessedProverData, PreprocessedVerifierKey, setup_preprocessed,
 };

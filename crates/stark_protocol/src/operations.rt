@@ -1,24 +1,25 @@
-//! What a verifier's clauses say of a configuration's types and values, in two records.
-ghost use Rattle.std.specs.Prelude.{List, Option};
-ghost use Rattle.stark_transcript.specs.Replay.{PhaseOutcome};
-ghost use Rattle.stark_transcript.specs.declared.error.VerificationError.{VerificationError};
+//! What the clauses of prover and verifier say of a configuration's types and values, in records.
+ghost use Rattle.std.specs.Prelude.{◌≡◌, ◌⊎◌, ℕ, ◌+◌, ◌^◌, IfSome, List, Option, Some, codes};
+ghost use Rattle.stark_support.specs.Scheme.{zk_bits};
+ghost use Rattle.stark_air.specs.Declaration.{Trace};
+ghost use Rattle.stark_transcript.specs.Shape.{shape_of};
+ghost use Rattle.stark_transcript.specs.declared.error.ProvingError.{ProvingError};
 ghost use Rattle.stark_transcript.specs.declared.shape.StarkShape.{StarkShape};
-ghost use Rattle.stark_transcript.specs.declared.shape.StarkTranscriptFailure.{StarkTranscriptFailure};
-ghost use Rattle.stark_proof.specs.ProofView.{proof_view};
-ghost use Rattle.stark_proof.specs.declared.values.Proof.{Proof};
-ghost use Rattle.stark_protocol.specs.Acceptance.{IsBalanced, RunHolds, challenges, described, seeded, shape_fault};
-ghost use Rattle.stark_protocol.specs.FirstFault.{RunFault};
-ghost use Rattle.stark_protocol.specs.Instance.{Instance, ProtocolOps};
+ghost use Rattle.stark_protocol.specs.Instance.{Instance, ProtocolOps, log_height};
+ghost use Rattle.stark_protocol.specs.Preprocessing.{IsCommittedWithin, IsSetUp, IsSetUpFault};
+ghost use Rattle.stark_protocol.specs.declared.preprocessed.PreprocessedProverData.{PreprocessedProverData};
 ghost use Rattle.stark_protocol.specs.declared.preprocessed.PreprocessedVerifierKey.{PreprocessedVerifierKey};
 
-use stark_air::Air;
+use stark_air::{Air, BaseAir};
 use stark_parts::{Com, StarkGenericConfig, Val};
 use stark_proof::Proof;
-use stark_support::{GrindingChallenger, Pcs, TranscriptSponge};
+use stark_support::{GrindingChallenger, Opening, Pcs, Sponge};
 
 /// All that a configuration's types compute, in one record.
 pub trait StarkOperations: StarkGenericConfig {
-    ghost operations: { ProtocolOps Self.Pcs Self.Pcs.Domain.Val Self.Challenge Self.Challenger Self.Pcs.Commitment Self.Pcs.ProverData Self.Pcs.Proof Self.Pcs.Error Self.Pcs.ProverError };
+    ghost operations: { ProtocolOps Self.Pcs Self.Pcs.Domain.Val Self.Challenge Self.Challenger
+        Self.Pcs.Commitment Self.Pcs.ProverData Self.Pcs.Proof Self.Pcs.Error
+        Self.Pcs.ProverError };
 }
 
 impl<SC> StarkOperations for SC
@@ -27,30 +28,16 @@ where
     SC::Challenger: GrindingChallenger<Witness = Val<SC>>,
 {
     ghost operations = { record {
-      opening = record {
-        fields = record {
-          base = SC.Pcs.Domain.Val.ring;
-          base_inverse = SC.Pcs.Domain.Val.inverse_of;
-          same = SC.Pcs.Domain.Val.eq;
-          adicity = SC.Pcs.Domain.Val.TWO_ADICITY;
-          root = SC.Pcs.Domain.Val.root;
-          generator = SC.Pcs.Domain.Val.GENERATOR;
-          ring = SC.Challenge.ring;
-          inverse = SC.Challenge.inverse_of;
-          embed = SC.Challenge.embed;
-          dimension = SC.Challenge.DIMENSION;
-          basis = SC.Challenge.basis;
-        };
-        is_zk = SC.Pcs.ZK;
-        scheme = SC.Pcs.scheme;
-      };
-      sponge = ⟦<SC::Challenger as TranscriptSponge<Val<SC>, SC::Challenge, Com<SC>>>⟧.sponge;
+      opening = ⟦<SC::Pcs as Opening<SC::Challenge, SC::Challenger>>⟧.opening;
+      sponge = ⟦<SC::Challenger as Sponge<Val<SC>, SC::Challenge, Com<SC>>>⟧.sponge;
     } };
 }
 
 /// What a verifier is given besides a proof, in one record.
 pub trait StarkInstance<A>: StarkGenericConfig {
-    ghost instance: { Self → A → List Self.Pcs.Domain.Val → Option (PreprocessedVerifierKey Self.Pcs.Commitment) → Instance Self.Pcs Self.Pcs.Domain.Val Self.Challenger Self.Pcs.Commitment };
+    ghost instance: { Self → A → List Self.Pcs.Domain.Val
+        → Option (PreprocessedVerifierKey Self.Pcs.Commitment)
+        → Instance Self.Pcs Self.Pcs.Domain.Val Self.Challenger Self.Pcs.Commitment };
 }
 
 impl<SC, A> StarkInstance<A> for SC
@@ -74,42 +61,58 @@ where
     } };
 }
 
-/// What the parts of a verifier find of a proof, with the same.
-pub trait StarkRun<A>: StarkGenericConfig {
-    ghost shape_fault: { Self → A → Proof Self.Pcs.Commitment Self.Challenge Self.Pcs.Proof Self.Pcs.Domain.Val → List Self.Pcs.Domain.Val → Option (PreprocessedVerifierKey Self.Pcs.Commitment) → Option (VerificationError Self.Pcs.Error) };
-
-    ghost described: { Self → A → Proof Self.Pcs.Commitment Self.Challenge Self.Pcs.Proof Self.Pcs.Domain.Val → List Self.Pcs.Domain.Val → Option (PreprocessedVerifierKey Self.Pcs.Commitment) → StarkShape };
-
-    ghost seeded: { Self → A → Proof Self.Pcs.Commitment Self.Challenge Self.Pcs.Proof Self.Pcs.Domain.Val → List Self.Pcs.Domain.Val → Option (PreprocessedVerifierKey Self.Pcs.Commitment) → Self.Challenger };
-
-    ghost challenges: { Self → A → Proof Self.Pcs.Commitment Self.Challenge Self.Pcs.Proof Self.Pcs.Domain.Val → List Self.Pcs.Domain.Val → Option (PreprocessedVerifierKey Self.Pcs.Commitment) → PhaseOutcome Self.Challenger (Self.Challenge × Self.Challenge) StarkTranscriptFailure };
-
-    ghost run_holds: { Self → A → Proof Self.Pcs.Commitment Self.Challenge Self.Pcs.Proof Self.Pcs.Domain.Val → List Self.Pcs.Domain.Val → Option (PreprocessedVerifierKey Self.Pcs.Commitment) → Self.Challenge → Self.Challenge → Type 0 };
-
-    ghost run_fault: { Self → A → Proof Self.Pcs.Commitment Self.Challenge Self.Pcs.Proof Self.Pcs.Domain.Val → List Self.Pcs.Domain.Val → Option (PreprocessedVerifierKey Self.Pcs.Commitment) → VerificationError Self.Pcs.Error → Type 0 };
-
-    ghost balanced: { Self → A → Proof Self.Pcs.Commitment Self.Challenge Self.Pcs.Proof Self.Pcs.Domain.Val → List Self.Pcs.Domain.Val → Option (PreprocessedVerifierKey Self.Pcs.Commitment) → Self.Challenge → Self.Challenge → Type 0 };
+/// What a proof's transcript begins with, of a configuration and an AIR: its shape, of the number
+/// of preprocessed columns, the committed height's bits and the logarithm of the number of chunks.
+pub trait StarkDescription<A>: StarkGenericConfig {
+    ghost shape: { Self → A → ℕ → ℕ → ℕ → StarkShape };
 }
 
-impl<SC, A> StarkRun<A> for SC
+impl<SC, A> StarkDescription<A> for SC
 where
     SC: StarkGenericConfig,
-    SC::Challenger: GrindingChallenger<Witness = Val<SC>>,
-    A: Air<Val<SC>>,
+    A: BaseAir<Val<SC>>,
 {
-    ghost shape_fault = { λ config air proof public_values key. shape_fault ⟦<SC as StarkOperations>⟧.operations (⟦<SC as StarkInstance<A>>⟧.instance config air public_values key) (proof_view proof) };
+    ghost shape = { λ config air preprocessed_width degree_bits log_chunks.
+        shape_of (A.layout air) (A.main_next_row_columns air) (A.preprocessed_next_row_columns air)
+        preprocessed_width degree_bits (log_height SC.Pcs.ZK degree_bits) (2 ^ log_chunks)
+        SC.Pcs.ZK (SC.config.ood_bits config) (SC.config.constraint_bits config) };
+}
 
-    ghost described = { λ config air proof public_values key. described ⟦<SC as StarkOperations>⟧.operations (⟦<SC as StarkInstance<A>>⟧.instance config air public_values key) (proof_view proof) };
+/// What is set up of a preprocessed trace of so many rows, given by their logarithm: prover's data
+/// and verifier's key of a trace; those of the one that an AIR declares, where it has columns; why
+/// there are none. Before it, that the scheme has room for such a trace.
+pub trait StarkSetup: StarkGenericConfig {
+    ghost Keys: { Type 0 };
 
-    ghost seeded = { λ config air proof public_values key. seeded ⟦<SC as StarkOperations>⟧.operations (⟦<SC as StarkInstance<A>>⟧.instance config air public_values key) (proof_view proof) };
+    ghost has_room: { Self → ℕ → Option (Trace Self.Pcs.Domain.Val) → Type 0 };
 
-    ghost challenges = { λ config air proof public_values key. challenges ⟦<SC as StarkOperations>⟧.operations (⟦<SC as StarkInstance<A>>⟧.instance config air public_values key) (proof_view proof) };
+    ghost is_set_up: { Self → ℕ → Trace Self.Pcs.Domain.Val → Keys → Type 0 };
 
-    ghost run_holds = { λ config air proof public_values key. RunHolds ⟦<SC as StarkOperations>⟧.operations (⟦<SC as StarkInstance<A>>⟧.instance config air public_values key) (proof_view proof) };
+    ghost are_keys: { Self → ℕ → Option (Trace Self.Pcs.Domain.Val) → Option Keys → Type 0 };
 
-    ghost run_fault = { λ config air proof public_values key. RunFault ⟦<SC as StarkOperations>⟧.operations (⟦<SC as StarkInstance<A>>⟧.instance config air public_values key) (proof_view proof) };
+    ghost is_fault: { Self → ℕ → Option (Trace Self.Pcs.Domain.Val)
+        → ProvingError Self.Pcs.ProverError → Type 0 };
+}
 
-    ghost balanced = { λ config air proof public_values key. IsBalanced ⟦<SC as StarkOperations>⟧.operations (⟦<SC as StarkInstance<A>>⟧.instance config air public_values key) (proof_view proof) };
+impl<SC: StarkGenericConfig> StarkSetup for SC {
+    ghost Keys = { PreprocessedProverData SC.Pcs.Commitment SC.Pcs.ProverData
+        × PreprocessedVerifierKey SC.Pcs.Commitment };
+
+    ghost has_room = { λ config log_height. IsCommittedWithin (log_height + zk_bits SC.Pcs.ZK)
+        (SC.Pcs.scheme.log_max_trace_height (SC.config.scheme config)) };
+
+    ghost is_set_up = { λ config log_height trace keys.
+        IsSetUp SC.Pcs.scheme (SC.config.scheme config) SC.Pcs.Domain.Val.ring
+        SC.Pcs.Domain.Val.root SC.Pcs.ZK log_height trace keys.0 keys.1 };
+
+    ghost are_keys = { λ config log_height declared keys. IfSome keys (λ keys.
+        (trace : Trace SC.Pcs.Domain.Val) × (declared ≡ Some trace)
+        × IsSetUp SC.Pcs.scheme (SC.config.scheme config) SC.Pcs.Domain.Val.ring
+        SC.Pcs.Domain.Val.root SC.Pcs.ZK log_height trace keys.0 keys.1) };
+
+    ghost is_fault = { λ config log_height declared error. (error ≡ ProvingError.OutOfMemory)
+        ⊎ IsSetUpFault SC.Pcs.scheme (SC.config.scheme config) SC.Pcs.Domain.Val.ring SC.Pcs.ZK
+        log_height (codes "preprocessing commitment") declared error };
 }
 
 /// The opening proofs of a configuration's scheme.

@@ -1,10 +1,10 @@
 //! What prover and verifier hold of a preprocessed trace.
-ghost use Rattle.std.specs.Prelude.{◌≡◌, ◌⊎◌, ◌+◌, ◌*◌, ◌^◌, ◌<◌, ◌≤◌, IfErr, IfOk, IfSome, Some, codes, is_some, length};
-ghost use Rattle.stark_air.specs.Declaration.{Trace};
+ghost use Rattle.std.specs.Prelude.{◌≡◌, ◌+◌, ◌*◌, ◌^◌, ◌<◌, ◌≤◌, IfErr, IfOk, Some, is_some, length};
 ghost use Rattle.stark_support.specs.Scheme.{natural_coset, zk_bits};
-ghost use Rattle.stark_protocol.specs.Preprocessing.{HasHeight, IsCommittedWithin, IsSetUp, IsSetUpFault, has_columns};
+ghost use Rattle.stark_protocol.specs.Preprocessing.{HasHeight, has_columns};
 
 use crate::heights::natural_domain;
+use crate::operations::StarkSetup;
 use stark_air::BaseAir;
 use stark_parts::{Com, Domain, PcsProverError, StarkGenericConfig, Val};
 use stark_support::{Pcs, RowMajorMatrix, UnivariateStarkPcs};
@@ -39,11 +39,13 @@ pub struct PreprocessedVerifierKey<Com> {
     pub commitment: Com,
 }
 
-/// Commits to an AIR's preprocessed columns, once for all proofs at one height: the prover's data and the verifier's key.
+/// Commits to an AIR's preprocessed columns, once for all proofs at one height: the prover's data
+/// and the verifier's key.
 ///
-/// The declared trace, where it has columns, has `2^degree_bits` rows, and the scheme commits at `2^(degree_bits + is_zk)`
-/// rows, at most the scheme's greatest height; both parts hold the logarithm of that number. Ok(None) where the AIR declares
-/// no trace, or one without columns, at any `degree_bits`.
+/// The declared trace, where it has columns, has `2^degree_bits` rows, and the scheme commits at
+/// `2^(degree_bits + is_zk)` rows, at most the scheme's greatest height; both parts hold the
+/// logarithm of that number. Ok(None) where the AIR declares no trace, or one without columns, at
+/// any `degree_bits`.
 ///
 /// - `Pcs`, in the phase `preprocessing commitment`, where the scheme refuses.
 /// - `OutOfMemory` only where a growth was refused.
@@ -62,12 +64,14 @@ pub fn setup_preprocessed<SC: StarkGenericConfig, A: BaseAir<Val<SC>>>(
     ProvingError<PcsProverError<SC>>,
 >
     requires height { HasHeight degree_bits (A.preprocessed_trace air.now) }
-    requires within { IsCommittedWithin (degree_bits + zk_bits SC.Pcs.ZK) (SC.Pcs.scheme.log_max_trace_height (SC.config.scheme config.now)) (A.preprocessed_trace air.now) }
-    ensures there { IfOk result (λ keys. is_some keys ≡ has_columns (A.preprocessed_trace air.now)) }
-    ensures set_up { IfOk result (λ keys. IfSome keys (λ keys. (trace : Trace SC.Pcs.Domain.Val) × (A.preprocessed_trace air.now ≡ Some trace)
-        × IsSetUp SC.Pcs.scheme (SC.config.scheme config.now) SC.Pcs.Domain.Val.ring SC.Pcs.Domain.Val.root SC.Pcs.ZK degree_bits trace keys.0 keys.1)) }
-    ensures fault { IfErr result (λ error. (error ≡ ProvingError.OutOfMemory)
-        ⊎ IsSetUpFault SC.Pcs.scheme (SC.config.scheme config.now) SC.Pcs.Domain.Val.ring SC.Pcs.ZK degree_bits (codes "preprocessing commitment") (A.preprocessed_trace air.now) error) }
+    requires within { ⟦<SC as StarkSetup>⟧.has_room config.now degree_bits
+        (A.preprocessed_trace air.now) }
+    ensures there { IfOk result (λ keys. is_some keys
+        ≡ has_columns (A.preprocessed_trace air.now)) }
+    ensures set_up { IfOk result (⟦<SC as StarkSetup>⟧.are_keys config.now degree_bits
+        (A.preprocessed_trace air.now)) }
+    ensures fault { IfErr result (⟦<SC as StarkSetup>⟧.is_fault config.now degree_bits
+        (A.preprocessed_trace air.now)) }
 {
     let Some(trace) = air.preprocessed_trace(alloc)? else {
         return Ok(None);
@@ -79,11 +83,14 @@ pub fn setup_preprocessed<SC: StarkGenericConfig, A: BaseAir<Val<SC>>>(
     Ok(Some(keys))
 }
 
-/// The domain on which a trace of `2^log_height` rows is committed, after the logarithm of its size.
+/// The domain on which a trace of `2^log_height` rows is committed, after the logarithm of its
+/// size.
 fn committed_domain<SC: StarkGenericConfig>(config: &SC, log_height: usize) -> (usize, Domain<SC>)
-    requires within { log_height + zk_bits SC.Pcs.ZK ≤ SC.Pcs.scheme.log_max_trace_height (SC.config.scheme config.now) }
+    requires within { log_height + zk_bits SC.Pcs.ZK ≤ SC.Pcs.scheme.log_max_trace_height
+        (SC.config.scheme config.now) }
     ensures bits { result.0 ≡ log_height + zk_bits SC.Pcs.ZK }
-    ensures domain { SC.Pcs.Domain.coset_of result.1 ≡ natural_coset SC.Pcs.Domain.Val.ring (log_height + zk_bits SC.Pcs.ZK) }
+    ensures domain { SC.Pcs.Domain.coset_of result.1
+        ≡ natural_coset SC.Pcs.Domain.Val.ring (log_height + zk_bits SC.Pcs.ZK) }
 {
     let degree_bits = log_height + config.is_zk();
     (degree_bits, natural_domain(config, degree_bits))
@@ -104,11 +111,12 @@ fn committed_trace<SC: StarkGenericConfig>(
 >
     requires columns { 0 < trace.width }
     requires height { length trace.values.items ≡ 2 ^ degree_bits * trace.width }
-    requires within { degree_bits + zk_bits SC.Pcs.ZK ≤ SC.Pcs.scheme.log_max_trace_height (SC.config.scheme config.now) }
-    ensures set_up { IfOk result (λ keys.
-        IsSetUp SC.Pcs.scheme (SC.config.scheme config.now) SC.Pcs.Domain.Val.ring SC.Pcs.Domain.Val.root SC.Pcs.ZK degree_bits (record { width = trace.width; values = trace.values.items }) keys.0 keys.1) }
-    ensures fault { IfErr result (λ error. (error ≡ ProvingError.OutOfMemory)
-        ⊎ IsSetUpFault SC.Pcs.scheme (SC.config.scheme config.now) SC.Pcs.Domain.Val.ring SC.Pcs.ZK degree_bits (codes "preprocessing commitment") (Some (record { width = trace.width; values = trace.values.items })) error) }
+    requires within { degree_bits + zk_bits SC.Pcs.ZK ≤ SC.Pcs.scheme.log_max_trace_height
+        (SC.config.scheme config.now) }
+    ensures set_up { IfOk result (⟦<SC as StarkSetup>⟧.is_set_up config.now degree_bits
+        (record { width = trace.width; values = trace.values.items })) }
+    ensures fault { IfErr result (⟦<SC as StarkSetup>⟧.is_fault config.now degree_bits
+        (Some (record { width = trace.width; values = trace.values.items }))) }
 {
     let pcs = config.pcs();
     let width = trace.width();

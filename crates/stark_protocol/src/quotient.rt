@@ -17,7 +17,8 @@ pub fn log_parts_of<D: PolynomialSpace, A: Air<D::Val>>(
     is_zk: usize,
 ) -> Result<usize, AllocError>
     requires flag { is_zk ≤ 1 }
-    ensures parts { IfOk result (λ log. log ≡ log_parts_of (A.constraints air.now) (A.degree_hint air.now) is_zk) }
+    ensures parts { IfOk result (λ log. log
+        ≡ log_parts_of (A.constraints air.now) (A.degree_hint air.now) is_zk) }
     ensures bound { IfOk result (λ log. log ≤ 64) }
 {
     let layout = AirLayout::from_air(air);
@@ -37,9 +38,9 @@ fn too_large(maximum: usize, got: usize) -> InvalidProofShapeError
     }
 }
 
-/// The domain of a quotient of `2^log_parts` parts: apart from the committed trace's, and as many times larger.
-/// `QuotientDomainTooLarge` where the number of chunks or the domain's size doesn't fit, or the field has no group of
-/// that size.
+/// The domain of a quotient of `2^log_parts` parts: apart from the committed trace's, and as many
+/// times larger. `QuotientDomainTooLarge` where the number of chunks or the domain's size doesn't
+/// fit, or the field has no group of that size.
 pub fn quotient_domain_of<D: PolynomialSpace>(
     committed: &D,
     degree_bits: usize,
@@ -51,10 +52,14 @@ pub fn quotient_domain_of<D: PolynomialSpace>(
     requires fits { degree_bits < 64 }
     requires bound { log_parts ≤ 64 }
     requires flag { is_zk ≤ 1 }
-    ensures clear { IfOk result (λ _. quotient_fault log_parts is_zk degree_bits D.Val.TWO_ADICITY greatest_height ≡ None) }
-    ensures fault { IfErr result (λ error. quotient_fault log_parts is_zk degree_bits D.Val.TWO_ADICITY greatest_height ≡ Some error) }
+    ensures clear { IfOk result (λ _. quotient_fault log_parts is_zk degree_bits D.Val.TWO_ADICITY
+        greatest_height ≡ None) }
+    ensures fault { IfErr result (λ error.
+        quotient_fault log_parts is_zk degree_bits D.Val.TWO_ADICITY greatest_height
+        ≡ Some error) }
     ensures count { IfOk result (λ _. log_parts + is_zk < 64) }
-    ensures domain { IfOk result (λ d. D.coset_of d ≡ quotient_coset D.Val.ring D.Val.GENERATOR (D.coset_of committed.now) log_parts) }
+    ensures domain { IfOk result (λ d. D.coset_of d
+        ≡ quotient_coset D.Val.ring D.Val.GENERATOR (D.coset_of committed.now) log_parts) }
 {
     let log_chunks = log_parts + is_zk;
     if log_chunks >= 64 {

@@ -1,18 +1,16 @@
 //! The quotient's value at a point, from its chunks'.
-ghost use Rattle.std.specs.Prelude.{◌≡◌, ◌-◌, ◌^◌, ◌<◌, ◌≤◌, All, IfOk, IsTrue, List, length, map, vec_len};
+ghost use Rattle.std.specs.Prelude.{◌≡◌, ◌^◌, ◌<◌, ◌≤◌, All, IfOk, IsTrue, length, map, vec_len};
 ghost use Rattle.stark_support.specs.Coset.{AreDisjointCosets};
 ghost use Rattle.stark_support.specs.Extension.{basis_sum};
-ghost use Rattle.stark_support.specs.Polynomial.{value};
 ghost use Rattle.stark_support.specs.Powers.{squarings};
-ghost use Rattle.stark_support.specs.Recomposition.{common_log_size, common_size, recomposition};
-ghost use Rattle.stark_support.specs.RecompositionLaw.{AreChunksOf};
-ghost use Rattle.stark_support.specs.RecompositionPolynomial.{chunk_values};
+ghost use Rattle.stark_support.specs.Recomposition.{common_log_size};
 ghost use Rattle.stark_protocol.specs.ChunkFactors.{IsCycle, difference_product, node_weight};
-ghost use Rattle.stark_protocol.specs.Sizes.{chunk_shifts};
+ghost use Rattle.stark_protocol.specs.Recomposed.{AreApart, IsValueWhereChunksAre, quotient_of_chunks, quotient_of_parts, recomposed};
 
 use stark_parts::{Domain, StarkGenericConfig, Val};
 use stark_support::{
-    DomainShape, Element, ExtensionField, Field, PolynomialSpace, log2_strict_usize, squared_times,
+    DomainShape, Element, ExtensionField, Field, FieldPair, PolynomialSpace, log2_strict_usize,
+    squared_times,
 };
 use std::alloc::{AllocError, Global};
 
@@ -90,8 +88,8 @@ fn chunk_value<F: Field, EF: ExtensionField<F>>(chunk: &[EF]) -> EF
 }
 
 /// The recomposition on domains whose nodes are a cycle. Each node times its weight is then the
-/// same element `c`, and so `L_i(zeta)` is node i times the product of `zeta^N - a_j` over the other
-/// nodes `a_j`, over `c`.
+/// same element `c`, and so `L_i(zeta)` is node i times the product of `zeta^N - a_j` over the
+/// other nodes `a_j`, over `c`.
 fn recompose_on_cycle<D: PolynomialSpace, EF: ExtensionField<D::Val>>(
     domains: &[D],
     chunks: &[Vec<EF>],
@@ -105,9 +103,8 @@ fn recompose_on_cycle<D: PolynomialSpace, EF: ExtensionField<D::Val>>(
         (map D.coset_of domains.now) }
     requires cycle { IsCycle D.Val.ring
         (map (λ d. squarings D.Val.ring (D.coset_of d).shift log_size) domains.now) }
-    ensures { result ≡ recomposition EF.ring EF.ring (λ c. c) EF.inverse_of (2 ^ log_size) EF.basis
-        (map (λ d. EF.embed (D.coset_of d).shift) domains.now)
-        (map (λ chunk. chunk.items) chunks.now) zeta }
+    ensures { result ≡ recomposed ⟦<EF as FieldPair<D::Val>>⟧.fields D.coset_of (2 ^ log_size)
+        domains.now chunks.now zeta }
 {
     let power_of_zeta = squared_times(zeta, log_size);
     let weight = node_of(&domains[0], log_size) * weight_of(domains, 0, log_size);
@@ -134,9 +131,8 @@ fn recompose_by_weights<D: PolynomialSpace, EF: ExtensionField<D::Val>>(
     requires dimensions { All (λ chunk. vec_len chunk ≡ EF.DIMENSION) chunks.now }
     requires disjoint { AreDisjointCosets D.Val.ring D.Val.root log_size
         (map D.coset_of domains.now) }
-    ensures { result ≡ recomposition EF.ring EF.ring (λ c. c) EF.inverse_of (2 ^ log_size) EF.basis
-        (map (λ d. EF.embed (D.coset_of d).shift) domains.now)
-        (map (λ chunk. chunk.items) chunks.now) zeta }
+    ensures { result ≡ recomposed ⟦<EF as FieldPair<D::Val>>⟧.fields D.coset_of (2 ^ log_size)
+        domains.now chunks.now zeta }
 {
     let power_of_zeta = squared_times(zeta, log_size);
     let mut sum = EF::ZERO;
@@ -153,27 +149,29 @@ fn recompose_by_weights<D: PolynomialSpace, EF: ExtensionField<D::Val>>(
     sum * EF::from_base(weights.inverse())
 }
 
-/// The quotient's value at `zeta`, from the values there of its chunks' coordinates: the sum over the chunks of
-/// `L_i(zeta)` times the element with those coordinates, where `L_i` is the product over the other domains of
-/// `Z_j(zeta) / Z_j(first point of domain i)`, and one where there is a single domain. Where the chunks are those of a
-/// polynomial, the result is its value at `zeta`, wherever that lies. It takes no memory, and one
-/// inversion in the base field. Where the domains are the parts of one coset, in the order in which
-/// it is split, a chunk takes a few products, and some four times as many squares in the base field
-/// as the logarithm of a domain's size; of other domains it takes that for each other chunk.
+/// The quotient's value at `zeta`, from the values there of its chunks' coordinates: the sum over
+/// the chunks of `L_i(zeta)` times the element with those coordinates, where `L_i` is the product
+/// over the other domains of `Z_j(zeta) / Z_j(first point of domain i)`, and one where there is a
+/// single domain. Where the chunks are those of a polynomial, the result is its value at `zeta`,
+/// wherever that lies. It takes no memory, and one inversion in the base field. Where the domains
+/// are the parts of one coset, in the order in which it is split, a chunk takes a few products, and
+/// some four times as many squares in the base field as the logarithm of a domain's size; of other
+/// domains it takes that for each other chunk.
 pub fn recompose_quotient_from_chunks<SC: StarkGenericConfig>(
     quotient_chunks_domains: &[Domain<SC>],
     quotient_chunks: &[Vec<SC::Challenge>],
     zeta: SC::Challenge,
 ) -> SC::Challenge
     requires counts { length quotient_chunks_domains.now ≡ length quotient_chunks.now }
-    requires dimensions { All (λ chunk. vec_len chunk ≡ SC.Challenge.DIMENSION) quotient_chunks.now }
-    requires disjoint { AreDisjointCosets SC.Pcs.Domain.Val.ring SC.Pcs.Domain.Val.root (common_log_size (map SC.Pcs.Domain.coset_of quotient_chunks_domains.now)) (map SC.Pcs.Domain.coset_of quotient_chunks_domains.now) }
-    ensures recomposed { result ≡ recomposition SC.Challenge.ring SC.Challenge.ring (λ c. c) SC.Challenge.inverse_of (common_size (map SC.Pcs.Domain.coset_of quotient_chunks_domains.now)) SC.Challenge.basis
-        (map (λ domain. SC.Challenge.embed (SC.Pcs.Domain.coset_of domain).shift) quotient_chunks_domains.now) (map (λ chunk. chunk.items) quotient_chunks.now) zeta }
-    ensures everywhere { (chunks : List (List (List SC.Challenge))) (p : List SC.Challenge)
-        → AreChunksOf SC.Challenge.ring (SC.Challenge.embed (SC.Pcs.Domain.Val.root (common_log_size (map SC.Pcs.Domain.coset_of quotient_chunks_domains.now)))) (common_size (map SC.Pcs.Domain.coset_of quotient_chunks_domains.now)) SC.Challenge.basis
-        (map (λ domain. SC.Challenge.embed (SC.Pcs.Domain.coset_of domain).shift) quotient_chunks_domains.now) chunks p
-        → map (λ chunk. chunk.items) quotient_chunks.now ≡ chunk_values SC.Challenge.ring chunks zeta → result ≡ value SC.Challenge.ring p zeta }
+    requires dimensions { All (λ chunk. vec_len chunk
+        ≡ SC.Challenge.DIMENSION) quotient_chunks.now }
+    requires disjoint { AreApart ⟦<SC::Challenge as FieldPair<Val<SC>>>⟧.fields
+        SC.Pcs.Domain.coset_of quotient_chunks_domains.now }
+    ensures recomposed { result ≡ quotient_of_chunks
+        ⟦<SC::Challenge as FieldPair<Val<SC>>>⟧.fields SC.Pcs.Domain.coset_of
+        quotient_chunks_domains.now quotient_chunks.now zeta }
+    ensures everywhere { IsValueWhereChunksAre ⟦<SC::Challenge as FieldPair<Val<SC>>>⟧.fields
+        SC.Pcs.Domain.coset_of quotient_chunks_domains.now quotient_chunks.now zeta result }
 {
     let log_size = common_log_size(quotient_chunks_domains);
     if are_cyclic(quotient_chunks_domains, log_size) {
@@ -183,8 +181,8 @@ pub fn recompose_quotient_from_chunks<SC: StarkGenericConfig>(
     }
 }
 
-/// The quotient's value at a point, from the values there of its chunks' coordinates: the chunks stand on the parts of
-/// the quotient's domain.
+/// The quotient's value at a point, from the values there of its chunks' coordinates: the chunks
+/// stand on the parts of the quotient's domain.
 pub fn quotient_at<SC: StarkGenericConfig>(
     alloc: Global,
     quotient_domain: &Domain<SC>,
@@ -195,8 +193,9 @@ pub fn quotient_at<SC: StarkGenericConfig>(
     requires number { length chunks.now ≡ 2 ^ log_chunks }
     requires within { log_chunks ≤ (SC.Pcs.Domain.coset_of quotient_domain.now).log_size }
     requires dimension { All (λ chunk. vec_len chunk ≡ SC.Challenge.DIMENSION) chunks.now }
-    ensures { IfOk result (λ quotient. quotient ≡ recomposition SC.Challenge.ring SC.Challenge.ring (λ c. c) SC.Challenge.inverse_of (2 ^ ((SC.Pcs.Domain.coset_of quotient_domain.now).log_size - log_chunks)) SC.Challenge.basis
-        (chunk_shifts SC.Pcs.Domain.Val.ring SC.Pcs.Domain.Val.root SC.Challenge.embed (SC.Pcs.Domain.coset_of quotient_domain.now) log_chunks) (map (λ chunk. chunk.items) chunks.now) zeta) }
+    ensures { IfOk result (λ quotient. quotient ≡ quotient_of_parts
+        ⟦<SC::Challenge as FieldPair<Val<SC>>>⟧.fields
+        (SC.Pcs.Domain.coset_of quotient_domain.now) log_chunks chunks.now zeta) }
 {
     let domains = quotient_domain.split_domains(alloc, chunks.len())?;
     Ok(recompose_quotient_from_chunks::<SC>(&domains, chunks, zeta))

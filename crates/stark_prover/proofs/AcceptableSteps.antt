@@ -167,7 +167,7 @@ module _ {S F E C K T P X Y : Type 0} {ops : ProtocolOps S F E C K T P X Y} {i :
           (none_of _ _ (ap (λ o. randomization_fault ops.opening.is_zk p.commitments.random o.random) made.opened ∙ (random_shape made.random made.randomization).0)
           (ap (λ fault. of_shape fault) (ap fault_of made.opened ∙ values_clear)))))
 
-      pub acceptable : ops.opening.scheme.Whole i.scheme → IsAcceptable ops i p
+      pub acceptable : ops.opening.scheme.IsComplete i.scheme → IsAcceptable ops i p
       acceptable whole = record {
         alpha = made.alpha;
         zeta = made.zeta;
@@ -194,7 +194,7 @@ module _ {S F E C K T P X Y : Type 0} (ops : ProtocolOps S F E C K T P X Y) (i :
 
   -- Where the answer is a proof, and for each height that the trace has.
   pub answer_acceptable : {R : Type 0} (view : R → ProofView K E P F) (r : Result R (ProvingError Y)) → IfOk r (λ proof. (fixed : List (List F)) → IsPreprocessedCommitment ops.opening.scheme i.scheme ops.opening.fields.base fixed held → IsProofOfTrace ops i coordinates held log_height trace fixed (view proof))
-      → IfOk r (λ proof. (height : ℕ) → IsHeight height → ops.opening.scheme.log_min_trace_height i.scheme ≤ height → ops.opening.scheme.Whole i.scheme → IsAcceptable ops i (view proof))
+      → IfOk r (λ proof. (height : ℕ) → IsHeight height → ops.opening.scheme.log_min_trace_height i.scheme ≤ height → ops.opening.scheme.IsComplete i.scheme → IsAcceptable ops i (view proof))
   answer_acceptable view (Ok proof) each =
       let made = each stands.0 stands.1 in
       let held_width = width_of_columns ops i.scheme held stands.0 i.layout.preprocessed stands.1 stands.2 in

@@ -1,5 +1,5 @@
 -- What stands before the point of a proof is drawn.
-use Rattle.std.proofs.Common.{◌≡◌, ◌∙◌, ◌⊎◌, ap, inl, inr, sym, subst, ℕ, List, Option, Ok, Err, Result, IfErr, IfOk, option_map}
+use Rattle.std.proofs.Common.{◌≡◌, ◌∙◌, ◌⊎◌, ap, inl, inr, sym, subst, ℕ, List, Option, Ok, option_map}
 use Rattle.std.specs.Prelude.{codes, true}
 use Rattle.stark_support.specs.Scheme.{QuotientChunk, natural_coset}
 use Rattle.stark_air.specs.Declaration.{Trace}
@@ -58,27 +58,15 @@ module _ {S F E C K T P X Y : Type 0} {ops : ProtocolOps S F E C K T P X Y} {i :
         → (chunks : List (QuotientChunk F)) × HasQuotient ops i coordinates held height degree_bits trace columns fixed commitment prover_data alpha alpha_witness state chunks quotient quotient_data
     quotient_made made = (made.0, record { bound = bound; quotient_committed = made.1 })
 
-    refused_quotient : (error : ProvingError Y) → (error ≡ ProvingError.OutOfMemory)
+    pub refused_quotient : (error : ProvingError Y) → (error ≡ ProvingError.OutOfMemory)
         ⊎ IsQuotientRefusal ops.opening.scheme i.scheme (air_of ops i height) coordinates ops.opening.fields.dimension (quotient_domain ops i degree_bits) (log_chunks_of ops i degree_bits) (quotient_rows ops i degree_bits columns fixed) alpha error
         → (error ≡ ProvingError.OutOfMemory) ⊎ ProverFault ops i coordinates held height degree_bits trace error
     refused_quotient error (inl memory) = inl memory
     refused_quotient error (inr refusal) = inr (in_quotient bound refusal)
 
-  refused_randomization : {alpha : E} {alpha_witness : F} {state : C} {chunks : List (QuotientChunk F)} {quotient : K} {quotient_data : T} → HasQuotient ops i coordinates held height degree_bits trace columns fixed commitment prover_data alpha alpha_witness state chunks quotient quotient_data
+  -- The quotient is refused, or else the randomization behind it.
+  pub refused_randomization : {alpha : E} {alpha_witness : F} {state : C} {chunks : List (QuotientChunk F)} {quotient : K} {quotient_data : T} → HasQuotient ops i coordinates held height degree_bits trace columns fixed commitment prover_data alpha alpha_witness state chunks quotient quotient_data
       → (error : ProvingError Y) → (error ≡ ProvingError.OutOfMemory) ⊎ ((ops.opening.is_zk ≡ true) × IsSchemeFault (codes "randomization commitment") (ops.opening.scheme.RefusesRandomization i.scheme (natural_coset ops.opening.fields.base degree_bits)) error)
       → (error ≡ ProvingError.OutOfMemory) ⊎ ProverFault ops i coordinates held height degree_bits trace error
   refused_randomization made error (inl memory) = inl memory
   refused_randomization made error (inr fault) = inr (in_randomization made fault.0 fault.1)
-
-  -- The quotient is refused, or else the randomization behind it.
-  pub refused_behind : {Q : Type 0} {alpha : E} {alpha_witness : F} {state : C} (quotient_of : Q → K) (data_of : Q → T) → IsBound ops i coordinates held height degree_bits trace columns fixed commitment prover_data alpha alpha_witness state → (quotient : Result Q (ProvingError Y))
-      → IfOk quotient (λ made. (chunks : List (QuotientChunk F)) × IsQuotientCommitment ops.opening.scheme i.scheme (air_of ops i height) ops.opening.fields.root coordinates ops.opening.fields.dimension ops.opening.is_zk (quotient_domain ops i degree_bits)
-      (log_chunks_of ops i degree_bits) (quotient_rows ops i degree_bits columns fixed) alpha chunks (quotient_of made) (data_of made))
-      → IfErr quotient (λ error. (error ≡ ProvingError.OutOfMemory)
-      ⊎ IsQuotientRefusal ops.opening.scheme i.scheme (air_of ops i height) coordinates ops.opening.fields.dimension (quotient_domain ops i degree_bits) (log_chunks_of ops i degree_bits) (quotient_rows ops i degree_bits columns fixed) alpha error)
-      → (error : ProvingError Y) → IfErr quotient (λ fault. error ≡ fault)
-      → IfOk quotient (λ _. (error ≡ ProvingError.OutOfMemory) ⊎ ((ops.opening.is_zk ≡ true) × IsSchemeFault (codes "randomization commitment") (ops.opening.scheme.RefusesRandomization i.scheme (natural_coset ops.opening.fields.base degree_bits)) error))
-      → (error ≡ ProvingError.OutOfMemory) ⊎ ProverFault ops i coordinates held height degree_bits trace error
-  refused_behind quotient_of data_of bound (Ok made) stands refused error first second = refused_randomization (quotient_made bound stands).1 error second
-  refused_behind quotient_of data_of bound (Err fault) stands refused error first second =
-      subst (λ x. (x ≡ ProvingError.OutOfMemory) ⊎ ProverFault ops i coordinates held height degree_bits trace x) (sym first) (refused_quotient bound fault refused)

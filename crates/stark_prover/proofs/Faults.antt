@@ -1,5 +1,5 @@
 -- From what the stages of a prover find to what it answers.
-use Rattle.std.proofs.Common.{◌≡◌, ◌⊎◌, inl, inr, refl, sym, subst, List, ℕ, Option, None, Some, Result, Ok, IfOk}
+use Rattle.std.proofs.Common.{◌≡◌, ◌⊎◌, inl, inr, refl, sym, subst, List, ℕ, Option, None, Some}
 use Rattle.std.specs.Prelude.{IfSome}
 use Rattle.stark_support.specs.Claims.{IfRefused}
 use Rattle.stark_support.specs.declared.scheme.SchemeFault.{SchemeFault}
@@ -10,10 +10,6 @@ use Rattle.stark_transcript.specs.declared.error.InvalidProofShapeError.{Invalid
 use Rattle.stark_transcript.specs.declared.error.ProvingError.{ProvingError}
 use Rattle.stark_prover.specs.SchemeFaults.{IsSchemeFault}
 use Rattle.stark_prover.specs.Sizes.{IsQuotientSizeFault, SizesFault, in_columns, in_quotient}
-
--- What is said of an answer is said of its value.
-pub of_ok : {T E : Type 0} (P : T → Type 0) {r : Result T E} {x : T} → r ≡ Ok x → IfOk r P → P x
-of_ok P is held = subst (λ r. IfOk r P) is held
 
 -- Where the columns have a fault, it is the error, and else it is that of the quotient's domain.
 pub sizes_at_fault : {Y : Type 0} (columns : Option PeriodicColumnShapeError) {quotient : Option InvalidProofShapeError} (error : ProvingError Y) → IfSome columns (λ fault. error ≡ ProvingError.PeriodicColumn fault)

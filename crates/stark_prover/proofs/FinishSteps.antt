@@ -100,7 +100,7 @@ module _ {S F E C K T P X Y : Type 0} {ops : ProtocolOps S F E C K T P X Y} {i :
 
         abbrev IsAccepted : P → Type 0
         IsAccepted proof = (made : List (OpenedRound F E K T)) (view : OpeningsView E) → StandBehind ops.opening.scheme ops.opening.fields.ring ops.opening.fields.embed i.scheme ops.opening.is_zk
-            (rounds_of z (points_of z nz reads) (points_of z nz fixed_reads) count random_kept prover_data quotient_data fixed_kept) made view → ops.opening.scheme.Whole i.scheme
+            (rounds_of z (points_of z nz reads) (points_of z nz fixed_reads) count random_kept prover_data quotient_data fixed_kept) made view → ops.opening.scheme.IsComplete i.scheme
             → ops.opening.scheme.Accepts i.scheme (map (true_claim ops.opening.fields.ring ops.opening.fields.embed) made) proof drawn_state (place_of ops.opening.is_zk fixed_kept)
 
         -- The proof.

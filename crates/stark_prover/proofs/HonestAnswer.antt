@@ -8,11 +8,12 @@ use Rattle.stark_support.specs.Ring.{RingOps}
 use Rattle.stark_support.specs.Scheme.{SchemeLaws, TakesRows, matrix_row, natural_coset, zk_bits}
 use Rattle.stark_air.specs.Declaration.{IsDeclared, Trace}
 use Rattle.stark_air.specs.Layout.{LeavesWithin}
-use Rattle.stark_honest.specs.HonestQuotient.{AreLawful}
+use Rattle.stark_completeness.specs.HonestQuotient.{AreLawful}
 use Rattle.stark_transcript.specs.declared.error.ProvingError.{ProvingError}
 use Rattle.stark_proof.specs.ProofView.{ProofView}
 use Rattle.stark_protocol.specs.Acceptance.{IsPointOfH, log_parts}
-use Rattle.stark_protocol.specs.Instance.{Instance, OpeningOps, ProtocolOps, log_height as committed_from}
+use Rattle.stark_support.specs.SchemeClauses.{OpeningOps}
+use Rattle.stark_protocol.specs.Instance.{Instance, ProtocolOps, log_height as committed_from}
 use Rattle.stark_protocol.specs.Preprocessing.{has_columns}
 use Rattle.stark_protocol.specs.declared.preprocessed.PreprocessedProverData.{PreprocessedProverData}
 use Rattle.stark_protocol.specs.declared.preprocessed.PreprocessedVerifierKey.{PreprocessedVerifierKey}
@@ -80,13 +81,13 @@ module _ {S F E C K T P X Y : Type 0} (ops : ProtocolOps S F E C K T P X Y) (i :
       (with_own_key of.fixed of.takes (made of.fixed (subst (λ s. IsPreprocessedCommitment ops.opening.scheme s ops.opening.fields.base of.fixed held) (same_scheme key) of.stands)) acceptable)
 
   -- Where the answer is a proof, and for each height that the trace has.
-  pub answer_honest : {R : Type 0} (view : R → ProofView K E P F) (IsHeight Least Whole : ℕ → Type 0) → ((height : ℕ) → IsHeight height → log_height ≡ height) → (r : Result R (ProvingError Y))
+  pub answer_honest : {R : Type 0} (view : R → ProofView K E P F) (IsHeight Least IsComplete : ℕ → Type 0) → ((height : ℕ) → IsHeight height → log_height ≡ height) → (r : Result R (ProvingError Y))
       → IfOk r (λ proof. (fixed : List (List F)) → IsPreprocessedCommitment ops.opening.scheme own.scheme ops.opening.fields.base fixed held → IsProofOfTrace ops own coordinates held log_height trace fixed (view proof))
-      → IfOk r (λ proof. (height : ℕ) → IsHeight height → Least height → Whole height → IsAcceptable ops own (view proof))
-      → IfOk r (λ proof. (height : ℕ) → IsHeight height → Least height → Whole height → IsAcceptedIfHonest ops i declared held height trace (view proof))
-  answer_honest view IsHeight Least Whole known (Ok proof) made acceptable = λ height is_height least whole.
+      → IfOk r (λ proof. (height : ℕ) → IsHeight height → Least height → IsComplete height → IsAcceptable ops own (view proof))
+      → IfOk r (λ proof. (height : ℕ) → IsHeight height → Least height → IsComplete height → IsAcceptedIfHonest ops i declared held height trace (view proof))
+  answer_honest view IsHeight Least IsComplete known (Ok proof) made acceptable = λ height is_height least whole.
       subst (λ n. IsAcceptedIfHonest ops i declared held n trace (view proof)) (known height is_height) (at_own_height made (acceptable height is_height least whole))
-  answer_honest view IsHeight Least Whole known (Err error) made acceptable = tt
+  answer_honest view IsHeight Least IsComplete known (Err error) made acceptable = tt
 
 -- ---- at each height that a trace has
 

@@ -21,12 +21,12 @@ use Rattle.stark_protocol.specs.declared.preprocessed.PreprocessedProverData.{Pr
 use Rattle.stark_protocol.specs.declared.preprocessed.PreprocessedVerifierKey.{PreprocessedVerifierKey}
 use Rattle.stark_protocol.specs.AcceptanceFacts.{not_found, same_drawn}
 use Rattle.stark_security.specs.BadValues.{Satisfies}
-use Rattle.stark_honest.specs.HonestQuotient.{AreLawful}
-use Rattle.stark_honest.specs.RowSatisfaction.{HoldsInEachRow, TraceRows}
+use Rattle.stark_completeness.specs.HonestQuotient.{AreLawful}
+use Rattle.stark_completeness.specs.RowSatisfaction.{HoldsInEachRow, TraceRows}
 use Rattle.stark_parts.specs.SizingLaw.{HasSmallBound}
-use Rattle.stark_honest.specs.TrueOpenings.{AreTrueOpenings, columns_above}
-use Rattle.stark_honest.proofs.HonestBalance.{honest_is_balanced, satisfied_by_trace}
-use Rattle.stark_honest.proofs.HonestEquation.{own_height}
+use Rattle.stark_completeness.specs.TrueOpenings.{AreTrueOpenings, columns_above}
+use Rattle.stark_completeness.proofs.HonestBalance.{honest_is_balanced, satisfied_by_trace}
+use Rattle.stark_completeness.proofs.HonestEquation.{own_height}
 use Rattle.stark_prover.specs.Acceptable.{IsAcceptable, accepted_outside}
 use Rattle.stark_prover.specs.CommittedColumns.{IsPreprocessedCommitment, StandsForColumns}
 use Rattle.stark_prover.specs.ProofOfTrace.{IsProofOfTrace, air_of, key_of, quotient_rows, row_if, true_openings, values_at}

@@ -16,7 +16,10 @@ use Rattle.stark_prover.specs.ProofOfTrace.{IsProofOfTrace}
 use Rattle.stark_prover.specs.ProverFault.{IsReady, ProverFault, in_sizes, in_trace, columns_fault, domain_fault}
 use Rattle.stark_prover.specs.SchemeFaults.{IsSchemeFault}
 use Rattle.stark_prover.specs.Sizes.{AreDomains, IsQuotientSizeFault, SizesFault}
-use Rattle.stark_prover.specs.Stages.{IsCommitted}
+use Rattle.stark_prover.specs.ProverView.{ProverView, own_instance}
+use Rattle.stark_prover.specs.Stages.{AreDomainsOf, IsCommitted, IsReadyFor}
+use Rattle.stark_prover.specs.declared.commit.Committed.{Committed}
+use Rattle.stark_prover.specs.declared.domains.ProverDomains.{ProverDomains}
 use Rattle.stark_prover.proofs.Faults.{sizes_at_fault}
 
 -- The height, of the committed one.
@@ -31,34 +34,14 @@ width_of_columns ops s (Some held) fixed width stands number = sym stands.1 ∙ 
 
 module _ {S F E C K T P X Y : Type 0} {ops : ProtocolOps S F E C K T P X Y} {i : Instance S F C K} {coordinates : E → List F} {held : Option (PreprocessedProverData K T)} (height : ℕ) {degree_bits : ℕ} {trace : Trace F} (is_height : degree_bits ≡ height + zk_bits ops.opening.is_zk) where
   pub ready_at : {columns fixed : List (List F)} {commitment : K} {prover_data : T} → columns_fault ops i coordinates held height degree_bits trace ≡ None → domain_fault ops i coordinates held height (height + zk_bits ops.opening.is_zk) trace ≡ None
-      → IsTraceCommitment ops.opening.scheme i.scheme ops.opening.fields.base ops.opening.fields.root height (height + zk_bits ops.opening.is_zk) trace columns commitment prover_data
+      → IsTraceCommitment ops.opening.scheme i.scheme ops.opening.fields.base ops.opening.fields.root (log_height ops.opening.is_zk degree_bits) degree_bits trace columns commitment prover_data
       → IsPreprocessedCommitment ops.opening.scheme i.scheme ops.opening.fields.base fixed held
       → IsReady ops i coordinates held (log_height ops.opening.is_zk degree_bits) degree_bits trace columns fixed commitment prover_data
   ready_at {columns = columns} {commitment = commitment} {prover_data = prover_data} fitting clear committed preprocessed = record {
     fitting = ap (λ n. first_fault (2 ^ n) 0 (map (λ column. length column) i.periodic_columns)) (same_height ops.opening.is_zk height degree_bits is_height) ∙ fitting;
     clear = ap (λ n. domain_fault ops i coordinates held height n trace) is_height ∙ clear;
-    committed = subst (λ n. IsTraceCommitment ops.opening.scheme i.scheme ops.opening.fields.base ops.opening.fields.root n degree_bits trace columns commitment prover_data) (sym (same_height ops.opening.is_zk height degree_bits is_height))
-        (subst (λ n. IsTraceCommitment ops.opening.scheme i.scheme ops.opening.fields.base ops.opening.fields.root height n trace columns commitment prover_data) (sym is_height) committed);
+    committed = committed;
     preprocessed = preprocessed;
-  }
-
-  -- So a trace is committed to.
-  pub committed_at : {log_chunks : ℕ} {domain committed quotient : TwoAdicCoset F} {columns fixed : List (List F)} {commitment : K} {prover_data : T}
-      → AreDomains ops.opening.fields.base ops.opening.fields.generator ops.opening.is_zk degree_bits (log_parts_of i.constraints i.degree_hint (zk_bits ops.opening.is_zk)) log_chunks domain committed quotient
-      → height + zk_bits ops.opening.is_zk ≤ ops.opening.scheme.log_max_trace_height i.scheme → length i.public_values ≡ i.layout.publics → IfSome held (λ h. h.degree_bits ≡ height + zk_bits ops.opening.is_zk)
-      → IsReady ops i coordinates held (log_height ops.opening.is_zk degree_bits) degree_bits trace columns fixed commitment prover_data → length columns ≡ i.layout.main → length fixed ≡ i.layout.preprocessed
-      → IsCommitted ops i coordinates held degree_bits log_chunks domain committed quotient commitment prover_data
-  committed_at {columns = columns} {fixed = fixed} domains within publics same ready width fixed_width = record {
-    domains = domains;
-    within = subst (λ n. n ≤ ops.opening.scheme.log_max_trace_height i.scheme) (sym is_height) within;
-    publics = publics;
-    same = subst (λ n. IfSome held (λ h. h.degree_bits ≡ n)) (sym is_height) same;
-    trace = trace;
-    columns = columns;
-    fixed = fixed;
-    ready = ready;
-    width = width;
-    fixed_width = fixed_width;
   }
 
   pub proof_at : {fixed : List (List F)} {proof : ProofView K E P F} → IsProofOfTrace ops i coordinates held (log_height ops.opening.is_zk degree_bits) trace fixed proof → IsProofOfTrace ops i coordinates held height trace fixed proof
@@ -84,15 +67,24 @@ module _ {S F E C K T P X Y : Type 0} {ops : ProtocolOps S F E C K T P X Y} {i :
   run_refused ready (Ok proof) made = tt
   run_refused {columns = columns} {fixed = fixed} ready (Err error) made = fault_at error (made trace columns fixed ready)
 
--- The commitment to a trace of so many rows, on the domain of the committed height.
-pub trace_at : {S F E C K T P X Y : Type 0} {scheme : SchemeOps S F E C K T P X Y} {s : S} {base : RingOps F} {root : ℕ → F} (is_zk : Bool) (height degree_bits : ℕ) {trace : Trace F} {commitment : K} {prover_data : T} → degree_bits ≡ height + zk_bits is_zk
-    → ((columns : List (List F)) × IsTraceCommitment scheme s base root (log_height is_zk degree_bits) degree_bits trace columns commitment prover_data)
-    → (columns : List (List F)) × IsTraceCommitment scheme s base root height (height + zk_bits is_zk) trace columns commitment prover_data
-trace_at {scheme = scheme} {s = s} {base = base} {root = root} is_zk height degree_bits {trace = trace} {commitment = commitment} {prover_data = prover_data} is_height stands = (
-  stands.0,
-  subst (λ n. IsTraceCommitment scheme s base root height n trace stands.0 commitment prover_data) is_height
-      (subst (λ n. IsTraceCommitment scheme s base root n degree_bits trace stands.0 commitment prover_data) (same_height is_zk height degree_bits is_height) stands.1),
-)
+-- So a trace is committed to.
+pub committed_at : {S F E C K T P X Y D : Type 0} {ops : ProtocolOps S F E C K T P X Y} {view : ProverView S F E C K T} {coset_of : D → TwoAdicCoset F} {of : ProverDomains D} {committed : Committed K T} {trace : Trace F} {columns fixed : List (List F)} (height : ℕ)
+    → of.degree_bits ≡ height + zk_bits ops.opening.is_zk → AreDomainsOf ops view coset_of of
+    → height + zk_bits ops.opening.is_zk ≤ ops.opening.scheme.log_max_trace_height (own_instance view).scheme → length (own_instance view).public_values ≡ (own_instance view).layout.publics → IfSome view.preprocessed (λ h. h.degree_bits ≡ height + zk_bits ops.opening.is_zk)
+    → IsReadyFor ops view of.degree_bits trace columns fixed committed.commitment committed.prover_data → length columns ≡ (own_instance view).layout.main → length fixed ≡ (own_instance view).layout.preprocessed
+    → IsCommitted ops view coset_of of committed
+committed_at {ops = ops} {view = view} {trace = trace} {columns = columns} {fixed = fixed} height is_height domains within publics same ready width fixed_width = record {
+  domains = domains;
+  within = subst (λ n. n ≤ ops.opening.scheme.log_max_trace_height (own_instance view).scheme) (sym is_height) within;
+  publics = publics;
+  same = subst (λ n. IfSome view.preprocessed (λ h. h.degree_bits ≡ n)) (sym is_height) same;
+  trace = trace;
+  columns = columns;
+  fixed = fixed;
+  ready = ready;
+  width = width;
+  fixed_width = fixed_width;
+}
 
 module _ {S F E C K T P X Y : Type 0} {ops : ProtocolOps S F E C K T P X Y} {i : Instance S F C K} {coordinates : E → List F} {held : Option (PreprocessedProverData K T)} {height : ℕ} {trace : Trace F} where
   sizes_refused : (error : ProvingError Y) → (error ≡ ProvingError.OutOfMemory)
@@ -107,14 +99,17 @@ module _ {S F E C K T P X Y : Type 0} {ops : ProtocolOps S F E C K T P X Y} {i :
   trace_refused fitting clear error (inl memory) = inl memory
   trace_refused fitting clear error (inr fault) = inr (in_trace fitting clear fault)
 
-  -- The sizes are refused, or else the trace behind them.
-  pub refused_behind_sizes : {D : Type 0} (domains : Result D (ProvingError Y))
-      → IfErr domains (λ error. IfSome (columns_fault ops i coordinates held height (height + zk_bits ops.opening.is_zk) trace) (λ fault. error ≡ ProvingError.PeriodicColumn fault))
-      → IfErr domains (λ error. columns_fault ops i coordinates held height (height + zk_bits ops.opening.is_zk) trace ≡ None → (error ≡ ProvingError.OutOfMemory) ⊎ IsQuotientSizeFault (domain_fault ops i coordinates held height (height + zk_bits ops.opening.is_zk) trace) error)
-      → IfOk domains (λ _. columns_fault ops i coordinates held height (height + zk_bits ops.opening.is_zk) trace ≡ None) → IfOk domains (λ _. domain_fault ops i coordinates held height (height + zk_bits ops.opening.is_zk) trace ≡ None)
-      → (error : ProvingError Y) → IfErr domains (λ fault. error ≡ fault) → IfOk domains (λ _. (error ≡ ProvingError.OutOfMemory)
-      ⊎ IsSchemeFault (codes "trace commitment") (ops.opening.scheme.RefusesCommit i.scheme (natural_coset ops.opening.fields.base (height + zk_bits ops.opening.is_zk)) trace.values trace.width) error)
+  -- The sizes are refused,
+  pub refused_sizes : (error : ProvingError Y) → IfSome (columns_fault ops i coordinates held height (height + zk_bits ops.opening.is_zk) trace) (λ fault. error ≡ ProvingError.PeriodicColumn fault)
+      → (columns_fault ops i coordinates held height (height + zk_bits ops.opening.is_zk) trace ≡ None → (error ≡ ProvingError.OutOfMemory) ⊎ IsQuotientSizeFault (domain_fault ops i coordinates held height (height + zk_bits ops.opening.is_zk) trace) error)
       → (error ≡ ProvingError.OutOfMemory) ⊎ ProverFault ops i coordinates held height (height + zk_bits ops.opening.is_zk) trace error
-  refused_behind_sizes (Ok domains) of_columns of_quotient fitting clear error first second = trace_refused fitting clear error second
-  refused_behind_sizes (Err fault) of_columns of_quotient fitting clear error first second =
-      subst (λ x. (x ≡ ProvingError.OutOfMemory) ⊎ ProverFault ops i coordinates held height (height + zk_bits ops.opening.is_zk) trace x) (sym first) (sizes_refused fault (sizes_at_fault _ fault of_columns of_quotient))
+  refused_sizes error of_columns of_quotient = sizes_refused error (sizes_at_fault _ error of_columns of_quotient)
+
+  -- or else the trace behind them.
+  pub refused_trace : {degree_bits : ℕ} → degree_bits ≡ height + zk_bits ops.opening.is_zk
+      → columns_fault ops i coordinates held height (height + zk_bits ops.opening.is_zk) trace ≡ None → domain_fault ops i coordinates held height (height + zk_bits ops.opening.is_zk) trace ≡ None → (error : ProvingError Y)
+      → (error ≡ ProvingError.OutOfMemory) ⊎ IsSchemeFault (codes "trace commitment") (ops.opening.scheme.RefusesCommit i.scheme (natural_coset ops.opening.fields.base degree_bits) trace.values trace.width) error
+      → (error ≡ ProvingError.OutOfMemory) ⊎ ProverFault ops i coordinates held height (height + zk_bits ops.opening.is_zk) trace error
+  refused_trace is_height fitting clear error fault =
+      trace_refused fitting clear error
+      (subst (λ n. (error ≡ ProvingError.OutOfMemory) ⊎ IsSchemeFault (codes "trace commitment") (ops.opening.scheme.RefusesCommit i.scheme (natural_coset ops.opening.fields.base n) trace.values trace.width) error) is_height fault)

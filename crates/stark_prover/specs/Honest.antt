@@ -2,11 +2,12 @@
 use Rattle.std.specs.Prelude.{◌≡◌, ℕ, ◌+◌, false, List, Option, None, Some, Ok}
 use Rattle.stark_support.specs.Scheme.{matrix_row, zk_bits}
 use Rattle.stark_air.specs.Declaration.{Trace}
-use Rattle.stark_honest.specs.RowSatisfaction.{HoldsInEachRow}
+use Rattle.stark_completeness.specs.RowSatisfaction.{HoldsInEachRow}
 use Rattle.stark_parts.specs.SizingLaw.{HasSmallBound}
 use Rattle.stark_proof.specs.ProofView.{ProofView}
 use Rattle.stark_protocol.specs.Acceptance.{Accepted, IsPointOfH, challenges}
-use Rattle.stark_protocol.specs.Instance.{Instance, OpeningOps, ProtocolOps, log_height}
+use Rattle.stark_support.specs.SchemeClauses.{OpeningOps}
+use Rattle.stark_protocol.specs.Instance.{Instance, ProtocolOps, log_height}
 use Rattle.stark_protocol.specs.Preprocessing.{IsSetUp, has_columns}
 use Rattle.stark_protocol.specs.Sizes.{log_parts_of}
 use Rattle.stark_protocol.specs.declared.preprocessed.PreprocessedProverData.{PreprocessedProverData}

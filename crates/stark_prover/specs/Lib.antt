@@ -1,8 +1,11 @@
 pub mod Sizes
 pub mod SchemeFaults
 pub mod CommittedColumns
+pub mod Heights
+pub mod Commitments
 pub mod Rounds
 pub mod ProofOfTrace
+pub mod ProverView
 pub mod ProverFault
 pub mod BoundProof
 pub mod Stages
@@ -10,3 +13,4 @@ pub mod Work
 pub mod Acceptable
 pub mod SetUpFacts
 pub mod Honest
+pub mod Proving

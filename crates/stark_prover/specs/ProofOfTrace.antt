@@ -5,7 +5,7 @@ use Rattle.stark_support.specs.Scheme.{QuotientChunk, committed_chunk, natural_c
 use Rattle.stark_air.specs.Declaration.{Trace}
 use Rattle.stark_transcript.specs.Shape.{opens_next_row}
 use Rattle.stark_security.specs.ConstraintPolynomial.{AirInstance}
-use Rattle.stark_honest.specs.TrueOpenings.{air_over}
+use Rattle.stark_completeness.specs.TrueOpenings.{air_over}
 use Rattle.stark_proof.specs.ProofView.{OpeningsView, PreprocessedView, ProofView}
 use Rattle.stark_protocol.specs.Acceptance.{challenges, columns_fault, domain_fault, log_parts}
 use Rattle.stark_protocol.specs.Instance.{Instance, ProtocolOps}
@@ -85,4 +85,4 @@ module _ {S F E C K T P X Y : Type 0} (ops : ProtocolOps S F E C K T P X Y) (i :
     pub opened : p.opened_values ≡ true_openings columns fixed chunks random zeta (next_point ops.opening p.degree_bits zeta)
     pub no_alpha_work : i.constraint_bits ≡ 0 → p.alpha_pow_witness ≡ ops.opening.fields.base.zero
     pub no_work : i.ood_bits ≡ 0 → p.ood_pow_witness ≡ ops.opening.fields.base.zero
-    pub whole : ops.opening.scheme.Whole i.scheme → ops.opening.scheme.Accepts i.scheme (claims ops.opening i.key p zeta) p.opening_proof (challenges ops i p).state (preprocessed_place ops.opening.is_zk i.key)
+    pub whole : ops.opening.scheme.IsComplete i.scheme → ops.opening.scheme.Accepts i.scheme (claims ops.opening i.key p zeta) p.opening_proof (challenges ops i p).state (preprocessed_place ops.opening.is_zk i.key)

@@ -1,5 +1,5 @@
 -- Why there is no proof of a trace: the first cause, in the order of the work.
-use Rattle.std.specs.Prelude.{◌≡◌, ℕ, ◌+◌, ◌^◌, false, true, List, codes, map, length, Option, None, option_map, Ok}
+use Rattle.std.specs.Prelude.{◌≡◌, ℕ, ◌+◌, ◌^◌, Bool, false, true, List, codes, map, length, Option, None, option_map, Ok}
 use Rattle.stark_support.specs.Periodic.{first_fault}
 use Rattle.stark_support.specs.Scheme.{QuotientChunk, natural_coset, zk_bits}
 use Rattle.stark_support.specs.Seed.{shape_seed}
@@ -24,6 +24,11 @@ use Rattle.stark_prover.specs.Rounds.{place_of, points_of, rounds_of}
 use Rattle.stark_prover.specs.SchemeFaults.{IsSchemeFault}
 use Rattle.stark_prover.specs.Sizes.{SizesFault}
 
+-- The transcript's shape, with so many chunks of the quotient.
+abbrev pub shape_with : {S F C K : Type 0} → Bool → Instance S F C K → ℕ → ℕ → StarkShape
+shape_with is_zk i degree_bits log_chunks =
+    shape_of i.layout i.main_next_columns i.preprocessed_next_columns (width_in_force i.key i.layout.preprocessed) degree_bits (log_height is_zk degree_bits) (2 ^ log_chunks) is_zk i.ood_bits i.constraint_bits
+
 module _ {S F E C K T P X Y : Type 0} (ops : ProtocolOps S F E C K T P X Y) (i : Instance S F C K) (degree_bits : ℕ) where
   -- the logarithm of the number of the quotient's chunks
   abbrev pub log_chunks_of : ℕ
@@ -31,7 +36,7 @@ module _ {S F E C K T P X Y : Type 0} (ops : ProtocolOps S F E C K T P X Y) (i :
 
   -- The transcript's shape, and the state after its seed.
   abbrev pub described : StarkShape
-  described = shape_of i.layout i.main_next_columns i.preprocessed_next_columns (width_in_force i.key i.layout.preprocessed) degree_bits (log_height ops.opening.is_zk degree_bits) (2 ^ log_chunks_of) ops.opening.is_zk i.ood_bits i.constraint_bits
+  described = shape_with ops.opening.is_zk i degree_bits log_chunks_of
 
   abbrev pub seeded : C
   seeded = observed_bytes ops.sponge.observe_element ops.sponge.from_byte (shape_seed 1 ops.opening.fields.dimension (shape_numbers described)) i.first_state

@@ -1,5 +1,5 @@
 -- A scheme's own refusal, as a prover's error.
-use Rattle.std.specs.Prelude.{List, ℕ}
+use Rattle.std.specs.Prelude.{◌≡◌, ◌⊎◌, List, ℕ}
 use Rattle.stark_support.specs.declared.scheme.SchemeFault.TheVariants.{Refused}
 use Rattle.stark_transcript.specs.Errors.{IsFaultIn}
 use Rattle.stark_transcript.specs.declared.error.ProvingError.{ProvingError}
@@ -9,3 +9,7 @@ pub record IsSchemeFault {Y : Type 0} (name : List ℕ) (MayRefuse : Y → Type 
   pub reason : Y
   pub named : IsFaultIn name (Refused reason) error
   pub refuses : MayRefuse reason
+
+-- Memory was wanting, or else the error has this cause.
+abbrev pub IsOutOfMemoryOr : {Y : Type 0} → (ProvingError Y → Type 0) → ProvingError Y → Type 0
+IsOutOfMemoryOr IsCause error = (error ≡ ProvingError.OutOfMemory) ⊎ IsCause error

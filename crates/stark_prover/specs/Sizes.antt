@@ -1,7 +1,8 @@
 -- When a proof's sizes fit.
-use Rattle.std.specs.Prelude.{◌≡◌, ℕ, ◌+◌, ◌<◌, ◌≤◌, Bool, Option, None, Some, ⊤}
+use Rattle.std.specs.Prelude.{◌≡◌, ℕ, ◌+◌, ◌^◌, ◌<◌, ◌≤◌, Bool, List, Option, None, Some, IfSome, length, map, ⊤}
 use Rattle.stark_support.specs.Ring.{RingOps}
 use Rattle.stark_support.specs.Coset.{TwoAdicCoset}
+use Rattle.stark_support.specs.Periodic.{first_fault}
 use Rattle.stark_support.specs.Scheme.{natural_coset, zk_bits}
 use Rattle.stark_support.specs.declared.periodic.PeriodicColumnShapeError.{PeriodicColumnShapeError}
 use Rattle.stark_transcript.specs.declared.error.InvalidProofShapeError.{InvalidProofShapeError}
@@ -9,6 +10,10 @@ use Rattle.stark_transcript.specs.declared.error.InvalidProofShapeError.TheVaria
 use Rattle.stark_transcript.specs.declared.error.ProvingError.{ProvingError}
 use Rattle.stark_protocol.specs.Instance.{trace_coset}
 use Rattle.stark_protocol.specs.Sizes.{quotient_coset}
+
+-- What is wrong with periodic columns, over 2 ^ height rows.
+abbrev pub periodic_fault : {F : Type 0} → List (List F) → ℕ → Option PeriodicColumnShapeError
+periodic_fault columns height = first_fault (2 ^ height) 0 (map (λ column. length column) columns)
 
 -- The size of the quotient's domain is at fault.
 abbrev pub IsOfSize : InvalidProofShapeError → Type 0
@@ -19,6 +24,10 @@ IsOfSize error = ⊥
 abbrev pub IsSizeError : {Y : Type 0} → InvalidProofShapeError → ProvingError Y → Type 0
 IsSizeError (QuotientDomainTooLarge air maximum got) outcome = outcome ≡ ProvingError.QuotientDomainTooLarge maximum got
 IsSizeError error outcome = ⊥
+
+-- The error is such a fault, where there is one.
+abbrev pub IsPeriodicFault : {Y : Type 0} → Option PeriodicColumnShapeError → ProvingError Y → Type 0
+IsPeriodicFault found error = IfSome found (λ fault. error ≡ ProvingError.PeriodicColumn fault)
 
 -- The quotient's domain is at fault.
 pub record IsQuotientSizeFault {Y : Type 0} (quotient : Option InvalidProofShapeError) (error : ProvingError Y) : Type 0 where

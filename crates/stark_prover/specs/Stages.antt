@@ -1,58 +1,161 @@
 -- What the stages of a prover leave, of whatever trace they stand for.
-use Rattle.std.specs.Prelude.{◌≡◌, ◌⊎◌, ℕ, ◌≤◌, List, Option, IfSome, length}
+use Rattle.std.specs.Prelude.{◌≡◌, ℕ, ◌+◌, ◌≤◌, List, None, Option, length, map, option_map}
+use Rattle.std.specs.Option.{option_copied}
 use Rattle.stark_support.specs.Coset.{TwoAdicCoset}
-use Rattle.stark_support.specs.Scheme.{QuotientChunk, zk_bits}
+use Rattle.stark_support.specs.Scheme.{HasRows, QuotientChunk, zk_bits}
+use Rattle.stark_support.specs.declared.matrix.RowMajorMatrix.{RowMajorMatrix}
+use Rattle.stark_support.specs.declared.periodic.PeriodicColumnShapeError.{PeriodicColumnShapeError}
 use Rattle.stark_air.specs.Declaration.{Trace}
+use Rattle.stark_transcript.specs.declared.error.InvalidProofShapeError.{InvalidProofShapeError}
 use Rattle.stark_transcript.specs.declared.error.ProvingError.{ProvingError}
-use Rattle.stark_proof.specs.ProofView.{ProofView}
+use Rattle.stark_transcript.specs.declared.shape.StarkShape.{StarkShape}
+use Rattle.stark_proof.specs.ProofView.{ProofView, openings_view, proof_view}
+use Rattle.stark_proof.specs.declared.values.Proof.{Proof}
 use Rattle.stark_protocol.specs.Instance.{Instance, ProtocolOps, log_height}
+use Rattle.stark_protocol.specs.ShapeFaults.{quotient_fault}
 use Rattle.stark_protocol.specs.Sizes.{log_parts_of}
-use Rattle.stark_protocol.specs.declared.preprocessed.PreprocessedProverData.{PreprocessedProverData}
+use Rattle.stark_quotient.specs.PointwiseQuotient.{ArePointwiseQuotients, matrix_or_empty}
+use Rattle.stark_completeness.specs.RowCheck.{trace_of}
 use Rattle.stark_prover.specs.BoundProof.{IsBoundProof}
-use Rattle.stark_prover.specs.CommittedColumns.{IsQuotientCommitment, IsQuotientRefusal}
+use Rattle.stark_prover.specs.CommittedColumns.{IsPreprocessedCommitment, IsQuotientCommitment, IsQuotientRefusal, StandsForColumns, rows_of_columns}
+use Rattle.stark_prover.specs.Heights.{IsHeldAt, HoldsColumns}
 use Rattle.stark_prover.specs.ProofOfTrace.{IsProofOfTrace, air_of, quotient_domain, quotient_rows}
-use Rattle.stark_prover.specs.ProverFault.{IsReady, ProverFault, log_chunks_of}
-use Rattle.stark_prover.specs.Sizes.{AreDomains}
+use Rattle.stark_prover.specs.ProverFault.{IsReady, ProverFault, described, log_chunks_of, seeded}
+use Rattle.stark_prover.specs.ProverView.{ProverView, own_instance}
+use Rattle.stark_prover.specs.SchemeFaults.{IsOutOfMemoryOr}
+use Rattle.stark_prover.specs.Sizes.{AreDomains, IsQuotientSizeFault, periodic_fault}
+use Rattle.stark_prover.specs.declared.commit.Committed.{Committed}
+use Rattle.stark_prover.specs.declared.domains.ProverDomains.{ProverDomains}
+use Rattle.stark_prover.specs.declared.open.OpenedProof.{OpenedProof}
+use Rattle.stark_prover.specs.declared.prover.BoundProof.{BoundProof}
 
-module _ {S F E C K T P X Y : Type 0} (ops : ProtocolOps S F E C K T P X Y) (i : Instance S F C K) (coordinates : E → List F) (held : Option (PreprocessedProverData K T)) (degree_bits : ℕ) where
-  -- the height of the trace behind the committed one
-  abbrev height : ℕ
-  height = log_height ops.opening.is_zk degree_bits
+-- A proof, of its parts.
+abbrev pub view_of_parts : {K T E F P : Type 0} → Committed K T → BoundProof K T E F → OpenedProof E F P → ℕ → ProofView K E P F
+view_of_parts committed bound opened degree_bits = record {
+  commitments = record {
+    trace = committed.commitment;
+    quotient_chunks = bound.quotient.commitment;
+    random = option_map (λ made. made.commitment) bound.random;
+  };
+  opened_values = openings_view opened.values;
+  opening_proof = opened.argument;
+  degree_bits = degree_bits;
+  ood_pow_witness = opened.witness;
+  alpha_pow_witness = bound.witness;
+}
+
+module _ {S F E C K T P X Y : Type 0} (ops : ProtocolOps S F E C K T P X Y) (view : ProverView S F E C K T) where
+  -- ---- sizes
+
+  -- What is wrong with the periodic columns, over 2 ^ height rows, and with the quotient's domain over 2 ^ degree_bits rows.
+  abbrev pub columns_fault_at : ℕ → Option PeriodicColumnShapeError
+  columns_fault_at height = periodic_fault (own_instance view).periodic_columns height
+
+  abbrev pub domain_fault_at : ℕ → Option InvalidProofShapeError
+  domain_fault_at degree_bits = quotient_fault (log_parts_of (own_instance view).constraints (own_instance view).degree_hint (zk_bits ops.opening.is_zk)) (zk_bits ops.opening.is_zk) degree_bits ops.opening.fields.adicity (ops.opening.scheme.log_max_trace_height (own_instance view).scheme)
+
+  -- The quotient's domain is at fault, over a trace of 2 ^ height rows; and so it is where the periodic columns fit.
+  abbrev pub IsDomainFault : ℕ → ProvingError Y → Type 0
+  IsDomainFault height error = IsOutOfMemoryOr (IsQuotientSizeFault (domain_fault_at (height + zk_bits ops.opening.is_zk))) error
+
+  abbrev pub IsFaultBehindColumns : ℕ → ProvingError Y → Type 0
+  IsFaultBehindColumns height error = columns_fault_at height ≡ None → IsDomainFault height error
+
+  -- The domains of a committed trace of the AIR, as cosets.
+  abbrev pub AreDomainsOf : {D : Type 0} → (D → TwoAdicCoset F) → ProverDomains D → Type 0
+  AreDomainsOf coset_of of = AreDomains ops.opening.fields.base ops.opening.fields.generator ops.opening.is_zk of.degree_bits (log_parts_of (own_instance view).constraints (own_instance view).degree_hint (zk_bits ops.opening.is_zk)) of.log_chunks
+      (coset_of of.trace) (coset_of of.committed) (coset_of of.quotient)
+
+  -- The transcript's shape, and the state after its seed.
+  abbrev pub described_at : ℕ → StarkShape
+  described_at degree_bits = described ops (own_instance view) degree_bits
+
+  abbrev pub seeded_at : ℕ → C
+  seeded_at degree_bits = seeded ops (own_instance view) degree_bits
+
+  -- ---- the trace's commitment
+
+  -- The trace behind the commitment of 2 ^ degree_bits rows is ready for a quotient.
+  abbrev pub IsReadyFor : ℕ → Trace F → List (List F) → List (List F) → K → T → Type 0
+  IsReadyFor degree_bits trace columns fixed commitment prover_data = IsReady ops (own_instance view) view.coordinates view.preprocessed (log_height ops.opening.is_zk degree_bits) degree_bits trace columns fixed commitment prover_data
 
   -- A trace is committed to on domains that the scheme has room for; with what is held it has the AIR's columns.
-  pub record IsCommitted (log_chunks : ℕ) (domain committed quotient : TwoAdicCoset F) (commitment : K) (prover_data : T) : Type 0 where
-    pub domains : AreDomains ops.opening.fields.base ops.opening.fields.generator ops.opening.is_zk degree_bits (log_parts_of i.constraints i.degree_hint (zk_bits ops.opening.is_zk)) log_chunks domain committed quotient
-    pub within : degree_bits ≤ ops.opening.scheme.log_max_trace_height i.scheme
-    pub publics : length i.public_values ≡ i.layout.publics
-    pub same : IfSome held (λ h. h.degree_bits ≡ degree_bits)
+  pub record IsCommitted {D : Type 0} (coset_of : D → TwoAdicCoset F) (of : ProverDomains D) (committed : Committed K T) : Type 0 where
+    pub domains : AreDomainsOf coset_of of
+    pub within : of.degree_bits ≤ ops.opening.scheme.log_max_trace_height (own_instance view).scheme
+    pub publics : length (own_instance view).public_values ≡ (own_instance view).layout.publics
+    pub same : IsHeldAt view.preprocessed of.degree_bits
     pub trace : Trace F
     pub columns : List (List F)
     pub fixed : List (List F)
-    pub ready : IsReady ops i coordinates held height degree_bits trace columns fixed commitment prover_data
-    pub width : length columns ≡ i.layout.main
-    pub fixed_width : length fixed ≡ i.layout.preprocessed
+    pub ready : IsReadyFor of.degree_bits trace columns fixed committed.commitment committed.prover_data
+    pub width : length columns ≡ (own_instance view).layout.main
+    pub fixed_width : length fixed ≡ (own_instance view).layout.preprocessed
 
-  -- Whatever trace this commitment stands for: the quotient over its columns is committed to,
-  abbrev pub IsQuotientOf : K → T → E → K → T → Type 0
-  IsQuotientOf commitment prover_data alpha quotient quotient_data = (trace : Trace F) (columns fixed : List (List F)) → IsReady ops i coordinates held height degree_bits trace columns fixed commitment prover_data
-      → (chunks : List (QuotientChunk F)) × IsQuotientCommitment ops.opening.scheme i.scheme (air_of ops i height) ops.opening.fields.root coordinates ops.opening.fields.dimension ops.opening.is_zk (quotient_domain ops i degree_bits) (log_chunks_of ops i degree_bits)
-      (quotient_rows ops i degree_bits columns fixed) alpha chunks quotient quotient_data
+  -- ---- the quotient
 
-  -- or the scheme refuses that;
-  abbrev pub IsRefusalOf : K → T → E → ProvingError Y → Type 0
-  IsRefusalOf commitment prover_data alpha error = (trace : Trace F) (columns fixed : List (List F)) → IsReady ops i coordinates held height degree_bits trace columns fixed commitment prover_data
-      → (error ≡ ProvingError.OutOfMemory) ⊎ IsQuotientRefusal ops.opening.scheme i.scheme (air_of ops i height) coordinates ops.opening.fields.dimension (quotient_domain ops i degree_bits) (log_chunks_of ops i degree_bits) (quotient_rows ops i degree_bits columns fixed) alpha error
+  -- These data stand for these columns, committed to at 2 ^ degree_bits rows, under this commitment.
+  abbrev pub StandsFor : ℕ → List (List F) → K → T → Type 0
+  StandsFor degree_bits columns commitment prover_data = StandsForColumns ops.opening.scheme (own_instance view).scheme ops.opening.fields.base degree_bits columns commitment prover_data
 
-  -- so much is bound of its proof,
-  abbrev pub IsBound : K → T → E → F → C → K → T → Option K → Option T → Type 0
-  IsBound commitment prover_data alpha witness state quotient quotient_data random random_data = (trace : Trace F) (columns fixed : List (List F)) → IsReady ops i coordinates held height degree_bits trace columns fixed commitment prover_data
-      → IsBoundProof ops i coordinates held height degree_bits trace fixed commitment prover_data alpha witness state quotient quotient_data random random_data
+  abbrev pub AreHeldColumns : List (List F) → Type 0
+  AreHeldColumns fixed = IsPreprocessedCommitment ops.opening.scheme (own_instance view).scheme ops.opening.fields.base fixed view.preprocessed
 
-  -- this is a proof of it,
-  abbrev pub IsProof : K → T → ProofView K E P F → Type 0
-  IsProof commitment prover_data view = (trace : Trace F) (columns fixed : List (List F)) → IsReady ops i coordinates held height degree_bits trace columns fixed commitment prover_data → IsProofOfTrace ops i coordinates held height trace fixed view
+  -- The data stand for the main columns, and what is held for the preprocessed ones.
+  abbrev pub HasColumns : ℕ → T → Type 0
+  HasColumns degree_bits prover_data = (columns : List (List F)) × (commitment : K) × StandsFor degree_bits columns commitment prover_data × (length columns ≡ (own_instance view).layout.main)
 
-  -- or this is why there is none.
-  abbrev pub IsFault : K → T → ProvingError Y → Type 0
-  IsFault commitment prover_data error = (trace : Trace F) (columns fixed : List (List F)) → IsReady ops i coordinates held height degree_bits trace columns fixed commitment prover_data
-      → (error ≡ ProvingError.OutOfMemory) ⊎ ProverFault ops i coordinates held height degree_bits trace error
+  abbrev pub HasFixedColumns : Type 0
+  HasFixedColumns = HoldsColumns ops.opening.scheme (own_instance view).scheme ops.opening.fields.base view.preprocessed (own_instance view).layout.preprocessed
+
+  -- These are the rows of the main columns, on a domain, and those of the preprocessed ones.
+  abbrev pub AreTraceRows : {D : Type 0} → (D → TwoAdicCoset F) → D → T → RowMajorMatrix F → Type 0
+  AreTraceRows coset_of domain prover_data rows = (degree_bits : ℕ) (columns : List (List F)) (commitment : K) → StandsFor degree_bits columns commitment prover_data
+      → HasRows ops.opening.fields.base ops.opening.fields.root (coset_of domain) columns rows.values.items rows.width
+
+  abbrev pub AreFixedRows : {D : Type 0} → (D → TwoAdicCoset F) → D → Option (RowMajorMatrix F) → Type 0
+  AreFixedRows coset_of domain rows = (fixed : List (List F)) → AreHeldColumns fixed
+      → HasRows ops.opening.fields.base ops.opening.fields.root (coset_of domain) fixed (matrix_or_empty (option_map trace_of rows)).values (matrix_or_empty (option_map trace_of rows)).width
+
+  -- These are the quotient's values on its domain, by the columns' rows.
+  abbrev pub AreQuotients : {D : Type 0} → (D → TwoAdicCoset F) → ProverDomains D → T → E → List E → Type 0
+  AreQuotients coset_of of prover_data alpha values = (columns fixed : List (List F)) (commitment : K) → StandsFor of.degree_bits columns commitment prover_data → AreHeldColumns fixed
+      → ArePointwiseQuotients (air_of ops (own_instance view) (coset_of of.trace).log_size) (rows_of_columns ops.opening.fields.base ops.opening.fields.root (coset_of of.quotient) columns fixed (own_instance view).public_values) alpha values
+
+  module _ (degree_bits : ℕ) (committed : Committed K T) where
+    -- Whatever trace this commitment stands for,
+    abbrev pub OfEachTrace : (Trace F → List (List F) → List (List F) → Type 0) → Type 0
+    OfEachTrace Holds = (trace : Trace F) (columns fixed : List (List F)) → IsReadyFor degree_bits trace columns fixed committed.commitment committed.prover_data → Holds trace columns fixed
+
+    -- the quotient over its columns is committed to,
+    abbrev pub IsQuotientOf : E → Committed K T → Type 0
+    IsQuotientOf alpha made = OfEachTrace (λ trace columns fixed.
+        (chunks : List (QuotientChunk F)) × IsQuotientCommitment ops.opening.scheme (own_instance view).scheme (air_of ops (own_instance view) (log_height ops.opening.is_zk degree_bits)) ops.opening.fields.root view.coordinates ops.opening.fields.dimension ops.opening.is_zk
+        (quotient_domain ops (own_instance view) degree_bits) (log_chunks_of ops (own_instance view) degree_bits) (quotient_rows ops (own_instance view) degree_bits columns fixed) alpha chunks made.commitment made.prover_data)
+
+    -- or the scheme refuses that;
+    abbrev pub IsRefusalOf : E → ProvingError Y → Type 0
+    IsRefusalOf alpha error = OfEachTrace (λ trace columns fixed.
+        IsOutOfMemoryOr (IsQuotientRefusal ops.opening.scheme (own_instance view).scheme (air_of ops (own_instance view) (log_height ops.opening.is_zk degree_bits)) view.coordinates ops.opening.fields.dimension
+        (quotient_domain ops (own_instance view) degree_bits) (log_chunks_of ops (own_instance view) degree_bits) (quotient_rows ops (own_instance view) degree_bits columns fixed) alpha) error)
+
+    -- so much is bound of its proof,
+    abbrev pub IsBound : BoundProof K T E F → C → Type 0
+    IsBound bound state = OfEachTrace (λ trace columns fixed.
+        IsBoundProof ops (own_instance view) view.coordinates view.preprocessed (log_height ops.opening.is_zk degree_bits) degree_bits trace fixed committed.commitment committed.prover_data bound.alpha bound.witness state
+        bound.quotient.commitment bound.quotient.prover_data (option_map (λ made. made.commitment) bound.random) (option_map (λ made. made.prover_data) bound.random))
+
+    -- this is a proof of it, and what is opened makes one,
+    abbrev pub IsViewOf : ProofView K E P F → Type 0
+    IsViewOf p = OfEachTrace (λ trace columns fixed. IsProofOfTrace ops (own_instance view) view.coordinates view.preprocessed (log_height ops.opening.is_zk degree_bits) trace fixed p)
+
+    abbrev pub IsProof : Proof K E P F → Type 0
+    IsProof proof = IsViewOf (proof_view proof)
+
+    abbrev pub IsOpened : BoundProof K T E F → OpenedProof E F P → Type 0
+    IsOpened bound opened = IsViewOf (view_of_parts committed bound opened degree_bits)
+
+    -- or this is why there is none.
+    abbrev pub IsFault : ProvingError Y → Type 0
+    IsFault error = OfEachTrace (λ trace columns fixed.
+        IsOutOfMemoryOr (ProverFault ops (own_instance view) view.coordinates view.preprocessed (log_height ops.opening.is_zk degree_bits) degree_bits trace) error)

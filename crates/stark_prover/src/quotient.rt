@@ -1,20 +1,14 @@
 //! The quotient of the folded constraints, over committed columns.
-ghost use Rattle.std.specs.Prelude.{◌≡◌, ◌≤◌, ℕ, All, List, IfErr, IfOk, length, map, option_map};
+ghost use Rattle.std.specs.Prelude.{◌≡◌, All, IfErr, IfOk, length};
 ghost use Rattle.stark_support.specs.Coset.{coset_size};
 ghost use Rattle.stark_support.specs.Periodic.{ColumnFits};
-ghost use Rattle.stark_support.specs.Scheme.{HasRows, zk_bits};
-ghost use Rattle.stark_protocol.specs.Sizes.{log_parts_of};
-ghost use Rattle.stark_quotient.specs.PointwiseQuotient.{ArePointwiseQuotients, matrix_or_empty};
-ghost use Rattle.stark_prover.specs.CommittedColumns.{IsPreprocessedCommitment, StandsForColumns, rows_of_columns};
-ghost use Rattle.stark_prover.specs.Sizes.{AreDomains};
 
 use crate::commit::{Committed, commit_flat};
-use crate::instance::ProverInstance;
-use crate::sizes::ProverDomains;
-use crate::stages::StarkStages;
+use crate::contracts::{ProverInstance, StarkRows, StarkSizes, StarkStages};
+use crate::domains::ProverDomains;
 use stark_air::{Air, AirLayout};
 use stark_parts::{Com, Domain, PcsProverError, StarkGenericConfig, Val};
-use stark_protocol::{PcsProverData, PreprocessedProverData};
+use stark_protocol::PcsProverData;
 use stark_quotient::{QuotientOperations, quotient_values};
 use stark_support::{
     ExtensionField, GrindingChallenger, PackedExtensionField, PackedField, Pcs, PolynomialSpace,
@@ -24,19 +18,20 @@ use stark_transcript::ProvingError;
 use std::alloc::{AllocError, Global};
 
 /// The values of the preprocessed columns on the quotient's domain, where there are any.
-fn preprocessed_values<SC: StarkGenericConfig>(
+fn preprocessed_values<SC, A>(
     alloc: Global,
-    config: &SC,
+    instance: &ProverInstance<'_, SC, A>,
     quotient: Domain<SC>,
-    preprocessed: Option<&PreprocessedProverData<Com<SC>, PcsProverData<SC>>>,
 ) -> Result<Option<RowMajorMatrix<Val<SC>>>, AllocError>
-    ensures { IfOk result (λ rows. (fixed : List (List SC.Pcs.Domain.Val)) → IsPreprocessedCommitment SC.Pcs.scheme (SC.config.scheme config.now) SC.Pcs.Domain.Val.ring fixed (option_map (λ held. held.now) preprocessed.entry)
-        → HasRows SC.Pcs.Domain.Val.ring SC.Pcs.Domain.Val.root (SC.Pcs.Domain.coset_of quotient) fixed (matrix_or_empty (option_map (λ m. record { width = m.width; values = m.values.items }) rows)).values
-        (matrix_or_empty (option_map (λ m. record { width = m.width; values = m.values.items }) rows)).width) }
+where
+    SC: StarkGenericConfig,
+    SC::Challenger: GrindingChallenger<Witness = Val<SC>>,
+    A: Air<Val<SC>>,
+    ensures { IfOk result (⟦<SC as StarkRows<A>>⟧.are_fixed_rows instance.now quotient) }
 {
-    match preprocessed {
+    match instance.preprocessed {
         Some(held) => {
-            let pcs = config.pcs();
+            let pcs = instance.config.pcs();
             let data = &held.prover_data;
             let rows = pcs.get_evaluations_on_domain_no_random(alloc, data, 0, quotient)?;
             Ok(Some(rows))
@@ -46,19 +41,21 @@ fn preprocessed_values<SC: StarkGenericConfig>(
 }
 
 /// The values of the trace's columns on the quotient's domain.
-fn trace_values<SC: StarkGenericConfig>(
+fn trace_values<SC, A>(
     alloc: Global,
-    config: &SC,
+    instance: &ProverInstance<'_, SC, A>,
     quotient: Domain<SC>,
     prover_data: &PcsProverData<SC>,
 ) -> Result<RowMajorMatrix<Val<SC>>, AllocError>
-    ensures { IfOk result (λ rows. (degree_bits : ℕ) (columns : List (List SC.Pcs.Domain.Val)) (commitment : SC.Pcs.Commitment)
-        → StandsForColumns SC.Pcs.scheme (SC.config.scheme config.now) SC.Pcs.Domain.Val.ring degree_bits columns commitment prover_data.now
-        → HasRows SC.Pcs.Domain.Val.ring SC.Pcs.Domain.Val.root (SC.Pcs.Domain.coset_of quotient) columns rows.values.items rows.width) }
+where
+    SC: StarkGenericConfig,
+    SC::Challenger: GrindingChallenger<Witness = Val<SC>>,
+    A: Air<Val<SC>>,
+    ensures { IfOk result (⟦<SC as StarkRows<A>>⟧.are_trace_rows instance.now quotient
+        prover_data.now) }
 {
-    let rows = config
-        .pcs()
-        .get_evaluations_on_domain(alloc, prover_data, 0, quotient)?;
+    let pcs = instance.config.pcs();
+    let rows = pcs.get_evaluations_on_domain(alloc, prover_data, 0, quotient)?;
     Ok(rows)
 }
 
@@ -74,21 +71,23 @@ where
     SC: StarkGenericConfig,
     Val<SC>: PackedField,
     SC::Challenge: PackedExtensionField<Val<SC>>,
+    SC::Challenger: GrindingChallenger<Witness = Val<SC>>,
     A: Air<Val<SC>>,
-    requires domains { AreDomains SC.Pcs.Domain.Val.ring SC.Pcs.Domain.Val.GENERATOR SC.Pcs.ZK domains.degree_bits (log_parts_of (A.constraints instance.now.air.now) (A.degree_hint instance.now.air.now) (zk_bits SC.Pcs.ZK)) domains.log_chunks
-        (SC.Pcs.Domain.coset_of domains.trace) (SC.Pcs.Domain.coset_of domains.committed) (SC.Pcs.Domain.coset_of domains.quotient) }
-    requires main { (columns : List (List SC.Pcs.Domain.Val)) × (commitment : SC.Pcs.Commitment) × StandsForColumns SC.Pcs.scheme (SC.config.scheme instance.now.config.now) SC.Pcs.Domain.Val.ring domains.degree_bits columns commitment prover_data.now × (length columns ≡ (A.layout instance.now.air.now).main) }
-    requires fixed { (fixed : List (List SC.Pcs.Domain.Val)) × IsPreprocessedCommitment SC.Pcs.scheme (SC.config.scheme instance.now.config.now) SC.Pcs.Domain.Val.ring fixed (option_map (λ held. held.now) instance.now.held) × (length fixed ≡ (A.layout instance.now.air.now).preprocessed) }
-    requires publics { length instance.now.public_values.now ≡ (A.layout instance.now.air.now).publics }
-    requires periodic { All (λ column. ColumnFits (coset_size (SC.Pcs.Domain.coset_of domains.trace)) (length column)) (A.periodic_columns instance.now.air.now) }
-    ensures { IfOk result (λ values. (columns fixed : List (List SC.Pcs.Domain.Val)) (commitment : SC.Pcs.Commitment)
-        → StandsForColumns SC.Pcs.scheme (SC.config.scheme instance.now.config.now) SC.Pcs.Domain.Val.ring domains.degree_bits columns commitment prover_data.now
-        → IsPreprocessedCommitment SC.Pcs.scheme (SC.config.scheme instance.now.config.now) SC.Pcs.Domain.Val.ring fixed (option_map (λ held. held.now) instance.now.held)
-        → ArePointwiseQuotients (⟦<SC as QuotientOperations<A>>⟧.air_over instance.now.air.now domains.trace) (rows_of_columns SC.Pcs.Domain.Val.ring SC.Pcs.Domain.Val.root (SC.Pcs.Domain.coset_of domains.quotient) columns fixed instance.now.public_values.now) alpha values.items) }
+    requires domains { ⟦<SC as StarkSizes<A>>⟧.are_domains instance.now domains }
+    requires main { ⟦<SC as StarkRows<A>>⟧.has_columns instance.now domains.degree_bits
+        prover_data.now }
+    requires fixed { ⟦<SC as StarkRows<A>>⟧.has_fixed_columns instance.now }
+    requires publics { length instance.now.public_values.now
+        ≡ (A.layout instance.now.air.now).publics }
+    requires periodic { All (λ column.
+        ColumnFits (coset_size (SC.Pcs.Domain.coset_of domains.trace)) (length column))
+        (A.periodic_columns instance.now.air.now) }
+    ensures { IfOk result (λ values. ⟦<SC as StarkRows<A>>⟧.are_quotients instance.now domains
+        prover_data.now alpha values.items) }
 {
     let quotient = domains.quotient;
-    let main = trace_values(alloc, instance.config, quotient, prover_data)?;
-    let fixed = preprocessed_values(alloc, instance.config, quotient, instance.held)?;
+    let main = trace_values(alloc, instance, quotient, prover_data)?;
+    let fixed = preprocessed_values(alloc, instance, quotient)?;
     let values = quotient_values::<SC, A>(
         alloc,
         instance.config.pcs(),
@@ -104,7 +103,8 @@ where
     Ok(values)
 }
 
-/// An AIR to whose quotients a configuration's scheme commits: any AIR, where the fields have packed values.
+/// An AIR to whose quotients a configuration's scheme commits: any AIR, where the fields have
+/// packed values.
 pub(crate) trait ProvableAir<SC: StarkGenericConfig>: Air<Val<SC>> + Sized
 where
     SC::Challenger: GrindingChallenger<Witness = Val<SC>>,
@@ -117,10 +117,12 @@ where
         committed: &Committed<Com<SC>, PcsProverData<SC>>,
         alpha: SC::Challenge,
     ) -> Result<Committed<Com<SC>, PcsProverData<SC>>, ProvingError<PcsProverError<SC>>>
-        requires committed { ⟦<SC as StarkStages<Self>>⟧.is_committed instance.now.config.now instance.now.air.now instance.now.public_values.now (option_map (λ h. h.now) instance.now.held) domains.degree_bits domains.log_chunks
-            (SC.Pcs.Domain.coset_of domains.trace) (SC.Pcs.Domain.coset_of domains.committed) (SC.Pcs.Domain.coset_of domains.quotient) committed.now.commitment committed.now.prover_data }
-        ensures stands { IfOk result (λ made. ⟦<SC as StarkStages<Self>>⟧.is_quotient_of instance.now.config.now instance.now.air.now instance.now.public_values.now (option_map (λ h. h.now) instance.now.held) domains.degree_bits committed.now.commitment committed.now.prover_data alpha made.commitment made.prover_data) }
-        ensures fault { IfErr result (λ error. ⟦<SC as StarkStages<Self>>⟧.is_refusal_of instance.now.config.now instance.now.air.now instance.now.public_values.now (option_map (λ h. h.now) instance.now.held) domains.degree_bits committed.now.commitment committed.now.prover_data alpha error) };
+        requires committed { ⟦<SC as StarkStages<Self>>⟧.is_committed instance.now domains
+            committed.now }
+        ensures stands { IfOk result (⟦<SC as StarkStages<Self>>⟧.is_quotient_of instance.now
+            domains.degree_bits committed.now alpha) }
+        ensures fault { IfErr result (⟦<SC as StarkStages<Self>>⟧.is_refusal_of instance.now
+            domains.degree_bits committed.now alpha) };
 }
 
 impl<SC: StarkGenericConfig, A: Air<Val<SC>>> ProvableAir<SC> for A
@@ -136,20 +138,20 @@ where
         committed: &Committed<Com<SC>, PcsProverData<SC>>,
         alpha: SC::Challenge,
     ) -> Result<Committed<Com<SC>, PcsProverData<SC>>, ProvingError<PcsProverError<SC>>>
-        requires committed { ⟦<SC as StarkStages<A>>⟧.is_committed instance.now.config.now instance.now.air.now instance.now.public_values.now (option_map (λ h. h.now) instance.now.held) domains.degree_bits domains.log_chunks
-            (SC.Pcs.Domain.coset_of domains.trace) (SC.Pcs.Domain.coset_of domains.committed) (SC.Pcs.Domain.coset_of domains.quotient) committed.now.commitment committed.now.prover_data }
-        ensures stands { IfOk result (λ made. ⟦<SC as StarkStages<A>>⟧.is_quotient_of instance.now.config.now instance.now.air.now instance.now.public_values.now (option_map (λ h. h.now) instance.now.held) domains.degree_bits committed.now.commitment committed.now.prover_data alpha made.commitment made.prover_data) }
-        ensures fault { IfErr result (λ error. ⟦<SC as StarkStages<A>>⟧.is_refusal_of instance.now.config.now instance.now.air.now instance.now.public_values.now (option_map (λ h. h.now) instance.now.held) domains.degree_bits committed.now.commitment committed.now.prover_data alpha error) }
+        requires committed { ⟦<SC as StarkStages<A>>⟧.is_committed instance.now domains
+            committed.now }
+        ensures stands { IfOk result (⟦<SC as StarkStages<A>>⟧.is_quotient_of instance.now
+            domains.degree_bits committed.now alpha) }
+        ensures fault { IfErr result (⟦<SC as StarkStages<A>>⟧.is_refusal_of instance.now
+            domains.degree_bits committed.now alpha) }
     {
         let values = quotient_on(alloc, instance, domains, &committed.prover_data, alpha)?;
+        // A constant's range is known where it is read: so the flattened width, which is this
+        // number, fits.
         let _dimension = SC::Challenge::DIMENSION;
+        // The domain lies in the base field, so the values of a polynomial over the extension are
+        // those of as many over the base field as an element has coordinates: one column each.
         let flat = RowMajorMatrix::new_col(values).flatten_to_base::<Val<SC>>(alloc)?;
-        commit_flat(
-            alloc,
-            instance.config,
-            domains.quotient,
-            flat,
-            domains.log_chunks,
-        )
+        commit_flat(alloc, instance.config, domains, flat)
     }
 }

@@ -1,7 +1,8 @@
-//! The rounds of the opening argument.
-ghost use Rattle.std.specs.Prelude.{◌≡◌, ◌<◌, ◌^◌, IfOk, [], ◌∷◌, map, option_map, replicate};
+//! The rounds of the opening argument: which commitments are opened, and where.
+ghost use Rattle.std.specs.Option.{option_copied};
+ghost use Rattle.std.specs.Prelude.{◌≡◌, IfOk, [], ◌∷◌, map, replicate};
 ghost use Rattle.stark_support.specs.Claims.{round_view};
-ghost use Rattle.stark_prover.specs.Rounds.{place_of, points_of, preprocessed_points, random_points, rounds_of};
+ghost use Rattle.stark_prover.specs.Rounds.{place_of, points_of, random_points, rounds_at};
 
 use stark_parts::StarkOpeningLayout;
 use stark_support::OpeningRound;
@@ -14,7 +15,8 @@ fn points_of<EF: Copy>(
     next_zeta: EF,
     reads_next: bool,
 ) -> Result<Vec<Vec<EF>>, AllocError>
-    ensures { IfOk result (λ points. map (λ p. p.items) points.items ≡ points_of zeta next_zeta reads_next ∷ []) }
+    ensures { IfOk result (λ points. map (λ p. p.items) points.items
+        ≡ points_of zeta next_zeta reads_next ∷ []) }
 {
     let mut row = Vec::new(alloc);
     row.push(zeta)?;
@@ -28,7 +30,8 @@ fn points_of<EF: Copy>(
 
 /// So many matrices at zeta alone.
 fn each_at<EF: Copy>(alloc: Global, zeta: EF, count: usize) -> Result<Vec<Vec<EF>>, AllocError>
-    ensures { IfOk result (λ points. map (λ p. p.items) points.items ≡ replicate count (zeta ∷ [])) }
+    ensures { IfOk result (λ points. map (λ p. p.items) points.items
+        ≡ replicate count (zeta ∷ [])) }
 {
     let mut points = Vec::new(alloc);
     for _matrix in 0..count {
@@ -37,6 +40,15 @@ fn each_at<EF: Copy>(alloc: Global, zeta: EF, count: usize) -> Result<Vec<Vec<EF
         points.push(one)?;
     }
     Ok(points)
+}
+
+/// What a scheme keeps of the commitments of a proof.
+#[derive(Drop)]
+pub(crate) struct OpenedData<'p, T> {
+    pub random: Option<&'p T>,
+    pub trace: &'p T,
+    pub quotient: &'p T,
+    pub preprocessed: Option<&'p T>,
 }
 
 /// The points at which the matrices of a proof are opened.
@@ -58,7 +70,8 @@ fn random_round<'p, EF: Copy, T>(
     zeta: EF,
     random: Option<&'p T>,
 ) -> Result<Vec<OpeningRound<'p, EF, T>>, AllocError>
-    ensures { IfOk result (λ rounds. map round_view rounds.items ≡ random_points zeta (option_map (λ data_. data_.now) random.entry)) }
+    ensures { IfOk result (λ rounds. map round_view rounds.items
+        ≡ random_points zeta (option_copied random.entry)) }
 {
     let mut rounds = Vec::new(alloc);
     match random {
@@ -74,19 +87,18 @@ fn random_round<'p, EF: Copy, T>(
 pub(crate) fn rounds_of<'p, EF: Copy, T>(
     alloc: Global,
     points: OpeningPoints<EF>,
-    random: Option<&'p T>,
-    trace: &'p T,
-    quotient: &'p T,
-    preprocessed: Option<&'p T>,
+    of: &OpenedData<'p, T>,
 ) -> Result<Vec<OpeningRound<'p, EF, T>>, AllocError>
-    ensures { IfOk result (λ rounds. map round_view rounds.items ≡ rounds_of points.zeta (points_of points.zeta points.next_zeta points.reads_next) (points_of points.zeta points.next_zeta points.reads_preprocessed_next) points.chunks
-        (option_map (λ data_. data_.now) random.entry) trace.now quotient.now (option_map (λ data_. data_.now) preprocessed.entry)) }
+    ensures { IfOk result (λ rounds. map round_view rounds.items ≡ rounds_at points of.now) }
 {
     let (zeta, next_zeta) = (points.zeta, points.next_zeta);
-    let mut rounds = random_round(alloc, zeta, random)?;
-    rounds.push((trace, points_of(alloc, zeta, next_zeta, points.reads_next)?))?;
-    rounds.push((quotient, each_at(alloc, zeta, points.chunks)?))?;
-    match preprocessed {
+    let mut rounds = random_round(alloc, zeta, of.random)?;
+    rounds.push((
+        of.trace,
+        points_of(alloc, zeta, next_zeta, points.reads_next)?,
+    ))?;
+    rounds.push((of.quotient, each_at(alloc, zeta, points.chunks)?))?;
+    match of.preprocessed {
         Some(fixed) => {
             let rows = points_of(alloc, zeta, next_zeta, points.reads_preprocessed_next)?;
             rounds.push((fixed, rows))?;
@@ -98,7 +110,7 @@ pub(crate) fn rounds_of<'p, EF: Copy, T>(
 
 /// The place of the preprocessed round, where there is one.
 pub(crate) fn place_of<T>(is_zk: bool, preprocessed: Option<&T>) -> Option<usize>
-    ensures { result ≡ place_of is_zk (option_map (λ data_. data_.now) preprocessed.entry) }
+    ensures { result ≡ place_of is_zk (option_copied preprocessed.entry) }
 {
     match preprocessed {
         Some(_) => Some(StarkOpeningLayout::new(is_zk).preprocessed),

@@ -1,4 +1,5 @@
-//! The prover's folders: they keep the values of an AIR's constraints at packed rows, and sum them up with powers of alpha.
+//! The prover's folders: they keep the values of an AIR's constraints at packed rows, and sum them
+//! up with powers of alpha.
 #![tactic(auto)]
 
 mod prover_folder;

@@ -15,8 +15,8 @@ use stark_support::{
 };
 use std::alloc::AllocError;
 
-/// Evaluates an AIR's constraints at packed rows, and keeps their values: those of base constraints and those of
-/// constraints over the extension, each in their order.
+/// Evaluates an AIR's constraints at packed rows, and keeps their values: those of base constraints
+/// and those of constraints over the extension, each in their order.
 #[derive(Drop)]
 pub struct ProverConstraintFolder<'a, SC: StarkGenericConfig>
 where
@@ -45,7 +45,8 @@ where
     /// The view is of two rows.
     pub ghost two_rows: { length main.values.now ≡ 2 * main.width },
     /// How many values are kept, or the greatest `usize` where they are more.
-    pub ghost counted: { constraint_index ≡ min (length base_constraints.items + length ext_constraints.items) (2 ^ 64 - 1) },
+    pub ghost counted: { constraint_index
+        ≡ min (length base_constraints.items + length ext_constraints.items) (2 ^ 64 - 1) },
 }
 
 impl<'a, SC: StarkGenericConfig> BaseAirBuilder for ProverConstraintFolder<'a, SC>
@@ -67,19 +68,35 @@ where
 
     type PreprocessedWindow = RowWindow<'a, PackedVal<SC>, (Val<SC>, SC::Challenge)>;
 
-    ghost environment = { λ s. environment_of SC.Pcs.Domain.Val.Packing.operations SC.Pcs.Domain.Val.ring.zero s.is_first_row (take s.main.width s.main.values.now) (drop s.main.width s.main.values.now) s.preprocessed_window.current.now s.preprocessed_window.next.now s.public_values.now s.periodic_values.now s.is_first_row s.is_last_row s.is_transition };
+    ghost environment = { λ s. environment_of SC.Pcs.Domain.Val.Packing.operations
+        SC.Pcs.Domain.Val.ring.zero s.is_first_row (take s.main.width s.main.values.now)
+        (drop s.main.width s.main.values.now) s.preprocessed_window.current.now
+        s.preprocessed_window.next.now s.public_values.now s.periodic_values.now s.is_first_row
+        s.is_last_row s.is_transition };
 
-    ghost layout = { λ s. layout_of (take s.main.width s.main.values.now) (drop s.main.width s.main.values.now) s.preprocessed_window.current.now s.preprocessed_window.next.now s.public_values.now s.periodic_values.now };
+    ghost layout = { λ s. layout_of (take s.main.width s.main.values.now)
+        (drop s.main.width s.main.values.now) s.preprocessed_window.current.now
+        s.preprocessed_window.next.now s.public_values.now s.periodic_values.now };
 
-    ghost keeps = { λ s t. (t.main ≡ s.main) × (t.preprocessed ≡ s.preprocessed) × (t.base_alpha_powers ≡ s.base_alpha_powers) × (t.ext_alpha_powers ≡ s.ext_alpha_powers) × (t.constraint_count ≡ s.constraint_count) };
+    ghost keeps = { λ s t. (t.main ≡ s.main) × (t.preprocessed ≡ s.preprocessed)
+        × (t.base_alpha_powers ≡ s.base_alpha_powers) × (t.ext_alpha_powers ≡ s.ext_alpha_powers)
+        × (t.constraint_count ≡ s.constraint_count) };
 
     /// The values are kept in memory.
     ghost may_refuse = { Unit {0} };
 
-    ghost after = { CollectedBoth SC.Pcs.Domain.Val.Packing.operations (λ v. map SC.Challenge.embed (SC.Pcs.Domain.Val.Packing.lanes v))
-        (λ s. environment_of SC.Pcs.Domain.Val.Packing.operations SC.Pcs.Domain.Val.ring.zero s.is_first_row (take s.main.width s.main.values.now) (drop s.main.width s.main.values.now) s.preprocessed_window.current.now s.preprocessed_window.next.now s.public_values.now s.periodic_values.now s.is_first_row s.is_last_row s.is_transition)
-        (λ s. layout_of (take s.main.width s.main.values.now) (drop s.main.width s.main.values.now) s.preprocessed_window.current.now s.preprocessed_window.next.now s.public_values.now s.periodic_values.now)
-        (λ s. s.base_constraints.items) (λ s. map SC.Challenge.ExtensionPacking.lanes s.ext_constraints.items) };
+    ghost after = { CollectedBoth SC.Pcs.Domain.Val.Packing.operations (λ v.
+        map SC.Challenge.embed (SC.Pcs.Domain.Val.Packing.lanes v))
+        (λ s. environment_of SC.Pcs.Domain.Val.Packing.operations SC.Pcs.Domain.Val.ring.zero
+        s.is_first_row (take s.main.width s.main.values.now)
+        (drop s.main.width s.main.values.now) s.preprocessed_window.current.now
+        s.preprocessed_window.next.now s.public_values.now s.periodic_values.now s.is_first_row
+        s.is_last_row s.is_transition)
+        (λ s. layout_of (take s.main.width s.main.values.now) (drop s.main.width s.main.values.now)
+        s.preprocessed_window.current.now s.preprocessed_window.next.now s.public_values.now
+        s.periodic_values.now)
+        (λ s. s.base_constraints.items) (λ s.
+        map SC.Challenge.ExtensionPacking.lanes s.ext_constraints.items) };
 
     ghost emission_laws = { collecting_both_laws _ _ _ _ _ _ };
 
@@ -134,14 +151,23 @@ where
 
     type ExprEF = PackedChallenge<SC>;
 
-    ghost stands_above = { λ v x. SC.Challenge.ExtensionPacking.lanes x ≡ map SC.Challenge.embed (SC.Pcs.Domain.Val.Packing.lanes v) };
+    ghost stands_above = { λ v x. SC.Challenge.ExtensionPacking.lanes x
+        ≡ map SC.Challenge.embed (SC.Pcs.Domain.Val.Packing.lanes v) };
 
     ghost may_multiply = { SC.Challenge.ExtensionPacking.Algebra.may_mul };
 
-    ghost from_stands = { λ x y v same p. SC.Challenge.from_packed_is x y same ∙ ap (λ t. map SC.Challenge.embed (SC.Pcs.Domain.Val.Packing.lanes t)) (SC.Pcs.Domain.Val.Packing.exact_lanes v x p) };
+    ghost from_stands = { λ x y v same p. SC.Challenge.from_packed_is x y same
+        ∙ ap (λ t. map SC.Challenge.embed (SC.Pcs.Domain.Val.Packing.lanes t))
+        (SC.Pcs.Domain.Val.Packing.exact_lanes v x p) };
 
-    ghost times_above = { λ v w x y z h p q. embedded_product SC.Challenge.embeds SC.Pcs.Domain.Val.packed_ring SC.Pcs.Domain.Val.Packing.lane_by_lane SC.Challenge.extension_packed_ring SC.Challenge.ExtensionPacking.lane_by_lane v w x y z
-        (SC.Challenge.ExtensionPacking.exact_lanes _ _ (SC.Challenge.ExtensionPacking.Algebra.times_stands x y z x y h (SC.Challenge.ExtensionPacking.Algebra.stands_itself x) (SC.Challenge.ExtensionPacking.Algebra.stands_itself y))) p q };
+    ghost times_above = { λ v w x y z h p q.
+        embedded_product SC.Challenge.embeds SC.Pcs.Domain.Val.packed_ring
+        SC.Pcs.Domain.Val.Packing.lane_by_lane SC.Challenge.extension_packed_ring
+        SC.Challenge.ExtensionPacking.lane_by_lane v w x y z
+        (SC.Challenge.ExtensionPacking.exact_lanes _ _
+        (SC.Challenge.ExtensionPacking.Algebra.times_stands x y z x y h
+        (SC.Challenge.ExtensionPacking.Algebra.stands_itself x)
+        (SC.Challenge.ExtensionPacking.Algebra.stands_itself y))) p q };
 
     /// Keeps `x` behind the extension constraints' values.
     fn assert_zero_ext(&mut self, x: PackedChallenge<SC>) -> Result<(), AllocError> {
@@ -156,15 +182,23 @@ where
     Val<SC>: PackedField,
     SC::Challenge: PackedExtensionField<Val<SC>>,
 {
-    /// The sum of the kept values, each times its power of alpha, lane by lane: for each coordinate the basis element times
-    /// the base constraints' sum, and the sum over the extension. It takes no memory.
+    /// The sum of the kept values, each times its power of alpha, lane by lane: for each coordinate
+    /// the basis element times the base constraints' sum, and the sum over the extension. It takes
+    /// no memory.
     pub fn finalize_constraints(&self) -> PackedChallenge<SC>
         requires dimension { length self.now.base_alpha_powers.now ≡ SC.Challenge.DIMENSION }
-        requires rows { All (λ row. length row.items ≡ length self.now.base_constraints.items) self.now.base_alpha_powers.now }
-        requires powers { length self.now.ext_constraints.items ≡ length self.now.ext_alpha_powers.now }
-        ensures { (i : ℕ) → i < SC.Challenge.ExtensionPacking.WIDTH → slice_index_or (SC.Challenge.ExtensionPacking.lanes result) i SC.Challenge.ring.zero
-            ≡ finalized SC.Pcs.Domain.Val.ring SC.Pcs.Domain.Val.ZERO SC.Challenge.ring SC.Challenge.ZERO SC.Challenge.embed SC.Challenge.basis (map vec_items self.now.base_alpha_powers.now) self.now.ext_alpha_powers.now
-            (lane_values SC.Pcs.Domain.Val.Packing.lanes i SC.Pcs.Domain.Val.ring.zero self.now.base_constraints.items) (lane_values SC.Challenge.ExtensionPacking.lanes i SC.Challenge.ring.zero self.now.ext_constraints.items) }
+        requires rows { All (λ row. length row.items ≡ length self.now.base_constraints.items)
+            self.now.base_alpha_powers.now }
+        requires powers { length self.now.ext_constraints.items
+            ≡ length self.now.ext_alpha_powers.now }
+        ensures { (i : ℕ) → i < SC.Challenge.ExtensionPacking.WIDTH
+            → slice_index_or (SC.Challenge.ExtensionPacking.lanes result) i SC.Challenge.ring.zero
+            ≡ finalized SC.Pcs.Domain.Val.ring SC.Pcs.Domain.Val.ZERO SC.Challenge.ring
+            SC.Challenge.ZERO SC.Challenge.embed SC.Challenge.basis
+            (map vec_items self.now.base_alpha_powers.now) self.now.ext_alpha_powers.now
+            (lane_values SC.Pcs.Domain.Val.Packing.lanes i SC.Pcs.Domain.Val.ring.zero
+            self.now.base_constraints.items) (lane_values SC.Challenge.ExtensionPacking.lanes i
+            SC.Challenge.ring.zero self.now.ext_constraints.items) }
     {
         let sum = packed_sum::<SC::Challenge, PackedChallenge<SC>>(
             self.ext_constraints.as_slice(),
@@ -178,7 +212,8 @@ where
     }
 }
 
-/// For each coordinate the basis element times the sum of the values times their powers, and the rest, lane by lane.
+/// For each coordinate the basis element times the sum of the values times their powers, and the
+/// rest, lane by lane.
 pub(crate) fn plus_base_sums<SC: StarkGenericConfig>(
     values: &[PackedVal<SC>],
     powers: &[Vec<Val<SC>>],
@@ -189,8 +224,12 @@ where
     SC::Challenge: PackedExtensionField<Val<SC>>,
     requires dimension { length powers.now ≡ SC.Challenge.DIMENSION }
     requires rows { All (λ row. length row.items ≡ length values.now) powers.now }
-    ensures { (i : ℕ) → i < SC.Challenge.ExtensionPacking.WIDTH → slice_index_or (SC.Challenge.ExtensionPacking.lanes result) i SC.Challenge.ring.zero
-        ≡ SC.Challenge.ring.add (base_sums SC.Pcs.Domain.Val.ring SC.Pcs.Domain.Val.ZERO SC.Challenge.ring SC.Challenge.embed SC.Challenge.basis (map vec_items powers.now) (lane_values SC.Pcs.Domain.Val.Packing.lanes i SC.Pcs.Domain.Val.ring.zero values.now)) (slice_index_or (SC.Challenge.ExtensionPacking.lanes rest) i SC.Challenge.ring.zero) }
+    ensures { (i : ℕ) → i < SC.Challenge.ExtensionPacking.WIDTH
+        → slice_index_or (SC.Challenge.ExtensionPacking.lanes result) i SC.Challenge.ring.zero
+        ≡ SC.Challenge.ring.add (base_sums SC.Pcs.Domain.Val.ring SC.Pcs.Domain.Val.ZERO
+        SC.Challenge.ring SC.Challenge.embed SC.Challenge.basis (map vec_items powers.now)
+        (lane_values SC.Pcs.Domain.Val.Packing.lanes i SC.Pcs.Domain.Val.ring.zero values.now))
+        (slice_index_or (SC.Challenge.ExtensionPacking.lanes rest) i SC.Challenge.ring.zero) }
 {
     let mut sum = rest;
     let mut index = SC::Challenge::DIMENSION;
@@ -205,7 +244,9 @@ where
 /// The sum of the values, each times its coefficient, lane by lane.
 pub(crate) fn packed_sum<F: Field, P: PackedValue<Value = F>>(values: &[P], coefficients: &[F]) -> P
     requires { length values.now ≡ length coefficients.now }
-    ensures { (i : ℕ) → i < P.WIDTH → slice_index_or (P.lanes result) i F.ring.zero ≡ sum_of_products P.lane_ring F.ZERO (lane_values P.lanes i F.ring.zero values.now) coefficients.now }
+    ensures { (i : ℕ) → i < P.WIDTH → slice_index_or (P.lanes result) i F.ring.zero
+        ≡ sum_of_products P.lane_ring F.ZERO (lane_values P.lanes i F.ring.zero values.now)
+        coefficients.now }
 {
     packed_linear_combination::<F, P>(values, coefficients)
 }

@@ -28,8 +28,9 @@ pub type VectorizedChallenge<SC, const N: usize> = VectorizedExt<
     N,
 >;
 
-/// Evaluates an AIR's constraints at `N` times as many rows as one packed value has lanes, and keeps their values: those of base
-/// constraints and those of constraints over the extension, each in their order. It is a builder for `N` = 2 alone.
+/// Evaluates an AIR's constraints at `N` times as many rows as one packed value has lanes, and
+/// keeps their values: those of base constraints and those of constraints over the extension, each
+/// in their order. It is a builder for `N` = 2 alone.
 #[derive(Drop)]
 pub struct VectorizedConstraintFolder<'a, SC: StarkGenericConfig, const N: usize>
 where
@@ -58,7 +59,8 @@ where
     /// The view is of two rows.
     pub ghost two_rows: { length main.values.now ≡ 2 * main.width },
     /// How many values are kept, or the greatest `usize` where they are more.
-    pub ghost counted: { constraint_index ≡ min (length base_constraints.items + length ext_constraints.items) (2 ^ 64 - 1) },
+    pub ghost counted: { constraint_index
+        ≡ min (length base_constraints.items + length ext_constraints.items) (2 ^ 64 - 1) },
 }
 
 impl<'a, SC: StarkGenericConfig> BaseAirBuilder for VectorizedConstraintFolder<'a, SC, 2>
@@ -80,19 +82,35 @@ where
 
     type PreprocessedWindow = RowWindow<'a, VectorizedVal<SC, 2>, (Val<SC>, SC::Challenge)>;
 
-    ghost environment = { λ s. environment_of (both_operations SC.Pcs.Domain.Val.Packing.operations) SC.Pcs.Domain.Val.ring.zero s.is_first_row (take s.main.width s.main.values.now) (drop s.main.width s.main.values.now) s.preprocessed_window.current.now s.preprocessed_window.next.now s.public_values.now s.periodic_values.now s.is_first_row s.is_last_row s.is_transition };
+    ghost environment = { λ s. environment_of (both_operations SC.Pcs.Domain.Val.Packing.operations)
+        SC.Pcs.Domain.Val.ring.zero s.is_first_row (take s.main.width s.main.values.now)
+        (drop s.main.width s.main.values.now) s.preprocessed_window.current.now
+        s.preprocessed_window.next.now s.public_values.now s.periodic_values.now s.is_first_row
+        s.is_last_row s.is_transition };
 
-    ghost layout = { λ s. layout_of (take s.main.width s.main.values.now) (drop s.main.width s.main.values.now) s.preprocessed_window.current.now s.preprocessed_window.next.now s.public_values.now s.periodic_values.now };
+    ghost layout = { λ s. layout_of (take s.main.width s.main.values.now)
+        (drop s.main.width s.main.values.now) s.preprocessed_window.current.now
+        s.preprocessed_window.next.now s.public_values.now s.periodic_values.now };
 
-    ghost keeps = { λ s t. (t.main ≡ s.main) × (t.preprocessed ≡ s.preprocessed) × (t.base_alpha_powers ≡ s.base_alpha_powers) × (t.ext_alpha_powers ≡ s.ext_alpha_powers) × (t.constraint_count ≡ s.constraint_count) };
+    ghost keeps = { λ s t. (t.main ≡ s.main) × (t.preprocessed ≡ s.preprocessed)
+        × (t.base_alpha_powers ≡ s.base_alpha_powers) × (t.ext_alpha_powers ≡ s.ext_alpha_powers)
+        × (t.constraint_count ≡ s.constraint_count) };
 
     /// The values are kept in memory.
     ghost may_refuse = { Unit {0} };
 
-    ghost after = { CollectedBoth (both_operations SC.Pcs.Domain.Val.Packing.operations) (λ v. map SC.Challenge.embed (both_lanes SC.Pcs.Domain.Val.Packing.lanes v))
-        (λ s. environment_of (both_operations SC.Pcs.Domain.Val.Packing.operations) SC.Pcs.Domain.Val.ring.zero s.is_first_row (take s.main.width s.main.values.now) (drop s.main.width s.main.values.now) s.preprocessed_window.current.now s.preprocessed_window.next.now s.public_values.now s.periodic_values.now s.is_first_row s.is_last_row s.is_transition)
-        (λ s. layout_of (take s.main.width s.main.values.now) (drop s.main.width s.main.values.now) s.preprocessed_window.current.now s.preprocessed_window.next.now s.public_values.now s.periodic_values.now)
-        (λ s. s.base_constraints.items) (λ s. map (both_lanes SC.Challenge.ExtensionPacking.lanes) s.ext_constraints.items) };
+    ghost after = { CollectedBoth (both_operations SC.Pcs.Domain.Val.Packing.operations) (λ v.
+        map SC.Challenge.embed (both_lanes SC.Pcs.Domain.Val.Packing.lanes v))
+        (λ s. environment_of (both_operations SC.Pcs.Domain.Val.Packing.operations)
+        SC.Pcs.Domain.Val.ring.zero s.is_first_row (take s.main.width s.main.values.now)
+        (drop s.main.width s.main.values.now) s.preprocessed_window.current.now
+        s.preprocessed_window.next.now s.public_values.now s.periodic_values.now s.is_first_row
+        s.is_last_row s.is_transition)
+        (λ s. layout_of (take s.main.width s.main.values.now) (drop s.main.width s.main.values.now)
+        s.preprocessed_window.current.now s.preprocessed_window.next.now s.public_values.now
+        s.periodic_values.now)
+        (λ s. s.base_constraints.items) (λ s.
+        map (both_lanes SC.Challenge.ExtensionPacking.lanes) s.ext_constraints.items) };
 
     ghost emission_laws = { collecting_both_laws _ _ _ _ _ _ };
 
@@ -149,14 +167,24 @@ where
 
     type ExprEF = VectorizedChallenge<SC, 2>;
 
-    ghost stands_above = { λ v x. both_lanes SC.Challenge.ExtensionPacking.lanes x ≡ map SC.Challenge.embed (both_lanes SC.Pcs.Domain.Val.Packing.lanes v) };
+    ghost stands_above = { λ v x. both_lanes SC.Challenge.ExtensionPacking.lanes x
+        ≡ map SC.Challenge.embed (both_lanes SC.Pcs.Domain.Val.Packing.lanes v) };
 
     ghost may_multiply = { λ _ _. tt };
 
-    ghost from_stands = { λ x y v same p. same ∙ ap (λ t. map SC.Challenge.embed (both_lanes SC.Pcs.Domain.Val.Packing.lanes t)) p };
+    ghost from_stands = { λ x y v same p. same
+        ∙ ap (λ t. map SC.Challenge.embed (both_lanes SC.Pcs.Domain.Val.Packing.lanes t)) p };
 
-    ghost times_above = { λ v w x y z h p q. embedded_product SC.Challenge.embeds SC.Pcs.Domain.Val.packed_ring (pair_is_lane_by_lane pair_parts SC.Pcs.Domain.Val.Packing.lane_by_lane) SC.Challenge.extension_packed_ring (pair_is_lane_by_lane pair_parts SC.Challenge.ExtensionPacking.lane_by_lane) v w x y z
-        (pair_binary pair_parts SC.Challenge.ExtensionPacking.stands SC.Challenge.ExtensionPacking.Algebra.stands_itself SC.Challenge.ExtensionPacking.exact_lanes SC.Challenge.ExtensionPacking.operations.times SC.Challenge.ExtensionPacking.mul_gives SC.Challenge.ExtensionPacking.Algebra.times_stands x y z x y h refl refl) p q };
+    ghost times_above = { λ v w x y z h p q.
+        embedded_product SC.Challenge.embeds SC.Pcs.Domain.Val.packed_ring
+        (pair_is_lane_by_lane pair_parts SC.Pcs.Domain.Val.Packing.lane_by_lane)
+        SC.Challenge.extension_packed_ring
+        (pair_is_lane_by_lane pair_parts SC.Challenge.ExtensionPacking.lane_by_lane) v w x y z
+        (pair_binary pair_parts SC.Challenge.ExtensionPacking.stands
+        SC.Challenge.ExtensionPacking.Algebra.stands_itself
+        SC.Challenge.ExtensionPacking.exact_lanes SC.Challenge.ExtensionPacking.operations.times
+        SC.Challenge.ExtensionPacking.mul_gives
+        SC.Challenge.ExtensionPacking.Algebra.times_stands x y z x y h refl refl) p q };
 
     /// Keeps `x` behind the extension constraints' values.
     fn assert_zero_ext(&mut self, x: VectorizedChallenge<SC, 2>) -> Result<(), AllocError> {
@@ -186,19 +214,29 @@ where
     Val<SC>: PackedField,
     SC::Challenge: PackedExtensionField<Val<SC>>,
 {
-    /// The sum of the kept values, each times its power of alpha, lane by lane: for each coordinate the basis element times
-    /// the base constraints' sum, and the sum over the extension. What `scratch` has is lost: of the base constraints' values it
-    /// is given the first packs, and then the second ones. Err only where memory was refused.
+    /// The sum of the kept values, each times its power of alpha, lane by lane: for each coordinate
+    /// the basis element times the base constraints' sum, and the sum over the extension. What
+    /// `scratch` has is lost: of the base constraints' values it is given the first packs, and then
+    /// the second ones. Err only where memory was refused.
     pub fn finalize_constraints(
         &self,
         scratch: &mut Vec<PackedVal<SC>>,
     ) -> Result<VectorizedChallenge<SC, 2>, AllocError>
         requires dimension { length self.now.base_alpha_powers.now ≡ SC.Challenge.DIMENSION }
-        requires rows { All (λ row. length row.items ≡ length self.now.base_constraints.items) self.now.base_alpha_powers.now }
-        requires powers { length self.now.ext_constraints.items ≡ length self.now.ext_alpha_powers.now }
-        ensures { IfOk result (λ packed. (i : ℕ) → i < 2 * SC.Challenge.ExtensionPacking.WIDTH → slice_index_or (both_lanes SC.Challenge.ExtensionPacking.lanes packed) i SC.Challenge.ring.zero
-            ≡ finalized SC.Pcs.Domain.Val.ring SC.Pcs.Domain.Val.ZERO SC.Challenge.ring SC.Challenge.ZERO SC.Challenge.embed SC.Challenge.basis (map vec_items self.now.base_alpha_powers.now) self.now.ext_alpha_powers.now
-            (lane_values (both_lanes SC.Pcs.Domain.Val.Packing.lanes) i SC.Pcs.Domain.Val.ring.zero self.now.base_constraints.items) (lane_values (both_lanes SC.Challenge.ExtensionPacking.lanes) i SC.Challenge.ring.zero self.now.ext_constraints.items)) }
+        requires rows { All (λ row. length row.items ≡ length self.now.base_constraints.items)
+            self.now.base_alpha_powers.now }
+        requires powers { length self.now.ext_constraints.items
+            ≡ length self.now.ext_alpha_powers.now }
+        ensures { IfOk result (λ packed. (i : ℕ) → i < 2 * SC.Challenge.ExtensionPacking.WIDTH
+            → slice_index_or (both_lanes SC.Challenge.ExtensionPacking.lanes packed) i
+            SC.Challenge.ring.zero
+            ≡ finalized SC.Pcs.Domain.Val.ring SC.Pcs.Domain.Val.ZERO SC.Challenge.ring
+            SC.Challenge.ZERO SC.Challenge.embed SC.Challenge.basis
+            (map vec_items self.now.base_alpha_powers.now) self.now.ext_alpha_powers.now
+            (lane_values (both_lanes SC.Pcs.Domain.Val.Packing.lanes) i SC.Pcs.Domain.Val.ring.zero
+            self.now.base_constraints.items)
+            (lane_values (both_lanes SC.Challenge.ExtensionPacking.lanes) i
+            SC.Challenge.ring.zero self.now.ext_constraints.items)) }
     {
         let sum = packed_sum::<SC::Challenge, VectorizedChallenge<SC, 2>>(
             self.ext_constraints.as_slice(),

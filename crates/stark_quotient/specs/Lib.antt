@@ -9,3 +9,5 @@ pub mod EmbeddedPoint
 pub mod PointRows
 pub mod OnCoset
 pub mod QuotientOfColumns
+pub mod PackedParts
+pub mod Groups

@@ -1,5 +1,5 @@
 -- The quotient of an AIR's folded constraint by the trace's vanishing polynomial, point by point of a coset.
-use Rattle.std.specs.Prelude.{◌≡◌, ℕ, ◌+◌, ◌/◌, ◌%◌, ◌*◌, ◌<◌, List, [], map, length, Option, None, Some, slice_get}
+use Rattle.std.specs.Prelude.{◌≡◌, ℕ, ◌+◌, ◌/◌, ◌%◌, ◌*◌, ◌<◌, List, [], map, length, Option, None, Some, slice_get, option_map}
 use Rattle.stark_support.specs.Ring.{RingOps}
 use Rattle.stark_support.specs.Operations.{ring_operations}
 use Rattle.stark_support.specs.Coset.{TwoAdicCoset, coset_point, coset_size, subgroup_vanishing}
@@ -11,6 +11,8 @@ use Rattle.stark_air.specs.Rows.{environment_of}
 use Rattle.stark_air.specs.Value.{Environment, constraint_values}
 use Rattle.stark_parts.specs.Folded.{folded}
 use Rattle.stark_security.specs.ConstraintPolynomial.{AirInstance, height, group}
+use Rattle.std.specs.Borrow.{Bor}
+use Rattle.stark_support.specs.declared.matrix.RowMajorMatrix.{RowMajorMatrix}
 
 -- Where a quotient is taken, and what is known there: the size of the coset and its points, the rows of the main and the
 -- preprocessed columns' values by the number of their point, and the public values.
@@ -85,3 +87,10 @@ rows_of_matrices base root coset main preprocessed publics = record {
 -- A row of a matrix, round the end.
 abbrev pub round_row : {F : Type 0} → Trace F → ℕ → List F
 round_row matrix r = matrix_row matrix.values matrix.width (r % (length matrix.values / matrix.width))
+
+-- A matrix's rows, without the law of their number; and those of one that may not be there.
+abbrev pub rows_in : {F : Type 0} → RowMajorMatrix F → Trace F
+rows_in m = record { width = m.width; values = m.values.items }
+
+abbrev pub rows_or_none : {F : Type 0} → Option (Bor (RowMajorMatrix F)) → Trace F
+rows_or_none m = matrix_or_empty (option_map (λ m. rows_in m.now) m)

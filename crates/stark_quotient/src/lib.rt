@@ -1,4 +1,5 @@
-//! The prover's quotient: the constraints' folded values over a trace's rows, over the vanishing polynomial of its domain.
+//! The prover's quotient: the constraints' folded values over a trace's rows, over the vanishing
+//! polynomial of its domain.
 #![tactic(auto)]
 
 mod group_eval;

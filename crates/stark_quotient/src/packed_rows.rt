@@ -1,10 +1,9 @@
 //! Packed values of lists, of matrices and of tables, a point a lane.
-ghost use Rattle.std.specs.Prelude.{◌≡◌, ◌≢◌, ◌<◌, ◌≤◌, ◌+◌, ◌*◌, ◌/◌, ◌%◌, ◌^◌, ◌++◌, ℕ, IfSome, OnOk, Some, length, option_map, take};
+ghost use Rattle.std.specs.Prelude.{◌≡◌, ◌≢◌, ◌<◌, ◌≤◌, ◌+◌, ◌*◌, ◌/◌, ◌%◌, ◌^◌, ◌++◌, IfSome, OnOk, Some, length, option_map, take};
 ghost use Rattle.std.specs.List.{slice_get};
 ghost use Rattle.stark_support.specs.PeriodicTable.{table_at};
-ghost use Rattle.stark_support.specs.Scheme.{matrix_row};
-ghost use Rattle.stark_prover_folder.specs.Finalized.{lane_values};
-ghost use Rattle.stark_quotient.specs.PointwiseQuotient.{matrix_or_empty, round_row};
+ghost use Rattle.stark_quotient.specs.PointwiseQuotient.{rows_in, rows_or_none};
+ghost use Rattle.stark_quotient.specs.PackedParts.{GoesOnAlike, HasColumnFrom, HasRowPairs, HasValuesFrom, HaveColumnsFrom};
 
 use stark_support::{
     Field, LagrangeSelectors, PackedValue, PeriodicLdeTable, RowMajorMatrix, packed_from_fn,
@@ -24,7 +23,7 @@ fn value_or_zero<F: Field>(values: &[F], place: usize) -> F
 /// The values from place `start` on, a value a lane, and zeros where there are no more.
 pub(crate) fn packed_from<F: Field, P: PackedValue<Value = F>>(values: &[F], start: usize) -> P
     requires { start ≤ length values.now }
-    ensures { (i : ℕ) → i < P.WIDTH → start + i < length values.now → slice_get (P.lanes result) i ≡ slice_get values.now (start + i) }
+    ensures { HasValuesFrom P.lanes P.WIDTH values.now start result }
 {
     let rest = &values[start..];
     if P::WIDTH <= rest.len() {
@@ -46,10 +45,14 @@ pub(crate) fn packed_selectors<F: Field, P: PackedValue<Value = F>>(
     requires last_row { start ≤ length selectors.now.is_last_row.items }
     requires transition { start ≤ length selectors.now.is_transition.items }
     requires inv_vanishing { start ≤ length selectors.now.inv_vanishing.items }
-    ensures first_row { (i : ℕ) → i < P.WIDTH → start + i < length selectors.now.is_first_row.items → slice_get (P.lanes result.is_first_row) i ≡ slice_get selectors.now.is_first_row.items (start + i) }
-    ensures last_row { (i : ℕ) → i < P.WIDTH → start + i < length selectors.now.is_last_row.items → slice_get (P.lanes result.is_last_row) i ≡ slice_get selectors.now.is_last_row.items (start + i) }
-    ensures transition { (i : ℕ) → i < P.WIDTH → start + i < length selectors.now.is_transition.items → slice_get (P.lanes result.is_transition) i ≡ slice_get selectors.now.is_transition.items (start + i) }
-    ensures inv_vanishing { (i : ℕ) → i < P.WIDTH → start + i < length selectors.now.inv_vanishing.items → slice_get (P.lanes result.inv_vanishing) i ≡ slice_get selectors.now.inv_vanishing.items (start + i) }
+    ensures first_row { HasValuesFrom P.lanes P.WIDTH selectors.now.is_first_row.items start
+        result.is_first_row }
+    ensures last_row { HasValuesFrom P.lanes P.WIDTH selectors.now.is_last_row.items start
+        result.is_last_row }
+    ensures transition { HasValuesFrom P.lanes P.WIDTH selectors.now.is_transition.items start
+        result.is_transition }
+    ensures inv_vanishing { HasValuesFrom P.lanes P.WIDTH selectors.now.inv_vanishing.items start
+        result.inv_vanishing }
 {
     LagrangeSelectors {
         is_first_row: packed_from(selectors.is_first_row.as_slice(), start),
@@ -59,8 +62,9 @@ pub(crate) fn packed_selectors<F: Field, P: PackedValue<Value = F>>(
     }
 }
 
-/// Puts the packed values of the rows `r`, `r + 1`, .. in a lent buffer, in place of what it has, a value a column and a row a
-/// lane, and behind them those of the rows that lie `step` further; all are taken round the end.
+/// Puts the packed values of the rows `r`, `r + 1`, .. in a lent buffer, in place of what it has, a
+/// value a column and a row a lane, and behind them those of the rows that lie `step` further; all
+/// are taken round the end.
 fn packed_pair<F: Field, P: PackedValue<Value = F>>(
     matrix: &RowMajorMatrix<F>,
     r: usize,
@@ -71,8 +75,8 @@ fn packed_pair<F: Field, P: PackedValue<Value = F>>(
     requires room { r + step < 2 ^ 64 }
     requires rows { 0 < length matrix.now.values.items / matrix.now.width }
     ensures number { OnOk result (length pair.new.items ≡ 2 * matrix.now.width) }
-    ensures lanes { OnOk result ((i : ℕ) → i < P.WIDTH → lane_values P.lanes i F.ring.zero pair.new.items
-        ≡ matrix_row matrix.now.values.items matrix.now.width ((r + i) % (length matrix.now.values.items / matrix.now.width)) ++ matrix_row matrix.now.values.items matrix.now.width ((r + step + i) % (length matrix.now.values.items / matrix.now.width))) }
+    ensures lanes { OnOk result (HasRowPairs P.lanes P.WIDTH F.ring.zero (rows_in matrix.now) r step
+        pair.new.items) }
 {
     matrix.vertically_packed_row_into(r, pair)?;
     matrix.vertically_packed_row_into(r + step, next)?;
@@ -80,7 +84,8 @@ fn packed_pair<F: Field, P: PackedValue<Value = F>>(
     Ok(())
 }
 
-/// The same of a matrix that may not be there, or may have no columns: then there are no values.
+/// `packed_pair` of a matrix that may not be there, or may have no columns: then there are no
+/// values.
 pub(crate) fn packed_pair_or_none<F: Field, P: PackedValue<Value = F>>(
     matrix: Option<&RowMajorMatrix<F>>,
     r: usize,
@@ -89,10 +94,12 @@ pub(crate) fn packed_pair_or_none<F: Field, P: PackedValue<Value = F>>(
     next: &mut Vec<P>,
 ) -> Result<(), AllocError>
     requires room { r + step < 2 ^ 64 }
-    requires rows { IfSome (option_map (λ m. m.now) matrix) (λ m. m.width ≢ 0 → 0 < length m.values.items / m.width) }
-    ensures number { OnOk result (length pair.new.items ≡ 2 * (matrix_or_empty (option_map (λ m. record { width = m.now.width; values = m.now.values.items }) matrix.entry)).width) }
-    ensures lanes { OnOk result ((i : ℕ) → i < P.WIDTH → lane_values P.lanes i F.ring.zero pair.new.items
-        ≡ round_row (matrix_or_empty (option_map (λ m. record { width = m.now.width; values = m.now.values.items }) matrix.entry)) (r + i) ++ round_row (matrix_or_empty (option_map (λ m. record { width = m.now.width; values = m.now.values.items }) matrix.entry)) (r + step + i)) }
+    requires rows { IfSome (option_map (λ m. m.now) matrix) (λ m. m.width ≢ 0
+        → 0 < length m.values.items / m.width) }
+    ensures number { OnOk result (length pair.new.items
+        ≡ 2 * (rows_or_none matrix.entry).width) }
+    ensures lanes { OnOk result (HasRowPairs P.lanes P.WIDTH F.ring.zero (rows_or_none matrix.entry)
+        r step pair.new.items) }
 {
     match matrix {
         Some(matrix) if matrix.width > 0 => packed_pair(matrix, r, step, pair, next),
@@ -106,7 +113,8 @@ pub(crate) fn packed_pair_or_none<F: Field, P: PackedValue<Value = F>>(
 /// The value of a column in the row that lies `lane` after row `start`.
 fn table_value<F: Copy>(table: &PeriodicLdeTable<F>, start: usize, lane: usize, column: usize) -> F
     requires { column < table.now.width }
-    ensures { start + lane < 2 ^ 64 → table_at table.now.values.items table.now.width table.now.period (start + lane) column ≡ Some result }
+    ensures { start + lane < 2 ^ 64 → table_at table.now.values.items table.now.width
+        table.now.period (start + lane) column ≡ Some result }
 {
     table.get(start.saturating_add(lane), column)
 }
@@ -118,22 +126,24 @@ fn packed_table_value<F: Field, P: PackedValue<Value = F>>(
     column: usize,
 ) -> P
     requires { column < table.now.width }
-    ensures { (i : ℕ) → i < P.WIDTH → start + i < 2 ^ 64 → slice_get (P.lanes result) i ≡ table_at table.now.values.items table.now.width table.now.period (start + i) column }
+    ensures { HasColumnFrom P.lanes P.WIDTH table.now start column result }
 {
     packed_from_fn(
         |lane| -> F
             requires { column < table.now.width }
-            ensures { start + lane < 2 ^ 64 → table_at table.entry.now.values.items table.entry.now.width table.entry.now.period (start + lane) column ≡ Some result }
+            ensures { start + lane < 2 ^ 64
+                → table_at table.entry.now.values.items table.entry.now.width table.entry.now.period
+                (start + lane) column ≡ Some result }
         { table_value(table, start, lane, column) },
     )
 }
 
-/// A row that begins a group of rows with the values of the group from row `start` on: the first such row, as the groups begin
-/// again after `packed_group_period` of them.
+/// A row that begins a group of rows with the values of the group from row `start` on: the first
+/// such row, as the groups begin again after `packed_group_period` of them.
 pub(crate) fn row_in_period<F>(table: &PeriodicLdeTable<F>, start: usize, group: usize) -> usize
     requires { 0 < group }
     ensures before { result ≤ start }
-    ensures same { (r c : ℕ) → table_at table.now.values.items table.now.width table.now.period (result + r) c ≡ table_at table.now.values.items table.now.width table.now.period (start + r) c }
+    ensures same { GoesOnAlike table.now result start }
 {
     match table.packed_group_period(group).checked_mul(group) {
         Some(rows) => start % rows,
@@ -141,15 +151,15 @@ pub(crate) fn row_in_period<F>(table: &PeriodicLdeTable<F>, start: usize, group:
     }
 }
 
-/// Puts the packed values of a table's rows from `start` on in a lent buffer, in place of what it has, a value a column and a row
-/// a lane.
+/// Puts the packed values of a table's rows from `start` on in a lent buffer, in place of what it
+/// has, a value a column and a row a lane.
 pub(crate) fn packed_table_row<F: Field, P: PackedValue<Value = F>>(
     table: &PeriodicLdeTable<F>,
     start: usize,
     row: &mut Vec<P>,
 ) -> Result<(), AllocError>
     ensures number { OnOk result (length row.new.items ≡ table.now.width) }
-    ensures lanes { OnOk result ((c : ℕ) (p : P) → slice_get row.new.items c ≡ Some p → (i : ℕ) → i < P.WIDTH → start + i < 2 ^ 64 → slice_get (P.lanes p) i ≡ table_at table.now.values.items table.now.width table.now.period (start + i) c) }
+    ensures lanes { OnOk result (HaveColumnsFrom P.lanes P.WIDTH table.now start row.new.items) }
 {
     row.clear();
     for column in 0..table.width() {

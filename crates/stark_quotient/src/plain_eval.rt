@@ -1,8 +1,7 @@
 //! An AIR's constraints at a group of points, by packed values that have a point in each lane.
-ghost use Rattle.std.specs.Prelude.{◌≡◌, ◌*◌, [], IfOk, map, length};
-ghost use Rattle.std.specs.Vec.{vec_items};
-ghost use Rattle.stark_quotient.specs.FoldedPlaces.{AreFoldingPowers};
-ghost use Rattle.stark_quotient.specs.PointRows.{AreFoldedRows, FitLayout, packed_environment, packed_layout};
+ghost use Rattle.std.specs.Prelude.{◌≡◌, ◌*◌, [], IfOk, length};
+ghost use Rattle.stark_quotient.specs.PointRows.{packed_environment};
+ghost use Rattle.stark_quotient.specs.Groups.{AreFoldedBy, FitsLayout, FoldsGroup, group_layout};
 
 use crate::group_eval::GroupEval;
 use crate::row::folded_row;
@@ -10,20 +9,20 @@ use stark_air::{Air, BaseAirBuilder, RowWindow};
 use stark_parts::{PackedChallenge, PackedVal, StarkGenericConfig, Val};
 use stark_prover_folder::ProverConstraintFolder;
 use stark_support::{
-    Algebra, ExtensionField, Field, LagrangeSelectors, PackedExtensionField, PackedField,
-    PackedValue, RowMajorMatrixView,
+    Algebra, ExtensionField, Field, FieldPair, LagrangeSelectors, PackedExtensionField,
+    PackedField, PackedValue, RowMajorMatrixView,
 };
 use std::alloc::{AllocError, Global};
 use std::mem;
 
 /// The powers of alpha that fold an AIR's constraints.
 #[derive(Drop)]
-pub(crate) struct AlphaPowers<SC: StarkGenericConfig> {
-    pub alpha: SC::Challenge,
+pub(crate) struct AlphaPowers<EF, F> {
+    pub alpha: EF,
     /// For each coordinate those of the base constraints.
-    pub base: Vec<Vec<Val<SC>>>,
+    pub base: Vec<Vec<F>>,
     /// Those of the constraints over the extension.
-    pub ext: Vec<SC::Challenge>,
+    pub ext: Vec<EF>,
     /// How many constraints there are.
     pub count: usize,
 }
@@ -57,14 +56,23 @@ impl<P> PackedRows<P> {
     }
 }
 
-/// A group of points, a point a lane: the rows there, and what else an AIR's constraints read and are folded with.
+/// A group of points, a point a lane: the rows there, and what else an AIR's constraints read and
+/// are folded with.
 #[derive(Drop)]
-pub(crate) struct PackedGroup<'a, SC: StarkGenericConfig, P> {
+pub(crate) struct PackedGroup<'a, F, EF, P> {
     pub rows: &'a PackedRows<P>,
     pub selectors: &'a LagrangeSelectors<P>,
-    pub public_values: &'a [Val<SC>],
-    pub powers: &'a AlphaPowers<SC>,
+    pub public_values: &'a [F],
+    pub powers: &'a AlphaPowers<EF, F>,
 }
+
+/// A group over a configuration's fields.
+pub(crate) type GroupOf<'a, SC, P> = PackedGroup<
+    'a,
+    Val<SC>,
+    <SC as StarkGenericConfig>::Challenge,
+    P,
+>;
 
 /// The main and the preprocessed rows in the buffers, two of each.
 pub(crate) fn views_of<P>(
@@ -90,7 +98,8 @@ pub(crate) struct KeptValues<P, C> {
     pub ext: Vec<C>,
 }
 
-/// Evaluates an AIR's constraints at as many points at a time as one packed value has lanes, with one set of buffers.
+/// Evaluates an AIR's constraints at as many points at a time as one packed value has lanes, with
+/// one set of buffers.
 #[derive(Drop)]
 pub(crate) struct PlainEval<SC: StarkGenericConfig>
 where
@@ -112,16 +121,24 @@ pub(crate) fn emptied<T: Drop>(alloc: Global, buffer: &mut Vec<T>) -> Vec<T>
 /// The prover's folder over a group's rows, which keeps nothing yet.
 fn folder_on<'a, SC: StarkGenericConfig>(
     alloc: Global,
-    group: &PackedGroup<'a, SC, PackedVal<SC>>,
+    group: &GroupOf<'a, SC, PackedVal<SC>>,
     kept: &mut KeptValues<PackedVal<SC>, PackedChallenge<SC>>,
 ) -> ProverConstraintFolder<'a, SC>
 where
     Val<SC>: PackedField,
     SC::Challenge: PackedExtensionField<Val<SC>>,
     requires main { length group.now.rows.now.main.items ≡ 2 * group.now.rows.now.main_width }
-    requires preprocessed { length group.now.rows.now.preprocessed.items ≡ 2 * group.now.rows.now.preprocessed_width }
-    ensures environment { ⟦<ProverConstraintFolder<'a, SC> as BaseAirBuilder>⟧.environment result ≡ packed_environment group.now.rows.now.main_width group.now.rows.now.preprocessed_width group.now.rows.now.main.items group.now.rows.now.preprocessed.items group.now.rows.now.periodic_values.items group.now.public_values.now SC.Pcs.Domain.Val.Packing.operations SC.Pcs.Domain.Val.ring.zero group.now.selectors.now.is_first_row group.now.selectors.now.is_last_row group.now.selectors.now.is_transition }
-    ensures layout { ⟦<ProverConstraintFolder<'a, SC> as BaseAirBuilder>⟧.layout result ≡ packed_layout group.now.rows.now.main_width group.now.rows.now.preprocessed_width group.now.rows.now.main.items group.now.rows.now.preprocessed.items group.now.rows.now.periodic_values.items group.now.public_values.now }
+    requires preprocessed { length group.now.rows.now.preprocessed.items
+        ≡ 2 * group.now.rows.now.preprocessed_width }
+    ensures environment { ⟦<ProverConstraintFolder<'a, SC> as BaseAirBuilder>⟧.environment result
+        ≡ packed_environment group.now.rows.now.main_width group.now.rows.now.preprocessed_width
+        group.now.rows.now.main.items group.now.rows.now.preprocessed.items
+        group.now.rows.now.periodic_values.items group.now.public_values.now
+        SC.Pcs.Domain.Val.Packing.operations SC.Pcs.Domain.Val.ring.zero
+        group.now.selectors.now.is_first_row group.now.selectors.now.is_last_row
+        group.now.selectors.now.is_transition }
+    ensures layout { ⟦<ProverConstraintFolder<'a, SC> as BaseAirBuilder>⟧.layout result
+        ≡ group_layout group.now }
     ensures nothing_kept { result.base_constraints.items ≡ [] }
     ensures nothing_kept_above { result.ext_constraints.items ≡ [] }
     ensures base_powers { result.base_alpha_powers.now ≡ group.now.powers.now.base.items }
@@ -146,21 +163,23 @@ where
     }
 }
 
-/// In each lane the folded sum of an AIR's constraints over the row there: `alpha^(n - 1 - j)` times constraint `j` for each of
-/// the `n`. Err only where memory was refused.
+/// In each lane the folded sum of an AIR's constraints over the row there: `alpha^(n - 1 - j)`
+/// times constraint `j` for each of the `n`. Err only where memory was refused.
 fn fold_group<SC: StarkGenericConfig, A: Air<Val<SC>>>(
     alloc: Global,
     air: &A,
-    group: &PackedGroup<'_, SC, PackedVal<SC>>,
+    group: &GroupOf<'_, SC, PackedVal<SC>>,
     kept: &mut KeptValues<PackedVal<SC>, PackedChallenge<SC>>,
 ) -> Result<PackedChallenge<SC>, AllocError>
 where
     Val<SC>: PackedField,
     SC::Challenge: PackedExtensionField<Val<SC>>,
-    requires rows { FitLayout (A.layout air.now) group.now.rows.now.main_width group.now.rows.now.preprocessed_width group.now.rows.now.main.items group.now.rows.now.preprocessed.items group.now.rows.now.periodic_values.items group.now.public_values.now }
-    requires powers { AreFoldingPowers SC.Challenge.ring SC.Challenge.coordinates SC.Challenge.DIMENSION group.now.powers.now.alpha (A.constraints air.now) (map vec_items group.now.powers.now.base.items) group.now.powers.now.ext.items }
-    ensures { IfOk result (λ packed. AreFoldedRows SC.Pcs.Domain.Val.ring SC.Challenge.ring SC.Challenge.embed SC.Pcs.Domain.Val.Packing.lanes SC.Challenge.ExtensionPacking.lanes SC.Challenge.ExtensionPacking.WIDTH group.now.rows.now.main_width group.now.rows.now.preprocessed_width group.now.rows.now.main.items group.now.rows.now.preprocessed.items group.now.rows.now.periodic_values.items group.now.public_values.now
-        group.now.selectors.now.is_first_row group.now.selectors.now.is_last_row group.now.selectors.now.is_transition group.now.powers.now.alpha (A.constraints air.now) packed) }
+    requires rows { FitsLayout group.now (A.layout air.now) }
+    requires powers { AreFoldedBy SC.Challenge.ring SC.Challenge.coordinates SC.Challenge.DIMENSION
+        (A.constraints air.now) group.now.powers.now }
+    ensures { IfOk result (FoldsGroup group.now ⟦<SC::Challenge as FieldPair<Val<SC>>>⟧.fields
+        SC.Pcs.Domain.Val.Packing.lanes SC.Challenge.ExtensionPacking.lanes
+        SC.Challenge.ExtensionPacking.WIDTH (A.constraints air.now)) }
 {
     let mut folder = folder_on::<SC>(alloc, group, kept);
     let packed = folded_row::<SC, A>(air, &mut folder)?;
@@ -191,7 +210,7 @@ where
         &mut self,
         alloc: Global,
         air: &A,
-        group: &PackedGroup<'_, SC, PackedVal<SC>>,
+        group: &GroupOf<'_, SC, PackedVal<SC>>,
     ) -> Result<PackedChallenge<SC>, AllocError> {
         fold_group::<SC, A>(alloc, air, group, &mut self.kept)
     }

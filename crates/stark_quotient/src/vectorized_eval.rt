@@ -6,23 +6,25 @@ ghost use Rattle.stark_support.specs.Pairs.{both_lanes, both_operations};
 ghost use Rattle.stark_air.specs.Layout.{Covers};
 ghost use Rattle.stark_quotient.specs.FoldedPlaces.{AreFoldingPowers};
 ghost use Rattle.stark_quotient.specs.FoldedLanes.{AreFoldedLanes};
-ghost use Rattle.stark_quotient.specs.PointRows.{AreFoldedRows, FitLayout, packed_environment, packed_layout};
+ghost use Rattle.stark_quotient.specs.PointRows.{packed_environment};
+ghost use Rattle.stark_quotient.specs.Groups.{AreFoldedBy, FitsLayout, FoldsGroup, HasPowers, group_layout};
 
 use crate::group_eval::GroupEval;
-use crate::plain_eval::{KeptValues, PackedGroup, emptied, views_of};
+use crate::plain_eval::{GroupOf, KeptValues, emptied, views_of};
 use stark_air::{Air, BaseAirBuilder, RowWindow};
 use stark_parts::{PackedVal, StarkGenericConfig, Val};
 use stark_prover_folder::{VectorizedChallenge, VectorizedConstraintFolder, VectorizedVal};
 use stark_support::{
-    Algebra, ExtensionField, Field, LagrangeSelectors, PackedExtensionField, PackedField,
-    PackedValue, RowMajorMatrixView,
+    Algebra, ExtensionField, Field, FieldPair, LagrangeSelectors, PackedExtensionField,
+    PackedField, PackedValue, RowMajorMatrixView,
 };
 use std::alloc::{AllocError, Global};
 
 /// How many packed values are worked on at a time, where that pays.
 pub const QUOTIENT_ILP: usize = 2;
 
-/// Evaluates an AIR's constraints at `N` times as many points at a time as one packed value has lanes, with one set of buffers.
+/// Evaluates an AIR's constraints at `N` times as many points at a time as one packed value has
+/// lanes, with one set of buffers.
 #[derive(Drop)]
 pub(crate) struct VectorizedEval<SC: StarkGenericConfig, const N: usize>
 where
@@ -36,16 +38,24 @@ where
 /// The lockstep folder over a group's rows, which keeps nothing yet.
 fn pairs_folder_on<'a, SC: StarkGenericConfig>(
     alloc: Global,
-    group: &PackedGroup<'a, SC, VectorizedVal<SC, 2>>,
+    group: &GroupOf<'a, SC, VectorizedVal<SC, 2>>,
     kept: &mut KeptValues<VectorizedVal<SC, 2>, VectorizedChallenge<SC, 2>>,
 ) -> VectorizedConstraintFolder<'a, SC, 2>
 where
     Val<SC>: PackedField,
     SC::Challenge: PackedExtensionField<Val<SC>>,
     requires main { length group.now.rows.now.main.items ≡ 2 * group.now.rows.now.main_width }
-    requires preprocessed { length group.now.rows.now.preprocessed.items ≡ 2 * group.now.rows.now.preprocessed_width }
-    ensures environment { ⟦<VectorizedConstraintFolder<'a, SC, 2> as BaseAirBuilder>⟧.environment result ≡ packed_environment group.now.rows.now.main_width group.now.rows.now.preprocessed_width group.now.rows.now.main.items group.now.rows.now.preprocessed.items group.now.rows.now.periodic_values.items group.now.public_values.now (both_operations SC.Pcs.Domain.Val.Packing.operations) SC.Pcs.Domain.Val.ring.zero group.now.selectors.now.is_first_row group.now.selectors.now.is_last_row group.now.selectors.now.is_transition }
-    ensures layout { ⟦<VectorizedConstraintFolder<'a, SC, 2> as BaseAirBuilder>⟧.layout result ≡ packed_layout group.now.rows.now.main_width group.now.rows.now.preprocessed_width group.now.rows.now.main.items group.now.rows.now.preprocessed.items group.now.rows.now.periodic_values.items group.now.public_values.now }
+    requires preprocessed { length group.now.rows.now.preprocessed.items
+        ≡ 2 * group.now.rows.now.preprocessed_width }
+    ensures environment { ⟦<VectorizedConstraintFolder<'a, SC, 2> as BaseAirBuilder>⟧.environment
+        result ≡ packed_environment group.now.rows.now.main_width
+        group.now.rows.now.preprocessed_width group.now.rows.now.main.items
+        group.now.rows.now.preprocessed.items group.now.rows.now.periodic_values.items
+        group.now.public_values.now (both_operations SC.Pcs.Domain.Val.Packing.operations)
+        SC.Pcs.Domain.Val.ring.zero group.now.selectors.now.is_first_row
+        group.now.selectors.now.is_last_row group.now.selectors.now.is_transition }
+    ensures layout { ⟦<VectorizedConstraintFolder<'a, SC, 2> as BaseAirBuilder>⟧.layout result
+        ≡ group_layout group.now }
     ensures nothing_kept { result.base_constraints.items ≡ [] }
     ensures nothing_kept_above { result.ext_constraints.items ≡ [] }
     ensures base_powers { result.base_alpha_powers.now ≡ group.now.powers.now.base.items }
@@ -70,9 +80,10 @@ where
     }
 }
 
-/// The constraints of an AIR over the folder's rows, folded with the powers of alpha that the folder holds: in each lane
-/// `alpha^(n - 1 - j)` times constraint `j` for each of the `n`. The folder keeps no value yet, and its rows and values
-/// have at least the lengths that the AIR declares. Err only where memory was refused.
+/// The constraints of an AIR over the folder's rows, folded with the powers of alpha that the
+/// folder holds: in each lane `alpha^(n - 1 - j)` times constraint `j` for each of the `n`. The
+/// folder keeps no value yet, and its rows and values have at least the lengths that the AIR
+/// declares. Err only where memory was refused.
 pub fn folded_pairs<'a, SC: StarkGenericConfig, A: Air<Val<SC>>>(
     air: &A,
     folder: &mut VectorizedConstraintFolder<'a, SC, 2>,
@@ -81,14 +92,25 @@ pub fn folded_pairs<'a, SC: StarkGenericConfig, A: Air<Val<SC>>>(
 where
     Val<SC>: PackedField,
     SC::Challenge: PackedExtensionField<Val<SC>>,
-    requires covers { Covers (⟦<VectorizedConstraintFolder<'a, SC, 2> as BaseAirBuilder>⟧.layout folder.old) (A.layout air.now) }
+    requires covers { Covers (⟦<VectorizedConstraintFolder<'a, SC, 2> as BaseAirBuilder>⟧.layout
+        folder.old) (A.layout air.now) }
     requires nothing_kept { folder.old.base_constraints.items ≡ [] }
     requires nothing_kept_above { folder.old.ext_constraints.items ≡ [] }
-    requires powers { (alpha : SC.Challenge) × AreFoldingPowers SC.Challenge.ring SC.Challenge.coordinates SC.Challenge.DIMENSION alpha (A.constraints air.now) (map vec_items folder.old.base_alpha_powers.now) folder.old.ext_alpha_powers.now }
-    ensures { IfOk result (λ packed. (alpha : SC.Challenge) → AreFoldingPowers SC.Challenge.ring SC.Challenge.coordinates SC.Challenge.DIMENSION alpha (A.constraints air.now) (map vec_items folder.old.base_alpha_powers.now) folder.old.ext_alpha_powers.now
-        → AreFoldedLanes SC.Pcs.Domain.Val.ring SC.Challenge.ring SC.Challenge.embed (both_lanes SC.Pcs.Domain.Val.Packing.lanes) (2 * SC.Challenge.ExtensionPacking.WIDTH) alpha (A.constraints air.now) (⟦<VectorizedConstraintFolder<'a, SC, 2> as BaseAirBuilder>⟧.environment folder.old) (both_lanes SC.Challenge.ExtensionPacking.lanes packed)) }
+    requires powers { HasPowers ⟦<SC::Challenge as FieldPair<Val<SC>>>⟧.fields
+        SC.Challenge.coordinates (A.constraints air.now) folder.old.base_alpha_powers.now
+        folder.old.ext_alpha_powers.now }
+    ensures { IfOk result (λ packed. (alpha : SC.Challenge)
+        → AreFoldingPowers SC.Challenge.ring SC.Challenge.coordinates SC.Challenge.DIMENSION alpha
+        (A.constraints air.now) (map vec_items folder.old.base_alpha_powers.now)
+        folder.old.ext_alpha_powers.now
+        → AreFoldedLanes SC.Pcs.Domain.Val.ring SC.Challenge.ring SC.Challenge.embed
+        (both_lanes SC.Pcs.Domain.Val.Packing.lanes) (2 * SC.Challenge.ExtensionPacking.WIDTH)
+        alpha (A.constraints air.now)
+        (⟦<VectorizedConstraintFolder<'a, SC, 2> as BaseAirBuilder>⟧.environment folder.old)
+        (both_lanes SC.Challenge.ExtensionPacking.lanes packed)) }
 {
-    // What an evaluation leaves in a builder doesn't say that the powers stay, so they are put back.
+    // What an evaluation leaves in a builder doesn't say that the powers stay, so they are put
+    // back.
     let base_alpha_powers = folder.base_alpha_powers;
     let ext_alpha_powers = folder.ext_alpha_powers;
     air.eval(folder)?;
@@ -97,22 +119,25 @@ where
     Ok(folder.finalize_constraints(scratch)?)
 }
 
-/// In each lane the folded sum of an AIR's constraints over the row there: `alpha^(n - 1 - j)` times constraint `j` for each of
-/// the `n`. Err only where memory was refused.
+/// In each lane the folded sum of an AIR's constraints over the row there: `alpha^(n - 1 - j)`
+/// times constraint `j` for each of the `n`. Err only where memory was refused.
 fn fold_pairs<SC: StarkGenericConfig, A: Air<Val<SC>>>(
     alloc: Global,
     air: &A,
-    group: &PackedGroup<'_, SC, VectorizedVal<SC, 2>>,
+    group: &GroupOf<'_, SC, VectorizedVal<SC, 2>>,
     kept: &mut KeptValues<VectorizedVal<SC, 2>, VectorizedChallenge<SC, 2>>,
     scratch: &mut Vec<PackedVal<SC>>,
 ) -> Result<VectorizedChallenge<SC, 2>, AllocError>
 where
     Val<SC>: PackedField,
     SC::Challenge: PackedExtensionField<Val<SC>>,
-    requires rows { FitLayout (A.layout air.now) group.now.rows.now.main_width group.now.rows.now.preprocessed_width group.now.rows.now.main.items group.now.rows.now.preprocessed.items group.now.rows.now.periodic_values.items group.now.public_values.now }
-    requires powers { AreFoldingPowers SC.Challenge.ring SC.Challenge.coordinates SC.Challenge.DIMENSION group.now.powers.now.alpha (A.constraints air.now) (map vec_items group.now.powers.now.base.items) group.now.powers.now.ext.items }
-    ensures { IfOk result (λ packed. AreFoldedRows SC.Pcs.Domain.Val.ring SC.Challenge.ring SC.Challenge.embed (both_lanes SC.Pcs.Domain.Val.Packing.lanes) (both_lanes SC.Challenge.ExtensionPacking.lanes) (2 * SC.Challenge.ExtensionPacking.WIDTH) group.now.rows.now.main_width group.now.rows.now.preprocessed_width group.now.rows.now.main.items group.now.rows.now.preprocessed.items group.now.rows.now.periodic_values.items group.now.public_values.now
-        group.now.selectors.now.is_first_row group.now.selectors.now.is_last_row group.now.selectors.now.is_transition group.now.powers.now.alpha (A.constraints air.now) packed) }
+    requires rows { FitsLayout group.now (A.layout air.now) }
+    requires powers { AreFoldedBy SC.Challenge.ring SC.Challenge.coordinates SC.Challenge.DIMENSION
+        (A.constraints air.now) group.now.powers.now }
+    ensures { IfOk result (FoldsGroup group.now ⟦<SC::Challenge as FieldPair<Val<SC>>>⟧.fields
+        (both_lanes SC.Pcs.Domain.Val.Packing.lanes)
+        (both_lanes SC.Challenge.ExtensionPacking.lanes)
+        (2 * SC.Challenge.ExtensionPacking.WIDTH) (A.constraints air.now)) }
 {
     let mut folder = pairs_folder_on::<SC>(alloc, group, kept);
     let packed = folded_pairs::<SC, A>(air, &mut folder, scratch)?;
@@ -144,7 +169,7 @@ where
         &mut self,
         alloc: Global,
         air: &A,
-        group: &PackedGroup<'_, SC, VectorizedVal<SC, 2>>,
+        group: &GroupOf<'_, SC, VectorizedVal<SC, 2>>,
     ) -> Result<VectorizedChallenge<SC, 2>, AllocError> {
         fold_pairs::<SC, A>(alloc, air, group, &mut self.kept, &mut self.scratch)
     }

@@ -1,4 +1,5 @@
-//! Checks the numbers of a proof at one point, verifies a proof, or proves a trace, from bytes to bytes.
+//! Checks the numbers of a proof at one point, verifies a proof, or proves a trace, from bytes to
+//! bytes.
 #![tactic(auto)]
 
 use stark_cli::samples::run;

@@ -12,8 +12,8 @@ use stark_air::{Air, BaseAir, ExtensionBuilder};
 use stark_support::{PrimeField64, RowMajorMatrix};
 use std::alloc::{AllocError, Global};
 
-/// One of the sample AIRs, which declares and constrains what that one does. What is called for several of them is compiled, and
-/// proved, for this type alone.
+/// One of the sample AIRs, which declares and constrains what that one does. What is called for
+/// several of them is compiled, and proved, for this type alone.
 #[derive(Drop)]
 pub enum AnySampleAir<F> {
     Counter(CounterAir),

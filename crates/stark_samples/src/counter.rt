@@ -63,7 +63,8 @@ fn assert_step<AB: AirBuilder>(builder: &mut AB) -> Result<(), AllocError>
     requires { Covers (AB.layout builder.old) counter_layout }
     ensures same_environment { AB.environment builder.new ≡ AB.environment builder.old }
     ensures same_layout { AB.layout builder.new ≡ AB.layout builder.old }
-    ensures asserted { IfOk result (λ _. AB.after builder.old (counter_steps AB.F.ONE ∷ []) builder.new) }
+    ensures asserted { IfOk result (λ _.
+        AB.after builder.old (counter_steps AB.F.ONE ∷ []) builder.new) }
     ensures refused { OnErr result (AB.after builder.old [] builder.new) }
     ensures memory { OnErr result AB.may_refuse }
 {

@@ -12,8 +12,8 @@ use stark_air::{
 use stark_support::Field;
 use std::alloc::{AllocError, Global};
 
-/// Two columns that start at the first two public values; each row has the right number and the sum of the row before, and
-/// the right number of the last row is the third public value.
+/// Two columns that start at the first two public values; each row has the right number and the sum
+/// of the row before, and the right number of the last row is the third public value.
 #[derive(Drop)]
 pub struct FibonacciAir;
 
@@ -52,7 +52,8 @@ impl<F: Field> Air<F> for FibonacciAir {
 /// Each column is its public value, on the first row.
 fn assert_starts<AB: AirBuilder>(builder: &mut AB) -> Result<(), AllocError>
     requires { Covers (AB.layout builder.old) fibonacci_layout }
-    ensures asserted { Asserted AB.after result builder.old (fibonacci_starts 0 ∷ fibonacci_starts 1 ∷ []) builder.new }
+    ensures asserted { Asserted AB.after result builder.old (fibonacci_starts 0 ∷ fibonacci_starts 1
+        ∷ []) builder.new }
     ensures memory { OnErr result AB.may_refuse }
 {
     assert_start(&mut *builder, 0)?;
@@ -65,7 +66,8 @@ fn assert_start<AB: AirBuilder>(builder: &mut AB, column: usize) -> Result<(), A
     requires covered { Covers (AB.layout builder.old) fibonacci_layout }
     requires of_two { column < 2 }
     ensures same_layout { AB.layout builder.new ≡ AB.layout builder.old }
-    ensures asserted { IfOk result (λ _. AB.after builder.old (fibonacci_starts column ∷ []) builder.new) }
+    ensures asserted { IfOk result (λ _.
+        AB.after builder.old (fibonacci_starts column ∷ []) builder.new) }
     ensures refused { OnErr result (AB.after builder.old [] builder.new) }
     ensures memory { OnErr result AB.may_refuse }
 {
@@ -75,10 +77,12 @@ fn assert_start<AB: AirBuilder>(builder: &mut AB, column: usize) -> Result<(), A
     assert_eq_on_first_row(builder, x.into(), start)
 }
 
-/// From each row but the last to the next, the right number moves to the left, and the sum comes to the right.
+/// From each row but the last to the next, the right number moves to the left, and the sum comes to
+/// the right.
 fn assert_steps<AB: AirBuilder>(builder: &mut AB) -> Result<(), AllocError>
     requires { Covers (AB.layout builder.old) fibonacci_layout }
-    ensures asserted { Asserted AB.after result builder.old (fibonacci_moves ∷ fibonacci_adds ∷ []) builder.new }
+    ensures asserted { Asserted AB.after result builder.old (fibonacci_moves ∷ fibonacci_adds ∷ [])
+        builder.new }
     ensures memory { OnErr result AB.may_refuse }
 {
     assert_move(&mut *builder)?;

@@ -18,7 +18,8 @@ pub struct PeriodicAir<F> {
 impl<F: Field> PeriodicAir<F> {
     /// The AIR, whose one periodic column is zero and one. Err only where memory was refused.
     pub fn new(alloc: Global) -> Result<Self, AllocError>
-        ensures { IfOk result (λ air. ⟦<PeriodicAir<F> as BaseAir<F>>⟧.periodic_columns air ≡ (F.ZERO ∷ F.ONE ∷ []) ∷ []) }
+        ensures { IfOk result (λ air. ⟦<PeriodicAir<F> as BaseAir<F>>⟧.periodic_columns air
+            ≡ (F.ZERO ∷ F.ONE ∷ []) ∷ []) }
     {
         let mut column = Vec::new(alloc);
         column.push(F::ZERO)?;

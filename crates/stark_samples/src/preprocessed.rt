@@ -15,7 +15,12 @@ pub struct PreprocessedAir;
 impl<F: PrimeField64> BaseAir<F> for PreprocessedAir {
     ghost layout = { λ _. preprocessed_layout };
 
-    ghost preprocessed_trace = { λ _. Some (record { width = 1; values = F.of_number 1 ∷ F.of_number 2 ∷ F.of_number 3 ∷ F.of_number 4 ∷ [] }) };
+    ghost preprocessed_trace = { λ _. Some
+        (record {
+          width = 1;
+          values = F.of_number 1 ∷ F.of_number 2 ∷ F.of_number 3
+              ∷ F.of_number 4 ∷ [];
+        }) };
 
     ghost main_next_row_columns = { λ _. [] };
 

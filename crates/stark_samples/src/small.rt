@@ -15,14 +15,16 @@ use std::alloc::{AllocError, Global};
 pub enum Asked {
     /// That it is 1, 2 and 3: the second by a constraint over the extension.
     Mixed,
-    /// Of the column nothing, but that the first row's selector is one, which no trace of two rows or more satisfies.
+    /// Of the column nothing, but that the first row's selector is one, which no trace of two rows
+    /// or more satisfies.
     FirstRow,
     /// That it is zero.
     Zeros,
     Nothing,
 }
 
-/// An AIR of one column, without a next row, with a bound on the degree multiple that its author may choose.
+/// An AIR of one column, without a next row, with a bound on the degree multiple that its author
+/// may choose.
 #[derive(Clone, Copy, Debug)]
 pub struct SmallAir {
     pub asked: Asked,
@@ -81,7 +83,8 @@ fn assert_mixed<F: PrimeField64, AB: ExtensionBuilder<F = F>>(
     builder: &mut AB,
 ) -> Result<(), AllocError>
     requires { Covers (AB.layout builder.old) column_layout }
-    ensures asserted { Asserted AB.after result builder.old (mixed_constraints F.of_number) builder.new }
+    ensures asserted { Asserted AB.after result builder.old (mixed_constraints F.of_number)
+        builder.new }
     ensures memory { OnErr result AB.may_refuse }
 {
     assert_number(&mut *builder, 1)?;
@@ -93,7 +96,8 @@ fn assert_mixed<F: PrimeField64, AB: ExtensionBuilder<F = F>>(
 fn assert_first_row<F: PrimeField64, AB: AirBuilder<F = F>>(
     builder: &mut AB,
 ) -> Result<(), AllocError>
-    ensures asserted { IfOk result (λ _. AB.after builder.old (is_one_on_first_row F.ONE ∷ []) builder.new) }
+    ensures asserted { IfOk result (λ _.
+        AB.after builder.old (is_one_on_first_row F.ONE ∷ []) builder.new) }
     ensures refused { OnErr result (AB.after builder.old [] builder.new) }
     ensures memory { OnErr result AB.may_refuse }
 {
@@ -122,7 +126,8 @@ fn assert_number<F: PrimeField64, AB: AirBuilder<F = F>>(
 ) -> Result<(), AllocError>
     requires { Covers (AB.layout builder.old) column_layout }
     ensures same_layout { AB.layout builder.new ≡ AB.layout builder.old }
-    ensures asserted { IfOk result (λ _. AB.after builder.old (is_number (F.of_number number) ∷ []) builder.new) }
+    ensures asserted { IfOk result (λ _.
+        AB.after builder.old (is_number (F.of_number number) ∷ []) builder.new) }
     ensures refused { OnErr result (AB.after builder.old [] builder.new) }
     ensures memory { OnErr result AB.may_refuse }
 {
@@ -139,7 +144,8 @@ fn assert_number_above<F: PrimeField64, AB: ExtensionBuilder<F = F>>(
 ) -> Result<(), AllocError>
     requires { Covers (AB.layout builder.old) column_layout }
     ensures same_layout { AB.layout builder.new ≡ AB.layout builder.old }
-    ensures asserted { IfOk result (λ _. AB.after builder.old (is_number_above (F.of_number number) ∷ []) builder.new) }
+    ensures asserted { IfOk result (λ _.
+        AB.after builder.old (is_number_above (F.of_number number) ∷ []) builder.new) }
     ensures refused { OnErr result (AB.after builder.old [] builder.new) }
     ensures memory { OnErr result AB.may_refuse }
 {

@@ -8,6 +8,9 @@ use Rattle.stark_parts.specs.Sizing.{constraint_degree, quotient_multiple}
 use Rattle.stark_security.specs.ConstraintPolynomial.{AirInstance, Columns}
 use Rattle.stark_security.specs.DegreeBound.{alpha_bound, zeta_bound, error_bound}
 use Rattle.stark_security.specs.BadValues.{ColumnsFit, Satisfies, IsBadAlpha, IsBalanced, IsBadZeta, count_pairs}
+use Rattle.stark_support.specs.Scheme.{zk_bits}
+use Rattle.stark_security.specs.Openings.{hides}
+use Rattle.stark_security.specs.declared.openings.OpeningShape.{OpeningShape}
 
 -- The quotient of these constraints is cut into so many chunks, where the transition selector has degree d in multiples of the
 -- domain's size, 0 on a two-adic one.
@@ -33,3 +36,12 @@ pub record FewBadDraws {F E : Type 0} (i : AirInstance F E) (m : ℕ) (chunk_cou
       → (shifts : List E) (answer : E → List (List (List E))) → length shifts ≡ chunk_count → ((a : E) → ChunksFit m (answer a))
       → (decide : (a z : E) → IsBalanced i columns shifts (answer a) a z ⊎ (IsBalanced i columns shifts (answer a) a z → ⊥))
       → (alphas zetas : List E) → IsWithoutRepeats alphas → IsWithoutRepeats zetas → count_pairs decide alphas zetas ≤ na * length zetas + nz * length alphas
+
+-- ---- under an opening's shape, which says whether the quotient is masked
+
+-- So many chunks, as many as a machine's number holds.
+abbrev pub IsChunkCountFor : {F : Type 0} → ℕ → List (Constraint F) → Option ℕ → OpeningShape → ℕ → Type 0
+IsChunkCountFor d constraints hint shape chunks = IsChunkCount d constraints hint (zk_bits (hides shape)) chunks
+
+abbrev pub HasRoomForChunks : {F : Type 0} → ℕ → List (Constraint F) → Option ℕ → OpeningShape → Type 0
+HasRoomForChunks d constraints hint shape = quotient_multiple (constraint_degree d constraints hint) (zk_bits (hides shape)) ≤ 2 ^ (63 - zk_bits (hides shape))

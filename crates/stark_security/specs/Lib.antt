@@ -4,3 +4,4 @@ pub mod BadValues
 pub mod ErrorBound
 pub mod Openings
 pub mod SameLeaves
+pub mod Params

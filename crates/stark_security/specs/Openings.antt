@@ -1,7 +1,9 @@
 -- How many openings a commitment scheme batches.
-use Rattle.std.specs.Prelude.{ℕ, ◌+◌, ◌*◌, Bool, true, false, if◌then◌else◌}
+use Rattle.std.specs.Prelude.{ℕ, ◌+◌, ◌*◌, Bool, true, false, if◌then◌else◌, List}
 use Rattle.stark_security.specs.declared.openings.OpeningShape.{OpeningShape}
 use Rattle.stark_security.specs.declared.openings.OpeningShape.TheVariants.{TwoAdic, Circle, Hiding}
+use Rattle.stark_air.specs.declared.layout.AirLayout.{AirLayout}
+use Rattle.stark_transcript.specs.Shape.{opens_next_row}
 
 -- trace and quotient are masked
 abbrev pub hides : OpeningShape → Bool
@@ -30,3 +32,8 @@ abbrev pub batched_openings : ℕ → Bool → ℕ → Bool → ℕ → ℕ → 
 batched_openings main_width main_next preprocessed_width preprocessed_next chunks dimension shape =
     (points_of main_next * (main_width + random_columns shape) + points_of preprocessed_next * preprocessed_width + chunks * (dimension + random_columns shape)
     + (if hides shape then dimension + random_columns shape else 0)) * powers_of shape
+
+-- How many openings are batched of an AIR that declares these columns of next rows.
+abbrev pub batched_of : AirLayout → List ℕ → List ℕ → ℕ → ℕ → OpeningShape → ℕ
+batched_of layout main_next preprocessed_next chunks dimension shape =
+    batched_openings layout.main_width (opens_next_row main_next) layout.preprocessed_width (opens_next_row preprocessed_next) chunks dimension shape

@@ -28,8 +28,8 @@ fn two_power(bits: usize) -> usize
     1 << bits
 }
 
-/// The degree of `Z_H` times the recomposed quotient, whose chunks' domains together have `2 ^ (log_parts + degree_bits)` points;
-/// None where it doesn't fit.
+/// The degree of `Z_H` times the recomposed quotient, whose chunks' domains together have `2 ^
+/// (log_parts + degree_bits)` points; None where it doesn't fit.
 fn recomposed_bound(log_parts: usize, degree_bits: usize) -> Option<usize>
     requires { degree_bits ≤ 63 }
     ensures { result ≡ fitting (2 ^ (log_parts + degree_bits) + (2 ^ degree_bits - 1)) }
@@ -53,17 +53,19 @@ fn bound_leaves(degree_bits: usize, is_zk: usize) -> LeafDegrees
     }
 }
 
-/// How many of a verifier's two draws can be bad for a trace that breaks a constraint: at most the first number of alphas, and
-/// for any other alpha at most the second number of zetas.
+/// How many of a verifier's two draws can be bad for a trace that breaks a constraint: at most the
+/// first number of alphas, and for any other alpha at most the second number of zetas.
 ///
-/// The first is one less than there are constraints, and 0 without constraints. With M, the `2 ^ degree_bits` coefficients that
-/// a committed column has, N = M / 2 ^ `is_zk` rows, and the m chunks that the quotient is cut into, the second is the greater
-/// of the constraints' degree bound and `N + (m - 1) * N + M - 1`. A tree's degree bound is M - 1 for a main or preprocessed column,
-/// N - 1 for the selectors of the first and the last row and a periodic column, 1 for that of the transition, 0 for a constant and
-/// a public value; of a sum and a difference the greater, of a product the sum.
+/// The first is one less than there are constraints, and 0 without constraints. With M, the `2 ^
+/// degree_bits` coefficients that a committed column has, N = M / 2 ^ `is_zk` rows, and the m
+/// chunks that the quotient is cut into, the second is the greater of the constraints' degree bound
+/// and `N + (m - 1) * N + M - 1`. A tree's degree bound is M - 1 for a main or preprocessed column,
+/// N - 1 for the selectors of the first and the last row and a periodic column, 1 for that of the
+/// transition, 0 for a constant and a public value; of a sum and a difference the greater, of a
+/// product the sum.
 ///
-/// `is_zk` is 1 in zero knowledge and else 0, and the layout is the AIR's own. `Ok(None)` exactly where the second number is
-/// above the greatest `usize`; Err only where memory was refused.
+/// `is_zk` is 1 in zero knowledge and else 0, and the layout is the AIR's own. `Ok(None)` exactly
+/// where the second number is above the greatest `usize`; Err only where memory was refused.
 pub fn ood_error_bound<F: Field, EF: ExtensionField<F>, A: Air<F>>(
     alloc: Global,
     air: &A,
@@ -75,9 +77,11 @@ pub fn ood_error_bound<F: Field, EF: ExtensionField<F>, A: Air<F>>(
     requires flag { is_zk ≤ 1 }
     requires masked { is_zk ≤ degree_bits }
     requires fits { degree_bits ≤ 63 }
-    ensures exact { IfOk result (λ answer. IsErrorBound (A.constraints air.now) (A.degree_hint air.now) degree_bits is_zk answer) }
+    ensures exact { IfOk result (λ answer.
+        IsErrorBound (A.constraints air.now) (A.degree_hint air.now) degree_bits is_zk answer) }
     ensures counts { IfOk result (λ answer. IfSome answer (λ bounds. (generator : F) (chunks : ℕ)
-        → HasOrder F.ring generator (2 ^ (degree_bits - is_zk)) → IsChunkCount 0 (A.constraints air.now) (A.degree_hint air.now) is_zk chunks
+        → HasOrder F.ring generator (2 ^ (degree_bits - is_zk))
+        → IsChunkCount 0 (A.constraints air.now) (A.degree_hint air.now) is_zk chunks
         → FewBadDraws (record {
           base = F.ring;
           base_inverse = F.inverse_of;

@@ -1,5 +1,5 @@
-//! What the security of a proof rests on: how many draws of a verifier can be bad, and the numbers that a report is computed
-//! from.
+//! What the security of a proof rests on: how many draws of a verifier can be bad, and the numbers
+//! that a report is computed from.
 #![tactic(auto)]
 
 mod bounds;

@@ -9,7 +9,8 @@ pub enum OpeningShape {
     TwoAdic,
     /// Circle FRI, which takes two powers of the batching challenge for each column and point.
     Circle,
-    /// Hiding FRI: a random codeword beside the matrices, and random columns in each matrix but the preprocessed one.
+    /// Hiding FRI: a random codeword beside the matrices, and random columns in each matrix but the
+    /// preprocessed one.
     Hiding {
         /// How many random columns each of these matrices has.
         num_random_codewords: usize,
@@ -64,7 +65,8 @@ impl OpeningShape {
         }
     }
 
-    /// How many powers of the batching challenge each column takes at each of its points: 2 for Circle FRI, and else 1.
+    /// How many powers of the batching challenge each column takes at each of its points: 2 for
+    /// Circle FRI, and else 1.
     pub const fn powers_per_opening(self) -> usize
         ensures { result ≡ powers_of self }
     {
@@ -75,9 +77,10 @@ impl OpeningShape {
     }
 }
 
-/// How many powers of the batching challenge a commitment scheme takes: each column's points, which are 2 where its next row
-/// is read and else 1, over the main trace, the preprocessed one, `num_quotient_chunks` chunks of `challenge_dimension` columns,
-/// and under hiding a random codeword as wide as a chunk; times the powers for each. Under hiding each of these but the
+/// How many powers of the batching challenge a commitment scheme takes: each column's points, which
+/// are 2 where its next row is read and else 1, over the main trace, the preprocessed one,
+/// `num_quotient_chunks` chunks of `challenge_dimension` columns, and under hiding a random
+/// codeword as wide as a chunk; times the powers for each. Under hiding each of these but the
 /// preprocessed trace has so many random columns more. The number is at most the greatest `usize`.
 pub const fn num_batched_openings(
     main_width: usize,
@@ -88,8 +91,10 @@ pub const fn num_batched_openings(
     challenge_dimension: usize,
     openings: OpeningShape,
 ) -> usize
-    requires { batched_openings main_width main_next preprocessed_width preprocessed_next num_quotient_chunks challenge_dimension openings < 2 ^ 64 }
-    ensures { result ≡ batched_openings main_width main_next preprocessed_width preprocessed_next num_quotient_chunks challenge_dimension openings }
+    requires { batched_openings main_width main_next preprocessed_width preprocessed_next
+        num_quotient_chunks challenge_dimension openings < 2 ^ 64 }
+    ensures { result ≡ batched_openings main_width main_next preprocessed_width preprocessed_next
+        num_quotient_chunks challenge_dimension openings }
 {
     let random_columns = openings.num_random_codewords();
     let main = points(main_next) * (main_width + random_columns);

@@ -5,9 +5,9 @@ ghost use Rattle.stark_symbolic.specs.Degree.{greatest_degree};
 ghost use Rattle.stark_air.specs.Layout.{Covers};
 ghost use Rattle.stark_air.specs.SymbolicLayout.{symbolic_layout};
 ghost use Rattle.stark_transcript.specs.Shape.{opens_next_row};
-ghost use Rattle.stark_parts.specs.Sizing.{constraint_degree, quotient_multiple};
-ghost use Rattle.stark_security.specs.ErrorBound.{IsChunkCount};
-ghost use Rattle.stark_security.specs.Openings.{hides, batched_openings};
+ghost use Rattle.stark_security.specs.ErrorBound.{HasRoomForChunks, IsChunkCountFor};
+ghost use Rattle.stark_security.specs.Openings.{batched_of};
+ghost use Rattle.stark_security.specs.Params.{params_of};
 
 use crate::openings::{OpeningShape, num_batched_openings};
 use stark_air::{Air, AirLayout};
@@ -44,8 +44,8 @@ pub struct StarkSecurityParams {
 }
 
 impl StarkSecurityParams {
-    /// The parameters with these numbers, and no work outside the low-degree test. The constraints' degree is at most the blow-up
-    /// and one, so that the quotient fits.
+    /// The parameters with these numbers, and no work outside the low-degree test. The constraints'
+    /// degree is at most the blow-up and one, so that the quotient fits.
     pub const fn new(
         fri: FriRegime,
         num_modulus_bits: usize,
@@ -57,22 +57,8 @@ impl StarkSecurityParams {
         num_quotient_chunks: usize,
     ) -> Self
         requires { air_max_constraint_degree ≤ 2 ^ fri.log_blowup + 1 }
-        ensures { result ≡ record {
-          fri_log_blowup = fri.log_blowup;
-          fri_log_final_poly_len = fri.log_final_poly_len;
-          fri_max_log_arity = fri.max_log_arity;
-          fri_num_queries = fri.num_queries;
-          fri_commit_proof_of_work_bits = fri.commit_pow_bits;
-          fri_query_proof_of_work_bits = fri.query_pow_bits;
-          num_modulus_bits = num_modulus_bits;
-          collision_resistance = collision_resistance;
-          num_constraints = num_constraints;
-          air_max_constraint_degree = air_max_constraint_degree;
-          num_quotient_chunks = num_quotient_chunks;
-          max_combo = max_combo;
-          num_batched_functions = num_batched_functions;
-          grinding = record { lookup_challenge = 0; out_of_domain = 0; batch_combination = 0 };
-        } }
+        ensures { result ≡ params_of fri num_modulus_bits collision_resistance num_constraints
+            air_max_constraint_degree max_combo num_batched_functions num_quotient_chunks }
     {
         StarkSecurityParams {
             fri_log_blowup: fri.log_blowup,
@@ -92,7 +78,7 @@ impl StarkSecurityParams {
         }
     }
 
-    /// The same with this work outside the low-degree test.
+    /// These parameters, with this work outside the low-degree test.
     pub const fn with_grinding(self, grinding: GrindingSites) -> Self
         ensures { result ≡ record self { grinding = grinding } }
     {
@@ -101,14 +87,15 @@ impl StarkSecurityParams {
 
     /// The parameters of an AIR over a domain.
     ///
-    /// The number of the constraints and their greatest degree multiple are read off the AIR, the latter without the author's own
-    /// bound; the chunks are those that the quotient is cut into, which that bound may raise, and twice as many under hiding; the
-    /// batched functions are `num_batched_openings` of the layout's widths, the AIR's next rows, these chunks and the extension's
-    /// degree. All else stands in its field as it is given.
+    /// The number of the constraints and their greatest degree multiple are read off the AIR, the
+    /// latter without the author's own bound; the chunks are those that the quotient is cut into,
+    /// which that bound may raise, and twice as many under hiding; the batched functions are
+    /// `num_batched_openings` of the layout's widths, the AIR's next rows, these chunks and the
+    /// extension's degree. All else stands in its field as it is given.
     ///
-    /// The layout is the AIR's own. The degree is at most the blow-up and one, the chunks' number and that of the batched functions
-    /// are at most the greatest `usize`, and `max_combo` is above 1 where a next row is read, and else above 0. Err only where
-    /// memory was refused.
+    /// The layout is the AIR's own. The degree is at most the blow-up and one, the chunks' number
+    /// and that of the batched functions are at most the greatest `usize`, and `max_combo` is above
+    /// 1 where a next row is read, and else above 0. Err only where memory was refused.
     pub fn from_air<F: Field, EF: ExtensionField<F>, A: Air<F>, D: DomainShape>(
         alloc: Global,
         fri: FriRegime,
@@ -122,12 +109,20 @@ impl StarkSecurityParams {
         grinding: GrindingSites,
     ) -> Result<Self, AllocError>
         requires covered { Covers (symbolic_layout layout) (A.layout air.now) }
-        requires degree { greatest_degree (D.transition_multiple trace_domain.now) (A.constraints air.now) ≤ 2 ^ fri.log_blowup + 1 }
-        requires sized { quotient_multiple (constraint_degree (D.transition_multiple trace_domain.now) (A.constraints air.now) (A.degree_hint air.now)) (zk_bits (hides openings)) ≤ 2 ^ (63 - zk_bits (hides openings)) }
-        requires batched { (chunks : ℕ) → IsChunkCount (D.transition_multiple trace_domain.now) (A.constraints air.now) (A.degree_hint air.now) (zk_bits (hides openings)) chunks
-            → batched_openings layout.main_width (opens_next_row (A.main_next_row_columns air.now)) layout.preprocessed_width (opens_next_row (A.preprocessed_next_row_columns air.now)) chunks EF.DIMENSION openings < 2 ^ 64 }
-        requires combined { zk_bits (opens_next_row (A.main_next_row_columns air.now) || opens_next_row (A.preprocessed_next_row_columns air.now)) < max_combo }
-        ensures chunks { IfOk result (λ params. IsChunkCount (D.transition_multiple trace_domain.now) (A.constraints air.now) (A.degree_hint air.now) (zk_bits (hides openings)) params.num_quotient_chunks) }
+        requires degree { greatest_degree (D.transition_multiple trace_domain.now)
+            (A.constraints air.now) ≤ 2 ^ fri.log_blowup + 1 }
+        requires sized { HasRoomForChunks (D.transition_multiple trace_domain.now)
+            (A.constraints air.now) (A.degree_hint air.now) openings }
+        requires batched { (chunks : ℕ) → IsChunkCountFor (D.transition_multiple trace_domain.now)
+            (A.constraints air.now) (A.degree_hint air.now) openings chunks
+            → batched_of layout (A.main_next_row_columns air.now)
+            (A.preprocessed_next_row_columns air.now)
+            chunks EF.DIMENSION openings < 2 ^ 64 }
+        requires combined { zk_bits (opens_next_row (A.main_next_row_columns air.now) ||
+            opens_next_row (A.preprocessed_next_row_columns air.now)) < max_combo }
+        ensures chunks { IfOk result (λ p.
+            IsChunkCountFor (D.transition_multiple trace_domain.now) (A.constraints air.now)
+            (A.degree_hint air.now) openings p.num_quotient_chunks) }
         ensures numbers { IfOk result (λ params. params ≡ record {
           fri_log_blowup = fri.log_blowup;
           fri_log_final_poly_len = fri.log_final_poly_len;
@@ -138,10 +133,13 @@ impl StarkSecurityParams {
           num_modulus_bits = num_modulus_bits;
           collision_resistance = collision_resistance;
           num_constraints = length (A.constraints air.now);
-          air_max_constraint_degree = greatest_degree (D.transition_multiple trace_domain.now) (A.constraints air.now);
+          air_max_constraint_degree = greatest_degree (D.transition_multiple trace_domain.now)
+              (A.constraints air.now);
           num_quotient_chunks = params.num_quotient_chunks;
           max_combo = max_combo;
-          num_batched_functions = batched_openings layout.main_width (opens_next_row (A.main_next_row_columns air.now)) layout.preprocessed_width (opens_next_row (A.preprocessed_next_row_columns air.now)) params.num_quotient_chunks EF.DIMENSION openings;
+          num_batched_functions = batched_of layout (A.main_next_row_columns air.now)
+              (A.preprocessed_next_row_columns air.now) params.num_quotient_chunks
+              EF.DIMENSION openings;
           grinding = grinding;
         }) }
     {
@@ -196,8 +194,11 @@ fn batched_functions<F: Field, EF: ExtensionField<F>, A: Air<F>>(
     num_quotient_chunks: usize,
     openings: OpeningShape,
 ) -> Result<usize, AllocError>
-    requires { batched_openings layout.main_width (opens_next_row (A.main_next_row_columns air.now)) layout.preprocessed_width (opens_next_row (A.preprocessed_next_row_columns air.now)) num_quotient_chunks EF.DIMENSION openings < 2 ^ 64 }
-    ensures { IfOk result (λ count. count ≡ batched_openings layout.main_width (opens_next_row (A.main_next_row_columns air.now)) layout.preprocessed_width (opens_next_row (A.preprocessed_next_row_columns air.now)) num_quotient_chunks EF.DIMENSION openings) }
+    requires { batched_of layout (A.main_next_row_columns air.now)
+        (A.preprocessed_next_row_columns air.now)
+        num_quotient_chunks EF.DIMENSION openings < 2 ^ 64 }
+    ensures { IfOk result (λ n. n ≡ batched_of layout (A.main_next_row_columns air.now)
+        (A.preprocessed_next_row_columns air.now) num_quotient_chunks EF.DIMENSION openings) }
 {
     let main_next = is_read(&air.main_next_row_columns(alloc)?);
     let preprocessed_next = is_read(&air.preprocessed_next_row_columns(alloc)?);
@@ -235,8 +236,10 @@ fn committed_chunks<F: Field, A: Air<F>, D: DomainShape>(
     openings: OpeningShape,
 ) -> Result<usize, AllocError>
     requires covered { Covers (symbolic_layout layout) (A.layout air.now) }
-    requires sized { quotient_multiple (constraint_degree (D.transition_multiple trace_domain.now) (A.constraints air.now) (A.degree_hint air.now)) (zk_bits (hides openings)) ≤ 2 ^ (63 - zk_bits (hides openings)) }
-    ensures { IfOk result (λ chunks. IsChunkCount (D.transition_multiple trace_domain.now) (A.constraints air.now) (A.degree_hint air.now) (zk_bits (hides openings)) chunks) }
+    requires sized { HasRoomForChunks (D.transition_multiple trace_domain.now)
+        (A.constraints air.now) (A.degree_hint air.now) openings }
+    ensures { IfOk result (IsChunkCountFor (D.transition_multiple trace_domain.now)
+        (A.constraints air.now) (A.degree_hint air.now) openings) }
 {
     let is_zk = if openings.is_zk() { 1 } else { 0 };
     let log_parts = get_log_num_quotient_chunks_for_domain::<F, A, D>(

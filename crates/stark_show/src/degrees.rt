@@ -6,8 +6,8 @@ ghost use Rattle.stark_tree_air.specs.Needed.{NodesBelow, OperandsBelow};
 use stark_tree_air::TreeNode;
 use std::alloc::{AllocError, Global};
 
-/// The degree of a node by the degrees of the nodes before it, in multiples of the trace's length, with 0 for the transition
-/// selector.
+/// The degree of a node by the degrees of the nodes before it, in multiples of the trace's length,
+/// with 0 for the transition selector.
 fn node_degree(degrees: &[usize], node: TreeNode) -> usize
     requires { OperandsBelow (length degrees.now) node }
     ensures { result ≡ node_degree degrees.now node }

@@ -17,7 +17,8 @@ pub fn columns_line(
     periodic: usize,
     preprocessed: usize,
 ) -> Result<String, AllocError>
-    ensures { IfOk result (λ line. string_bytes line ≡ columns_line main publics periodic preprocessed) }
+    ensures { IfOk result (λ line. string_bytes line
+        ≡ columns_line main publics periodic preprocessed) }
 {
     format!(in alloc;
         "columns: {main} main, {publics} public, {periodic} periodic, {preprocessed} preprocessed\n"
@@ -41,7 +42,8 @@ pub fn constraint_line(
     degree: usize,
     text: &str,
 ) -> Result<String, AllocError>
-    ensures { IfOk result (λ line. string_bytes line ≡ constraint_line number constraint degree text.now) }
+    ensures { IfOk result (λ line. string_bytes line
+        ≡ constraint_line number constraint degree text.now) }
 {
     let kind = kind_name(constraint);
     format!(in alloc; "constraint {number} ({kind}, degree {degree}): {text} = 0\n")
@@ -81,7 +83,8 @@ pub(crate) fn constraint_lines(
 ) -> Result<String, AllocError>
     requires phrases { ConstraintsFit (length phrases.now) constraints.now }
     requires degrees { ConstraintsFit (length degrees.now) constraints.now }
-    ensures { IfOk result (λ lines. string_bytes lines ≡ constraint_lines (map phrase_view phrases.now) degrees.now 0 constraints.now) }
+    ensures { IfOk result (λ lines. string_bytes lines
+        ≡ constraint_lines (map phrase_view phrases.now) degrees.now 0 constraints.now) }
 {
     let mut lines = String::new(alloc);
     for (number, constraint) in constraints.iter().enumerate() {
@@ -98,8 +101,8 @@ pub fn chunks_line(alloc: Global, chunks: u128) -> Result<String, AllocError>
     format!(in alloc; "quotient chunks: {chunks}\n")
 }
 
-/// How many alphas and, for any other alpha, how many zetas can be bad for a trace of `2 ^ log_height` rows that breaks a
-/// constraint.
+/// How many alphas and, for any other alpha, how many zetas can be bad for a trace of `2 ^
+/// log_height` rows that breaks a constraint.
 pub fn bound_line(
     alloc: Global,
     log_height: usize,

@@ -12,7 +12,8 @@ use std::alloc::{AllocError, Global};
 /// How many bytes the text of an operand has at most.
 const LONGEST: usize = 4096;
 
-/// What is shown of nodes: each at its place, and the lines of those whose text is too long for an operand.
+/// What is shown of nodes: each at its place, and the lines of those whose text is too long for an
+/// operand.
 #[derive(Debug, Drop)]
 pub(crate) struct ShownNodes {
     pub phrases: Vec<Phrase>,
@@ -31,7 +32,8 @@ fn node_name(alloc: Global, place: usize) -> Result<String, AllocError>
     format!(in alloc; "node {place}")
 }
 
-/// What is shown of the node at a place; where its text is too long, the place, and the text becomes a line.
+/// What is shown of the node at a place; where its text is too long, the place, and the text
+/// becomes a line.
 #[tactic(auto, unfolding(crate::specs::ShownNodes::shown_written, crate::specs::ShownNodes::long_line))]
 fn shown_phrase(
     alloc: Global,
@@ -39,8 +41,10 @@ fn shown_phrase(
     phrase: Phrase,
     lines: &mut String,
 ) -> Result<Phrase, AllocError>
-    ensures shown { IfOk result (λ shown. phrase_view shown ≡ shown_written place (phrase_view phrase)) }
-    ensures line { OnOk result (string_bytes lines.new ≡ string_bytes lines.old ++ long_line place (phrase_view phrase)) }
+    ensures shown { IfOk result (λ shown. phrase_view shown
+        ≡ shown_written place (phrase_view phrase)) }
+    ensures line { OnOk result (string_bytes lines.new
+        ≡ string_bytes lines.old ++ long_line place (phrase_view phrase)) }
 {
     if phrase.text.len() > LONGEST {
         lines.push_str(&node_line(alloc, place, &phrase.text)?)?;
@@ -57,8 +61,10 @@ pub(crate) fn shown_nodes<F: PrimeField64>(
     nodes: &[TreeNode],
 ) -> Result<ShownNodes, AllocError>
     requires { NodesName (length constants.now) 0 nodes.now }
-    ensures phrases { IfOk result (λ shown. map phrase_view shown.phrases.items ≡ shown_nodes F.number_of constants.now nodes.now) }
-    ensures lines { IfOk result (λ shown. string_bytes shown.lines ≡ long_lines F.number_of constants.now nodes.now) }
+    ensures phrases { IfOk result (λ shown. map phrase_view shown.phrases.items
+        ≡ shown_nodes F.number_of constants.now nodes.now) }
+    ensures lines { IfOk result (λ shown. string_bytes shown.lines
+        ≡ long_lines F.number_of constants.now nodes.now) }
 {
     let mut phrases = Vec::new(alloc);
     let mut lines = String::new(alloc);

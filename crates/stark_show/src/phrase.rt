@@ -28,7 +28,8 @@ impl Phrase {
     /// The text as an operand: in brackets where it binds less tightly than `least`.
     #[tactic(auto, unfolding(crate::specs::Expressions::operand_text))]
     fn operand_text(&self, alloc: Global, least: Binding) -> Result<String, AllocError>
-        ensures { IfOk result (λ text. string_bytes text ≡ operand_text least (phrase_view self.now)) }
+        ensures { IfOk result (λ text. string_bytes text
+            ≡ operand_text least (phrase_view self.now)) }
     {
         let text = &self.text;
         if self.binding.strength() < least.strength() {
@@ -66,7 +67,8 @@ fn listed_constant<F: PrimeField64>(
     index: usize,
 ) -> Result<Phrase, AllocError>
     requires { index < length constants.now }
-    ensures { IfOk result (λ phrase. phrase_view phrase ≡ written_at (map (constant_written F.number_of) constants.now) index) }
+    ensures { IfOk result (λ phrase. phrase_view phrase
+        ≡ written_at (map (constant_written F.number_of) constants.now) index) }
 {
     constant(alloc, constants[index])
 }
@@ -80,7 +82,8 @@ fn pair(
     left: &Phrase,
     right: &Phrase,
 ) -> Result<Phrase, AllocError>
-    ensures { IfOk result (λ phrase. phrase_view phrase ≡ pair_written binding sign.now least (phrase_view left.now) (phrase_view right.now)) }
+    ensures { IfOk result (λ phrase. phrase_view phrase
+        ≡ pair_written binding sign.now least (phrase_view left.now) (phrase_view right.now)) }
 {
     let left = left.operand_text(alloc, binding)?;
     let right = right.operand_text(alloc, least)?;
@@ -89,7 +92,8 @@ fn pair(
 }
 
 fn sum(alloc: Global, left: &Phrase, right: &Phrase) -> Result<Phrase, AllocError>
-    ensures { IfOk result (λ phrase. phrase_view phrase ≡ sum_written (phrase_view left.now) (phrase_view right.now)) }
+    ensures { IfOk result (λ phrase. phrase_view phrase
+        ≡ sum_written (phrase_view left.now) (phrase_view right.now)) }
 {
     pair(
         alloc,
@@ -102,7 +106,8 @@ fn sum(alloc: Global, left: &Phrase, right: &Phrase) -> Result<Phrase, AllocErro
 }
 
 fn difference(alloc: Global, left: &Phrase, right: &Phrase) -> Result<Phrase, AllocError>
-    ensures { IfOk result (λ phrase. phrase_view phrase ≡ difference_written (phrase_view left.now) (phrase_view right.now)) }
+    ensures { IfOk result (λ phrase. phrase_view phrase
+        ≡ difference_written (phrase_view left.now) (phrase_view right.now)) }
 {
     pair(
         alloc,
@@ -115,7 +120,8 @@ fn difference(alloc: Global, left: &Phrase, right: &Phrase) -> Result<Phrase, Al
 }
 
 fn product(alloc: Global, left: &Phrase, right: &Phrase) -> Result<Phrase, AllocError>
-    ensures { IfOk result (λ phrase. phrase_view phrase ≡ product_written (phrase_view left.now) (phrase_view right.now)) }
+    ensures { IfOk result (λ phrase. phrase_view phrase
+        ≡ product_written (phrase_view left.now) (phrase_view right.now)) }
 {
     pair(
         alloc,
@@ -128,7 +134,8 @@ fn product(alloc: Global, left: &Phrase, right: &Phrase) -> Result<Phrase, Alloc
 }
 
 fn negation(alloc: Global, inner: &Phrase) -> Result<Phrase, AllocError>
-    ensures { IfOk result (λ phrase. phrase_view phrase ≡ negation_written (phrase_view inner.now)) }
+    ensures { IfOk result (λ phrase. phrase_view phrase
+        ≡ negation_written (phrase_view inner.now)) }
 {
     let inner = inner.operand_text(alloc, Binding::Leaf)?;
     let text = format!(in alloc; "-{inner}")?;
@@ -155,7 +162,8 @@ pub(crate) fn node_phrase<F: PrimeField64>(
     node: TreeNode,
 ) -> Result<Phrase, AllocError>
     requires { NodeNames (length constants.now) (length phrases.now) node }
-    ensures { IfOk result (λ phrase. phrase_view phrase ≡ node_written F.number_of constants.now (map phrase_view phrases.now) node) }
+    ensures { IfOk result (λ phrase. phrase_view phrase
+        ≡ node_written F.number_of constants.now (map phrase_view phrases.now) node) }
 {
     match node {
         TreeNode::Constant(index) => listed_constant(alloc, constants, index),

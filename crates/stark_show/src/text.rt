@@ -1,14 +1,15 @@
 //! A whole AIR as text.
-ghost use Rattle.std.specs.Prelude.{◌≡◌, ◌+◌, ◌^◌, ◌<◌, ◌≤◌, length, IfOk, string_bytes};
+ghost use Rattle.std.specs.Prelude.{◌≡◌, ◌^◌, ◌<◌, ◌≤◌, length, IfOk, string_bytes};
 ghost use Rattle.std.specs.List.{slice_get};
-ghost use Rattle.stark_parts.specs.Sizing.{constraint_degree, quotient_multiple};
-ghost use Rattle.stark_security.specs.ErrorBound.{IsChunkCount, IsErrorBound};
+ghost use Rattle.stark_parts.specs.Sizing.{multiple_of};
+ghost use Rattle.stark_security.specs.ErrorBound.{IsErrorBound};
 ghost use Rattle.stark_support.specs.Logarithm.{IsCeilingOfLog};
 ghost use Rattle.stark_show.specs.Shown.{IsShown, IsWhole, columns_text, constraints_text, equation_line, listed_line, long_text, sections_text};
 ghost use Rattle.stark_show.specs.ShownNodes.{NodesName};
 ghost use Rattle.stark_tree_air.specs.Needed.{constraint_place};
-ghost use Rattle.stark_tree_air.specs.Nodes.{ConstraintsFit, spelled};
+ghost use Rattle.stark_tree_air.specs.Nodes.{ConstraintsFit};
 ghost use Rattle.stark_tree_air.specs.TreeJson.{list_view};
+ghost use Rattle.stark_tree_air.specs.Writing.{spelled_in};
 
 use crate::degrees::node_degrees;
 use crate::lines::{bound_line, chunks_line, columns_line, constraint_lines, numbered_line};
@@ -88,7 +89,8 @@ fn equation_of<F: PrimeField64>(
 fn shown_list<F: PrimeField64>(alloc: Global, list: &TreeList<F>) -> Result<ShownList, AllocError>
     requires nodes { NodesName (length list.now.constants.items) 0 list.now.nodes.items }
     requires constraints { ConstraintsFit (length list.now.nodes.items) list.now.constraints.items }
-    ensures constraints { IfOk result (λ shown. string_bytes shown.constraints ≡ constraints_text F.number_of list.now) }
+    ensures constraints { IfOk result (λ shown. string_bytes shown.constraints
+        ≡ constraints_text F.number_of list.now) }
     ensures long { IfOk result (λ shown. string_bytes shown.long ≡ long_text F.number_of list.now) }
 {
     let shown = shown_nodes(alloc, &list.constants, &list.nodes)?;
@@ -130,7 +132,8 @@ fn log_chunks<F: Field>(
     air: &TreeAir<F>,
     log_height: usize,
 ) -> Result<usize, AllocError>
-    ensures { IfOk result (λ log. IsCeilingOfLog log (quotient_multiple (constraint_degree 0 (spelled air.now.list.constants.items air.now.list.nodes.items air.now.list.constraints.items) air.now.declaration.max_constraint_degree) 0)) }
+    ensures { IfOk result (λ log. IsCeilingOfLog log
+        (multiple_of 0 (spelled_in air.now.list) air.now.declaration.max_constraint_degree 0)) }
 {
     let layout = AirLayout::from_air(air);
     get_log_num_quotient_chunks(alloc, air, layout, log_height, 0)
@@ -144,15 +147,19 @@ fn chunk_count(log: usize) -> u128
     1 << log
 }
 
-/// How many draws can be bad at `2 ^ log_height` rows; None where that is no `usize`, or the bound isn't.
+/// How many draws can be bad at `2 ^ log_height` rows; None where that is no `usize`, or the bound
+/// isn't.
 fn bound_at<F: Field, EF: ExtensionField<F>>(
     alloc: Global,
     air: &TreeAir<F>,
     log: usize,
     log_height: usize,
 ) -> Result<Option<(usize, usize)>, AllocError>
-    requires { IsCeilingOfLog log (quotient_multiple (constraint_degree 0 (spelled air.now.list.constants.items air.now.list.nodes.items air.now.list.constraints.items) air.now.declaration.max_constraint_degree) 0) }
-    ensures { IfOk result (λ bound. IsErrorBound (spelled air.now.list.constants.items air.now.list.nodes.items air.now.list.constraints.items) air.now.declaration.max_constraint_degree log_height 0 bound) }
+    requires { IsCeilingOfLog log (multiple_of 0 (spelled_in air.now.list)
+        air.now.declaration.max_constraint_degree 0) }
+    ensures { IfOk result (λ bound. IsErrorBound (spelled_in air.now.list)
+        air.now.declaration.max_constraint_degree log_height 0
+        bound) }
 {
     if log_height > 63 {
         return Ok(None);
@@ -164,14 +171,16 @@ fn bound_at<F: Field, EF: ExtensionField<F>>(
 /// An AIR as text, of so many lines:
 ///
 /// - its columns: `columns: 1 main, 1 public, 0 periodic, 0 preprocessed`;
-/// - each constraint by its number, its kind (`base` or `extension`), its degree in multiples of the trace's height, and its equation:
-///   `constraint 0 (base, degree 2): first_row * (main[0] - public[0]) = 0`. Constants are written by their numbers, an operand
-///   stands in brackets where it binds less tightly than its place asks, and the degree counts the transition selector as 0;
-/// - each node whose expression is longer than 4096 bytes: `node 9 = ..`. Where it is an operand or a constraint, `node 9` stands
-///   for it;
+/// - each constraint by its number, its kind (`base` or `extension`), its degree in multiples of
+///   the trace's height, and its equation: `constraint 0 (base, degree 2): first_row * (main[0] -
+///   public[0]) = 0`. Constants are written by their numbers, an operand stands in brackets where
+///   it binds less tightly than its place asks, and the degree counts the transition selector as 0;
+/// - each node whose expression is longer than 4096 bytes: `node 9 = ..`. Where it is an operand or
+///   a constraint, `node 9` stands for it;
 /// - how many chunks the quotient is cut into without masks: `quotient chunks: 1`;
-/// - how many alphas, and for any other alpha how many zetas, can be bad for a trace of `2 ^ log_height` rows that breaks a
-///   constraint: `error bound at 2^4 rows: 1 alpha, 31 zeta`. It is `none` where there are 2^64 zetas and more, as for 2^64 rows.
+/// - how many alphas, and for any other alpha how many zetas, can be bad for a trace of `2 ^
+///   log_height` rows that breaks a constraint: `error bound at 2^4 rows: 1 alpha, 31 zeta`. It is
+///   `none` where there are 2^64 zetas and more, as for 2^64 rows.
 ///
 /// Err only where memory was refused.
 pub fn shown<F: PrimeField64, EF: ExtensionField<F>>(
@@ -179,8 +188,10 @@ pub fn shown<F: PrimeField64, EF: ExtensionField<F>>(
     air: &TreeAir<F>,
     log_height: usize,
 ) -> Result<String, AllocError>
-    ensures shown { IfOk result (λ text. IsShown F.number_of air.now.declaration air.now.list log_height (string_bytes text)) }
-    ensures whole { IfOk result (λ text. IsWhole F.number_of air.now.declaration air.now.list (string_bytes text)) }
+    ensures shown { IfOk result (λ text.
+        IsShown F.number_of air.now.declaration air.now.list log_height (string_bytes text)) }
+    ensures whole { IfOk result (λ text.
+        IsWhole F.number_of air.now.declaration air.now.list (string_bytes text)) }
 {
     let columns = shown_columns(alloc, &air.declaration.columns)?;
     let list = shown_list(alloc, &air.list)?;

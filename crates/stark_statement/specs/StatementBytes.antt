@@ -1,5 +1,5 @@
 -- The canonical writing of a statement.
-use Rattle.std.specs.Prelude.{ℕ, List, [], ◌∷◌, ◌++◌}
+use Rattle.std.specs.Prelude.{◌≡◌, ℕ, List, [], ◌∷◌, ◌++◌}
 use Rattle.sha2.specs.Sha256.{sha256}
 use Rattle.stark_support.specs.Sponge.{observed_bytes}
 use Rattle.stark_air.specs.Declaration.{Trace}
@@ -82,3 +82,7 @@ statement_digest number_of s = sha256 (statement_bytes number_of s)
 -- the state of a challenger that has observed it, byte by byte
 abbrev pub after_statement : {C F : Type 0} → (C → F → C) → (ℕ → F) → (F → ℕ) → StatementView F → C → C
 after_statement observe of_number number_of s state = observed_bytes observe of_number (statement_digest number_of s) state
+
+-- No statement within the bounds has these bytes but this one.
+abbrev pub TellsStatement : {F : Type 0} → (F → ℕ) → StatementView F → List ℕ → Type 0
+TellsStatement {F} number_of s bytes = (other : StatementView F) → IsBounded number_of other → bytes ≡ statement_bytes number_of other → other ≡ s

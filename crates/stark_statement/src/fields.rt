@@ -54,7 +54,8 @@ pub(crate) fn check_members(value: &Value) -> Result<(), StatementError>
 }
 
 fn required<'a>(value: &'a Value, field: &'static str) -> Result<&'a Value, StatementError>
-    ensures { Decodes (λ v. view v.now) result (ok_or (get field.now (view value.now)) (missing_field field.now)) }
+    ensures { Decodes (λ v. view v.now) result
+        (ok_or (get field.now (view value.now)) (missing_field field.now)) }
 {
     match value.get(field) {
         Some(found) => Ok(found),
@@ -63,7 +64,8 @@ fn required<'a>(value: &'a Value, field: &'static str) -> Result<&'a Value, Stat
 }
 
 fn air_at<F: Field + JsonCodec>(alloc: Global, value: &Value) -> Result<TreeAir<F>, StatementError>
-    ensures { Decodes (λ air. air_view air.declaration air.list) result (air_at F.reading (view value.now)) }
+    ensures { Decodes (λ air. air_view air.declaration air.list) result
+        (air_at F.reading (view value.now)) }
 {
     match TreeAir::from_json(alloc, value) {
         Ok(air) => Ok(air),
@@ -78,7 +80,8 @@ pub(crate) fn required_air<F: Field + JsonCodec>(
     value: &Value,
     field: &'static str,
 ) -> Result<TreeAir<F>, StatementError>
-    ensures { Decodes (λ air. air_view air.declaration air.list) result (required field.now (air_at F.reading) (view value.now)) }
+    ensures { Decodes (λ air. air_view air.declaration air.list) result
+        (required field.now (air_at F.reading) (view value.now)) }
 {
     let found = required(value, field)?;
     air_at(alloc, found)
@@ -107,7 +110,8 @@ pub(crate) fn required_list<F: JsonCodec + Copy>(
     value: &Value,
     field: &'static str,
 ) -> Result<Vec<F>, StatementError>
-    ensures { Decodes (λ v. v.items) result (required field.now (list_at F.reading field.now) (view value.now)) }
+    ensures { Decodes (λ v. v.items) result
+        (required field.now (list_at F.reading field.now) (view value.now)) }
 {
     let found = required(value, field)?;
     list_at(alloc, found, field)

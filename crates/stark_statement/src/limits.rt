@@ -161,8 +161,8 @@ impl AirLimits {
         refuse_if(got > limit, AirTooLarge::Constraints { got, limit })
     }
 
-    /// Tests an AIR against the limits: Ok exactly where it passes none of them, else the first that
-    /// it passes, in the order of the fields. It takes no memory, and a step for each periodic
+    /// Tests an AIR against the limits: Ok exactly where it passes none of them, else the first
+    /// that it passes, in the order of the fields. It takes no memory, and a step for each periodic
     /// column.
     pub fn check<F>(self, air: &TreeAir<F>) -> Result<(), AirTooLarge>
         ensures within { IfOk result (λ _. IsWithin self (view_of air.now)) }

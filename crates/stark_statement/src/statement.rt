@@ -41,7 +41,8 @@ impl<F: Field + JsonCodec> Statement<F> {
     /// - `OutOfMemory` wherever a growth was refused.
     #[tactic(auto, unfolding(crate::specs::StatementJson::statement_reading))]
     pub fn from_json(alloc: Global, value: &Value) -> Result<Statement<F>, StatementError>
-        ensures decoded { Decodes statement_view result (statement_reading F.reading (view value.now)) }
+        ensures decoded { Decodes statement_view result
+            (statement_reading F.reading (view value.now)) }
     {
         check_members(value)?;
         let air = required_air::<F>(alloc, value, "air")?;

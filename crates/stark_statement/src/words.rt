@@ -31,7 +31,8 @@ fn push_optional(words: &mut Vec<u64>, number: Option<usize>) -> Result<(), Allo
 }
 
 fn push_elements<F: PrimeField64>(words: &mut Vec<u64>, elements: &[F]) -> Result<(), AllocError>
-    ensures { OnOk result (words.new.items ≡ words.old.items ++ elements_words F.number_of elements.now) }
+    ensures { OnOk result (words.new.items
+        ≡ words.old.items ++ elements_words F.number_of elements.now) }
 {
     push_word(&mut *words, elements.len())?;
     for element in elements {
@@ -41,7 +42,9 @@ fn push_elements<F: PrimeField64>(words: &mut Vec<u64>, elements: &[F]) -> Resul
 }
 
 fn push_lists<F: PrimeField64>(words: &mut Vec<u64>, lists: &[Vec<F>]) -> Result<(), AllocError>
-    ensures { OnOk result (words.new.items ≡ words.old.items ++ counted (elements_words F.number_of) (map (λ list. list.items) lists.now)) }
+    ensures { OnOk result (words.new.items
+        ≡ words.old.items ++ counted (elements_words F.number_of)
+        (map (λ list. list.items) lists.now)) }
 {
     push_word(&mut *words, lists.len())?;
     for list in lists {
@@ -54,7 +57,8 @@ fn push_trace<F: PrimeField64>(
     words: &mut Vec<u64>,
     trace: &Option<RowMajorMatrix<F>>,
 ) -> Result<(), AllocError>
-    ensures { OnOk result (words.new.items ≡ words.old.items ++ optional (trace_words F.number_of) (declared_trace trace.now)) }
+    ensures { OnOk result (words.new.items
+        ≡ words.old.items ++ optional (trace_words F.number_of) (declared_trace trace.now)) }
 {
     match trace {
         Some(trace) => {
@@ -79,7 +83,8 @@ fn push_places(
     left: usize,
     right: usize,
 ) -> Result<(), AllocError>
-    ensures { OnOk result (words.new.items ≡ words.old.items ++ (word tag ++ (word left ++ word right))) }
+    ensures { OnOk result (words.new.items
+        ≡ words.old.items ++ (word tag ++ (word left ++ word right))) }
 {
     push_word(&mut *words, tag)?;
     push_place(words, left, right)
@@ -126,7 +131,8 @@ fn push_constraint(words: &mut Vec<u64>, constraint: TreeConstraint) -> Result<(
 }
 
 fn push_constraints(words: &mut Vec<u64>, constraints: &[TreeConstraint]) -> Result<(), AllocError>
-    ensures { OnOk result (words.new.items ≡ words.old.items ++ counted constraint_words constraints.now) }
+    ensures { OnOk result (words.new.items
+        ≡ words.old.items ++ counted constraint_words constraints.now) }
 {
     push_word(&mut *words, constraints.len())?;
     for constraint in constraints {
@@ -140,7 +146,8 @@ fn push_columns<F: PrimeField64>(
     words: &mut Vec<u64>,
     columns: &TreeColumns<F>,
 ) -> Result<(), AllocError>
-    ensures { OnOk result (words.new.items ≡ words.old.items ++ columns_words F.number_of (columns_view columns.now)) }
+    ensures { OnOk result (words.new.items
+        ≡ words.old.items ++ columns_words F.number_of (columns_view columns.now)) }
 {
     push_word(&mut *words, columns.width)?;
     push_word(&mut *words, columns.num_public_values)?;
@@ -150,7 +157,8 @@ fn push_columns<F: PrimeField64>(
 
 #[tactic(auto, unfolding(crate::specs::StatementBytes::list_words))]
 fn push_list<F: PrimeField64>(words: &mut Vec<u64>, list: &TreeList<F>) -> Result<(), AllocError>
-    ensures { OnOk result (words.new.items ≡ words.old.items ++ list_words F.number_of (list_view list.now)) }
+    ensures { OnOk result (words.new.items
+        ≡ words.old.items ++ list_words F.number_of (list_view list.now)) }
 {
     push_elements(&mut *words, &list.constants)?;
     push_nodes(&mut *words, &list.nodes)?;
@@ -159,7 +167,8 @@ fn push_list<F: PrimeField64>(words: &mut Vec<u64>, list: &TreeList<F>) -> Resul
 
 #[tactic(auto, unfolding(crate::specs::StatementBytes::air_words))]
 fn push_air<F: PrimeField64>(words: &mut Vec<u64>, air: &TreeAir<F>) -> Result<(), AllocError>
-    ensures { OnOk result (words.new.items ≡ words.old.items ++ air_words F.number_of (air_view air.now.declaration air.now.list)) }
+    ensures { OnOk result (words.new.items
+        ≡ words.old.items ++ air_words F.number_of (air_view air.now.declaration air.now.list)) }
 {
     push_columns(&mut *words, &air.declaration.columns)?;
     push_optional(&mut *words, air.declaration.max_constraint_degree)?;
@@ -173,7 +182,8 @@ pub(crate) fn statement_words<F: PrimeField64>(
     alloc: Global,
     statement: &Statement<F>,
 ) -> Result<Vec<u64>, AllocError>
-    ensures { IfOk result (λ words. words.items ≡ statement_words F.number_of (statement_view statement.now)) }
+    ensures { IfOk result (λ words. words.items
+        ≡ statement_words F.number_of (statement_view statement.now)) }
 {
     let mut words = Vec::new(alloc);
     push_air(&mut words, &statement.air)?;

@@ -1,9 +1,9 @@
 //! The canonical writing of a statement.
 ghost use Rattle.std.specs.Prelude.{◌≡◌, IfOk};
 ghost use Rattle.stark_support.specs.Seed.{number};
-ghost use Rattle.stark_statement.specs.StatementBytes.{IsBounded, statement_bytes};
+ghost use Rattle.stark_statement.specs.StatementBytes.{statement_bytes, TellsStatement};
 ghost use Rattle.stark_statement.specs.Words.{AreWords, framed, labelled};
-ghost use Rattle.stark_statement.specs.StatementView.{StatementView, statement_view};
+ghost use Rattle.stark_statement.specs.StatementView.{statement_view};
 
 use crate::statement::Statement;
 use crate::words::statement_words;
@@ -58,9 +58,10 @@ impl<F: PrimeField64> Statement<F> {
     /// number of its members first, and a field element is its number. Err only where memory was
     /// refused.
     pub fn canonical_bytes(&self, alloc: Global) -> Result<Vec<u8>, AllocError>
-        ensures bytes { IfOk result (λ bytes. bytes.items ≡ statement_bytes F.number_of (statement_view self.now)) }
-        ensures of_this_statement { IfOk result (λ bytes. (other : StatementView F) → IsBounded F.number_of other →
-            bytes.items ≡ statement_bytes F.number_of other → other ≡ statement_view self.now) }
+        ensures bytes { IfOk result (λ bytes. bytes.items
+            ≡ statement_bytes F.number_of (statement_view self.now)) }
+        ensures of_this_statement { IfOk result (λ bytes.
+            TellsStatement F.number_of (statement_view self.now) bytes.items) }
     {
         let words = statement_words(alloc, self)?;
         known_words(&words);

@@ -54,3 +54,32 @@ pub record AreParts {K : Type 0} (ring : RingOps K) (root : ℕ → K) (coset : 
 pub record AreValuesOn {K : Type 0} (ring : RingOps K) (root : ℕ → K) (coset : TwoAdicCoset K) (count : ℕ) (value : K → K) (values : List K) : Type 0 where
   pub number : length values ≡ count
   pub at_row : (i : ℕ) → i < count → slice_get values i ≡ Some (value (coset_point ring root coset i))
+
+-- The vanishing value of a coset at a point of an extension.
+abbrev pub vanishing_at : {K : Type 0} {E : Type 0} → RingOps E → (E → E) → (K → E) → TwoAdicCoset K → E → E
+vanishing_at ring inverse embed coset x = coset_vanishing ring (λ c. c) inverse (coset_size coset) (embed coset.shift) x
+
+-- All values of a function on a coset's points, in row order.
+abbrev pub TakesOn : {K : Type 0} → RingOps K → (ℕ → K) → TwoAdicCoset K → (K → K) → List K → Type 0
+TakesOn ring root coset value values = AreValuesOn ring root coset (coset_size coset) value values
+
+-- The points of a coset differ pairwise.
+abbrev pub PointsDiffer : {K : Type 0} → RingOps K → (ℕ → K) → TwoAdicCoset K → Type 0
+PointsDiffer ring root coset = (i j : ℕ) → i < j → j < coset_size coset → coset_point ring root coset i ≢ coset_point ring root coset j
+
+-- The vanishing value of a coset is the same at all points of another,
+abbrev pub VanishesAlikeOn : {K : Type 0} → RingOps K → (K → K) → (ℕ → K) → TwoAdicCoset K → TwoAdicCoset K → Type 0
+VanishesAlikeOn {K} ring inverse root other coset =
+    (i : ℕ) → vanishing_at ring inverse (λ (c : K). c) coset (coset_point ring root other i) ≡ vanishing_at ring inverse (λ (c : K). c) coset other.shift
+
+-- and zero at none of them.
+abbrev pub VanishesNowhereOn : {K : Type 0} → RingOps K → (K → K) → (ℕ → K) → TwoAdicCoset K → TwoAdicCoset K → Type 0
+VanishesNowhereOn {K} ring inverse root other coset = (i : ℕ) → vanishing_at ring inverse (λ (c : K). c) coset (coset_point ring root other i) ≢ ring.zero
+
+-- A coset's parts, as many as the number, a power of two.
+abbrev pub SplitsInto : {K : Type 0} → RingOps K → (ℕ → K) → TwoAdicCoset K → ℕ → List (TwoAdicCoset K) → Type 0
+SplitsInto ring root coset number parts = (log_parts : ℕ) → 2 ^ log_parts ≡ number → AreParts ring root coset log_parts parts
+
+-- The coset of a shift and a size.
+abbrev pub coset_from : {K : Type 0} → K → ℕ → TwoAdicCoset K
+coset_from shift log_size = record { shift = shift; log_size = log_size }

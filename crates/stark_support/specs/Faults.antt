@@ -1,5 +1,5 @@
 -- The first of a list that is at fault, and lists that agree place by place.
-use Rattle.std.specs.Prelude.{◌≡◌, ℕ, zero, suc, ⊤, List, [], ◌∷◌, Option, None, Some}
+use Rattle.std.specs.Prelude.{◌≡◌, ℕ, zero, suc, ⊤, List, [], ◌∷◌, Option, None, Some, ◌⊎◌, MatchResult, Result}
 use Rattle.std.specs.List.{AllByRecursion}
 
 -- Two lists are of one length, and what stands at the same place of them is related.
@@ -37,3 +37,11 @@ unfolding IsFirstFaultWith
 no_first_fault_with P Q not_both [] i fault all = fault
 no_first_fault_with P Q not_both (x ∷ xs) zero fault all = not_both x all.0 fault
 no_first_fault_with P Q not_both (x ∷ xs) (suc i) fault all = no_first_fault_with P Q not_both xs i fault.1 all.1
+
+-- An Ok where there is no fault, and else the fault.
+abbrev pub NamesFault : {T E : Type 0} → Option E → Result T E → Type 0
+NamesFault fault result = MatchResult result (λ _. fault ≡ None) (λ e. fault ≡ Some e)
+
+-- The same where memory may be wanting, which is an error of its own.
+abbrev pub NamesFaultOr : {T E : Type 0} → E → Option E → Result T E → Type 0
+NamesFaultOr lacking fault result = MatchResult result (λ _. fault ≡ None) (λ e. (fault ≡ Some e) ⊎ (e ≡ lacking))

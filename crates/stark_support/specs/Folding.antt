@@ -37,3 +37,7 @@ pub record IsValueThrough {K : Type 0} (ring : RingOps K) (g : K) (values : List
   pub degree : HasDegreeBelow (length values) polynomial
   pub takes : AreValuesAtPowers ring g polynomial (length values) values
   pub value_is : value ring polynomial x ≡ v
+
+-- Half as many values have at the square of x what the values have at x.
+abbrev pub KeepsValues : {K : Type 0} → RingOps K → K → List K → K → K → List K → Type 0
+KeepsValues {K} ring g values x h folded = (v : K) → IsValueThrough ring g values x v → IsValueThrough ring h folded (ring.mul x x) v

@@ -1,5 +1,5 @@
 -- Packed values: several values, on which one operation works lane by lane.
-use Rattle.std.specs.Prelude.{◌≡◌, ◌<◌, ℕ, zero, suc, ◌^◌, Some, List, [], ◌∷◌, map, length, slice_set, refl}
+use Rattle.std.specs.Prelude.{◌≡◌, ◌<◌, ℕ, zero, suc, ◌^◌, Some, List, [], ◌∷◌, map, length, slice_index_or, slice_set, refl}
 use Rattle.std.specs.Simd.Lanes.{zip2}
 use Rattle.std.specs.List.{slice_get}
 use Rattle.std.proofs.Common.{ap, sym, arith, get_or}
@@ -18,6 +18,15 @@ pub record IsLaneByLane {F P : Type 0} (ring : RingOps F) (operations : Operatio
   pub minus : (x y : P) → lanes (operations.minus x y) ≡ zip2 (difference ring) (lanes x) (lanes y)
   pub times : (x y : P) → lanes (operations.times x y) ≡ zip2 ring.mul (lanes x) (lanes y)
   pub negated : (x : P) → lanes (operations.negated x) ≡ map ring.neg (lanes x)
+
+-- A packed value that is turned into one of an extension has each lane embedded.
+abbrev pub EmbedsLanes : {F E P Q : Type 0} → (F → E) → (P → List F) → (Q → List E) → (P → Q → Type 0) → Type 0
+EmbedsLanes {P = P} {Q = Q} embed lanes extension_lanes gives = (x : P) (y : Q) → gives x y → extension_lanes y ≡ map embed (lanes x)
+
+-- Lane by lane an element of a basis times a coordinate, and the rest.
+abbrev pub AddsProduct : {F E Q : Type 0} → RingOps E → (F → E) → List E → (Q → List E) → ℕ → ℕ → List F → Q → Q → Type 0
+AddsProduct {E = E} ring embed basis lanes width index coordinate rest sum = (element : E) → slice_get basis index ≡ Some element → (i : ℕ) → i < width
+    → slice_index_or (lanes sum) i ring.zero ≡ ring.add (ring.mul element (slice_index_or (map embed coordinate) i ring.zero)) (slice_index_or (lanes rest) i ring.zero)
 
 -- A value by itself is packed into one lane.
 abbrev pub one_lane : {F : Type 0} → F → List F

@@ -11,7 +11,9 @@ pub mod PowerFacts
 pub mod TwoAdic
 pub mod Embedding
 pub mod Extension
+pub mod FieldPair
 pub mod Lanes
+pub mod MatrixRows
 pub mod Pairs
 pub mod PairRoom
 pub mod Combination
@@ -19,8 +21,8 @@ pub mod Logarithm
 pub mod LogarithmFacts
 pub mod Coset
 pub mod CosetFacts
-pub mod Subgroup
 pub mod Selectors
+pub mod Subgroup
 pub mod SelectorFacts
 pub mod SubgroupFacts
 pub mod PartFacts
@@ -54,6 +56,7 @@ pub mod SeedFacts
 pub mod Claims
 pub mod PeriodicTable
 pub mod Scheme
+pub mod SchemeClauses
 pub mod SchemeFacts
 pub mod MaskFacts
 pub mod JoinedRows

@@ -1,8 +1,12 @@
 -- Which periodic columns fit a trace, and their values.
-use Rattle.std.specs.Prelude.{ℕ, ◌+◌, ◌/◌, ◌==◌, ◌≤◌, nat_le, List, [], ◌∷◌, length, Option, None, Some, if◌then◌else◌, IsTrue}
+use Rattle.std.specs.Prelude.{◌≡◌, ℕ, ◌+◌, ◌/◌, ◌%◌, ◌==◌, ◌≤◌, nat_le, List, [], ◌∷◌, length, map, slice_index_or, Option, None, Some, Result, MatchResult, if◌then◌else◌, IsTrue}
+use Rattle.std.specs.List.{slice_get}
+use Rattle.std.specs.declared.vec.Vec.{Vec}
 use Rattle.std.specs.Int.{is_power_of_two}
 use Rattle.std.specs.Option.{option_or}
 use Rattle.stark_support.specs.Ring.{RingOps}
+use Rattle.stark_support.specs.FieldPair.{FieldsOps}
+use Rattle.stark_support.specs.Coset.{TwoAdicCoset, coset_size}
 use Rattle.stark_support.specs.Powers.{power}
 use Rattle.stark_support.specs.Points.{powers_from}
 use Rattle.stark_support.specs.Polynomial.{value_over}
@@ -36,3 +40,21 @@ column_polynomial ring inverse generator height column = interpolation ring inve
 abbrev pub periodic_value : {K : Type 0} {E : Type 0} → RingOps K → (K → K) → K → ℕ → RingOps E → (K → E) → List K → E → E
 periodic_value ring inverse generator height extension embed column x =
     value_over extension embed (column_polynomial ring inverse generator height column) (power extension x (height / length column))
+
+-- The values at x of columns beside a trace of `height` rows.
+abbrev pub periodic_values : {K : Type 0} {E : Type 0} {A : Type 0} → RingOps K → (K → K) → K → ℕ → RingOps E → (K → E) → List (Vec K A) → E → List E
+periodic_values ring inverse generator height extension embed columns x = map (λ column. periodic_value ring inverse generator height extension embed column.items x) columns
+
+-- The values at x of columns beside a trace on a domain.
+abbrev pub periodic_values_on : {F : Type 0} {E : Type 0} {A : Type 0} → FieldsOps F E → TwoAdicCoset F → List (Vec F A) → E → List E
+periodic_values_on fields coset columns x =
+    periodic_values fields.base fields.base_inverse (fields.root coset.log_size) (coset_size coset) fields.ring fields.embed columns x
+
+-- Columns are taken where each fits the trace; else the fault is the first column's that doesn't.
+abbrev pub FitsOrFault : {T : Type 0} → ℕ → List ℕ → Result T PeriodicColumnShapeError → Type 0
+FitsOrFault trace_len lengths result = MatchResult result (λ _. first_fault trace_len 0 lengths ≡ None) (λ fault. first_fault trace_len 0 lengths ≡ Some fault)
+
+-- The values of columns are their entries in row i, counted round the end of each.
+abbrev pub TakeEntries : {K : Type 0} {E : Type 0} {A : Type 0} → (K → E) → K → List (Vec K A) → ℕ → List E → Type 0
+TakeEntries {K} {A = A} embed zero columns i values = (c : ℕ) (column : Vec K A) → slice_get columns c ≡ Some column
+    → slice_get values c ≡ Some (embed (slice_index_or column.items (i % length column.items) zero))

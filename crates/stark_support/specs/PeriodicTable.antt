@@ -13,3 +13,7 @@ pub record HasPeriodicValues {F : Type 0} (field : RingOps F) (inverse : F → F
   pub count : width ≡ length columns
   pub value : (r c : ℕ) (column : List F) → r < coset_size domain → slice_get columns c ≡ Some column
       → table_at values width period r c ≡ Some (periodic_value field inverse (root trace.log_size) (coset_size trace) field (λ x. x) column (coset_point field root domain r))
+
+-- So many rows further on a table has the same values.
+abbrev pub BeginsAgain : {F : Type 0} → List F → ℕ → ℕ → ℕ → Type 0
+BeginsAgain values width period rows = (r c : ℕ) → table_at values width period (r + rows) c ≡ table_at values width period r c

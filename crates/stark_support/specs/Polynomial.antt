@@ -67,3 +67,8 @@ abbrev pub quotient_by_root : {K : Type 0} → RingOps K → K → List K → Li
 quotient_by_root ring r [] = []
 quotient_by_root ring r (c ∷ []) = []
 quotient_by_root ring r (c ∷ (d ∷ p)) = value ring (d ∷ p) r ∷ quotient_by_root ring r (d ∷ p)
+
+-- Polynomials of degree below `size` that agree at `size` points agree everywhere.
+abbrev pub AgreementDecides : {K : Type 0} → RingOps K → ℕ → Type 0
+AgreementDecides {K} ring size = (p q points : List K) → HasDegreeBelow size p → HasDegreeBelow size q → size ≤ length points → IsWithoutRepeats points
+    → AllByRecursion (λ x. value ring p x ≡ value ring q x) points → (x : K) → value ring p x ≡ value ring q x

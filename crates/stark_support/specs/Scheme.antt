@@ -138,7 +138,7 @@ pub record SchemeOps (S F E C K T P X Y : Type 0) : Type 1 where
   pub log_min_trace_height : S → ℕ
   pub log_max_trace_height : S → ℕ
   -- Verifying refuses no true opening. Of the prover's own refusals this says nothing.
-  pub Whole : S → Type 0
+  pub IsComplete : S → Type 0
   -- The commitment, with the prover's data, stands for these matrices.
   pub Stands : S → K → T → List (CommittedMatrix F) → Type 0
   -- This call made the commitment.

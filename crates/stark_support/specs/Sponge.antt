@@ -60,3 +60,7 @@ pub record GrindingLaws {C F : Type 0} (passes : C → ℕ → F → Bool) (afte
   pub no_bits_keep : (state : C) (witness : F) → after_check state 0 witness ≡ state
   pub found_passes : (state : C) (bits : ℕ) (witness : F) → found state bits ≡ Some witness → passes state bits witness ≡ true
   pub none_passes : (state : C) (bits : ℕ) → found state bits ≡ None → (witness : F) → passes state bits witness ≡ false
+
+-- An element is drawn as so many coordinates, one after the other.
+abbrev pub DrawsInTurn : {C E T : Type 0} → (E → List T) → (C → E) → (C → T) → (C → C) → ℕ → Type 0
+DrawsInTurn {C} coordinates draw draw_one after_one n = (state : C) → coordinates (draw state) ≡ drawn_in_turn draw_one after_one n state

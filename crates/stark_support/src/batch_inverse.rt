@@ -16,7 +16,8 @@ struct Behind<F> {
 /// The products of the elements behind each one.
 fn products_behind<F: Field>(alloc: Global, values: &[F]) -> Result<Behind<F>, AllocError>
     ensures product { IfOk result (λ behind. behind.product ≡ list_product F.ring values.now) }
-    ensures rests { IfOk result (λ behind. AreRests F.ring values.now (length values.now) behind.rests.items) }
+    ensures rests { IfOk result (λ behind.
+        AreRests F.ring values.now (length values.now) behind.rests.items) }
 {
     let mut rests = Vec::with_capacity(alloc, values.len())?;
     let mut product = F::ONE;
@@ -27,9 +28,9 @@ fn products_behind<F: Field>(alloc: Global, values: &[F]) -> Result<Behind<F>, A
     Ok(Behind { product, rests })
 }
 
-/// The inverses of elements, none of which is zero, in their order; as many as are given. Takes one inversion and three
-/// products an element (Montgomery, "Speeding the Pollard and elliptic curve methods of factorization", 1987). Err only where
-/// memory was refused.
+/// The inverses of elements, none of which is zero, in their order; as many as are given. Takes one
+/// inversion and three products an element (Montgomery, "Speeding the Pollard and elliptic curve
+/// methods of factorization", 1987). Err only where memory was refused.
 pub fn batch_multiplicative_inverse<F: Field>(
     alloc: Global,
     values: &[F],

@@ -1,6 +1,6 @@
 //! Challengers: sponges that observe what a prover sends, and draw what a verifier asks.
 ghost use Rattle.std.specs.Prelude.{◌≡◌, ◌<◌, ℕ, Bool, Option, IfOk};
-ghost use Rattle.stark_support.specs.Sponge.{SpongeOps, GrindingLaws, after_search, drawn_in_turn, after_draws, observed_all, observed_bytes};
+ghost use Rattle.stark_support.specs.Sponge.{SpongeOps, GrindingLaws, after_search, after_draws, observed_all, observed_bytes, DrawsInTurn};
 
 use crate::field::{Element, ExtensionField, Field, PrimeField64};
 use std::alloc::{AllocError, Global};
@@ -48,9 +48,11 @@ pub trait FieldChallenger<F>: CanObserve<F> + CanSample<F> + CanSampleBits<usize
 
 /// A sponge that draws an element of an extension as its coordinates, the constant one first.
 pub trait ExtensionChallenger<F: Field, EF: ExtensionField<F>>: CanSample<F> + CanSample<EF> {
-    ghost draws_coordinates: { (state : Self) → EF.coordinates (⟦<Self as CanSample<EF>>⟧.sample_of state) ≡ drawn_in_turn ⟦<Self as CanSample<F>>⟧.sample_of ⟦<Self as CanSample<F>>⟧.after_sample EF.DIMENSION state };
+    ghost draws_coordinates: { DrawsInTurn EF.coordinates ⟦<Self as CanSample<EF>>⟧.sample_of
+        ⟦<Self as CanSample<F>>⟧.sample_of ⟦<Self as CanSample<F>>⟧.after_sample EF.DIMENSION };
 
-    ghost leaves_state: { (state : Self) → ⟦<Self as CanSample<EF>>⟧.after_sample state ≡ after_draws ⟦<Self as CanSample<F>>⟧.after_sample EF.DIMENSION state };
+    ghost leaves_state: { (state : Self) → ⟦<Self as CanSample<EF>>⟧.after_sample state
+        ≡ after_draws ⟦<Self as CanSample<F>>⟧.after_sample EF.DIMENSION state };
 }
 
 /// A sponge that asks for work: a witness that passes is rare.
@@ -64,7 +66,8 @@ pub trait GrindingChallenger {
     /// The witness that a search finds.
     ghost found: { Self → ℕ → Option Self.Witness };
 
-    /// A witness that passes, and the state is that after its check. None if no element passes, and the state is as before.
+    /// A witness that passes, and the state is that after its check. None if no element passes, and
+    /// the state is as before.
     fn grind(&mut self, bits: usize) -> Option<Self::Witness>
         ensures answer { result ≡ found self.old bits }
         ensures state { self.new ≡ after_search after_check self.old bits result };
@@ -78,11 +81,11 @@ pub trait GrindingChallenger {
 }
 
 /// All calls of a challenger that a transcript makes, in one record.
-pub trait TranscriptSponge<F, EF, K> {
+pub trait Sponge<F, EF, K> {
     ghost sponge: { SpongeOps Self F EF K };
 }
 
-impl<F, EF, K, C> TranscriptSponge<F, EF, K> for C
+impl<F, EF, K, C> Sponge<F, EF, K> for C
 where
     F: PrimeField64,
     C: CanObserve<F> + CanObserve<K> + CanSample<EF> + GrindingChallenger<Witness = F>,

@@ -1,5 +1,5 @@
 //! Fields, and the algebras over them, with their laws.
-ghost use Rattle.std.specs.Prelude.{◌≡◌, ◌≢◌, ◌<◌, ◌≤◌, ◌^◌, ℕ, true, Bool, List, map, Option, Some, None, length, refl, slice_index_or};
+ghost use Rattle.std.specs.Prelude.{◌≡◌, ◌≢◌, ◌<◌, ◌≤◌, ◌^◌, ℕ, true, Bool, List, map, Option, Some, None, length, refl};
 ghost use Rattle.std.specs.List.{slice_get};
 ghost use Rattle.stark_support.specs.Ring.{RingOps, FieldLaws, IsQuarticConstant, difference};
 ghost use Rattle.stark_support.specs.Operations.{AreExact, Operations, exact_binary, exact_unary, ring_operations};
@@ -7,20 +7,23 @@ ghost use Rattle.stark_support.specs.Combination.{linear_combination};
 ghost use Rattle.stark_support.specs.Embedding.{IsEmbedding};
 ghost use Rattle.stark_support.specs.Extension.{IsBasis, basis_sum};
 ghost use Rattle.stark_support.specs.TwoAdic.{TwoAdicLaws};
+ghost use Rattle.stark_support.specs.Lanes.{AddsProduct, EmbedsLanes};
+ghost use Rattle.stark_support.specs.FieldPair.{FieldsOps};
 
 use crate::packed::PairedValue;
 use std::ops::{Add, Mul, Neg, Sub};
 
-/// What a list of constraints needs of the elements of a field. It has no operator, so that a builder may name it by
-/// an equality of types.
+/// What a list of constraints needs of the elements of a field. It has no operator, so that a
+/// builder may name it by an equality of types.
 pub trait Element: Copy {
     ghost ONE: { Self };
 
     const ONE: Self;
 }
 
-/// Expressions over the elements of `F`: the elements of a field over `F`, packed values, trees of symbols.
-/// An expression may stand for a value without being it, as one that says that memory was refused.
+/// Expressions over the elements of `F`: the elements of a field over `F`, packed values, trees of
+/// symbols. An expression may stand for a value without being it, as one that says that memory was
+/// refused.
 pub trait Algebra<F>: From<F>
     + Add<Self, Output = Self>
     + Sub<Self, Output = Self>
@@ -47,19 +50,24 @@ pub trait Algebra<F>: From<F>
 
     ghost stands_itself: { (x : Self) → stands x x };
 
-    ghost embed_stands: { (k : F) (x : Self) → Self.from_gives k x → stands (operations.embed k) x };
+    ghost embed_stands: { (k : F) (x : Self) → Self.from_gives k x
+        → stands (operations.embed k) x };
 
-    ghost plus_stands: { (x y z v w : Self) → Self.add_gives x y z → stands v x → stands w y → stands (operations.plus v w) z };
+    ghost plus_stands: { (x y z v w : Self) → Self.add_gives x y z → stands v x → stands w y
+        → stands (operations.plus v w) z };
 
-    ghost minus_stands: { (x y z v w : Self) → Self.sub_gives x y z → stands v x → stands w y → stands (operations.minus v w) z };
+    ghost minus_stands: { (x y z v w : Self) → Self.sub_gives x y z → stands v x → stands w y
+        → stands (operations.minus v w) z };
 
-    ghost times_stands: { (x y z v w : Self) → Self.mul_gives x y z → stands v x → stands w y → stands (operations.times v w) z };
+    ghost times_stands: { (x y z v w : Self) → Self.mul_gives x y z → stands v x → stands w y
+        → stands (operations.times v w) z };
 
-    ghost negated_stands: { (x z v : Self) → Self.neg_gives x z → stands v x → stands (operations.negated v) z };
+    ghost negated_stands: { (x z v : Self) → Self.neg_gives x z → stands v x
+        → stands (operations.negated v) z };
 }
 
-/// An algebra each of whose values stands for itself alone, as those of a field and packed values do. It is an
-/// `Algebra` over its scalars.
+/// An algebra each of whose values stands for itself alone, as those of a field and packed values
+/// do. It is an `Algebra` over its scalars.
 pub trait ExactAlgebra: Copy
     + Drop
     + From<Self::Scalar>
@@ -76,7 +84,8 @@ pub trait ExactAlgebra: Copy
     ghost embedding: { Self.Scalar → Self };
 
     /// The operators and the conversion compute that, whatever they are handed.
-    ghost is_exact: { AreExact algebra_ring embedding Self.from_gives Self.can_add Self.can_sub Self.can_mul Self.can_neg Self.add_gives Self.sub_gives Self.mul_gives Self.neg_gives };
+    ghost is_exact: { AreExact algebra_ring embedding Self.from_gives Self.can_add Self.can_sub
+        Self.can_mul Self.can_neg Self.add_gives Self.sub_gives Self.mul_gives Self.neg_gives };
 }
 
 impl<A: ExactAlgebra> Algebra<A::Scalar> for A {
@@ -100,17 +109,21 @@ impl<A: ExactAlgebra> Algebra<A::Scalar> for A {
 
     ghost embed_stands = { A.is_exact.from_is };
 
-    ghost plus_stands = { λ x y z v w given. exact_binary A.algebra_ring.add x y z v w (A.is_exact.add_is x y z given) };
+    ghost plus_stands = { λ x y z v w given.
+        exact_binary A.algebra_ring.add x y z v w (A.is_exact.add_is x y z given) };
 
-    ghost minus_stands = { λ x y z v w given. exact_binary (difference A.algebra_ring) x y z v w (A.is_exact.sub_is x y z given) };
+    ghost minus_stands = { λ x y z v w given.
+        exact_binary (difference A.algebra_ring) x y z v w (A.is_exact.sub_is x y z given) };
 
-    ghost times_stands = { λ x y z v w given. exact_binary A.algebra_ring.mul x y z v w (A.is_exact.mul_is x y z given) };
+    ghost times_stands = { λ x y z v w given.
+        exact_binary A.algebra_ring.mul x y z v w (A.is_exact.mul_is x y z given) };
 
-    ghost negated_stands = { λ x z v given. exact_unary A.algebra_ring.neg x z v (A.is_exact.neg_is x z given) };
+    ghost negated_stands = { λ x z v given.
+        exact_unary A.algebra_ring.neg x z v (A.is_exact.neg_is x z given) };
 }
 
-/// A field. It is not an `Algebra<Self>`: that would bring `From<Self>` as a bound, which a generic function would keep
-/// apart from the `From<T>` that every type has.
+/// A field. It is not an `Algebra<Self>`: that would bring `From<Self>` as a bound, which a generic
+/// function would keep apart from the `From<T>` that every type has.
 pub trait Field: Element
     + Eq
     + Default
@@ -187,7 +200,8 @@ pub trait PackedField: Field {
     /// The sum of packed values, each times its coefficient.
     fn packed_sum(values: &[Self::Packing], coefficients: &[Self]) -> Self::Packing
         requires { length values.now ≡ length coefficients.now }
-        ensures { result ≡ linear_combination Self.Packing.operations Self.ZERO values.now coefficients.now };
+        ensures { result ≡ linear_combination Self.Packing.operations Self.ZERO values.now
+            coefficients.now };
 
     /// The lanes of packed values are added and multiplied as this field's elements.
     ghost packed_ring: { Self.Packing.lane_ring ≡ Self.ring };
@@ -211,7 +225,8 @@ pub trait PrimeField64: Field {
 
     ghost above: { 255 < ORDER };
 
-    /// Each number below the modulus is one of 64 bits, so that the bytes of different elements differ.
+    /// Each number below the modulus is one of 64 bits, so that the bytes of different elements
+    /// differ.
     ghost fits: { ORDER ≤ 2 ^ 64 };
 
     ghost below: { (x : Self) → number_of x < ORDER };
@@ -230,12 +245,34 @@ pub trait TwoAdicField: Field {
 
     const TWO_ADICITY: usize;
 
-    /// A generator of the group of `2 ^ bits` elements, the same one at each call; the square of the one of `bits + 1`.
+    /// A generator of the group of `2 ^ bits` elements, the same one at each call; the square of
+    /// the one of `bits + 1`.
     fn two_adic_generator(bits: usize) -> Self
         requires { bits ≤ TWO_ADICITY }
         ensures { result ≡ root bits };
 
     ghost two_adic: { TwoAdicLaws Self.ring TWO_ADICITY root Self.GENERATOR };
+}
+
+/// All that a field with two-adic roots and an extension of it compute, in one record.
+pub trait FieldPair<F> {
+    ghost fields: { FieldsOps F Self };
+}
+
+impl<F: TwoAdicField, EF: ExtensionField<F>> FieldPair<F> for EF {
+    ghost fields = { record {
+      base = F.ring;
+      base_inverse = F.inverse_of;
+      same = F.eq;
+      adicity = F.TWO_ADICITY;
+      root = F.root;
+      generator = F.GENERATOR;
+      ring = EF.ring;
+      inverse = EF.inverse_of;
+      embed = EF.embed;
+      dimension = EF.DIMENSION;
+      basis = EF.basis;
+    } };
 }
 
 /// A field over which `X^4 - QUARTIC_CONSTANT` has no factor.
@@ -277,19 +314,22 @@ pub trait ExtensionField<F: Field>: Field + Algebra<F> {
 
     /// The element with the coordinates; None if their number isn't `DIMENSION`.
     fn from_basis_coefficients_slice(coefficients: &[F]) -> Option<Self>
-        ensures as_many { length coefficients.now ≡ DIMENSION → result ≡ Some (basis_sum Self.ring (λ c. c) basis (map embed coefficients.now)) }
+        ensures as_many { length coefficients.now ≡ DIMENSION → result
+            ≡ Some (basis_sum Self.ring (λ c. c) basis (map embed coefficients.now)) }
         ensures other { length coefficients.now ≢ DIMENSION → result ≡ None };
 
     /// The sum of the basis times the coefficients; None if their number isn't `DIMENSION`.
     fn from_ext_basis_coefficients(coefficients: &[Self]) -> Option<Self>
-        ensures as_many { length coefficients.now ≡ DIMENSION → result ≡ Some (basis_sum Self.ring (λ c. c) basis coefficients.now) }
+        ensures as_many { length coefficients.now ≡ DIMENSION → result
+            ≡ Some (basis_sum Self.ring (λ c. c) basis coefficients.now) }
         ensures other { length coefficients.now ≢ DIMENSION → result ≡ None };
 
     ghost embeds: { IsEmbedding F.ring Self.ring embed };
 
     ghost is_basis: { IsBasis Self.ring embed DIMENSION basis coordinates };
 
-    /// As an algebra over the base field it computes what its ring does, and an element stands for itself alone.
+    /// As an algebra over the base field it computes what its ring does, and an element stands for
+    /// itself alone.
     ghost operations_above: { ⟦<Self as Algebra<F>>⟧.operations ≡ ring_operations Self.ring embed };
 
     ghost from_is: { (k : F) (x : Self) → ⟦<Self as From<F>>⟧.from_gives k x → x ≡ embed k };
@@ -297,8 +337,9 @@ pub trait ExtensionField<F: Field>: Field + Algebra<F> {
     ghost exact_above: { (v x : Self) → ⟦<Self as Algebra<F>>⟧.stands v x → x ≡ v };
 }
 
-/// An extension field whose elements are packed beside those of its base field. It is a trait of its own: as a part of
-/// `ExtensionField` its type keeps a trait's method from being generic in an extension.
+/// An extension field whose elements are packed beside those of its base field. It is a trait of
+/// its own: as a part of `ExtensionField` its type keeps a trait's method from being generic in an
+/// extension.
 pub trait PackedExtensionField<F: PackedField>: ExtensionField<F> {
     /// Packed values of this field, as many as the base field packs.
     type ExtensionPacking: PairedValue<Value = Self> + From<F::Packing>;
@@ -314,11 +355,13 @@ pub trait PackedExtensionField<F: PackedField>: ExtensionField<F> {
         coordinate: F::Packing,
     ) -> Self::ExtensionPacking
         requires { index < Self.DIMENSION }
-        ensures { (element : Self) → slice_get Self.basis index ≡ Some element → (i : ℕ) → i < Self.ExtensionPacking.WIDTH → slice_index_or (Self.ExtensionPacking.lanes result) i Self.ring.zero
-            ≡ Self.ring.add (Self.ring.mul element (slice_index_or (map Self.embed (F.Packing.lanes coordinate)) i Self.ring.zero)) (slice_index_or (Self.ExtensionPacking.lanes rest) i Self.ring.zero) };
+        ensures { AddsProduct Self.ring Self.embed Self.basis Self.ExtensionPacking.lanes
+            Self.ExtensionPacking.WIDTH index (F.Packing.lanes coordinate) rest result };
 
-    /// Packed elements of the base field that are turned into packed elements of this one are each embedded.
-    ghost from_packed_is: { (x : F.Packing) (y : Self.ExtensionPacking) → ⟦<Self::ExtensionPacking as From<F::Packing>>⟧.from_gives x y → Self.ExtensionPacking.lanes y ≡ map Self.embed (F.Packing.lanes x) };
+    /// Packed elements of the base field that are turned into packed elements of this one are each
+    /// embedded.
+    ghost from_packed_is: { EmbedsLanes Self.embed F.Packing.lanes Self.ExtensionPacking.lanes
+        ⟦<Self::ExtensionPacking as From<F::Packing>>⟧.from_gives };
 
     /// The lanes are added and multiplied as this field's elements.
     ghost extension_packed_ring: { Self.ExtensionPacking.lane_ring ≡ Self.ring };

@@ -5,9 +5,8 @@
 //! proximity" (ICALP 2018), where each challenge is the point itself, squared again and again.
 ghost use Rattle.std.specs.Prelude.{◌≡◌, ◌*◌, ◌<◌, ◌/◌, IfOk, length, map};
 ghost use Rattle.std.specs.Int.{IsPowerOfTwo};
-ghost use Rattle.stark_support.specs.Folding.{IsValueThrough};
-ghost use Rattle.stark_support.specs.Interpolation.{interpolation};
-ghost use Rattle.stark_support.specs.Points.{powers_from};
+ghost use Rattle.stark_support.specs.Folding.{KeepsValues};
+ghost use Rattle.stark_support.specs.Points.{interpolation_at_powers};
 ghost use Rattle.stark_support.specs.Polynomial.{value_over};
 ghost use Rattle.stark_support.specs.TwoAdic.{HasOrder};
 
@@ -43,10 +42,9 @@ fn folded_values<F: Field, EF: ExtensionField<F>>(
     requires some { 0 < length values.now }
     requires even { 2 * (length values.now / 2) ≡ length values.now }
     ensures number { IfOk result (λ folded. length folded.items ≡ length values.now / 2) }
-    ensures through { IfOk result (λ folded. (v : EF)
-        → IsValueThrough EF.ring (EF.embed generator) values.now point v
-        → IsValueThrough EF.ring (EF.embed (F.ring.mul generator generator)) folded.items
-        (EF.ring.mul point point) v) }
+    ensures through { IfOk result (λ folded.
+        KeepsValues EF.ring (EF.embed generator) values.now point
+        (EF.embed (F.ring.mul generator generator)) folded.items) }
 {
     let count = values.len() / 2;
     let half: EF = EF::from_base((F::ONE + F::ONE).inverse());
@@ -73,8 +71,9 @@ pub(crate) fn value_through<F: Field, EF: ExtensionField<F>>(
 ) -> Result<EF, AllocError>
     requires order { HasOrder F.ring generator (length values.now) }
     requires power { IsPowerOfTwo (length values.now) }
-    ensures { IfOk result (λ value. value ≡ value_over EF.ring EF.embed (interpolation F.ring
-        F.inverse_of (powers_from F.ring generator 0 (length values.now)) values.now) point) }
+    ensures { IfOk result (λ value. value
+        ≡ value_over EF.ring EF.embed (interpolation_at_powers F.ring F.inverse_of generator
+        values.now) point) }
 {
     let mut left = embedded(alloc, values)?;
     let mut root = generator;

@@ -43,8 +43,9 @@ fn times_root<F: Field>(alloc: Global, root: F, p: &[F]) -> Result<Vec<F>, Alloc
     polynomial_sum(alloc, &times_x, &multiple)
 }
 
-/// The coefficients of the polynomial of degree below the number of the points that takes the values at them, constant
-/// first and as many as points. It takes a time that grows with the square of that number.
+/// The coefficients of the polynomial of degree below the number of the points that takes the
+/// values at them, constant first and as many as points. It takes a time that grows with the square
+/// of that number.
 pub fn interpolate<F: Field>(
     alloc: Global,
     points: &[F],
@@ -52,7 +53,8 @@ pub fn interpolate<F: Field>(
 ) -> Result<Vec<F>, AllocError>
     requires same_length { length points.now ≡ length values.now }
     requires distinct { IsWithoutRepeats points.now }
-    ensures coefficients { IfOk result (λ p. p.items ≡ interpolation F.ring F.inverse_of points.now values.now) }
+    ensures coefficients { IfOk result (λ p. p.items
+        ≡ interpolation F.ring F.inverse_of points.now values.now) }
     ensures takes { IfOk result (λ p. TakesValues F.ring p.items points.now values.now) }
 {
     let mut found: Vec<F> = Vec::new(alloc);

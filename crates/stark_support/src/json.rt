@@ -63,8 +63,8 @@ pub trait JsonCodec: Sized {
     ghost reads_back: { (x : Self) → reading (writing x) ≡ Some x };
 }
 
-/// A type none of whose values is spelled by null, as the elements of fields and commitments: in its place null can say that
-/// there is no value.
+/// A type none of whose values is spelled by null, as the elements of fields and commitments: in
+/// its place null can say that there is no value.
 pub trait NeverNull: JsonCodec {
     ghost never_null: { (x : Self) → Self.writing x ≢ null };
 }
@@ -98,7 +98,8 @@ fn each_list_from_json<T: JsonCodec + Drop>(
     alloc: Global,
     values: &[Value],
 ) -> Result<Vec<Vec<T>>, JsonFault>
-    ensures { Gives (λ v. map (λ list. list.items) v.items) result (each_at (array_at T.reading) (items_view values.now)) }
+    ensures { Gives (λ v. map (λ list. list.items) v.items) result
+        (each_at (array_at T.reading) (items_view values.now)) }
 {
     let mut found = Vec::new(alloc);
     for value in values {
@@ -114,7 +115,8 @@ pub fn lists_from_json<T: JsonCodec + Drop>(
     alloc: Global,
     value: &Value,
 ) -> Result<Vec<Vec<T>>, JsonFault>
-    ensures { Gives (λ v. map (λ list. list.items) v.items) result (array_at (array_at T.reading) (view value.now)) }
+    ensures { Gives (λ v. map (λ list. list.items) v.items) result
+        (array_at (array_at T.reading) (view value.now)) }
 {
     let Some(values) = value.as_array() else {
         return Err(JsonFault::Invalid);

@@ -24,15 +24,15 @@ mod vectorized;
 pub use batch_inverse::batch_multiplicative_inverse;
 pub use challenger::{
     CanObserve, CanSample, CanSampleBits, ExtensionChallenger, FieldChallenger, GrindingChallenger,
-    TranscriptSponge, observe_bytes, observe_slice,
+    Sponge, observe_bytes, observe_slice,
 };
 pub use claims::{MatrixClaim, OpenedRounds, OpeningClaim, OpeningRound};
 pub use domain::{
     DomainShape, LagrangeSelectors, PolynomialSpace, points_differ, vanishing_is_constant,
 };
 pub use field::{
-    Algebra, Element, ExactAlgebra, ExtensionField, Field, PackedExtensionField, PackedField,
-    PrimeField64, QuarticBase, TwoAdicField, is_zero,
+    Algebra, Element, ExactAlgebra, ExtensionField, Field, FieldPair, PackedExtensionField,
+    PackedField, PrimeField64, QuarticBase, TwoAdicField, is_zero,
 };
 pub use interpolation::interpolate;
 pub use json::{
@@ -48,7 +48,7 @@ pub use polynomial::{
     roots_are_few, vanishing_divides,
 };
 pub use powers::{batched_linear_combination, packed_linear_combination, power_of, squared_times};
-pub use scheme::{DomainVal, Pcs, SchemeFault, UnivariateStarkPcs};
+pub use scheme::{DomainVal, Opening, Pcs, SchemeFault, UnivariateStarkPcs};
 pub use security::{FriRegime, GrindingSites};
 pub use util::{checked_log_size_sum, checked_pow2, log2_ceil_usize, log2_strict_usize};
 pub use vectorized::{OfBase, OfExtension, PackedPair, Vectorized, VectorizedExt};

@@ -1,6 +1,7 @@
 //! Rows of values, owned and borrowed.
 ghost use Rattle.std.specs.Prelude.{◌≡◌, ◌<◌, ◌≤◌, ◌+◌, ◌*◌, ◌/◌, ◌%◌, ◌^◌, ◌++◌, ℕ, Some, length, IfOk, OnOk, OnErr, vec_capacity};
 ghost use Rattle.std.specs.List.{flat_map, slice_get, slice_range};
+ghost use Rattle.stark_support.specs.MatrixRows.{HasEntriesDown, HaveEntriesDown, entry_round};
 
 use crate::field::{ExtensionField, Field};
 use crate::packed::{PackedValue, packed_from_fn};
@@ -54,7 +55,8 @@ impl<T> RowMajorMatrix<T> {
     /// The row of this index.
     pub fn row(&self, r: usize) -> &[T]
         requires { r < length self.now.values.items / self.now.width }
-        ensures { result.now ≡ slice_range self.now.values.items (r * self.now.width) (r * self.now.width + self.now.width) }
+        ensures { result.now ≡ slice_range self.now.values.items (r * self.now.width)
+            (r * self.now.width + self.now.width) }
     {
         let start = r * self.width;
         &self.values[start..start + self.width]
@@ -89,32 +91,37 @@ impl<T: Copy> RowMajorMatrix<T> {
     fn cell_down(&self, r: usize, further: usize, column: usize) -> T
         requires rows { 0 < length self.now.values.items / self.now.width }
         requires column { column < self.now.width }
-        ensures { slice_get self.now.values.items (((r + further) % (length self.now.values.items / self.now.width)) * self.now.width + column) ≡ Some result }
+        ensures { entry_round self.now.values.items self.now.width (r + further) column
+            ≡ Some result }
     {
         self.values[row_after(r, further, self.height()) * self.width + column]
     }
 
-    /// The packed values of a column in the rows `r`, `r + 1`, .., a row a lane, taken round the end.
+    /// The packed values of a column in the rows `r`, `r + 1`, .., a row a lane, taken round the
+    /// end.
     fn packed_round<P: PackedValue<Value = T>>(&self, r: usize, column: usize) -> P
         requires rows { 0 < length self.now.values.items / self.now.width }
         requires column { column < self.now.width }
-        ensures { (i : ℕ) → i < P.WIDTH → slice_get (P.lanes result) i
-            ≡ slice_get self.now.values.items (((r + i) % (length self.now.values.items / self.now.width)) * self.now.width + column) }
+        ensures { HasEntriesDown P.lanes P.WIDTH self.now.values.items self.now.width r column
+            result }
     {
         packed_from_fn(
             |lane| -> T
                 requires rows { 0 < length self.now.values.items / self.now.width }
                 requires column { column < self.now.width }
-                ensures { slice_get self.entry.now.values.items (((r + lane) % (length self.entry.now.values.items / self.entry.now.width)) * self.entry.now.width + column) ≡ Some result }
+                ensures { entry_round self.entry.now.values.items self.entry.now.width (r + lane)
+                    column ≡ Some result }
             { self.cell_down(r, lane, column) },
         )
     }
 
-    /// The same where no row lies past the end: then no row's number has to be divided.
+    /// The packed values of a column in the rows `r`, `r + 1`, .. where none lies past the end:
+    /// then no row's number has to be divided.
     fn packed_straight<P: PackedValue<Value = T>>(&self, r: usize, column: usize) -> P
         requires rows { r + P.WIDTH ≤ length self.now.values.items / self.now.width }
         requires column { column < self.now.width }
-        ensures { (i : ℕ) → i < P.WIDTH → slice_get (P.lanes result) i ≡ slice_get self.now.values.items ((r + i) * self.now.width + column) }
+        ensures { (i : ℕ) → i < P.WIDTH → slice_get (P.lanes result) i
+            ≡ slice_get self.now.values.items ((r + i) * self.now.width + column) }
     {
         let mut place = r * self.width + column;
         let mut packed = P::from(self.values[place]);
@@ -125,13 +132,14 @@ impl<T: Copy> RowMajorMatrix<T> {
         packed
     }
 
-    /// The packed values of a column in row `r` and those after it, a row a lane, taken round the end; `left` rows begin there.
+    /// The packed values of a column in row `r` and those after it, a row a lane, taken round the
+    /// end; `left` rows begin there.
     fn packed_down<P: PackedValue<Value = T>>(&self, r: usize, left: usize, column: usize) -> P
         requires some { 0 < left }
         requires rows { r + left ≡ length self.now.values.items / self.now.width }
         requires column { column < self.now.width }
-        ensures { (i : ℕ) → i < P.WIDTH → slice_get (P.lanes result) i
-            ≡ slice_get self.now.values.items (((r + i) % (length self.now.values.items / self.now.width)) * self.now.width + column) }
+        ensures { HasEntriesDown P.lanes P.WIDTH self.now.values.items self.now.width r column
+            result }
     {
         if P::WIDTH <= left {
             self.packed_straight(r, column)
@@ -140,8 +148,8 @@ impl<T: Copy> RowMajorMatrix<T> {
         }
     }
 
-    /// Puts `vertically_packed_row` in a lent buffer, in place of what it has. Err only where the buffer has no room for it
-    /// and memory was refused.
+    /// Puts `vertically_packed_row` in a lent buffer, in place of what it has. Err only where the
+    /// buffer has no room for it and memory was refused.
     pub fn vertically_packed_row_into<P: PackedValue<Value = T>>(
         &self,
         r: usize,
@@ -151,8 +159,8 @@ impl<T: Copy> RowMajorMatrix<T> {
         ensures room { OnErr result (vec_capacity packed.old < self.now.width) }
         ensures kept_room { vec_capacity packed.old ≤ vec_capacity packed.new }
         ensures number { OnOk result (length packed.new.items ≡ self.now.width) }
-        ensures lanes { OnOk result ((c : ℕ) (p : P) → slice_get packed.new.items c ≡ Some p → (i : ℕ) → i < P.WIDTH → slice_get (P.lanes p) i
-            ≡ slice_get self.now.values.items (((r + i) % (length self.now.values.items / self.now.width)) * self.now.width + c)) }
+        ensures lanes { OnOk result (HaveEntriesDown P.lanes P.WIDTH self.now.values.items
+            self.now.width r packed.new.items) }
     {
         packed.clear();
         let height = self.height();
@@ -163,8 +171,8 @@ impl<T: Copy> RowMajorMatrix<T> {
         Ok(())
     }
 
-    /// For each column the packed values of the rows `r`, `r + 1`, .., a row a lane, taken round the end. Err only where
-    /// memory was refused.
+    /// For each column the packed values of the rows `r`, `r + 1`, .., a row a lane, taken round
+    /// the end. Err only where memory was refused.
     pub fn vertically_packed_row<P: PackedValue<Value = T>>(
         &self,
         alloc: Global,
@@ -172,8 +180,8 @@ impl<T: Copy> RowMajorMatrix<T> {
     ) -> Result<Vec<P>, AllocError>
         requires { 0 < length self.now.values.items / self.now.width }
         ensures number { IfOk result (λ packed. length packed.items ≡ self.now.width) }
-        ensures lanes { IfOk result (λ packed. (c : ℕ) (p : P) → slice_get packed.items c ≡ Some p → (i : ℕ) → i < P.WIDTH → slice_get (P.lanes p) i
-            ≡ slice_get self.now.values.items (((r + i) % (length self.now.values.items / self.now.width)) * self.now.width + c)) }
+        ensures lanes { IfOk result (λ packed.
+            HaveEntriesDown P.lanes P.WIDTH self.now.values.items self.now.width r packed.items) }
     {
         let mut packed = Vec::new(alloc);
         self.vertically_packed_row_into(r, &mut packed)?;
@@ -199,7 +207,8 @@ impl<EF> RowMajorMatrix<EF> {
     where
         EF: ExtensionField<F>,
         requires { self.width * EF.DIMENSION < 2 ^ 64 }
-        ensures values { IfOk result (λ flat. flat.values.items ≡ flat_map EF.coordinates self.values.items) }
+        ensures values { IfOk result (λ flat. flat.values.items
+            ≡ flat_map EF.coordinates self.values.items) }
         ensures width { IfOk result (λ flat. flat.width ≡ self.width * EF.DIMENSION) }
     {
         let mut values = Vec::new(alloc);

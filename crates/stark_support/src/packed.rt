@@ -7,8 +7,8 @@ ghost use Rattle.stark_support.specs.PairRoom.{PairFitsInMemory};
 
 use crate::field::Algebra;
 
-/// Several values, on which one operation works lane by lane. It asks no field of the values: a field names its packed
-/// values, and traits may not name one another in a circle.
+/// Several values, on which one operation works lane by lane. It asks no field of the values: a
+/// field names its packed values, and traits may not name one another in a circle.
 pub trait PackedValue: Copy + Algebra<Self::Value> {
     type Value: Copy;
 
@@ -33,12 +33,13 @@ pub trait PackedValue: Copy + Algebra<Self::Value> {
         requires { lane < WIDTH }
         ensures { slice_get (lanes self.now) lane ≡ Some result };
 
-    /// The same values but for one lane.
+    /// These values, with another one in this lane.
     fn with_lane(self, lane: usize, value: Self::Value) -> Self
         requires { lane < WIDTH }
         ensures { lanes result ≡ slice_set (lanes self) lane value };
 
-    ghost lane_by_lane: { IsLaneByLane lane_ring ⟦<Self as Algebra<Self::Value>>⟧.operations WIDTH lanes };
+    ghost lane_by_lane: { IsLaneByLane lane_ring ⟦<Self as Algebra<Self::Value>>⟧.operations WIDTH
+        lanes };
 
     /// A packed value stands for itself alone.
     ghost exact_lanes: { (v x : Self) → ⟦<Self as Algebra<Self::Value>>⟧.stands v x → x ≡ v };
@@ -56,7 +57,8 @@ pub trait PairedValue: PackedValue {
 /// The packed values whose lane `i` has what `value_of` answers at `i`.
 pub fn packed_from_fn<P: PackedValue, G: Fn(usize) -> P::Value + Drop>(value_of: G) -> P
     requires { G.IsAlwaysCallable value_of }
-    ensures { (lane : ℕ) → lane < P.WIDTH → (value : P.Value) × (G.post value_of lane value) × (slice_get (P.lanes result) lane ≡ Some value) }
+    ensures { (lane : ℕ) → lane < P.WIDTH → (value : P.Value) × (G.post value_of lane value)
+        × (slice_get (P.lanes result) lane ≡ Some value) }
 {
     let mut packed = P::from(value_of(0));
     for lane in 1..P::WIDTH {

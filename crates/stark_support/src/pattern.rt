@@ -58,7 +58,13 @@ impl Interaction {
         label: &'static str,
         length: Length,
     ) -> Interaction
-        ensures { step_view result ≡ record { hierarchy = hierarchy; kind = kind; label = label.now; length = length; degree = 0 } }
+        ensures { step_view result ≡ record {
+          hierarchy = hierarchy;
+          kind = kind;
+          label = label.now;
+          length = length;
+          degree = 0;
+        } }
     {
         Interaction::algebra(hierarchy, kind, label, length, 0)
     }
@@ -71,7 +77,13 @@ impl Interaction {
         length: Length,
         degree: usize,
     ) -> Interaction
-        ensures { step_view result ≡ record { hierarchy = hierarchy; kind = kind; label = label.now; length = length; degree = degree } }
+        ensures { step_view result ≡ record {
+          hierarchy = hierarchy;
+          kind = kind;
+          label = label.now;
+          length = length;
+          degree = degree;
+        } }
     {
         Interaction {
             hierarchy,
@@ -84,7 +96,13 @@ impl Interaction {
 
     /// A step that carries no value.
     pub fn marker(hierarchy: Hierarchy, kind: Kind, label: &'static str) -> Interaction
-        ensures { step_view result ≡ record { hierarchy = hierarchy; kind = kind; label = label.now; length = Length.Nothing; degree = 0 } }
+        ensures { step_view result ≡ record {
+          hierarchy = hierarchy;
+          kind = kind;
+          label = label.now;
+          length = Length.Nothing;
+          degree = 0;
+        } }
     {
         Interaction::opaque(hierarchy, kind, label, Length::Nothing)
     }
@@ -178,7 +196,8 @@ fn push_number(bytes: &mut Vec<u8>, n: usize) -> Result<(), AllocError>
 
 #[tactic(auto, using(crate::specs::SeedFacts::step_joined))]
 fn push_step(bytes: &mut Vec<u8>, step: &Interaction) -> Result<(), AllocError>
-    ensures { IfOk result (λ _. bytes.new.items ≡ bytes.old.items ++ step_bytes (step_view step.now)) }
+    ensures { IfOk result (λ _. bytes.new.items
+        ≡ bytes.old.items ++ step_bytes (step_view step.now)) }
 {
     let label = step.label.as_bytes();
     bytes.push(step.hierarchy.byte())?;
@@ -192,7 +211,8 @@ fn push_step(bytes: &mut Vec<u8>, step: &Interaction) -> Result<(), AllocError>
 }
 
 fn push_steps(bytes: &mut Vec<u8>, steps: &[Interaction]) -> Result<(), AllocError>
-    ensures { IfOk result (λ _. bytes.new.items ≡ bytes.old.items ++ steps_bytes (map step_view steps.now)) }
+    ensures { IfOk result (λ _. bytes.new.items
+        ≡ bytes.old.items ++ steps_bytes (map step_view steps.now)) }
 {
     for step in steps {
         push_step(&mut *bytes, step)?;
@@ -210,7 +230,8 @@ fn push_items(bytes: &mut Vec<u8>, items: &[usize]) -> Result<(), AllocError>
     Ok(())
 }
 
-/// What tells one instance of a protocol from another: bytes that are observed before anything else.
+/// What tells one instance of a protocol from another: bytes that are observed before anything
+/// else.
 #[derive(Debug, Drop)]
 pub struct DomainSeparator {
     seed: Vec<u8>,
@@ -225,14 +246,16 @@ impl Model for DomainSeparator {
 }
 
 impl DomainSeparator {
-    /// Of the protocol's name, its steps and the numbers of the instance. It is Err only where memory was refused.
+    /// Of the protocol's name, its steps and the numbers of the instance. It is Err only where
+    /// memory was refused.
     pub fn new(
         alloc: Global,
         protocol: &str,
         pattern: &InteractionPattern,
         instance: &[usize],
     ) -> Result<DomainSeparator, AllocError>
-        ensures { IfOk result (λ separator. separator ≡ seed_of protocol.now pattern.now instance.now) }
+        ensures { IfOk result (λ separator. separator
+            ≡ seed_of protocol.now pattern.now instance.now) }
     {
         let name = protocol.as_bytes();
         let mut seed = Vec::new(alloc);

@@ -1,8 +1,7 @@
 //! Periodic columns.
-ghost use Rattle.std.specs.Prelude.{◌≡◌, ◌≤◌, ◌%◌, ℕ, None, Some, All, IfOk, MatchResult, length, map, slice_index_or, vec_len};
-ghost use Rattle.std.specs.List.{slice_get};
+ghost use Rattle.std.specs.Prelude.{◌≡◌, ◌≤◌, ◌%◌, ℕ, None, Some, All, IfOk, length, map, vec_len};
 ghost use Rattle.std.specs.Int.{IsPowerOfTwo};
-ghost use Rattle.stark_support.specs.Periodic.{ColumnFits, column_fault, first_fault, periodic_value};
+ghost use Rattle.stark_support.specs.Periodic.{ColumnFits, column_fault, first_fault, periodic_value, FitsOrFault, TakeEntries, periodic_values};
 ghost use Rattle.stark_support.specs.Powers.{power};
 ghost use Rattle.stark_support.specs.TwoAdic.{HasOrder};
 
@@ -12,8 +11,8 @@ use crate::powers::power_of;
 use std::alloc::{AllocError, Global};
 use thiserror::Error;
 
-/// Why a periodic column fits no trace of the given length; the first column at fault is named, and of its faults the first
-/// in this order.
+/// Why a periodic column fits no trace of the given length; the first column at fault is named, and
+/// of its faults the first in this order.
 #[derive(Debug, Drop, Error)]
 pub enum PeriodicColumnShapeError {
     /// The column has no value.
@@ -27,7 +26,8 @@ pub enum PeriodicColumnShapeError {
     TooLong { column: usize },
 }
 
-/// Columns that repeat down a trace of `trace_len` rows: the length of each is a power of two from 1 to `trace_len`.
+/// Columns that repeat down a trace of `trace_len` rows: the length of each is a power of two from
+/// 1 to `trace_len`.
 #[derive(Drop)]
 pub struct PeriodicColumns<'a, F> {
     pub columns: &'a [Vec<F>],
@@ -65,18 +65,19 @@ fn first_fault<F>(columns: &[Vec<F>], trace_len: usize) -> Option<PeriodicColumn
 }
 
 impl<'a, F> PeriodicColumns<'a, F> {
-    /// The columns beside a trace of `trace_len` rows. Err with the fault of the first column that has one: `Empty`,
-    /// `NotPowerOfTwo` or `TooLong`, tested in this order. It takes no memory.
+    /// The columns beside a trace of `trace_len` rows. Err with the fault of the first column that
+    /// has one: `Empty`, `NotPowerOfTwo` or `TooLong`, tested in this order. It takes no memory.
     pub fn new(
         columns: &'a [Vec<F>],
         trace_len: usize,
     ) -> Result<PeriodicColumns<'a, F>, PeriodicColumnShapeError>
         ensures columns { IfOk result (λ fitting. fitting.columns.now ≡ columns.now) }
         ensures trace_len { IfOk result (λ fitting. fitting.trace_len ≡ trace_len) }
-        ensures powers { IfOk result (λ fitting. All (λ column. IsPowerOfTwo (vec_len column)) fitting.columns.now) }
-        ensures within { IfOk result (λ fitting. All (λ column. vec_len column ≤ trace_len) fitting.columns.now) }
-        ensures fault { MatchResult result (λ _. first_fault trace_len 0 (map vec_len columns.now) ≡ None)
-            (λ fault. first_fault trace_len 0 (map vec_len columns.now) ≡ Some fault) }
+        ensures powers { IfOk result (λ fitting.
+            All (λ column. IsPowerOfTwo (vec_len column)) fitting.columns.now) }
+        ensures within { IfOk result (λ fitting.
+            All (λ column. vec_len column ≤ trace_len) fitting.columns.now) }
+        ensures fault { FitsOrFault trace_len (map vec_len columns.now) result }
     {
         match first_fault(columns, trace_len) {
             Some(fault) => Err(fault),
@@ -98,7 +99,8 @@ fn periodic_value<F: Field, EF: ExtensionField<F>>(
     requires height { IsPowerOfTwo height }
     requires power { IsPowerOfTwo (length column.now) }
     requires within { length column.now ≤ height }
-    ensures { IfOk result (λ value. value ≡ periodic_value F.ring F.inverse_of generator height EF.ring EF.embed column.now point) }
+    ensures { IfOk result (λ value. value
+        ≡ periodic_value F.ring F.inverse_of generator height EF.ring EF.embed column.now point) }
 {
     let repeats = (height / column.len()) as u64;
     let value = value_through(
@@ -111,10 +113,11 @@ fn periodic_value<F: Field, EF: ExtensionField<F>>(
 }
 
 impl<F: Field> PeriodicColumns<'_, F> {
-    /// The columns' values at `point`, where `generator` generates the domain of the trace: of a column of length `P` beside
-    /// `N` rows that is the value at `point^(N/P)` of the polynomial of degree below `P` that takes the column on the group of
-    /// `P` points. So at the point of row `i` it is the column's entry `i`, counted round its end.
-    /// It takes a time that grows with the columns' lengths, and as much memory as the longest.
+    /// The columns' values at `point`, where `generator` generates the domain of the trace: of a
+    /// column of length `P` beside `N` rows that is the value at `point^(N/P)` of the polynomial of
+    /// degree below `P` that takes the column on the group of `P` points. So at the point of row
+    /// `i` it is the column's entry `i`, counted round its end. It takes a time that grows with the
+    /// columns' lengths, and as much memory as the longest.
     pub fn values_at<EF: ExtensionField<F>>(
         &self,
         alloc: Global,
@@ -123,10 +126,11 @@ impl<F: Field> PeriodicColumns<'_, F> {
     ) -> Result<Vec<EF>, AllocError>
         requires order { HasOrder F.ring generator self.now.trace_len }
         requires height { IsPowerOfTwo self.now.trace_len }
-        ensures values { IfOk result (λ values. values.items
-            ≡ map (λ column. periodic_value F.ring F.inverse_of generator self.now.trace_len EF.ring EF.embed column.items point) self.now.columns.now) }
-        ensures rows { IfOk result (λ values. (i : ℕ) → point ≡ EF.embed (power F.ring generator i)
-            → (c : ℕ) (column : _) → slice_get self.now.columns.now c ≡ Some column → slice_get values.items c ≡ Some (EF.embed (slice_index_or column.items (i % length column.items) F.ring.zero))) }
+        ensures values { IfOk result (λ v. v.items
+            ≡ periodic_values F.ring F.inverse_of generator self.now.trace_len EF.ring EF.embed
+            self.now.columns.now point) }
+        ensures rows { IfOk result (λ v. (i : ℕ) → point ≡ EF.embed (power F.ring generator i)
+            → TakeEntries EF.embed F.ring.zero self.now.columns.now i v.items) }
     {
         let mut values = Vec::new(alloc);
         for column in self.columns {

@@ -1,9 +1,9 @@
 //! Tables of periodic columns' values on a domain.
-ghost use Rattle.std.specs.Prelude.{◌≡◌, ◌≤◌, ◌<◌, ◌+◌, ◌*◌, ◌==◌, ℕ, Some, length};
-ghost use Rattle.stark_support.specs.PeriodicTable.{table_at};
+ghost use Rattle.std.specs.Prelude.{◌≡◌, ◌≤◌, ◌<◌, ◌+◌, ◌*◌, ◌==◌, Some, length};
+ghost use Rattle.stark_support.specs.PeriodicTable.{table_at, BeginsAgain};
 
-/// Values of columns at the points of a domain, a row a point. The rows begin again after `period` of them, and no more
-/// are kept.
+/// Values of columns at the points of a domain, a row a point. The rows begin again after `period`
+/// of them, and no more are kept.
 #[derive(Debug, Drop)]
 pub struct PeriodicLdeTable<F> {
     pub values: Vec<F>,
@@ -43,11 +43,12 @@ impl<F> PeriodicLdeTable<F> {
         self.width == 0
     }
 
-    /// After how many groups of `group` rows the values begin again: at least one, and a row so many groups further on has
-    /// the same values.
+    /// After how many groups of `group` rows the values begin again: at least one, and a row so
+    /// many groups further on has the same values.
     pub fn packed_group_period(&self, group: usize) -> usize
         ensures at_least_one { 1 ≤ result }
-        ensures begins_again { (r c : ℕ) → table_at self.now.values.items self.now.width self.now.period (r + result * group) c ≡ table_at self.now.values.items self.now.width self.now.period r c }
+        ensures begins_again { BeginsAgain self.now.values.items self.now.width self.now.period
+            (result * group) }
     {
         if group % self.period == 0 {
             return 1;
@@ -63,7 +64,8 @@ impl<F: Copy> PeriodicLdeTable<F> {
     /// The value of a column at a point.
     pub fn get(&self, row: usize, column: usize) -> F
         requires { column < self.now.width }
-        ensures { table_at self.now.values.items self.now.width self.now.period row column ≡ Some result }
+        ensures { table_at self.now.values.items self.now.width self.now.period row column
+            ≡ Some result }
     {
         self.values[row % self.period * self.width + column]
     }

@@ -1,16 +1,15 @@
 //! Commitment schemes for columns of polynomials.
-ghost use Rattle.std.specs.Prelude.{◌≡◌, ◌≤◌, ◌<◌, ◌*◌, ◌^◌, ◌/◌, ℕ, Bool, List, [], ◌∷◌, IfErr, IfOk, IfSome, Some, is_some, length, map, slice_get};
-ghost use Rattle.std.specs.List.{AllByRecursion};
+ghost use Rattle.std.specs.Prelude.{◌≡◌, ◌≤◌, ◌<◌, ◌*◌, ◌^◌, ◌/◌, ℕ, Bool, IfOk, IfSome, is_some, length};
 ghost use Rattle.std.specs.Int.{IsPowerOfTwo};
-ghost use Rattle.stark_support.specs.Claims.{IfRefused, claim_view, opened_view, round_view};
+ghost use Rattle.stark_support.specs.Claims.{IfRefusal, claims_view, rounds_view};
 ghost use Rattle.stark_support.specs.Coset.{coset_size};
-ghost use Rattle.stark_support.specs.PeriodicTable.{HasPeriodicValues};
-ghost use Rattle.stark_support.specs.Scheme.{AreQuotientChunks, CommittedMatrix, HasRows, OpenedRound, QuotientChunk, RoundStands, SchemeLaws, SchemeOps, TakesRows, committed_chunk, handed, matrix_row, natural_coset, true_claim, true_values, zk_bits};
+ghost use Rattle.stark_support.specs.Scheme.{SchemeLaws, SchemeOps, natural_coset, zk_bits};
 ghost use Rattle.stark_support.specs.declared.scheme.SchemeFault.TheVariants.{OutOfMemory};
+ghost use Rattle.stark_support.specs.SchemeClauses.{AcceptsClaims, CommitsChunks, CommitsColumns, CommitsRows, EvaluatesRows, IsTableOf, OpeningOps, OpensTrueValues, ProvesTrueClaims};
 
 use crate::claims::{OpenedRounds, OpeningClaim, OpeningRound};
 use crate::domain::PolynomialSpace;
-use crate::field::ExtensionField;
+use crate::field::{ExtensionField, FieldPair};
 use crate::matrix::RowMajorMatrix;
 use crate::periodic::PeriodicColumns;
 use crate::periodic_table::PeriodicLdeTable;
@@ -47,7 +46,8 @@ impl<T: Drop, E> From<AllocFailed<T>> for SchemeFault<E> {
 /// The elements of the field that a scheme's domains lie in.
 pub type DomainVal<D> = <D as PolynomialSpace>::Val;
 
-/// A scheme that commits to matrices. A committed column is a polynomial of degree below the size of the matrix's domain.
+/// A scheme that commits to matrices. A committed column is a polynomial of degree below the size
+/// of the matrix's domain.
 pub trait Pcs<EF, C>
 where
     EF: ExtensionField<DomainVal<Self::Domain>>,
@@ -66,7 +66,8 @@ where
 
     ghost ZK: { Bool };
 
-    ghost scheme: { SchemeOps Self Self.Domain.Val EF C Self.Commitment Self.ProverData Self.Proof Self.Error Self.ProverError };
+    ghost scheme: { SchemeOps Self Self.Domain.Val EF C Self.Commitment Self.ProverData Self.Proof
+        Self.Error Self.ProverError };
 
     /// Whether the scheme masks what it commits to.
     const ZK: bool;
@@ -77,7 +78,8 @@ where
         requires within { degree ≤ 2 ^ scheme.log_max_trace_height self.now }
         ensures shift { (Self.Domain.coset_of result).shift ≡ Self.Domain.Val.ring.one }
         ensures size { coset_size (Self.Domain.coset_of result) ≡ degree }
-        ensures natural { (log_degree : ℕ) → 2 ^ log_degree ≡ degree → Self.Domain.coset_of result ≡ natural_coset Self.Domain.Val.ring log_degree };
+        ensures natural { (log_degree : ℕ) → 2 ^ log_degree ≡ degree → Self.Domain.coset_of result
+            ≡ natural_coset Self.Domain.Val.ring log_degree };
 
     /// An equal commitment.
     fn copy_commitment(
@@ -87,8 +89,8 @@ where
     ) -> Result<Self::Commitment, AllocError>
         ensures { IfOk result (λ copy. copy ≡ commitment.now) };
 
-    /// Commits to a matrix whose columns take its rows on the natural domain of its height (`stands`), as this call does, with
-    /// the masks that a scheme has (`made`).
+    /// Commits to a matrix whose columns take its rows on the natural domain of its height
+    /// (`stands`), as this call does, with the masks that a scheme has (`made`).
     fn commit(
         &self,
         alloc: Global,
@@ -96,15 +98,20 @@ where
         matrix: RowMajorMatrix<DomainVal<Self::Domain>>,
     ) -> Result<(Self::Commitment, Self::ProverData), SchemeFault<Self::ProverError>>
         requires power { IsPowerOfTwo (length matrix.values.items / matrix.width) }
-        requires within { coset_size (Self.Domain.coset_of domain) ≤ 2 ^ scheme.log_max_trace_height self.now }
-        requires room { length matrix.values.items / matrix.width ≤ coset_size (Self.Domain.coset_of domain) }
-        ensures stands { IfOk result (λ made. (columns : List (List Self.Domain.Val)) × scheme.Stands self.now made.0 made.1 (record { domain = Self.Domain.coset_of domain; columns = columns } ∷ [])
-            × ((log_height : ℕ) → 2 ^ log_height ≡ length matrix.values.items / matrix.width
-            → TakesRows Self.Domain.Val.ring Self.Domain.Val.root (natural_coset Self.Domain.Val.ring log_height) matrix.width (matrix_row matrix.values.items matrix.width) columns)) }
-        ensures made { IfOk result (scheme.calls.Commits self.now (Self.Domain.coset_of domain) matrix.values.items matrix.width) }
-        ensures refused { IfErr result (λ fault. IfRefused fault (scheme.RefusesCommit self.now (Self.Domain.coset_of domain) matrix.values.items matrix.width)) };
+        requires within { coset_size (Self.Domain.coset_of domain) ≤ 2 ^ scheme.log_max_trace_height
+            self.now }
+        requires room { length matrix.values.items / matrix.width
+            ≤ coset_size (Self.Domain.coset_of domain) }
+        ensures stands { IfOk result (CommitsRows scheme Self.Domain.Val.ring Self.Domain.Val.root
+            self.now (Self.Domain.coset_of domain) matrix) }
+        ensures made { IfOk result (scheme.calls.Commits self.now (Self.Domain.coset_of domain)
+            matrix.values.items matrix.width) }
+        ensures refused { IfRefusal result
+            (scheme.RefusesCommit self.now (Self.Domain.coset_of domain) matrix.values.items
+            matrix.width) };
 
-    /// The committed columns' values at the domain's points, a row a point; `index` is the matrix's place in the commitment.
+    /// The committed columns' values at the domain's points, a row a point; `index` is the matrix's
+    /// place in the commitment.
     fn get_evaluations_on_domain(
         &self,
         alloc: Global,
@@ -112,9 +119,29 @@ where
         index: usize,
         domain: Self::Domain,
     ) -> Result<RowMajorMatrix<DomainVal<Self::Domain>>, AllocError>
-        ensures { IfOk result (λ rows. (commitment : Self.Commitment) (matrices : List (CommittedMatrix Self.Domain.Val)) (matrix : CommittedMatrix Self.Domain.Val)
-            → scheme.Stands self.now commitment prover_data.now matrices → slice_get matrices index ≡ Some matrix
-            → HasRows Self.Domain.Val.ring Self.Domain.Val.root (Self.Domain.coset_of domain) matrix.columns rows.values.items rows.width) };
+        ensures { IfOk result (EvaluatesRows scheme Self.Domain.Val.ring Self.Domain.Val.root
+            self.now prover_data.now index (Self.Domain.coset_of domain)) };
+}
+
+/// What an opening argument is about, in one record: the fields, whether the scheme masks, the
+/// scheme.
+pub trait Opening<EF, C>: Pcs<EF, C>
+where
+    EF: ExtensionField<DomainVal<Self::Domain>>,
+{
+    ghost opening: { OpeningOps Self Self.Domain.Val EF C Self.Commitment Self.ProverData Self.Proof
+        Self.Error Self.ProverError };
+}
+
+impl<EF, C, P: Pcs<EF, C>> Opening<EF, C> for P
+where
+    EF: ExtensionField<DomainVal<P::Domain>>,
+{
+    ghost opening = { record {
+      fields = ⟦<EF as FieldPair<DomainVal<P::Domain>>>⟧.fields;
+      is_zk = P.ZK;
+      scheme = P.scheme;
+    } };
 }
 
 /// A scheme that serves a STARK of one AIR.
@@ -130,7 +157,8 @@ where
     fn log_max_trace_height(&self) -> usize
         ensures { result ≡ Self.scheme.log_max_trace_height self.now };
 
-    /// Commits to a matrix that is known to prover and verifier, and so wants no mask, on the terms of `commit`.
+    /// Commits to a matrix that is known to prover and verifier, and so wants no mask, on the terms
+    /// of `commit`.
     fn commit_preprocessing(
         &self,
         alloc: Global,
@@ -138,16 +166,21 @@ where
         matrix: RowMajorMatrix<DomainVal<Self::Domain>>,
     ) -> Result<(Self::Commitment, Self::ProverData), SchemeFault<Self::ProverError>>
         requires power { IsPowerOfTwo (length matrix.values.items / matrix.width) }
-        requires within { coset_size (Self.Domain.coset_of domain) ≤ 2 ^ Self.scheme.log_max_trace_height self.now }
-        requires room { length matrix.values.items / matrix.width ≤ coset_size (Self.Domain.coset_of domain) }
-        ensures stands { IfOk result (λ made. (columns : List (List Self.Domain.Val)) × Self.scheme.Stands self.now made.0 made.1 (record { domain = Self.Domain.coset_of domain; columns = columns } ∷ [])
-            × ((log_height : ℕ) → 2 ^ log_height ≡ length matrix.values.items / matrix.width
-            → TakesRows Self.Domain.Val.ring Self.Domain.Val.root (natural_coset Self.Domain.Val.ring log_height) matrix.width (matrix_row matrix.values.items matrix.width) columns)) }
-        ensures made { IfOk result (Self.scheme.calls.CommitsPreprocessing self.now (Self.Domain.coset_of domain) matrix.values.items matrix.width) }
-        ensures refused { IfErr result (λ fault. IfRefused fault (Self.scheme.RefusesPreprocessing self.now (Self.Domain.coset_of domain) matrix.values.items matrix.width)) };
+        requires within { coset_size (Self.Domain.coset_of domain)
+            ≤ 2 ^ Self.scheme.log_max_trace_height self.now }
+        requires room { length matrix.values.items / matrix.width
+            ≤ coset_size (Self.Domain.coset_of domain) }
+        ensures stands { IfOk result (CommitsRows Self.scheme Self.Domain.Val.ring
+            Self.Domain.Val.root self.now (Self.Domain.coset_of domain) matrix) }
+        ensures made { IfOk result (Self.scheme.calls.CommitsPreprocessing self.now
+            (Self.Domain.coset_of domain) matrix.values.items matrix.width) }
+        ensures refused { IfRefusal result
+            (Self.scheme.RefusesPreprocessing self.now (Self.Domain.coset_of domain)
+            matrix.values.items matrix.width) };
 
-    /// Commits to a quotient's values on a domain, a row a point, in `num_chunks` chunks: chunk `i` takes the rows `i`,
-    /// `i + num_chunks`, .. on its part of the domain, and is committed on the natural domain of the part's size times `2^is_zk`.
+    /// Commits to a quotient's values on a domain, a row a point, in `num_chunks` chunks: chunk `i`
+    /// takes the rows `i`, `i + num_chunks`, .. on its part of the domain, and is committed on the
+    /// natural domain of the part's size times `2^is_zk`.
     fn commit_quotient(
         &self,
         alloc: Global,
@@ -155,33 +188,40 @@ where
         flat: RowMajorMatrix<DomainVal<Self::Domain>>,
         num_chunks: usize,
     ) -> Result<(Self::Commitment, Self::ProverData), SchemeFault<Self::ProverError>>
-        requires height { length flat.values.items ≡ coset_size (Self.Domain.coset_of domain) * flat.width }
+        requires height { length flat.values.items
+            ≡ coset_size (Self.Domain.coset_of domain) * flat.width }
         requires power { IsPowerOfTwo num_chunks }
         requires parts { num_chunks ≤ coset_size (Self.Domain.coset_of domain) }
-        requires within { coset_size (Self.Domain.coset_of domain) * 2 ^ zk_bits Self.ZK ≤ num_chunks * 2 ^ Self.scheme.log_max_trace_height self.now }
-        ensures stands { IfOk result (λ made. (chunks : List (QuotientChunk Self.Domain.Val))
-            × Self.scheme.Stands self.now made.0 made.1 (map (committed_chunk Self.Domain.Val.ring Self.ZK) chunks)
-            × ((log_parts : ℕ) → 2 ^ log_parts ≡ num_chunks
-            → AreQuotientChunks Self.Domain.Val.ring Self.Domain.Val.root EF.ring EF.inverse_of EF.embed Self.ZK (Self.Domain.coset_of domain) log_parts flat.width (matrix_row flat.values.items flat.width) chunks)) }
-        ensures made { IfOk result (Self.scheme.calls.CommitsQuotient self.now (Self.Domain.coset_of domain) flat.values.items flat.width num_chunks) }
-        ensures refused { IfErr result (λ fault. IfRefused fault (Self.scheme.RefusesQuotient self.now (Self.Domain.coset_of domain) flat.values.items flat.width num_chunks)) };
+        requires within { coset_size (Self.Domain.coset_of domain) * 2 ^ zk_bits Self.ZK
+            ≤ num_chunks * 2 ^ Self.scheme.log_max_trace_height self.now }
+        ensures stands { IfOk result (CommitsChunks ⟦<Self as Opening<EF, C>>⟧.opening
+            self.now (Self.Domain.coset_of domain) flat num_chunks) }
+        ensures made { IfOk result (Self.scheme.calls.CommitsQuotient self.now
+            (Self.Domain.coset_of domain) flat.values.items flat.width num_chunks) }
+        ensures refused { IfRefusal result
+            (Self.scheme.RefusesQuotient self.now (Self.Domain.coset_of domain)
+            flat.values.items flat.width num_chunks) };
 
-    /// Commits to as many columns as the extension has coordinates, of the scheme's own choice. There is one exactly where
-    /// the scheme masks.
+    /// Commits to as many columns as the extension has coordinates, of the scheme's own choice.
+    /// There is one exactly where the scheme masks.
     fn get_opt_randomization_poly_commitment(
         &self,
         alloc: Global,
         domain: Self::Domain,
     ) -> Result<Option<(Self::Commitment, Self::ProverData)>, SchemeFault<Self::ProverError>>
-        requires within { coset_size (Self.Domain.coset_of domain) ≤ 2 ^ Self.scheme.log_max_trace_height self.now }
+        requires within { coset_size (Self.Domain.coset_of domain)
+            ≤ 2 ^ Self.scheme.log_max_trace_height self.now }
         ensures there { IfOk result (λ made. is_some made ≡ Self.ZK) }
-        ensures stands { IfOk result (λ made. IfSome made (λ made. (columns : List (List Self.Domain.Val))
-            × Self.scheme.Stands self.now made.0 made.1 (record { domain = Self.Domain.coset_of domain; columns = columns } ∷ [])
-            × (length columns ≡ EF.DIMENSION))) }
-        ensures made { IfOk result (λ made. IfSome made (Self.scheme.calls.Randomizes self.now (Self.Domain.coset_of domain))) }
-        ensures refused { IfErr result (λ fault. IfRefused fault (Self.scheme.RefusesRandomization self.now (Self.Domain.coset_of domain))) };
+        ensures stands { IfOk result (λ made.
+            IfSome made (CommitsColumns Self.scheme self.now (Self.Domain.coset_of domain)
+            EF.DIMENSION)) }
+        ensures made { IfOk result (λ made.
+            IfSome made (Self.scheme.calls.Randomizes self.now (Self.Domain.coset_of domain))) }
+        ensures refused { IfRefusal result
+            (Self.scheme.RefusesRandomization self.now (Self.Domain.coset_of domain)) };
 
-    /// As `get_evaluations_on_domain`, of what `commit_preprocessing` made; the same call where a scheme doesn't say otherwise.
+    /// As `get_evaluations_on_domain`, of what `commit_preprocessing` made; the same call where a
+    /// scheme doesn't say otherwise.
     fn get_evaluations_on_domain_no_random(
         &self,
         alloc: Global,
@@ -189,9 +229,8 @@ where
         index: usize,
         domain: Self::Domain,
     ) -> Result<RowMajorMatrix<DomainVal<Self::Domain>>, AllocError>
-        ensures { IfOk result (λ rows. (commitment : Self.Commitment) (matrices : List (CommittedMatrix Self.Domain.Val)) (matrix : CommittedMatrix Self.Domain.Val)
-            → Self.scheme.Stands self.now commitment prover_data.now matrices → slice_get matrices index ≡ Some matrix
-            → HasRows Self.Domain.Val.ring Self.Domain.Val.root (Self.Domain.coset_of domain) matrix.columns rows.values.items rows.width) }
+        ensures { IfOk result (EvaluatesRows Self.scheme Self.Domain.Val.ring Self.Domain.Val.root
+            self.now prover_data.now index (Self.Domain.coset_of domain)) }
     {
         self.get_evaluations_on_domain(alloc, prover_data, index, domain)
     }
@@ -205,11 +244,11 @@ where
         quotient_domain: Self::Domain,
     ) -> Result<PeriodicLdeTable<DomainVal<Self::Domain>>, AllocError>
         requires { columns.now.trace_len ≡ coset_size (Self.Domain.coset_of trace_domain) }
-        ensures { IfOk result (λ table. HasPeriodicValues Self.Domain.Val.ring Self.Domain.Val.inverse_of Self.Domain.Val.root (Self.Domain.coset_of trace_domain) (Self.Domain.coset_of quotient_domain)
-            (map (λ column. column.items) columns.now.columns.now) table.values.items table.width table.period) };
+        ensures { IfOk result (IsTableOf ⟦<Self as Opening<EF, C>>⟧.opening.fields
+            Self.Domain.coset_of trace_domain quotient_domain columns.now) };
 
-    /// Opens commitments at points. `preprocessed_index` is the place of the round that was committed by
-    /// `commit_preprocessing`, if there is one.
+    /// Opens commitments at points. `preprocessed_index` is the place of the round that was
+    /// committed by `commit_preprocessing`, if there is one.
     fn open_with_preprocessing(
         &self,
         alloc: Global,
@@ -217,14 +256,16 @@ where
         challenger: &mut C,
         preprocessed_index: Option<usize>,
     ) -> Result<(OpenedRounds<EF>, Self::Proof), SchemeFault<Self::ProverError>>
-        ensures true_values { IfOk result (λ opened. (made : List (OpenedRound Self.Domain.Val EF Self.Commitment Self.ProverData)) → AllByRecursion (RoundStands Self.scheme self.now) made
-            → map round_view rounds.entry.items ≡ map handed made → opened_view opened.0 ≡ map (true_values EF.ring EF.embed) made) }
-        ensures whole { IfOk result (λ opened. (made : List (OpenedRound Self.Domain.Val EF Self.Commitment Self.ProverData)) → AllByRecursion (RoundStands Self.scheme self.now) made
-            → map round_view rounds.entry.items ≡ map handed made → Self.scheme.Whole self.now
-            → Self.scheme.Accepts self.now (map (true_claim EF.ring EF.embed) made) opened.1 challenger.old preprocessed_index) }
-        ensures refused { IfErr result (λ fault. IfRefused fault (Self.scheme.RefusesOpening self.now (map round_view rounds.entry.items) challenger.old preprocessed_index)) };
+        ensures true_values { IfOk result (OpensTrueValues Self.scheme EF.ring EF.embed self.now
+            rounds.entry) }
+        ensures whole { IfOk result (ProvesTrueClaims Self.scheme EF.ring EF.embed self.now
+            rounds.entry challenger.old preprocessed_index) }
+        ensures refused { IfRefusal result
+            (Self.scheme.RefusesOpening self.now (rounds_view rounds.entry) challenger.old
+            preprocessed_index) };
 
-    /// Whether the claims hold. It is Ok exactly where the scheme accepts them, want of memory aside.
+    /// Whether the claims hold. It is Ok exactly where the scheme accepts them, want of memory
+    /// aside.
     fn verify_with_preprocessing(
         &self,
         alloc: Global,
@@ -233,8 +274,12 @@ where
         challenger: &mut C,
         preprocessed_index: Option<usize>,
     ) -> Result<(), SchemeFault<Self::Error>>
-        ensures accepted { IfOk result (λ _. Self.scheme.Accepts self.now (map (claim_view Self.Domain.coset_of) claims.entry.items) proof.now challenger.old preprocessed_index) }
-        ensures refused { IfErr result (λ fault. IfRefused fault (Self.scheme.Refuses self.now (map (claim_view Self.Domain.coset_of) claims.entry.items) proof.now challenger.old preprocessed_index)) };
+        ensures accepted { IfOk result (λ _.
+            AcceptsClaims Self.scheme Self.Domain.coset_of self.now claims.entry proof.now
+            challenger.old preprocessed_index) }
+        ensures refused { IfRefusal result
+            (Self.scheme.Refuses self.now (claims_view Self.Domain.coset_of claims.entry)
+            proof.now challenger.old preprocessed_index) };
 
     ghost scheme_laws: { SchemeLaws Self.scheme };
 }

@@ -16,8 +16,8 @@ pub struct OfBase;
 #[derive(Clone, Copy, Debug, PartialEq, Eq)]
 pub struct OfExtension;
 
-/// Two values of `P`, which packs values of `F`, seen as one list of lanes. `Level` says which of the two fields' values they
-/// are. There are operations for `N` = 2 alone.
+/// Two values of `P`, which packs values of `F`, seen as one list of lanes. `Level` says which of
+/// the two fields' values they are. There are operations for `N` = 2 alone.
 pub struct PackedPair<F, P, Level, const N: usize> {
     pub first: P,
     pub second: P,
@@ -75,7 +75,8 @@ impl<F: Element, P: PackedValue<Value = F>, Level> From<F> for PackedPair<F, P, 
 
 impl<F: PackedField, EF: PackedExtensionField<F>> From<Vectorized<F, 2>>
     for VectorizedExt<F, EF, 2> {
-    ghost from_gives = { λ x r. both_lanes EF.ExtensionPacking.lanes r ≡ map EF.embed (both_lanes F.Packing.lanes x) };
+    ghost from_gives = { λ x r. both_lanes EF.ExtensionPacking.lanes r
+        ≡ map EF.embed (both_lanes F.Packing.lanes x) };
 
     fn from(x: Vectorized<F, 2>) -> VectorizedExt<F, EF, 2> {
         PackedPair {
@@ -89,7 +90,8 @@ impl<F: PackedField, EF: PackedExtensionField<F>> From<Vectorized<F, 2>>
 impl<F: Copy, P: PackedValue<Value = F>, Level> Add for PackedPair<F, P, Level, 2> {
     type Output = PackedPair<F, P, Level, 2>;
 
-    ghost add_gives = { λ x y r. P.add_gives x.first y.first r.first × P.add_gives x.second y.second r.second };
+    ghost add_gives = { λ x y r. P.add_gives x.first y.first r.first
+        × P.add_gives x.second y.second r.second };
 
     fn add(self, other: PackedPair<F, P, Level, 2>) -> PackedPair<F, P, Level, 2> {
         PackedPair {
@@ -103,7 +105,8 @@ impl<F: Copy, P: PackedValue<Value = F>, Level> Add for PackedPair<F, P, Level, 
 impl<F: Copy, P: PackedValue<Value = F>, Level> Sub for PackedPair<F, P, Level, 2> {
     type Output = PackedPair<F, P, Level, 2>;
 
-    ghost sub_gives = { λ x y r. P.sub_gives x.first y.first r.first × P.sub_gives x.second y.second r.second };
+    ghost sub_gives = { λ x y r. P.sub_gives x.first y.first r.first
+        × P.sub_gives x.second y.second r.second };
 
     fn sub(self, other: PackedPair<F, P, Level, 2>) -> PackedPair<F, P, Level, 2> {
         PackedPair {
@@ -117,7 +120,8 @@ impl<F: Copy, P: PackedValue<Value = F>, Level> Sub for PackedPair<F, P, Level, 
 impl<F: Copy, P: PackedValue<Value = F>, Level> Mul for PackedPair<F, P, Level, 2> {
     type Output = PackedPair<F, P, Level, 2>;
 
-    ghost mul_gives = { λ x y r. P.mul_gives x.first y.first r.first × P.mul_gives x.second y.second r.second };
+    ghost mul_gives = { λ x y r. P.mul_gives x.first y.first r.first
+        × P.mul_gives x.second y.second r.second };
 
     fn mul(self, other: PackedPair<F, P, Level, 2>) -> PackedPair<F, P, Level, 2> {
         PackedPair {
@@ -165,15 +169,21 @@ impl<F: Element, P: PackedValue<Value = F>, Level> Algebra<F> for PackedPair<F, 
 
     ghost stands_itself = { λ _. refl };
 
-    ghost embed_stands = { λ k x given. is_made pair_parts x _ _ (P.exact_lanes _ _ (P.Algebra.embed_stands k x.first given.0)) (P.exact_lanes _ _ (P.Algebra.embed_stands k x.second given.1)) };
+    ghost embed_stands = { λ k x given.
+        is_made pair_parts x _ _ (P.exact_lanes _ _ (P.Algebra.embed_stands k x.first given.0))
+        (P.exact_lanes _ _ (P.Algebra.embed_stands k x.second given.1)) };
 
-    ghost plus_stands = { pair_binary pair_parts P.stands P.Algebra.stands_itself P.exact_lanes P.operations.plus P.add_gives P.Algebra.plus_stands };
+    ghost plus_stands = { pair_binary pair_parts P.stands P.Algebra.stands_itself P.exact_lanes
+        P.operations.plus P.add_gives P.Algebra.plus_stands };
 
-    ghost minus_stands = { pair_binary pair_parts P.stands P.Algebra.stands_itself P.exact_lanes P.operations.minus P.sub_gives P.Algebra.minus_stands };
+    ghost minus_stands = { pair_binary pair_parts P.stands P.Algebra.stands_itself P.exact_lanes
+        P.operations.minus P.sub_gives P.Algebra.minus_stands };
 
-    ghost times_stands = { pair_binary pair_parts P.stands P.Algebra.stands_itself P.exact_lanes P.operations.times P.mul_gives P.Algebra.times_stands };
+    ghost times_stands = { pair_binary pair_parts P.stands P.Algebra.stands_itself P.exact_lanes
+        P.operations.times P.mul_gives P.Algebra.times_stands };
 
-    ghost negated_stands = { pair_unary pair_parts P.stands P.Algebra.stands_itself P.exact_lanes P.operations.negated P.neg_gives P.Algebra.negated_stands };
+    ghost negated_stands = { pair_unary pair_parts P.stands P.Algebra.stands_itself P.exact_lanes
+        P.operations.negated P.neg_gives P.Algebra.negated_stands };
 }
 
 impl<F: Element, P: PairedValue<Value = F>, Level> PackedValue for PackedPair<F, P, Level, 2> {

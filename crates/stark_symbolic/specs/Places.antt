@@ -10,6 +10,7 @@ use Rattle.stark_symbolic.specs.DegreePair.{marked_degrees}
 use Rattle.stark_symbolic.specs.declared.leaf_degrees.LeafDegrees.{LeafDegrees}
 use Rattle.stark_symbolic.specs.declared.degree_builder.ConstraintDegrees.{ConstraintDegrees}
 use Rattle.stark_symbolic.specs.declared.degree_builder.ConstraintDegrees.TheVariants.{Base, Extension}
+use Rattle.stark_symbolic.specs.declared.places.ConstraintLayout.{ConstraintLayout}
 
 -- The places of the base constraints, where the first constraint has place n.
 abbrev pub base_places : {F : Type 0} → ℕ → List (Constraint F) → List ℕ
@@ -75,3 +76,13 @@ pub marked_extension_within : (n m : ℕ) (xs : List ConstraintDegrees) → n + 
 marked_extension_within n m [] h = All-nil (λ i. i < m)
 marked_extension_within n m (Base x ∷ xs) h = marked_extension_within (n + 1) m xs (omega arith)
 marked_extension_within n m (Extension x ∷ xs) h = All-cons (λ i. i < m) n (marked_extension_places (n + 1) xs) (omega arith) (marked_extension_within (n + 1) m xs (omega arith))
+
+-- How many constraints a layout has places of, and the powers of a challenge that belong to those over the base field and over the extension.
+abbrev pub total_in : ConstraintLayout → ℕ
+total_in layout = total_of layout.base_indices.items layout.ext_indices.items
+
+abbrev pub base_powers : {E : Type 0} → RingOps E → E → ConstraintLayout → List E
+base_powers ring a layout = place_powers ring a (total_in layout) layout.base_indices.items
+
+abbrev pub extension_powers : {E : Type 0} → RingOps E → E → ConstraintLayout → List E
+extension_powers ring a layout = place_powers ring a (total_in layout) layout.ext_indices.items

@@ -1,5 +1,5 @@
 -- What the symbolic builder's variables stand for.
-use Rattle.std.specs.Prelude.{◌≡◌, ℕ, ◌<◌, List, [], ◌∷◌, ◌++◌, Option, Some, None, refl, length}
+use Rattle.std.specs.Prelude.{◌≡◌, ℕ, ◌<◌, List, [], ◌∷◌, ◌++◌, Option, Some, None, refl, length, All}
 use Rattle.std.specs.List.{slice_get}
 use Rattle.std.proofs.Common.{sym, ◌∙◌, ap, subst, arith, ◌⊎◌, inl, inr, ◌≤◌, get_or}
 use Rattle.std.proofs.lemmas.Option.{slice_get_cases, slice_get-get_or}
@@ -12,6 +12,7 @@ use Rattle.stark_symbolic.specs.SymbolicView.{variable_tree}
 use Rattle.stark_symbolic.specs.declared.variable.BaseEntry.{BaseEntry}
 use Rattle.stark_symbolic.specs.declared.variable.BaseEntry.TheVariants.{Public, Periodic}
 use Rattle.stark_symbolic.specs.declared.variable.SymbolicVariable.{SymbolicVariable}
+use Rattle.stark_symbolic.specs.declared.window.SymbolicWindow.{SymbolicWindow}
 
 -- The tree of a variable, or another where there is none.
 abbrev pub tree_at : {F : Type 0} → Tree F → Option (SymbolicVariable F) → Option (Tree F)
@@ -76,3 +77,18 @@ one_more_variable {F} entry xs v h same place = record { each = λ i. go i (slic
         let is_v : p.0 ≡ v = sym p.3 ∙ ap (λ (n : ℕ). get_or (xs ++ v ∷ []) n p.0) e ∙ get_or-append_seam xs v [] p.0 in
         ap (tree_at (variable_tree {F = F} entry i)) p.2 ∙ ap (λ (x : SymbolicVariable F). Some (variable_tree x.entry x.index)) is_v ∙ ap (λ (t : Tree F). Some t) (is_other i e)
     last (inr n) = ap (tree_at (variable_tree {F = F} entry i)) n.1
+
+-- The variables in a window's two rows.
+abbrev pub current_in : {F : Type 0} → SymbolicWindow F → ℕ → Option (SymbolicVariable F)
+current_in w i = slice_get w.current.items i
+
+abbrev pub next_in : {F : Type 0} → SymbolicWindow F → ℕ → Option (SymbolicVariable F)
+next_in w i = slice_get w.next.items i
+
+-- Each row has so many.
+abbrev pub HasWidth : {F : Type 0} → ℕ → SymbolicWindow F → Type 0
+HasWidth width w = (length w.current.items ≡ width) × (length w.next.items ≡ width)
+
+-- The variables of the first row have this entry at offset 0, those of the second at offset 1.
+abbrev pub HasEntries : {F : Type 0} → (ℕ → BaseEntry) → SymbolicWindow F → Type 0
+HasEntries entry w = (All (λ v. v.entry ≡ entry 0) w.current.items) × (All (λ v. v.entry ≡ entry 1) w.next.items)

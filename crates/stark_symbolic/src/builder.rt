@@ -1,12 +1,12 @@
 //! The builder that keeps the constraints' trees.
-ghost use Rattle.std.specs.Prelude.{◌≡◌, [], ◌∷◌, All, IfOk, OnErr, IsNone, IsSome, IsTrue, length};
-ghost use Rattle.std.specs.List.{slice_get};
+ghost use Rattle.std.specs.Prelude.{◌≡◌, [], IfOk, OnErr, IsNone, IsSome, IsTrue, length};
 ghost use Rattle.std.proofs.Common.{subst, sym};
 ghost use Rattle.stark_symbolic.specs.Symbolic.{Stands, symbolic_operations, pair_stands};
-ghost use Rattle.stark_air.specs.Tree.{Tree, base, extension, product};
+ghost use Rattle.stark_air.specs.Tree.{base, extension, product};
 ghost use Rattle.stark_symbolic.specs.SymbolicBuilder.{builder_environment, builder_layout, after_asserting, asserting_laws};
-ghost use Rattle.stark_symbolic.specs.SymbolicRow.{AreVariables, variable_gives};
-ghost use Rattle.stark_air.specs.Value.{Shows, value};
+ghost use Rattle.stark_symbolic.specs.SymbolicRow.{AreVariables, variable_gives, current_in, next_in, HasWidth, HasEntries};
+ghost use Rattle.stark_air.specs.Value.{ShowsMain, ShowsPreprocessed};
+ghost use Rattle.stark_air.specs.Emission.{Asserts};
 
 use crate::expression::SymbolicExpression;
 use crate::node::is_refused;
@@ -24,8 +24,9 @@ pub enum SymbolicConstraint<F> {
     Extension(SymbolicExpression<F>),
 }
 
-/// The builder whose row are variables, and that keeps each asserted expression, in the order of assertion. Its next rows
-/// are as wide as the current ones. `EF` names the extension that constraints are over; their expressions are the same.
+/// The builder whose row are variables, and that keeps each asserted expression, in the order of
+/// assertion. Its next rows are as wide as the current ones. `EF` names the extension that
+/// constraints are over; their expressions are the same.
 #[derive(Drop)]
 pub struct SymbolicAirBuilder<F, EF = F> {
     pub alloc: Global,
@@ -49,14 +50,18 @@ fn whole<F: Field>(x: SymbolicExpression<F>) -> Result<SymbolicExpression<F>, Al
 }
 
 impl<F: Field, EF> SymbolicAirBuilder<F, EF> {
-    /// A builder with rows of the layout's widths and counts, on which nothing was asserted. Err only where memory was
-    /// refused.
+    /// A builder with rows of the layout's widths and counts, on which nothing was asserted. Err
+    /// only where memory was refused.
     pub fn new(alloc: Global, layout: AirLayout) -> Result<Self, AllocError>
         ensures layout { IfOk result (λ builder. builder.layout ≡ layout) }
-        ensures num_public_values { IfOk result (λ builder. length builder.public_values.items ≡ layout.num_public_values) }
-        ensures public_values { IfOk result (λ builder. AreVariables BaseEntry.Public builder.public_values.items) }
-        ensures num_periodic_columns { IfOk result (λ builder. length builder.periodic_values.items ≡ layout.num_periodic_columns) }
-        ensures periodic_values { IfOk result (λ builder. AreVariables BaseEntry.Periodic builder.periodic_values.items) }
+        ensures num_public_values { IfOk result (λ builder. length builder.public_values.items
+            ≡ layout.num_public_values) }
+        ensures public_values { IfOk result (λ builder.
+            AreVariables BaseEntry.Public builder.public_values.items) }
+        ensures num_periodic_columns { IfOk result (λ builder. length builder.periodic_values.items
+            ≡ layout.num_periodic_columns) }
+        ensures periodic_values { IfOk result (λ builder.
+            AreVariables BaseEntry.Periodic builder.periodic_values.items) }
         ensures nothing { IfOk result (λ builder. builder.constraints.items ≡ []) }
     {
         Ok(SymbolicAirBuilder {
@@ -98,13 +103,13 @@ impl<F: Field, EF> BaseAirBuilder for SymbolicAirBuilder<F, EF> {
 
     ghost emission_laws = { asserting_laws F.ring };
 
-    /// The variables of the main columns, at offset 0 in the current row and at offset 1 in the next.
+    /// The variables of the main columns, at offset 0 in the current row and at offset 1 in the
+    /// next.
     fn main(&self) -> Result<SymbolicWindow<F>, AllocError>
-        ensures rows { IfOk result (λ w.
-            (Shows variable_gives Stands (builder_environment self.now).main_current (builder_layout self.now).main (λ i. slice_get w.current.items i))
-            × (Shows variable_gives Stands (builder_environment self.now).main_next (builder_layout self.now).main_next (λ i. slice_get w.next.items i))) }
-        ensures width { IfOk result (λ w. (length w.current.items ≡ self.now.layout.main_width) × (length w.next.items ≡ self.now.layout.main_width)) }
-        ensures offsets { IfOk result (λ w. (All (λ v. v.entry ≡ BaseEntry.Main 0) w.current.items) × (All (λ v. v.entry ≡ BaseEntry.Main 1) w.next.items)) }
+        ensures rows { IfOk result (ShowsMain variable_gives Stands builder_environment
+            builder_layout self.now current_in next_in) }
+        ensures width { IfOk result (HasWidth self.now.layout.main_width) }
+        ensures offsets { IfOk result (HasEntries BaseEntry.Main) }
     {
         let width = self.layout.main_width;
         Ok(SymbolicWindow {
@@ -115,11 +120,10 @@ impl<F: Field, EF> BaseAirBuilder for SymbolicAirBuilder<F, EF> {
 
     /// The variables of the preprocessed columns, with the same offsets.
     fn preprocessed(&self) -> Result<SymbolicWindow<F>, AllocError>
-        ensures rows { IfOk result (λ w.
-            (Shows variable_gives Stands (builder_environment self.now).preprocessed_current (builder_layout self.now).preprocessed (λ i. slice_get w.current.items i))
-            × (Shows variable_gives Stands (builder_environment self.now).preprocessed_next (builder_layout self.now).preprocessed_next (λ i. slice_get w.next.items i))) }
-        ensures width { IfOk result (λ w. (length w.current.items ≡ self.now.layout.preprocessed_width) × (length w.next.items ≡ self.now.layout.preprocessed_width)) }
-        ensures offsets { IfOk result (λ w. (All (λ v. v.entry ≡ BaseEntry.Preprocessed 0) w.current.items) × (All (λ v. v.entry ≡ BaseEntry.Preprocessed 1) w.next.items)) }
+        ensures rows { IfOk result (ShowsPreprocessed variable_gives Stands builder_environment
+            builder_layout self.now current_in next_in) }
+        ensures width { IfOk result (HasWidth self.now.layout.preprocessed_width) }
+        ensures offsets { IfOk result (HasEntries BaseEntry.Preprocessed) }
     {
         let width = self.layout.preprocessed_width;
         Ok(SymbolicWindow {
@@ -162,7 +166,9 @@ impl<F: Field, EF> BaseAirBuilder for SymbolicAirBuilder<F, EF> {
         ensures kept { self.new.alloc ≡ self.old.alloc }
         ensures same_environment { builder_environment self.new ≡ builder_environment self.old }
         ensures same_layout { builder_layout self.new ≡ builder_layout self.old }
-        ensures asserted { IfOk result (λ _. (t : Tree F) → Stands (value (symbolic_operations F.ring) (builder_environment self.old) t) x → after_asserting F.ring self.old (base t ∷ []) self.new) }
+        ensures asserted { IfOk result (λ _.
+            Asserts (symbolic_operations F.ring) Stands builder_environment
+            (after_asserting F.ring) base self.old x self.new) }
         ensures refused { OnErr result (after_asserting F.ring self.old [] self.new) }
         ensures whole { IfOk result (λ _. IsSome x) }
     {
@@ -191,7 +197,9 @@ impl<F: Field, EF> ExtensionBuilder for SymbolicAirBuilder<F, EF> {
         ensures kept { self.new.alloc ≡ self.old.alloc }
         ensures same_environment { builder_environment self.new ≡ builder_environment self.old }
         ensures same_layout { builder_layout self.new ≡ builder_layout self.old }
-        ensures asserted { IfOk result (λ _. (t : Tree F) → Stands (value (symbolic_operations F.ring) (builder_environment self.old) t) x → after_asserting F.ring self.old (extension t ∷ []) self.new) }
+        ensures asserted { IfOk result (λ _.
+            Asserts (symbolic_operations F.ring) Stands builder_environment
+            (after_asserting F.ring) extension self.old x self.new) }
         ensures refused { OnErr result (after_asserting F.ring self.old [] self.new) }
         ensures whole { IfOk result (λ _. IsSome x) }
     {

@@ -10,8 +10,8 @@ use stark_air::{Air, AirLayout};
 use stark_support::Field;
 use std::alloc::{AllocError, Global};
 
-/// The AIR's constraints in the order in which it asserts them, each as its tree with constants folded. Err only where
-/// memory was refused.
+/// The AIR's constraints in the order in which it asserts them, each as its tree with constants
+/// folded. Err only where memory was refused.
 pub fn symbolic_constraints<F: Field, EF, A: Air<F>>(
     alloc: Global,
     air: &A,
@@ -45,16 +45,18 @@ fn parts_of<F: Field>(
     Ok((base, extension))
 }
 
-/// The AIR's base constraints and its extension constraints, each in the order in which it asserts them, as their trees
-/// with constants folded. Err only where memory was refused.
+/// The AIR's base constraints and its extension constraints, each in the order in which it asserts
+/// them, as their trees with constants folded. Err only where memory was refused.
 pub fn get_all_symbolic_constraints<F: Field, EF, A: Air<F>>(
     alloc: Global,
     air: &A,
     layout: AirLayout,
 ) -> Result<(Vec<SymbolicExpression<F>>, Vec<SymbolicExpression<F>>), AllocError>
     requires { Covers (symbolic_layout layout) (A.layout air.now) }
-    ensures base { IfOk result (λ parts. parts.0.items ≡ base_trees F.ring (A.constraints air.now)) }
-    ensures extension { IfOk result (λ parts. parts.1.items ≡ extension_trees F.ring (A.constraints air.now)) }
+    ensures base { IfOk result (λ parts. parts.0.items
+        ≡ base_trees F.ring (A.constraints air.now)) }
+    ensures extension { IfOk result (λ parts. parts.1.items
+        ≡ extension_trees F.ring (A.constraints air.now)) }
 {
     let constraints = symbolic_constraints::<F, EF, A>(alloc, air, layout)?;
     parts_of(alloc, constraints)

@@ -16,7 +16,8 @@ use stark_support::Field;
 use std::alloc::{AllocError, Global};
 
 impl<F: Field> SymbolicConstraint<F> {
-    /// The degree of its expression in multiples of the trace's length, with `transition_degree` for the transition selector.
+    /// The degree of its expression in multiples of the trace's length, with `transition_degree`
+    /// for the transition selector.
     pub fn degree_multiple_with_transition(&self, transition_degree: usize) -> usize
         ensures { result ≡ marked_degree transition_degree self.now }
     {
@@ -87,8 +88,9 @@ pub fn greatest_degrees<F: Field, EF, A: Air<F>>(
     })
 }
 
-/// The greatest degree multiple of the AIR's constraints, base and extension, with `transition_degree` for the transition
-/// selector; 0 without constraints. Err only where memory was refused.
+/// The greatest degree multiple of the AIR's constraints, base and extension, with
+/// `transition_degree` for the transition selector; 0 without constraints. Err only where memory
+/// was refused.
 pub fn get_max_constraint_degree_with_transition<F: Field, EF, A: Air<F>>(
     alloc: Global,
     air: &A,
@@ -96,15 +98,17 @@ pub fn get_max_constraint_degree_with_transition<F: Field, EF, A: Air<F>>(
     transition_degree: usize,
 ) -> Result<usize, AllocError>
     requires { Covers (symbolic_layout layout) (A.layout air.now) }
-    ensures { IfOk result (λ degree. degree ≡ greatest_degree transition_degree (A.constraints air.now)) }
+    ensures { IfOk result (λ degree. degree
+        ≡ greatest_degree transition_degree (A.constraints air.now)) }
 {
     let multiples = LeafDegrees::trace_multiples(transition_degree);
     let degrees = greatest_degrees::<F, EF, A>(alloc, air, layout, multiples, multiples)?;
     Ok(degrees.first.unwrap_or(usize::MAX))
 }
 
-/// The greatest degree multiple of the AIR's constraints, base and extension, with 0 for the transition selector, as on a
-/// two-adic domain; 0 without constraints. The trace's length decides nothing. Err only where memory was refused.
+/// The greatest degree multiple of the AIR's constraints, base and extension, with 0 for the
+/// transition selector, as on a two-adic domain; 0 without constraints. The trace's length decides
+/// nothing. Err only where memory was refused.
 pub fn get_max_constraint_degree_extension<F: Field, EF, A: Air<F>>(
     alloc: Global,
     air: &A,

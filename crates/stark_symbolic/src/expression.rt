@@ -12,8 +12,8 @@ use std::alloc::Global;
 use std::marker::Model;
 use std::ops::{Add, Mul, Neg, Sub};
 
-/// A node of a symbolic expression. A leaf that is no constant keeps the allocator of the trees that it stands in, and an
-/// inner node that of its boxes.
+/// A node of a symbolic expression. A leaf that is no constant keeps the allocator of the trees
+/// that it stands in, and an inner node that of its boxes.
 #[derive(Drop)]
 pub enum SymbolicNode<F> {
     Constant(F),
@@ -29,8 +29,8 @@ pub enum SymbolicNode<F> {
     Refused,
 }
 
-/// A symbolic expression, built node for node, but that an operation on constants alone gives the constant. Contracts see
-/// the tree that it is, None where memory for a node of it was refused.
+/// A symbolic expression, built node for node, but that an operation on constants alone gives the
+/// constant. Contracts see the tree that it is, None where memory for a node of it was refused.
 #[derive(Drop)]
 pub struct SymbolicExpression<F> {
     pub node: SymbolicNode<F>,
@@ -160,7 +160,8 @@ impl<F: Field> Algebra<F> for SymbolicExpression<F> {
 
     ghost negated_stands = { single_stands negation F.ring.neg };
 
-    /// A second copy, refused where memory for it was. A constant, a variable and a selector take none.
+    /// A second copy, refused where memory for it was. A constant, a variable and a selector take
+    /// none.
     fn dup(&self) -> SymbolicExpression<F>
         ensures copied { (v : Option (Tree F)) → Stands v self.now → Stands v result }
         ensures leaf { is_leaf self.now ≡ true → result ≡ self.now }
@@ -206,9 +207,10 @@ impl<F: Field> SymbolicExpression<F> {
         !is_whole(&self.node)
     }
 
-    /// The degree in multiples of the trace's length, with `transition_degree` for the transition selector: 1 for a column
-    /// and for the selectors of the first and the last row, 0 for a constant and a public value, of a sum and a difference
-    /// the greater, of a product the sum, or the greatest `usize` where that is more. It is 0 where memory was refused.
+    /// The degree in multiples of the trace's length, with `transition_degree` for the transition
+    /// selector: 1 for a column and for the selectors of the first and the last row, 0 for a
+    /// constant and a public value, of a sum and a difference the greater, of a product the sum, or
+    /// the greatest `usize` where that is more. It is 0 where memory was refused.
     pub fn degree_multiple_with_transition(&self, transition_degree: usize) -> usize
         ensures { result ≡ expression_degree transition_degree self.now }
     {

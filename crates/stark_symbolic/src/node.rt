@@ -24,7 +24,8 @@ pub fn constant_of<F: Field>(node: &SymbolicNode<F>) -> Option<F>
 
 /// The constants that two nodes are, where both are.
 pub fn constants_of<F: Field>(left: &SymbolicNode<F>, right: &SymbolicNode<F>) -> Option<(F, F)>
-    ensures { result ≡ both_constants (known_constant (tree_of left.now)) (known_constant (tree_of right.now)) }
+    ensures { result ≡ both_constants (known_constant (tree_of left.now))
+        (known_constant (tree_of right.now)) }
 {
     match constant_of(left) {
         Some(a) => match constant_of(right) {
@@ -109,7 +110,8 @@ pub fn sum_of<F: Field>(left: SymbolicNode<F>, right: SymbolicNode<F>) -> Symbol
 
 /// The difference of two nodes.
 pub fn difference_of<F: Field>(left: SymbolicNode<F>, right: SymbolicNode<F>) -> SymbolicNode<F>
-    ensures { GivesPair difference (ring_difference F.ring) (tree_of left) (tree_of right) (tree_of result) }
+    ensures { GivesPair difference (ring_difference F.ring) (tree_of left) (tree_of right)
+        (tree_of result) }
 {
     match constants_of(&left, &right) {
         Some((a, b)) => SymbolicNode::Constant(a - b),

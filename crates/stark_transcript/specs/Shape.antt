@@ -1,8 +1,9 @@
 -- The numbers of a shape.
-use Rattle.std.specs.Prelude.{List, [], ◌∷◌, ℕ, Bool, true, false}
+use Rattle.std.specs.Prelude.{List, [], ◌∷◌, ℕ, Bool, true, false, ◌≡◌}
 use Rattle.stark_air.specs.Layout.{Layout}
-use Rattle.stark_support.specs.Seed.{ShapeNumbers}
+use Rattle.stark_support.specs.Seed.{ShapeNumbers, IsBounded, shape_seed}
 use Rattle.stark_transcript.specs.declared.shape.StarkShape.{StarkShape}
+use Rattle.stark_support.specs.Sponge.{observed_bytes}
 
 abbrev pub shape_numbers : StarkShape → ShapeNumbers
 shape_numbers s = record {
@@ -41,3 +42,11 @@ shape_of layout main_next preprocessed_next preprocessed_width log_ext_degree lo
   ood_pow_bits = ood_pow_bits;
   constraint_pow_bits = constraint_pow_bits;
 }
+
+-- The state after a shape's seed.
+abbrev pub after_seed : {C F : Type 0} → (C → F → C) → (ℕ → F) → ℕ → StarkShape → C → C
+after_seed observe of_number dimension shape start = observed_bytes observe of_number (shape_seed 1 dimension (shape_numbers shape)) start
+
+-- No bounded shape has this separator but the one with these numbers.
+abbrev pub TellsShape : ℕ → ShapeNumbers → List ℕ → Type 0
+TellsShape dimension numbers separator = (other : ShapeNumbers) → IsBounded other → separator ≡ shape_seed 1 dimension other → other ≡ numbers

@@ -8,14 +8,16 @@ use stark_support::{PeriodicColumnShapeError, SchemeFault};
 use std::alloc::AllocError;
 use thiserror::Error;
 
-/// What of a proof's shape doesn't fit the AIR, the key or the scheme. Where `air` is named, it is the instance at fault,
-/// None where a proof has one instance alone.
+/// What of a proof's shape doesn't fit the AIR, the key or the scheme. Where `air` is named, it is
+/// the instance at fault, None where a proof has one instance alone.
 #[derive(Debug, Drop, Error)]
 pub enum InvalidProofShapeError {
-    /// There are more or fewer instances than parts of the proof. Carried for proofs of several instances.
+    /// There are more or fewer instances than parts of the proof. Carried for proofs of several
+    /// instances.
     #[error("the number of instances doesn't fit the proof")]
     InstanceCountMismatch,
-    /// The opened current row has another width than the AIR. Carried for proofs of several instances.
+    /// The opened current row has another width than the AIR. Carried for proofs of several
+    /// instances.
     #[error("instance {air:?}: the current row has {got} values in place of {expected}")]
     TraceLocalWidthMismatch {
         air: Option<usize>,
@@ -37,14 +39,16 @@ pub enum InvalidProofShapeError {
     UnexpectedPreprocessedNext {
         air: Option<usize>,
     },
-    /// There are more or fewer quotient chunks than committed ones. Carried for proofs of several instances.
+    /// There are more or fewer quotient chunks than committed ones. Carried for proofs of several
+    /// instances.
     #[error("instance {air:?}: {got} quotient chunks in place of {expected}")]
     QuotientChunksCountMismatch {
         air: Option<usize>,
         expected: usize,
         got: usize,
     },
-    /// A quotient chunk has another length than the extension's degree. Carried for proofs of several instances.
+    /// A quotient chunk has another length than the extension's degree. Carried for proofs of
+    /// several instances.
     #[error("instance {air:?}: a quotient chunk has the wrong length")]
     QuotientChunkDimensionMismatch {
         air: Option<usize>,
@@ -71,7 +75,8 @@ pub enum InvalidProofShapeError {
         vk_degree_bits: usize,
         proof_degree_bits: usize,
     },
-    /// The preprocessed row has another width than the AIR. Carried for proofs of several instances.
+    /// The preprocessed row has another width than the AIR. Carried for proofs of several
+    /// instances.
     #[error("instance {air:?}: the preprocessed row has the wrong width")]
     PreprocessedWidthMismatch {
         air: Option<usize>,
@@ -102,12 +107,14 @@ pub enum InvalidProofShapeError {
         maximum: usize,
         got: usize,
     },
-    /// The AIR has preprocessed columns, and none are opened. Carried for proofs of several instances.
+    /// The AIR has preprocessed columns, and none are opened. Carried for proofs of several
+    /// instances.
     #[error("instance {air:?}: no preprocessed rows are opened")]
     MissingPreprocessedValues {
         air: Option<usize>,
     },
-    /// The preprocessed columns aren't those that the common data names. Carried for proofs of several instances.
+    /// The preprocessed columns aren't those that the common data names. Carried for proofs of
+    /// several instances.
     #[error("instance {air:?}: the preprocessed columns don't fit the common data")]
     PreprocessedMetadataMismatch {
         air: Option<usize>,
@@ -118,7 +125,8 @@ pub enum InvalidProofShapeError {
         expected: usize,
         got: usize,
     },
-    /// Another opened row or chunk has the wrong number of values, or there are too many or too few of them.
+    /// Another opened row or chunk has the wrong number of values, or there are too many or too few
+    /// of them.
     #[error("the opened values have the wrong dimensions")]
     OpenedValuesDimensionMismatch,
     /// No witness is asked for before alpha, and the proof has one that isn't zero.
@@ -214,8 +222,8 @@ impl<PcsErr> From<StarkTranscriptFailure> for VerificationError<PcsErr> {
 /// Why no proof is made; `E` is the error of the commitment scheme.
 #[derive(Debug, Drop, Error)]
 pub enum ProvingError<E> {
-    /// The commitment scheme refuses. The phases are `preprocessing commitment`, `trace commitment`, `quotient commitment`,
-    /// `randomization commitment` and `opening`.
+    /// The commitment scheme refuses. The phases are `preprocessing commitment`, `trace
+    /// commitment`, `quotient commitment`, `randomization commitment` and `opening`.
     #[error("the commitment scheme refuses: {phase}")]
     Pcs { phase: &'static str, source: E },
     /// No element is a witness of the work that is asked for.

@@ -1,5 +1,5 @@
-//! The transcript of a proof of one AIR: its shape, the seed that the shape gives, both sides' phases, and the errors with which
-//! a run of either side ends.
+//! The transcript of a proof of one AIR: its shape, the seed that the shape gives, both sides'
+//! phases, and the errors with which a run of either side ends.
 #![tactic(auto)]
 
 mod error;

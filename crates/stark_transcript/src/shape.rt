@@ -1,7 +1,7 @@
 //! The numbers that fix a transcript, and why one fails.
 ghost use Rattle.std.specs.Prelude.{◌≡◌, ◌<◌, ◌^◌, IfOk, codes, map};
-ghost use Rattle.stark_support.specs.Seed.{IsBounded, ShapeNumbers, described, elements, flag, marker, message, plain_seed, row_view, shape_seed, shape_steps, step_view};
-ghost use Rattle.stark_transcript.specs.Shape.{opens_next_row, shape_numbers, shape_of};
+ghost use Rattle.stark_support.specs.Seed.{IsBounded, described, elements, flag, marker, message, plain_seed, row_view, shape_seed, shape_steps, step_view};
+ghost use Rattle.stark_transcript.specs.Shape.{opens_next_row, shape_numbers, shape_of, TellsShape};
 
 use stark_air::BaseAir;
 use stark_support::{
@@ -75,7 +75,8 @@ pub struct GrindExhausted {
 pub enum TranscriptPhase {
     /// The seed was observed.
     Opened,
-    /// The traces and the public values were observed, work was done where some is asked for, and alpha was drawn.
+    /// The traces and the public values were observed, work was done where some is asked for, and
+    /// alpha was drawn.
     Bound,
     /// The quotient was observed, and zeta was drawn.
     Drawn,
@@ -111,7 +112,8 @@ fn flag(is_set: bool) -> usize
 
 /// The steps of a table that are there.
 fn described(alloc: Global, table: &[(bool, Interaction)]) -> Result<Vec<Interaction>, AllocError>
-    ensures { IfOk result (λ steps. map step_view steps.items ≡ described (map row_view table.now)) }
+    ensures { IfOk result (λ steps. map step_view steps.items
+        ≡ described (map row_view table.now)) }
 {
     let mut steps = Vec::new(alloc);
     for (is_there, step) in table {
@@ -133,8 +135,9 @@ pub fn opens_next_row(columns: &[usize]) -> bool
 }
 
 impl StarkShape {
-    /// The shape of a proof of `air`: its declared counts, whether it reads next rows, and the numbers given. The preprocessed
-    /// width is that of the verifier's key. It is Err only where memory was refused.
+    /// The shape of a proof of `air`: its declared counts, whether it reads next rows, and the
+    /// numbers given. The preprocessed width is that of the verifier's key. It is Err only where
+    /// memory was refused.
     pub fn new<F, A: BaseAir<F>>(
         alloc: Global,
         air: &A,
@@ -146,8 +149,11 @@ impl StarkShape {
         ood_pow_bits: usize,
         constraint_pow_bits: usize,
     ) -> Result<StarkShape, AllocError>
-        ensures { IfOk result (λ shape. shape ≡ shape_of (A.layout air.now) (A.main_next_row_columns air.now) (A.preprocessed_next_row_columns air.now)
-            preprocessed_width log_ext_degree log_degree num_quotient_chunks has_randomization ood_pow_bits constraint_pow_bits) }
+        ensures { IfOk result (λ shape. shape
+            ≡ shape_of (A.layout air.now) (A.main_next_row_columns air.now)
+            (A.preprocessed_next_row_columns air.now)
+            preprocessed_width log_ext_degree log_degree num_quotient_chunks has_randomization
+            ood_pow_bits constraint_pow_bits) }
     {
         let main_next = air.main_next_row_columns(alloc)?;
         let preprocessed_next = air.preprocessed_next_row_columns(alloc)?;
@@ -167,12 +173,14 @@ impl StarkShape {
         })
     }
 
-    /// The steps of the transcript over the field `F` and its extension `EF`. It is Err only where memory was refused.
+    /// The steps of the transcript over the field `F` and its extension `EF`. It is Err only where
+    /// memory was refused.
     pub fn pattern<F: Field, EF: ExtensionField<F>>(
         &self,
         alloc: Global,
     ) -> Result<InteractionPattern, AllocError>
-        ensures { IfOk result (λ pattern. pattern ≡ shape_steps 1 EF.DIMENSION (shape_numbers self.now)) }
+        ensures { IfOk result (λ pattern. pattern
+            ≡ shape_steps 1 EF.DIMENSION (shape_numbers self.now)) }
     {
         let degree = EF::DIMENSION;
         let publics = Length::Fixed(self.num_public_values);
@@ -209,15 +217,17 @@ impl StarkShape {
         Ok(InteractionPattern::new(described(alloc, &table)?))
     }
 
-    /// What tells this transcript from those of other shapes over the same two fields: no other shape has these bytes.
-    /// It is Err only where memory was refused.
+    /// What tells this transcript from those of other shapes over the same two fields: no other
+    /// shape has these bytes. It is Err only where memory was refused.
     pub fn domain_separator<F: Field, EF: ExtensionField<F>>(
         &self,
         alloc: Global,
     ) -> Result<DomainSeparator, AllocError>
-        ensures seed { IfOk result (λ separator. separator ≡ shape_seed 1 EF.DIMENSION (shape_numbers self.now)) }
-        ensures without_first_work { IfOk result (λ separator. self.now.constraint_pow_bits ≡ 0 → separator ≡ plain_seed 1 EF.DIMENSION (shape_numbers self.now)) }
-        ensures of_this_shape { IfOk result (λ separator. (other : ShapeNumbers) → IsBounded other → separator ≡ shape_seed 1 EF.DIMENSION other → other ≡ shape_numbers self.now) }
+        ensures seed { IfOk result (λ separator. separator
+            ≡ shape_seed 1 EF.DIMENSION (shape_numbers self.now)) }
+        ensures without_first_work { IfOk result (λ separator. self.now.constraint_pow_bits ≡ 0
+            → separator ≡ plain_seed 1 EF.DIMENSION (shape_numbers self.now)) }
+        ensures of_this_shape { IfOk result (TellsShape EF.DIMENSION (shape_numbers self.now)) }
     {
         let pattern = self.pattern::<F, EF>(alloc)?;
         let items = [

@@ -1,10 +1,10 @@
 //! The transcript of a proof of one AIR, played over a challenger that the caller lends.
-ghost use Rattle.std.specs.Prelude.{◌≡◌, ◌++◌, List, Option, option_map, IfOk, IfErr};
-ghost use Rattle.stark_support.specs.Sponge.{SpongeOps, observed_bytes, replay};
-ghost use Rattle.stark_support.specs.Seed.{shape_seed};
-ghost use Rattle.stark_transcript.specs.Shape.{shape_numbers};
+ghost use Rattle.std.specs.Prelude.{◌≡◌, Option, option_map, IfOk, IfErr};
+ghost use Rattle.stark_support.specs.Sponge.{SpongeOps, replay};
+ghost use Rattle.stark_transcript.specs.Shape.{after_seed};
 ghost use Rattle.stark_transcript.specs.declared.shape.StarkShape.{StarkShape};
-ghost use Rattle.stark_transcript.specs.Replay.{checked, constraint_outcome, element_events, ground, optional_events, optional_fault, plain_constraint_outcome, plain_prover_outcome, preprocessed_fault, prover_constraint_outcome, random_fault};
+ghost use Rattle.stark_transcript.specs.Replay.{checked, ground, optional_events, optional_fault, preprocessed_fault, random_fault};
+ghost use Rattle.stark_transcript.specs.Phases.{IsPlainForProver, IsPlainForVerifier, after_values};
 
 mod prover;
 mod verifier;
@@ -12,8 +12,8 @@ mod verifier;
 use crate::shape::{GrindExhausted, StarkShape, StarkTranscriptFailure};
 pub use prover::StarkProverTranscript;
 use stark_support::{
-    CanObserve, CanSample, ExtensionField, GrindingChallenger, PrimeField64, TranscriptSponge,
-    observe_bytes, observe_slice,
+    CanObserve, CanSample, ExtensionField, GrindingChallenger, PrimeField64, Sponge, observe_bytes,
+    observe_slice,
 };
 use std::alloc::{AllocError, Global};
 pub use verifier::StarkVerifierTranscript;
@@ -66,7 +66,8 @@ where
     F: PrimeField64,
     EF: ExtensionField<F>,
     C: CanObserve<F>,
-    ensures seeded { IfOk result (λ _. challenger.new ≡ observed_bytes C.after_observe F.of_number (shape_seed 1 EF.DIMENSION (shape_numbers shape.now)) challenger.old) }
+    ensures seeded { IfOk result (λ _. challenger.new
+        ≡ after_seed C.after_observe F.of_number EF.DIMENSION shape.now challenger.old) }
     ensures untouched { IfErr result (λ _. challenger.new ≡ challenger.old) }
 {
     let separator = shape.domain_separator::<F, EF>(alloc)?;
@@ -78,7 +79,8 @@ fn observe_optional<C, F, EF, K>(challenger: &mut C, commitment: Option<&K>)
 where
     F: PrimeField64,
     C: CanObserve<F> + CanObserve<K> + CanSample<EF> + GrindingChallenger<Witness = F>,
-    ensures { challenger.new ≡ replay ⟦<C as TranscriptSponge<F, EF, K>>⟧.sponge (optional_events (option_map (λ k. k.now) commitment.entry)) challenger.old }
+    ensures { challenger.new ≡ replay ⟦<C as Sponge<F, EF, K>>⟧.sponge
+        (optional_events (option_map (λ k. k.now) commitment.entry)) challenger.old }
 {
     if let Some(commitment) = commitment {
         challenger.observe(commitment);
@@ -91,15 +93,16 @@ fn play_values<C, F, EF, K>(challenger: &mut C, preprocessed: Option<&K>, public
 where
     F: PrimeField64,
     C: CanObserve<F> + CanObserve<K> + CanSample<EF> + GrindingChallenger<Witness = F>,
-    ensures { challenger.new ≡ replay ⟦<C as TranscriptSponge<F, EF, K>>⟧.sponge (optional_events (option_map (λ k. k.now) preprocessed.entry) ++ element_events public_values.now) challenger.old }
+    ensures { challenger.new ≡ after_values ⟦<C as Sponge<F, EF, K>>⟧.sponge
+        preprocessed.entry public_values.now challenger.old }
 {
     observe_optional::<C, F, EF, K>(&mut *challenger, preprocessed);
     observe_slice(&mut *challenger, public_values);
 }
 
-// The check of the work, where some is asked for, and the challenge behind it. Where the witness doesn't pass, the failure
-// given is answered.
-fn check_work<C, F, EF, K>(
+// The check of the work, where some is asked for, and the challenge behind it. Where the witness
+// doesn't pass, the failure given is answered.
+fn sample_after_check<C, F, EF, K>(
     challenger: &mut C,
     failure: StarkTranscriptFailure,
     bits: usize,
@@ -108,8 +111,10 @@ fn check_work<C, F, EF, K>(
 where
     F: PrimeField64,
     C: CanObserve<F> + CanObserve<K> + CanSample<EF> + GrindingChallenger<Witness = F>,
-    ensures answer { result ≡ (checked ⟦<C as TranscriptSponge<F, EF, K>>⟧.sponge failure bits witness challenger.old).answer }
-    ensures state { challenger.new ≡ (checked ⟦<C as TranscriptSponge<F, EF, K>>⟧.sponge failure bits witness challenger.old).state }
+    ensures answer { result ≡ (checked ⟦<C as Sponge<F, EF, K>>⟧.sponge failure bits
+        witness challenger.old).answer }
+    ensures state { challenger.new ≡ (checked ⟦<C as Sponge<F, EF, K>>⟧.sponge failure
+        bits witness challenger.old).state }
 {
     if bits > 0 && !challenger.check_witness(bits, witness) {
         return Err(failure);
@@ -118,15 +123,17 @@ where
 }
 
 // The search for a witness, where work is asked for, and the challenge behind it.
-fn find_work<C, F, EF, K>(
+fn sample_after_grind<C, F, EF, K>(
     challenger: &mut C,
     bits: usize,
 ) -> Result<(EF, Option<F>), GrindExhausted>
 where
     F: PrimeField64,
     C: CanObserve<F> + CanObserve<K> + CanSample<EF> + GrindingChallenger<Witness = F>,
-    ensures answer { result ≡ (ground ⟦<C as TranscriptSponge<F, EF, K>>⟧.sponge bits challenger.old).answer }
-    ensures state { challenger.new ≡ (ground ⟦<C as TranscriptSponge<F, EF, K>>⟧.sponge bits challenger.old).state }
+    ensures answer { result ≡ (ground ⟦<C as Sponge<F, EF, K>>⟧.sponge bits
+        challenger.old).answer }
+    ensures state { challenger.new ≡ (ground ⟦<C as Sponge<F, EF, K>>⟧.sponge bits
+        challenger.old).state }
 {
     if bits == 0 {
         return Ok((challenger.sample(), None));
@@ -137,11 +144,10 @@ where
     }
 }
 
-/// A law, with no code: where a shape asks for no work before alpha, the phase that draws alpha is that of a protocol without
-/// such work. The verifier's is so whatever the witness, and the prover's finds none.
+/// A law, with no code: where a shape asks for no work before alpha, the phase that draws alpha is
+/// that of a protocol without such work. The verifier's is so whatever the witness, and the
+/// prover's finds none.
 pub fn alpha_without_work<C, F, EF, K>()
-    ensures verifier { (ops : SpongeOps C F EF K) (shape : StarkShape) (trace : K) (preprocessed : Option K) (publics : List F) (witness : F) (start : C) → shape.constraint_pow_bits ≡ 0
-        → constraint_outcome ops shape trace preprocessed publics witness start ≡ plain_constraint_outcome ops shape trace preprocessed publics start }
-    ensures prover { (ops : SpongeOps C F EF K) (shape : StarkShape) (trace : K) (preprocessed : Option K) (publics : List F) (start : C) → shape.constraint_pow_bits ≡ 0
-        → prover_constraint_outcome ops shape trace preprocessed publics start ≡ plain_prover_outcome ops trace preprocessed publics start }
+    ensures verifier { (ops : SpongeOps C F EF K) → IsPlainForVerifier ops }
+    ensures prover { (ops : SpongeOps C F EF K) → IsPlainForProver ops }
 {}

@@ -1,5 +1,5 @@
 -- Named constraints that read outside the columns.
-use Rattle.std.specs.Prelude.{ℕ, List, [], ◌∷◌, length, Option, None, Some, if◌then◌else◌}
+use Rattle.std.specs.Prelude.{ℕ, List, [], ◌∷◌, length, Option, None, Some, if◌then◌else◌, ◌≡◌, IfSome, MatchResult, Result}
 use Rattle.stark_air.specs.Layout.{Layout}
 use Rattle.stark_tree_air.specs.Writing.{constraint_within}
 use Rattle.stark_tree_air.specs.declared.error.TreeExpressionError.{TreeExpressionError}
@@ -31,3 +31,7 @@ first_outside l (c ∷ cs) = (if constraint_within l c.constraint then first_out
 abbrev pub named : TreeExpressionError → Option (List ℕ)
 named (LeafOutside name) = Some name.now
 named OutOfMemory = None
+
+-- The AIR is made where no constraint reads outside; else the error names the first that does, if it names one.
+abbrev pub NamesOutside : {T N : Type 0} → (TreeExpressionError → Option N) → Option N → Result T TreeExpressionError → Type 0
+NamesOutside name_in outside result = MatchResult result (λ _. outside ≡ None) (λ e. IfSome (name_in e) (λ name. outside ≡ Some name))

@@ -5,7 +5,7 @@ use Rattle.stark_support.specs.Operations.{Operations}
 use Rattle.stark_air.specs.Layout.{Layout}
 use Rattle.stark_air.specs.Tree.{Tree, Constraint, base, extension, constant, main_current, main_next, preprocessed_current, preprocessed_next, public_value, periodic_value, first_row, last_row, transition, sum, difference, product, negation}
 use Rattle.stark_air.specs.Value.{Environment, value}
-use Rattle.stark_tree_air.specs.Needed.{Marked}
+use Rattle.stark_tree_air.specs.Needed.{Marked, OperandsMarked, constraint_place}
 use Rattle.stark_tree_air.specs.declared.node.TreeNode.{TreeNode}
 use Rattle.stark_tree_air.specs.declared.node.TreeNode.TheVariants.{Constant, MainCurrent, MainNext, PreprocessedCurrent, PreprocessedNext, PublicValue, PeriodicValue, FirstRow, LastRow, Transition, Sum, Difference, Product, Negation}
 use Rattle.stark_tree_air.specs.declared.node.TreeConstraint.{TreeConstraint}
@@ -91,3 +91,21 @@ EachStands stands o e ms k (t ∷ ts) (x ∷ xs) = (Marked ms k → stands (valu
 -- Each value with a mark stands for that of the tree at its place, and there are as many values as trees.
 pub record Stand {F : Type 0} {E : Type 0} (stands : E → E → Type 0) (o : Operations F E) (e : Environment E) (ms : List Bool) (ts : List (Tree F)) (xs : List E) : Type 0 where
   pub each : EachStands stands o e ms 0 ts xs
+
+-- ---- what is computed of nodes
+
+-- Wherever values stand for the trees of nodes, this one stands for that of a needed node.
+abbrev pub StandsForNode : {F E : Type 0} → (E → E → Type 0) → Operations F E → List E → ℕ → E → Type 0
+StandsForNode {F} {E} stands o values index x = (e : Environment E) (ms : List Bool) (ts : List (Tree F))
+    → Stand stands o e ms ts values → Marked ms index → stands (value o e (tree_at ts index)) x
+
+-- Wherever they do, this one stands for the node made of them.
+abbrev pub StandsForMade : {F E : Type 0} → (E → E → Type 0) → Operations F E → Environment E → List F → List E → TreeNode → E → Type 0
+StandsForMade {F} stands o e constants values node x = (ms : List Bool) (ts : List (Tree F))
+    → Stand stands o e ms ts values → OperandsMarked ms node → stands (value o e (node_tree constants ts node)) x
+
+-- Whatever trees the nodes have, the constraint was asserted of the tree that the value stands for.
+abbrev pub AssertsNode : {F S E : Type 0} → Operations F E → (E → E → Type 0) → (S → Environment E) → (S → List (Constraint F) → S → Type 0)
+    → TreeConstraint → S → E → S → Type 0
+AssertsNode {F} o stands environment after constraint s x t = (ts : List (Tree F))
+    → stands (value o (environment s) (tree_at ts (constraint_place constraint))) x → after s (marked_tree ts constraint ∷ []) t

@@ -6,7 +6,7 @@ use Rattle.stark_air.specs.Layout.{Layout, TreeWithin}
 use Rattle.stark_air.specs.Tree.{Tree, Constraint, base, extension, constant, main_current, main_next, preprocessed_current, preprocessed_next, public_value, periodic_value, first_row, last_row, transition, sum, difference, product, negation}
 use Rattle.stark_symbolic.specs.declared.builder.SymbolicConstraint.{SymbolicConstraint}
 use Rattle.stark_symbolic.specs.declared.builder.SymbolicConstraint.TheVariants as symbolic
-use Rattle.stark_tree_air.specs.Nodes.{nodes_trees, NodesFit, ConstraintsFit, marked_tree}
+use Rattle.stark_tree_air.specs.Nodes.{nodes_trees, NodesFit, ConstraintsFit, marked_tree, spelled}
 use Rattle.stark_tree_air.specs.declared.list.TreeList.{TreeList}
 use Rattle.stark_symbolic.specs.declared.variable.BaseEntry.{BaseEntry}
 use Rattle.stark_symbolic.specs.declared.variable.BaseEntry.TheVariants.{Main, Preprocessed, Public, Periodic}
@@ -100,3 +100,11 @@ pub record SpellsAll {F : Type 0} (l : Layout) (list : TreeList F) (xs : List (S
   pub constraints : List (Constraint F)
   pub expressed : map expressed constraints ≡ xs
   pub spells : Spells l list constraints
+
+-- The list spells the constraints, whatever layout they read within.
+abbrev pub SpellsWithin : {F : Type 0} → TreeList F → List (SymbolicConstraint F) → Type 0
+SpellsWithin list cs = (l : Layout) → all_within l cs ≡ true → SpellsAll l list cs
+
+-- The constraints that a list spells.
+abbrev pub spelled_in : {F : Type 0} → TreeList F → List (Constraint F)
+spelled_in list = spelled list.constants.items list.nodes.items list.constraints.items

@@ -9,8 +9,8 @@ use stark_air::AirLayout;
 use stark_support::RowMajorMatrix;
 use std::alloc::{AllocError, Global};
 
-/// How many main columns and public values there are, the periodic columns, each by the values that it repeats, and the
-/// preprocessed trace.
+/// How many main columns and public values there are, the periodic columns, each by the values that
+/// it repeats, and the preprocessed trace.
 #[derive(Debug, Drop)]
 pub struct TreeColumns<F> {
     pub width: usize,
@@ -61,7 +61,8 @@ pub(crate) fn columns_layout<F>(columns: &TreeColumns<F>) -> AirLayout
 impl<F: Copy> TreeColumns<F> {
     /// A copy of the preprocessed trace. Err only where memory was refused.
     pub fn copied_trace(&self, alloc: Global) -> Result<Option<RowMajorMatrix<F>>, AllocError>
-        ensures { IfOk result (λ trace. declared_trace trace ≡ declared_trace self.now.preprocessed_trace) }
+        ensures { IfOk result (λ trace. declared_trace trace
+            ≡ declared_trace self.now.preprocessed_trace) }
     {
         match &self.preprocessed_trace {
             Some(trace) => {
@@ -74,7 +75,8 @@ impl<F: Copy> TreeColumns<F> {
     }
 }
 
-/// The columns, and what the author says of the constraints; a hint is None where the author says nothing.
+/// The columns, and what the author says of the constraints; a hint is None where the author says
+/// nothing.
 #[derive(Debug, Drop)]
 pub struct TreeDeclaration<F> {
     pub columns: TreeColumns<F>,

@@ -1,10 +1,10 @@
 //! Nodes and constraints on a builder.
-ghost use Rattle.std.specs.Prelude.{◌≡◌, ◌<◌, Bool, List, [], ◌∷◌, map, length, IfOk, OnErr};
-ghost use Rattle.stark_air.specs.Tree.{Tree, constant};
+ghost use Rattle.std.specs.Prelude.{◌≡◌, ◌<◌, [], map, length, IfOk, OnErr, Option};
+ghost use Rattle.stark_air.specs.Tree.{constant};
 ghost use Rattle.stark_air.specs.Value.{Environment, value};
-ghost use Rattle.stark_tree_air.specs.Needed.{Marked, NodesMarked, OperandsMarked, constraint_place};
+ghost use Rattle.stark_tree_air.specs.Needed.{NodesMarked};
 ghost use Rattle.stark_tree_air.specs.Windows.{ReadAreThere, WindowsShow};
-ghost use Rattle.stark_tree_air.specs.Nodes.{Stand, NodeFits, NodesFit, node_tree, nodes_trees, tree_at, marked_tree};
+ghost use Rattle.stark_tree_air.specs.Nodes.{Stand, NodeFits, NodesFit, nodes_trees, tree_at, AssertsNode, StandsForMade, StandsForNode};
 
 use crate::node::{TreeConstraint, TreeNode};
 use stark_air::{AirBuilder, ExtensionBuilder, WindowAccess, periodic_value, public_value};
@@ -18,11 +18,22 @@ struct Windows<M, P> {
     preprocessed: Option<P>,
 }
 
+/// What windows show of a builder's row. It has no code.
+trait ShowsWindows: AirBuilder {
+    ghost shown: { Self → Option Self.MainWindow → Option Self.PreprocessedWindow → Type 0 };
+}
+
+impl<AB: AirBuilder> ShowsWindows for AB {
+    ghost shown = { λ builder. WindowsShow ⟦<AB::Expr as From<AB::Var>>⟧.from_gives AB.Expr.stands
+        (AB.environment builder) (AB.layout builder) AB.MainWindow.current_at
+        AB.MainWindow.next_at AB.PreprocessedWindow.current_at AB.PreprocessedWindow.next_at };
+}
+
 /// A copy of the value of an earlier node.
 #[tactic(auto, using(crate::proofs::Steps::operand_stands))]
 pub(crate) fn operand<F, E: Algebra<F>>(values: &[E], index: usize) -> E
     requires { index < length values.now }
-    ensures { (e : Environment E) (ms : List Bool) (ts : List (Tree F)) → Stand E.stands E.operations e ms ts values.now → Marked ms index → E.stands (value E.operations e (tree_at ts index)) result }
+    ensures { StandsForNode E.stands E.operations values.now index result }
 {
     values[index].dup()
 }
@@ -31,7 +42,8 @@ pub(crate) fn operand<F, E: Algebra<F>>(values: &[E], index: usize) -> E
 #[tactic(auto, using(crate::proofs::Steps::constant_stands))]
 fn constant_value<F: Element, E: Algebra<F>>(constants: &[F], index: usize) -> E
     requires { index < length constants.now }
-    ensures { (e : Environment E) → E.stands (value E.operations e (tree_at (map constant constants.now) index)) result }
+    ensures { (e : Environment E) → E.stands
+        (value E.operations e (tree_at (map constant constants.now) index)) result }
 {
     E::from(constants[index])
 }
@@ -45,10 +57,13 @@ fn node_value<AB: AirBuilder>(
     windows: &Windows<AB::MainWindow, AB::PreprocessedWindow>,
     builder: &AB,
 ) -> AB::Expr
-    requires fits { NodeFits (AB.layout builder.now) (length constants.now) (length values.now) node }
-    requires shown { WindowsShow ⟦<AB::Expr as From<AB::Var>>⟧.from_gives AB.Expr.stands (AB.environment builder.now) (AB.layout builder.now) AB.MainWindow.current_at AB.MainWindow.next_at AB.PreprocessedWindow.current_at AB.PreprocessedWindow.next_at windows.now.main windows.now.preprocessed }
+    requires fits { NodeFits (AB.layout builder.now) (length constants.now) (length values.now)
+        node }
+    requires shown { ⟦<AB as ShowsWindows>⟧.shown builder.now
+        windows.now.main windows.now.preprocessed }
     requires asked { ReadAreThere node windows.now.main windows.now.preprocessed }
-    ensures { (ms : List Bool) (ts : List (Tree AB.F)) → Stand AB.Expr.stands AB.Expr.operations (AB.environment builder.now) ms ts values.now → OperandsMarked ms node → AB.Expr.stands (value AB.Expr.operations (AB.environment builder.now) (node_tree constants.now ts node)) result }
+    ensures { StandsForMade AB.Expr.stands AB.Expr.operations (AB.environment builder.now)
+        constants.now values.now node result }
 {
     match node {
         TreeNode::Constant(index) => constant_value(constants, index),
@@ -92,8 +107,11 @@ fn with_read<AB: AirBuilder>(
     windows: Windows<AB::MainWindow, AB::PreprocessedWindow>,
     builder: &AB,
 ) -> Result<Windows<AB::MainWindow, AB::PreprocessedWindow>, AllocError>
-    requires shown { WindowsShow ⟦<AB::Expr as From<AB::Var>>⟧.from_gives AB.Expr.stands (AB.environment builder.now) (AB.layout builder.now) AB.MainWindow.current_at AB.MainWindow.next_at AB.PreprocessedWindow.current_at AB.PreprocessedWindow.next_at windows.main windows.preprocessed }
-    ensures shown { IfOk result (λ all. WindowsShow ⟦<AB::Expr as From<AB::Var>>⟧.from_gives AB.Expr.stands (AB.environment builder.now) (AB.layout builder.now) AB.MainWindow.current_at AB.MainWindow.next_at AB.PreprocessedWindow.current_at AB.PreprocessedWindow.next_at all.main all.preprocessed) }
+    requires shown { ⟦<AB as ShowsWindows>⟧.shown builder.now
+        windows.main windows.preprocessed }
+    ensures shown { IfOk result (λ all.
+        ⟦<AB as ShowsWindows>⟧.shown builder.now
+        all.main all.preprocessed) }
     ensures asked { IfOk result (λ all. ReadAreThere node all.main all.preprocessed) }
 {
     match (node, &windows.main, &windows.preprocessed) {
@@ -124,7 +142,8 @@ pub(crate) fn node_values<AB: AirBuilder>(
     requires fit { NodesFit (AB.layout builder.now) (length constants.now) 0 nodes.now }
     requires operands { NodesMarked needed.now 0 nodes.now }
     requires as_many { length needed.now ≡ length nodes.now }
-    ensures { IfOk result (λ values. Stand AB.Expr.stands AB.Expr.operations (AB.environment builder.now) needed.now (nodes_trees constants.now nodes.now) values.items) }
+    ensures { IfOk result (λ v. Stand AB.Expr.stands AB.Expr.operations (AB.environment builder.now)
+        needed.now (nodes_trees constants.now nodes.now) v.items) }
 {
     let mut windows = Windows {
         main: None,
@@ -153,7 +172,9 @@ pub(crate) fn assert_constraint<AB: ExtensionBuilder>(
     builder: &mut AB,
 ) -> Result<(), AllocError>
     ensures same_environment { AB.environment builder.new ≡ AB.environment builder.old }
-    ensures asserted { IfOk result (λ _. (ts : List (Tree AB.F)) → AB.Expr.stands (value AB.Expr.operations (AB.environment builder.old) (tree_at ts (constraint_place constraint))) x → AB.after builder.old (marked_tree ts constraint ∷ []) builder.new) }
+    ensures asserted { IfOk result (λ _.
+        AssertsNode AB.Expr.operations AB.Expr.stands AB.environment AB.after constraint
+        builder.old x builder.new) }
     ensures refused { OnErr result (AB.after builder.old [] builder.new) }
 {
     match constraint {

@@ -189,7 +189,8 @@ pub(crate) fn tree_air_fault<F>(
     columns: &TreeColumns<F>,
     list: &TreeList<F>,
 ) -> Option<TreeAirError>
-    ensures { result ≡ tree_air_fault columns.now list.now.constants.items list.now.nodes.items list.now.constraints.items }
+    ensures { result ≡ tree_air_fault columns.now list.now.constants.items list.now.nodes.items
+        list.now.constraints.items }
 {
     let counts = counts(columns, list.constants.len(), &list.nodes);
     let fault = first_node_fault(counts, &list.nodes);

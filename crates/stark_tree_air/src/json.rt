@@ -42,7 +42,8 @@ fn optional_trace<F: JsonCodec + Copy>(
     value: &Value,
     field: &'static str,
 ) -> Result<Option<RowMajorMatrix<F>>, TreeJsonError>
-    ensures { Decodes declared_trace result (optional field.now (trace_at F.reading) (view value.now)) }
+    ensures { Decodes declared_trace result
+        (optional field.now (trace_at F.reading) (view value.now)) }
 {
     let Some(found) = value.get(field) else {
         return Ok(None);
@@ -91,7 +92,8 @@ fn tree_list_from_json<F: JsonCodec + Copy>(
 }
 
 fn rows_to_json<F: JsonCodec>(alloc: Global, trace: &RowMajorMatrix<F>) -> Result<Value, AllocError>
-    ensures { IfOk result (λ value. view value ≡ list_written (list_written F.writing) (trace_rows F.writing (matrix_trace trace.now))) }
+    ensures { IfOk result (λ value. view value
+        ≡ list_written (list_written F.writing) (trace_rows F.writing (matrix_trace trace.now))) }
 {
     let mut rows = Vec::new(alloc);
     for r in 0..trace.height() {
@@ -117,7 +119,8 @@ fn trace_or_null<F: JsonCodec>(
     alloc: Global,
     trace: &Option<RowMajorMatrix<F>>,
 ) -> Result<Value, AllocError>
-    ensures { IfOk result (λ value. view value ≡ trace_or_null F.writing (declared_trace trace.now)) }
+    ensures { IfOk result (λ value. view value
+        ≡ trace_or_null F.writing (declared_trace trace.now)) }
 {
     match trace {
         Some(trace) => trace_to_json(alloc, trace),
@@ -130,7 +133,8 @@ fn columns_to_map<F: JsonCodec>(
     alloc: Global,
     columns: &TreeColumns<F>,
 ) -> Result<Map<String, Value>, AllocError>
-    ensures { IfOk result (λ map. members_view map.entries ≡ columns_writing F.writing (columns_view columns.now)) }
+    ensures { IfOk result (λ map. members_view map.entries
+        ≡ columns_writing F.writing (columns_view columns.now)) }
 {
     let periodic = lists_to_json(alloc, &columns.periodic_columns)?;
     let preprocessed = trace_or_null(alloc, &columns.preprocessed_trace)?;
@@ -153,7 +157,8 @@ fn put_list<F: JsonCodec>(
     alloc: Global,
     list: &TreeList<F>,
 ) -> Result<(), AllocError>
-    ensures { OnOk result (members_view map.new.entries ≡ list_writing F.writing (list_view list.now) (members_view map.old.entries)) }
+    ensures { OnOk result (members_view map.new.entries
+        ≡ list_writing F.writing (list_view list.now) (members_view map.old.entries)) }
 {
     let constants = list_to_json(alloc, &list.constants)?;
     let nodes = list_to_json(alloc, &list.nodes)?;
@@ -164,20 +169,24 @@ fn put_list<F: JsonCodec>(
 }
 
 impl<F: Field + JsonCodec> TreeAir<F> {
-    /// The AIR that an object spells. Its fields are read in the order `width`, `publics`, `periodic`, `preprocessed`,
-    /// `max_constraint_degree`, `num_constraints`, `constants`, `nodes`, `constraints`, others are ignored, and the first fault
-    /// is answered. The preprocessed trace and the hints are None where they are missing or null; the rest is required.
+    /// The AIR that an object spells. Its fields are read in the order `width`, `publics`,
+    /// `periodic`, `preprocessed`, `max_constraint_degree`, `num_constraints`, `constants`,
+    /// `nodes`, `constraints`, others are ignored, and the first fault is answered. The
+    /// preprocessed trace and the hints are None where they are missing or null; the rest is
+    /// required.
     ///
     /// - `WrongKind` with an empty name where the value isn't an object.
     /// - `MissingField` where a required field isn't there, also one of the preprocessed trace.
-    /// - `WrongKind` where a number isn't a whole one that fits, a list isn't an array, or the preprocessed trace isn't an object.
+    /// - `WrongKind` where a number isn't a whole one that fits, a list isn't an array, or the
+    ///   preprocessed trace isn't an object.
     /// - `Element` where an element of a list is refused.
     /// - `RowWidth` where a row of the preprocessed trace has another width.
     /// - `Air` after all fields, where the nodes or the constraints have a fault.
     /// - `OutOfMemory` wherever a growth was refused.
     #[tactic(auto, unfolding(crate::specs::TreeJson::air_reading))]
     pub fn from_json(alloc: Global, value: &Value) -> Result<TreeAir<F>, TreeJsonError>
-        ensures decoded { Decodes (λ air. air_view air.declaration air.list) result (air_reading F.reading (view value.now)) }
+        ensures decoded { Decodes (λ air. air_view air.declaration air.list) result
+            (air_reading F.reading (view value.now)) }
     {
         if !value.is_object() {
             return Err(TreeJsonError::WrongKind { field: "" });
@@ -197,12 +206,14 @@ impl<F: Field + JsonCodec> TreeAir<F> {
         }
     }
 
-    /// An object with the keys of the columns, the lists and the hints that there are; without a preprocessed trace it has null
-    /// in its place. It is read back as this AIR.
+    /// An object with the keys of the columns, the lists and the hints that there are; without a
+    /// preprocessed trace it has null in its place. It is read back as this AIR.
     #[tactic(auto, unfolding(crate::specs::TreeJson::air_writing))]
     pub fn to_json(&self, alloc: Global) -> Result<Value, AllocError>
-        ensures written { IfOk result (λ value. view value ≡ air_writing F.writing (air_view self.now.declaration self.now.list)) }
-        ensures read_back { IfOk result (λ value. air_reading F.reading (view value) ≡ Ok (air_view self.now.declaration self.now.list)) }
+        ensures written { IfOk result (λ value. view value
+            ≡ air_writing F.writing (air_view self.now.declaration self.now.list)) }
+        ensures read_back { IfOk result (λ value. air_reading F.reading (view value)
+            ≡ Ok (air_view self.now.declaration self.now.list)) }
     {
         let mut map = columns_to_map(alloc, &self.declaration.columns)?;
         put_list(&mut map, alloc, &self.list)?;

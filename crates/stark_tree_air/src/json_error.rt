@@ -9,8 +9,8 @@ pub enum TreeJsonError {
     /// A required field isn't there.
     #[error("the field {field} is missing")]
     MissingField { field: &'static str },
-    /// A field isn't an array, or no whole number that fits, or the preprocessed trace isn't an object; the value isn't an
-    /// object where the name is empty.
+    /// A field isn't an array, or no whole number that fits, or the preprocessed trace isn't an
+    /// object; the value isn't an object where the name is empty.
     #[error("the field {field} is of the wrong kind")]
     WrongKind { field: &'static str },
     /// An element of a field is refused.

@@ -17,7 +17,8 @@ pub(crate) fn required<'a>(
     value: &'a Value,
     field: &'static str,
 ) -> Result<&'a Value, TreeJsonError>
-    ensures { Decodes (λ v. view v.now) result (ok_or (get field.now (view value.now)) (missing_field field.now)) }
+    ensures { Decodes (λ v. view v.now) result
+        (ok_or (get field.now (view value.now)) (missing_field field.now)) }
 {
     match value.get(field) {
         Some(found) => Ok(found),
@@ -82,7 +83,8 @@ pub(crate) fn required_list<T: JsonCodec + Drop>(
     value: &Value,
     field: &'static str,
 ) -> Result<Vec<T>, TreeJsonError>
-    ensures { Decodes (λ v. v.items) result (required field.now (list_at T.reading field.now) (view value.now)) }
+    ensures { Decodes (λ v. v.items) result
+        (required field.now (list_at T.reading field.now) (view value.now)) }
 {
     let found = required(value, field)?;
     list_at(alloc, found, field)
@@ -93,7 +95,8 @@ fn lists_at<T: JsonCodec + Drop>(
     value: &Value,
     field: &'static str,
 ) -> Result<Vec<Vec<T>>, TreeJsonError>
-    ensures { Decodes (λ v. map (λ list. list.items) v.items) result (lists_at T.reading field.now (view value.now)) }
+    ensures { Decodes (λ v. map (λ list. list.items) v.items) result
+        (lists_at T.reading field.now (view value.now)) }
 {
     if !value.is_array() {
         return Err(TreeJsonError::WrongKind { field });
@@ -111,7 +114,8 @@ pub(crate) fn required_lists<T: JsonCodec + Drop>(
     value: &Value,
     field: &'static str,
 ) -> Result<Vec<Vec<T>>, TreeJsonError>
-    ensures { Decodes (λ v. map (λ list. list.items) v.items) result (required field.now (lists_at T.reading field.now) (view value.now)) }
+    ensures { Decodes (λ v. map (λ list. list.items) v.items) result
+        (required field.now (lists_at T.reading field.now) (view value.now)) }
 {
     let found = required(value, field)?;
     lists_at(alloc, found, field)
@@ -123,7 +127,8 @@ pub(crate) fn joined_rows<F: Copy>(
     width: usize,
     rows: &[Vec<F>],
 ) -> Result<Vec<F>, TreeJsonError>
-    ensures joined { Decodes (λ v. v.items) result (joined_rows width 0 (map (λ row. row.items) rows.now)) }
+    ensures joined { Decodes (λ v. v.items) result
+        (joined_rows width 0 (map (λ row. row.items) rows.now)) }
     ensures whole { IfOk result (λ v. length v.items % width ≡ 0) }
 {
     let mut values = Vec::new(alloc);
@@ -152,7 +157,8 @@ pub(crate) fn lists_to_json<T: JsonCodec>(
     alloc: Global,
     lists: &[Vec<T>],
 ) -> Result<Value, AllocError>
-    ensures { IfOk result (λ value. view value ≡ list_written (list_written T.writing) (map (λ list. list.items) lists.now)) }
+    ensures { IfOk result (λ value. view value
+        ≡ list_written (list_written T.writing) (map (λ list. list.items) lists.now)) }
 {
     let mut values = Vec::new(alloc);
     for list in lists {
@@ -168,7 +174,8 @@ pub(crate) fn put_number(
     name: &str,
     number: Option<usize>,
 ) -> Result<(), AllocError>
-    ensures { OnOk result (members_view map.new.entries ≡ with_number name.now number (members_view map.old.entries)) }
+    ensures { OnOk result (members_view map.new.entries
+        ≡ with_number name.now number (members_view map.old.entries)) }
 {
     match number {
         Some(number) => put(map, alloc, name, Value::from(number)),

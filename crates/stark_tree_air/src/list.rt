@@ -26,7 +26,8 @@ impl<F: Copy> TreeList<F> {
         }
     }
 
-    /// Adds a node and answers its place. Err only where memory was refused, and then the list is as before.
+    /// Adds a node and answers its place. Err only where memory was refused, and then the list is
+    /// as before.
     pub fn node(&mut self, node: TreeNode) -> Result<usize, AllocError>
         ensures place { IfOk result (λ place. place ≡ length self.old.nodes.items) }
         ensures nodes { OnOk result (self.new.nodes.items ≡ self.old.nodes.items ++ node ∷ []) }
@@ -39,12 +40,14 @@ impl<F: Copy> TreeList<F> {
         Ok(place)
     }
 
-    /// Adds a constant and a node that is it, and answers the node's place. Err only where memory was refused, and then the list
-    /// is as before.
+    /// Adds a constant and a node that is it, and answers the node's place. Err only where memory
+    /// was refused, and then the list is as before.
     pub fn constant(&mut self, constant: F) -> Result<usize, AllocError>
         ensures place { IfOk result (λ place. place ≡ length self.old.nodes.items) }
-        ensures nodes { OnOk result (self.new.nodes.items ≡ self.old.nodes.items ++ TreeNode.Constant (length self.old.constants.items) ∷ []) }
-        ensures constants { OnOk result (self.new.constants.items ≡ self.old.constants.items ++ constant ∷ []) }
+        ensures nodes { OnOk result (self.new.nodes.items
+            ≡ self.old.nodes.items ++ TreeNode.Constant (length self.old.constants.items) ∷ []) }
+        ensures constants { OnOk result (self.new.constants.items
+            ≡ self.old.constants.items ++ constant ∷ []) }
         ensures refused { OnErr result (self.new.nodes.items ≡ self.old.nodes.items) }
         ensures kept { OnErr result (self.new.constants.items ≡ self.old.constants.items) }
         ensures constraints { self.new.constraints.items ≡ self.old.constraints.items }
@@ -59,10 +62,11 @@ impl<F: Copy> TreeList<F> {
         place
     }
 
-    /// Makes the node at a place a constraint over the base field. Err only where memory was refused, and then the list is as
-    /// before.
+    /// Makes the node at a place a constraint over the base field. Err only where memory was
+    /// refused, and then the list is as before.
     pub fn base(&mut self, place: usize) -> Result<(), AllocError>
-        ensures constraints { OnOk result (self.new.constraints.items ≡ self.old.constraints.items ++ TreeConstraint.Base place ∷ []) }
+        ensures constraints { OnOk result (self.new.constraints.items
+            ≡ self.old.constraints.items ++ TreeConstraint.Base place ∷ []) }
         ensures refused { OnErr result (self.new.constraints.items ≡ self.old.constraints.items) }
         ensures constants { self.new.constants.items ≡ self.old.constants.items }
         ensures nodes { self.new.nodes.items ≡ self.old.nodes.items }
@@ -71,9 +75,11 @@ impl<F: Copy> TreeList<F> {
         Ok(())
     }
 
-    /// The same over the extension.
+    /// Makes the node at a place a constraint over the extension. Err only where memory was
+    /// refused, and then the list is as before.
     pub fn extension(&mut self, place: usize) -> Result<(), AllocError>
-        ensures constraints { OnOk result (self.new.constraints.items ≡ self.old.constraints.items ++ TreeConstraint.Extension place ∷ []) }
+        ensures constraints { OnOk result (self.new.constraints.items
+            ≡ self.old.constraints.items ++ TreeConstraint.Extension place ∷ []) }
         ensures refused { OnErr result (self.new.constraints.items ≡ self.old.constraints.items) }
         ensures constants { self.new.constants.items ≡ self.old.constants.items }
         ensures nodes { self.new.nodes.items ≡ self.old.nodes.items }

@@ -40,7 +40,8 @@ fn mark_constraints(marks: &mut [bool], constraints: &[TreeConstraint])
     }
 }
 
-/// Marks the operands of each node that has a mark. Operands stand before their node, so one way back is enough.
+/// Marks the operands of each node that has a mark. Operands stand before their node, so one way
+/// back is enough.
 fn mark_nodes(marks: &mut [bool], nodes: &[TreeNode])
     requires below { NodesBelow 0 nodes.now }
     requires as_many { length marks.old ≡ length nodes.now }

@@ -1,6 +1,7 @@
 //! Trees of constraints as lists of nodes.
 
-/// A leaf of a constraint's tree, or an operation on nodes that stand before it in the list, each named by its place.
+/// A leaf of a constraint's tree, or an operation on nodes that stand before it in the list, each
+/// named by its place.
 #[derive(Clone, Copy, Debug)]
 pub enum TreeNode {
     /// The constant at a place of the list of constants.

@@ -143,7 +143,8 @@ fn base_json(alloc: Global, place: usize) -> Result<Value, AllocError>
 }
 
 fn extension_json(alloc: Global, place: usize) -> Result<Value, AllocError>
-    ensures { IfOk result (λ value. view value ≡ constraint_writing (TreeConstraint.Extension place)) }
+    ensures { IfOk result (λ value. view value
+        ≡ constraint_writing (TreeConstraint.Extension place)) }
 {
     json!(in alloc; { "ext": place })
 }

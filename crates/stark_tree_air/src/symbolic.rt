@@ -13,13 +13,14 @@ use stark_support::Field;
 use stark_symbolic::{SymbolicConstraint, symbolic_constraints};
 use std::alloc::{AllocError, Global};
 
-/// The list that spells the constraints, with a node for each node of their expressions. Err only where memory was refused,
-/// also for a node of an expression.
+/// The list that spells the constraints, with a node for each node of their expressions. Err only
+/// where memory was refused, also for a node of an expression.
 fn symbolic_list<F: Field>(
     alloc: Global,
     constraints: &[SymbolicConstraint<F>],
 ) -> Result<TreeList<F>, AllocError>
-    ensures { IfOk result (λ list. (l : Layout) → all_within l constraints.now ≡ true → SpellsAll l list constraints.now) }
+    ensures { IfOk result (λ list. (l : Layout) → all_within l constraints.now ≡ true
+        → SpellsAll l list constraints.now) }
 {
     let mut list = TreeList::new(alloc);
     for constraint in constraints {
@@ -30,7 +31,8 @@ fn symbolic_list<F: Field>(
 
 /// A copy of columns, each by the values that it repeats. Err only where memory was refused.
 fn copied_columns<F: Copy>(alloc: Global, columns: &[Vec<F>]) -> Result<Vec<Vec<F>>, AllocError>
-    ensures { IfOk result (λ copies. map (λ column. column.items) copies.items ≡ map (λ column. column.items) columns.now) }
+    ensures { IfOk result (λ copies. map (λ column. column.items) copies.items
+        ≡ map (λ column. column.items) columns.now) }
 {
     let mut copies = Vec::new(alloc);
     for column in columns {
@@ -47,10 +49,15 @@ fn declaration_of<F: Copy, A: BaseAir<F>>(
     air: &A,
 ) -> Result<TreeDeclaration<F>, AllocError>
     ensures width { IfOk result (λ d. d.columns.width ≡ (A.layout air.now).main) }
-    ensures num_public_values { IfOk result (λ d. d.columns.num_public_values ≡ (A.layout air.now).publics) }
-    ensures periodic_columns { IfOk result (λ d. map (λ column. column.items) d.columns.periodic_columns.items ≡ A.periodic_columns air.now) }
-    ensures preprocessed_trace { IfOk result (λ d. declared_trace d.columns.preprocessed_trace ≡ A.preprocessed_trace air.now) }
-    ensures max_constraint_degree { IfOk result (λ d. d.max_constraint_degree ≡ A.degree_hint air.now) }
+    ensures num_public_values { IfOk result (λ d. d.columns.num_public_values
+        ≡ (A.layout air.now).publics) }
+    ensures periodic_columns { IfOk result (λ d.
+        map (λ column. column.items) d.columns.periodic_columns.items
+        ≡ A.periodic_columns air.now) }
+    ensures preprocessed_trace { IfOk result (λ d. declared_trace d.columns.preprocessed_trace
+        ≡ A.preprocessed_trace air.now) }
+    ensures max_constraint_degree { IfOk result (λ d. d.max_constraint_degree
+        ≡ A.degree_hint air.now) }
     ensures num_constraints { IfOk result (λ d. d.num_constraints ≡ A.num_constraints air.now) }
 {
     let columns = TreeColumns {
@@ -67,17 +74,25 @@ fn declaration_of<F: Copy, A: BaseAir<F>>(
 }
 
 impl<F: Field> TreeAir<F> {
-    /// The AIR as data: its columns and hints, and its constraints in the order in which it asserts them, each with constants
-    /// folded as in its symbolic expression. A next row is declared only where a constraint still reads one. Err only where
-    /// memory was refused.
+    /// The AIR as data: its columns and hints, and its constraints in the order in which it asserts
+    /// them, each with constants folded as in its symbolic expression. A next row is declared only
+    /// where a constraint still reads one. Err only where memory was refused.
     pub fn from_air<A: Air<F>>(alloc: Global, air: &A) -> Result<TreeAir<F>, AllocError>
-        ensures constraints { IfOk result (λ tree. ⟦<TreeAir<F> as Air<F>>⟧.constraints tree ≡ map (folded F.ring) (A.constraints air.now)) }
-        ensures width { IfOk result (λ tree. tree.declaration.columns.width ≡ (A.layout air.now).main) }
-        ensures num_public_values { IfOk result (λ tree. tree.declaration.columns.num_public_values ≡ (A.layout air.now).publics) }
-        ensures periodic_columns { IfOk result (λ tree. ⟦<TreeAir<F> as BaseAir<F>>⟧.periodic_columns tree ≡ A.periodic_columns air.now) }
-        ensures preprocessed_trace { IfOk result (λ tree. ⟦<TreeAir<F> as BaseAir<F>>⟧.preprocessed_trace tree ≡ A.preprocessed_trace air.now) }
-        ensures max_constraint_degree { IfOk result (λ tree. tree.declaration.max_constraint_degree ≡ A.degree_hint air.now) }
-        ensures num_constraints { IfOk result (λ tree. tree.declaration.num_constraints ≡ A.num_constraints air.now) }
+        ensures constraints { IfOk result (λ tree. ⟦<TreeAir<F> as Air<F>>⟧.constraints tree
+            ≡ map (folded F.ring) (A.constraints air.now)) }
+        ensures width { IfOk result (λ tree. tree.declaration.columns.width
+            ≡ (A.layout air.now).main) }
+        ensures num_public_values { IfOk result (λ tree. tree.declaration.columns.num_public_values
+            ≡ (A.layout air.now).publics) }
+        ensures periodic_columns { IfOk result (λ tree.
+            ⟦<TreeAir<F> as BaseAir<F>>⟧.periodic_columns tree ≡ A.periodic_columns air.now) }
+        ensures preprocessed_trace { IfOk result (λ tree.
+            ⟦<TreeAir<F> as BaseAir<F>>⟧.preprocessed_trace tree
+            ≡ A.preprocessed_trace air.now) }
+        ensures max_constraint_degree { IfOk result (λ tree. tree.declaration.max_constraint_degree
+            ≡ A.degree_hint air.now) }
+        ensures num_constraints { IfOk result (λ tree. tree.declaration.num_constraints
+            ≡ A.num_constraints air.now) }
     {
         let layout = AirLayout::from_air(air);
         let constraints = symbolic_constraints::<F, F, A>(alloc, air, layout)?;

@@ -28,8 +28,8 @@ fn variable_node<F>(variable: &SymbolicVariable<F>) -> TreeNode
     }
 }
 
-/// Writes a tree behind the nodes of the list, a node for each of its own, and answers its place. Err only where memory was
-/// refused, also for a node of the tree.
+/// Writes a tree behind the nodes of the list, a node for each of its own, and answers its place.
+/// Err only where memory was refused, also for a node of the tree.
 fn write_node<F: Field>(list: &mut TreeList<F>, node: &SymbolicNode<F>) -> Result<usize, AllocError>
     ensures written { IfOk result (λ place. Writes (tree_of node.now) list.old place list.new) }
     ensures constraints { list.new.constraints.items ≡ list.old.constraints.items }
@@ -63,7 +63,8 @@ fn write_node<F: Field>(list: &mut TreeList<F>, node: &SymbolicNode<F>) -> Resul
     }
 }
 
-/// Writes one constraint behind the list. Err only where memory was refused, also for a node of its expression.
+/// Writes one constraint behind the list. Err only where memory was refused, also for a node of its
+/// expression.
 pub(crate) fn write_constraint<F: Field>(
     list: &mut TreeList<F>,
     constraint: &SymbolicConstraint<F>,
@@ -84,7 +85,8 @@ pub(crate) fn write_constraint<F: Field>(
 
 /// Whether the layout has the column or value that a variable is.
 fn variable_within<F>(variable: &SymbolicVariable<F>, layout: AirLayout) -> bool
-    ensures { result ≡ tree_within (symbolic_layout layout) (variable_tree {F = F} variable.now.entry variable.now.index) }
+    ensures { result ≡ tree_within (symbolic_layout layout)
+        (variable_tree {F = F} variable.now.entry variable.now.index) }
 {
     let count = match variable.entry {
         BaseEntry::Main { .. } => layout.main_width,
@@ -119,7 +121,8 @@ fn expression_within<F: Field>(expression: &SymbolicExpression<F>, layout: AirLa
     expression.is_refused() || node_within(&expression.node, layout)
 }
 
-/// Whether the layout has every leaf of a constraint's expression; one that was refused memory has none.
+/// Whether the layout has every leaf of a constraint's expression; one that was refused memory has
+/// none.
 pub(crate) fn constraint_within<F: Field>(
     constraint: &SymbolicConstraint<F>,
     layout: AirLayout,

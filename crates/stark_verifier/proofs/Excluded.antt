@@ -5,7 +5,8 @@ use Rattle.stark_support.specs.declared.periodic.PeriodicColumnShapeError.{Perio
 use Rattle.stark_transcript.specs.declared.error.VerificationError.{VerificationError}
 use Rattle.stark_transcript.specs.declared.error.VerificationError.TheVariants.{OutOfMemory}
 use Rattle.stark_protocol.specs.declared.preprocessed.PreprocessedVerifierKey.{PreprocessedVerifierKey}
-use Rattle.stark_protocol.specs.Instance.{Instance, OpeningOps, ProtocolOps, log_height}
+use Rattle.stark_support.specs.SchemeClauses.{OpeningOps}
+use Rattle.stark_protocol.specs.Instance.{Instance, ProtocolOps, log_height}
 use Rattle.stark_protocol.specs.OpenedClaims.{OpeningsFault, OpeningsHold, claims, preprocessed_place, refused}
 use Rattle.stark_proof.specs.ProofView.{ProofView}
 use Rattle.stark_protocol.specs.Acceptance.{Accepted, IsBalanced, IsPointOfH, RunHolds, challenges, columns_fault}

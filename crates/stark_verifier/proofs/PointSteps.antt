@@ -1,5 +1,5 @@
 -- The points of a subgroup are where its vanishing polynomial is zero.
-use Rattle.std.proofs.Common.{◌≡◌, ◌∙◌, sym, ap, ℕ, List, map, length, Option, Some}
+use Rattle.std.proofs.Common.{◌≡◌, ◌∙◌, ◌^◌, sym, subst, ap, ℕ, List, map, length, Option, None, Some}
 use Rattle.std.proofs.lemmas.Simd.{map-map}
 use Rattle.stark_support.specs.ListFacts.{same_maps}
 use Rattle.stark_support.specs.Ring.{RingOps, FieldLaws}
@@ -13,7 +13,13 @@ use Rattle.stark_support.specs.Periodic.{first_fault}
 use Rattle.stark_support.specs.declared.periodic.PeriodicColumnShapeError.{PeriodicColumnShapeError}
 use Rattle.stark_support.specs.SubgroupFacts.{embedded_valid}
 use Rattle.stark_transcript.specs.declared.error.VerificationError.{VerificationError}
+use Rattle.stark_proof.specs.ProofView.{ProofView}
+use Rattle.stark_protocol.specs.Acceptance.{IsPointOfH, periodic_values}
 use Rattle.stark_protocol.specs.FirstFault.{PointFault, in_columns, in_domain}
+use Rattle.stark_protocol.specs.Instance.{Instance, ProtocolOps, log_height, trace_coset}
+use Rattle.stark_verifier.specs.Checks.{IsSampled}
+use Rattle.stark_verifier.specs.Constraints.{LiesOutside}
+use Rattle.stark_verifier.specs.declared.shape.ProofDomains.{ProofDomains}
 
 module _ {F E : Type 0} {base : RingOps F} {ring : RingOps E} {inverse : E → E} {embed : F → E} (laws : FieldLaws ring inverse) (embeds : IsEmbedding base ring embed)
     (adicity : ℕ) (root : ℕ → F) (generator : F) (two_adic : TwoAdicLaws base adicity root generator)
@@ -52,3 +58,18 @@ pub point_fault : {X Told Inside : Type 0} {found fault : Option PeriodicColumnS
     → PointFault Told found error → PointFault Inside fault error
 point_fault into out same (in_domain told) = in_domain (into told)
 point_fault into out same (in_columns outside is) = in_columns (λ inside. outside (out inside)) (same _ is)
+
+-- What is found of a point beside a domain is said of H, which that domain is.
+module _ {S F E C K T P X Y D : Type 0} {ops : ProtocolOps S F E C K T P X Y} {coset_of : D → TwoAdicCoset F} {i : Instance S F C K} {p : ProofView K E P F} {domains : ProofDomains D}
+    (is_trace : coset_of domains.trace ≡ trace_coset ops.opening.fields.base ops.opening.is_zk p.degree_bits) (zeta : E) where
+  pub sampled_of : (IsPointOfH ops.opening.fields (coset_of domains.trace).log_size zeta → ⊥)
+      → LiesOutside ops.opening.fields.ring ops.opening.fields.inverse ops.opening.fields.embed (coset_of domains.trace) zeta
+      → first_fault (coset_size (coset_of domains.trace)) 0 (map (λ column. length column) i.periodic_columns) ≡ None
+      → (values : List E) → values ≡ periodic_values ops.opening.fields i.periodic_columns (coset_of domains.trace).log_size zeta → IsSampled ops coset_of i p domains zeta values
+  sampled_of outside nonzero fitting values are =
+      let height_is : (coset_of domains.trace).log_size ≡ log_height ops.opening.is_zk p.degree_bits = ap (λ (coset : TwoAdicCoset F). coset.log_size) is_trace in record {
+        outside = subst (λ (k : ℕ). IsPointOfH ops.opening.fields k zeta → ⊥) height_is outside;
+        nonzero = nonzero;
+        fitting = subst (λ (k : ℕ). first_fault (2 ^ k) 0 (map (λ column. length column) i.periodic_columns) ≡ None) height_is fitting;
+        are_values = are ∙ ap (λ (k : ℕ). periodic_values ops.opening.fields i.periodic_columns k zeta) height_is;
+      }

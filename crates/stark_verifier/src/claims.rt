@@ -1,11 +1,14 @@
 //! What a proof claims of its commitments, for the scheme to verify.
-ghost use Rattle.std.specs.Prelude.{◌≡◌, IfOk, [], ◌∷◌, ◌++◌, map, option_map};
+ghost use Rattle.std.specs.Option.{option_copied};
+ghost use Rattle.std.specs.Prelude.{◌≡◌, IfOk, [], ◌∷◌, map};
 ghost use Rattle.stark_support.specs.Claims.{claim_view, point_view};
-ghost use Rattle.stark_protocol.specs.OpenedClaims.{chunks_round, claims_of, one_matrix, preprocessed_place, preprocessed_rounds, random_rounds, row_points};
-ghost use Rattle.stark_proof.specs.ProofView.{openings_view, preprocessed_view};
+ghost use Rattle.stark_proof.specs.ProofView.{openings_view, preprocessed_view, proof_view};
+ghost use Rattle.stark_protocol.specs.OpenedClaims.{chunks_round, one_matrix, preprocessed_place, random_rounds, row_points};
+ghost use Rattle.stark_verifier.specs.Rounds.{AreClaims, opened_rounds, preprocessed_round, proof_rounds};
+ghost use Rattle.stark_verifier.specs.Shape.{row_view};
 
 use stark_parts::StarkOpeningLayout;
-use stark_proof::{Commitments, OpenedValues, PreprocessedOpenedValues};
+use stark_proof::{Commitments, OpenedValues, PreprocessedOpenedValues, Proof};
 use stark_protocol::PreprocessedVerifierKey;
 use stark_support::{OpeningClaim, PolynomialSpace};
 use std::alloc::{AllocError, Global};
@@ -31,8 +34,11 @@ fn row_points<'p, EF: Copy>(
     local: &'p [EF],
     next: &'p Option<Vec<EF>>,
 ) -> Result<Vec<(EF, &'p [EF])>, AllocError>
-    ensures { IfOk result (λ points. map point_view points.items ≡ row_points zeta next_zeta local.now (option_map (λ row. row.items) next.now)) }
+    ensures { IfOk result (λ points. map point_view points.items
+        ≡ row_points zeta next_zeta local.now (row_view next.now)) }
 {
+    // An opened next row is claimed at the next point, whether or not a constraint reads it: no
+    // opened value is without a claim.
     let mut points = Vec::new(alloc);
     points.push((zeta, local))?;
     match next {
@@ -51,7 +57,8 @@ fn one_matrix<'p, EF: Copy, K, D: PolynomialSpace>(
     domain: D,
     points: Vec<(EF, &'p [EF])>,
 ) -> Result<OpeningClaim<'p, EF, K, D>, AllocError>
-    ensures { IfOk result (λ claim. claim_view D.coset_of claim ≡ one_matrix commitment.now (D.coset_of domain) (map point_view points.entry.items)) }
+    ensures { IfOk result (λ claim. claim_view D.coset_of claim
+        ≡ one_matrix commitment.now (D.coset_of domain) (map point_view points.entry.items)) }
 {
     let mut matrices = Vec::new(alloc);
     matrices.push((domain, points))?;
@@ -66,8 +73,12 @@ fn quotient_round<'p, EF: Copy, K, D: PolynomialSpace>(
     zeta: EF,
     chunks: &'p [Vec<EF>],
 ) -> Result<OpeningClaim<'p, EF, K, D>, AllocError>
-    ensures { IfOk result (λ claim. claim_view D.coset_of claim ≡ chunks_round commitment.now (D.coset_of domain) zeta (map (λ chunk. chunk.items) chunks.now)) }
+    ensures { IfOk result (λ claim. claim_view D.coset_of claim
+        ≡ chunks_round commitment.now (D.coset_of domain) zeta
+        (map (λ chunk. chunk.items) chunks.now)) }
 {
+    // A chunk is committed on the natural domain of as many points as the committed trace's has,
+    // which is that one.
     let mut matrices = Vec::new(alloc);
     for chunk in chunks {
         matrices.push((domain, at_point(alloc, zeta, chunk.as_slice())?))?;
@@ -83,7 +94,8 @@ fn random_rounds<'p, EF: Copy, K, D: PolynomialSpace>(
     commitment: &'p Option<K>,
     row: &'p Option<Vec<EF>>,
 ) -> Result<Vec<OpeningClaim<'p, EF, K, D>>, AllocError>
-    ensures { IfOk result (λ claims. map (claim_view D.coset_of) claims.items ≡ random_rounds (D.coset_of domain) zeta commitment.now (option_map (λ row. row.items) row.now)) }
+    ensures { IfOk result (AreClaims D.coset_of
+        (random_rounds (D.coset_of domain) zeta commitment.now (row_view row.now))) }
 {
     let mut claims = Vec::new(alloc);
     match (commitment, row) {
@@ -105,7 +117,9 @@ fn preprocessed_round<'p, EF: Copy, K, D: PolynomialSpace>(
     key: &'p PreprocessedVerifierKey<K>,
     rows: &'p PreprocessedOpenedValues<EF>,
 ) -> Result<OpeningClaim<'p, EF, K, D>, AllocError>
-    ensures { IfOk result (λ claim. claim_view D.coset_of claim ≡ one_matrix key.now.commitment (D.coset_of domain) (row_points zeta next_zeta (preprocessed_view rows.now).local (preprocessed_view rows.now).next)) }
+    ensures { IfOk result (λ claim. claim_view D.coset_of claim
+        ≡ preprocessed_round (D.coset_of domain) zeta next_zeta key.now
+        (preprocessed_view rows.now)) }
 {
     let points = row_points(alloc, zeta, next_zeta, rows.local.as_slice(), &rows.next)?;
     let claim = one_matrix(alloc, &key.commitment, domain, points)?;
@@ -121,9 +135,8 @@ fn opened_rounds<'p, EF: Copy, K, D: PolynomialSpace>(
     commitments: &'p Commitments<K>,
     opened: &'p OpenedValues<EF>,
 ) -> Result<Vec<OpeningClaim<'p, EF, K, D>>, AllocError>
-    ensures { IfOk result (λ claims. map (claim_view D.coset_of) claims.items ≡ random_rounds (D.coset_of domain) zeta commitments.now.random (openings_view opened.now).random
-        ++ (one_matrix commitments.now.trace (D.coset_of domain) (row_points zeta next_zeta (openings_view opened.now).trace_local (openings_view opened.now).trace_next)
-        ∷ chunks_round commitments.now.quotient_chunks (D.coset_of domain) zeta (openings_view opened.now).quotient_chunks ∷ [])) }
+    ensures { IfOk result (AreClaims D.coset_of (opened_rounds (D.coset_of domain) zeta next_zeta
+        commitments.now (openings_view opened.now))) }
 {
     let mut claims = random_rounds(alloc, domain, zeta, &commitments.random, &opened.random)?;
     let local = opened.trace_local.as_slice();
@@ -136,18 +149,22 @@ fn opened_rounds<'p, EF: Copy, K, D: PolynomialSpace>(
     Ok(claims)
 }
 
-/// All claims of a proof, on the committed trace's domain: random commitment, trace, quotient, preprocessed columns.
-pub fn claims_of<'p, EF: Copy, K, D: PolynomialSpace>(
+/// All claims of a proof, on the committed trace's domain: random commitment, trace, quotient,
+/// preprocessed columns.
+pub fn claims_of<'p, EF: Copy, K, D: PolynomialSpace, P>(
     alloc: Global,
     domain: D,
     zeta: EF,
     next_zeta: EF,
     key: Option<&'p PreprocessedVerifierKey<K>>,
-    commitments: &'p Commitments<K>,
-    opened: &'p OpenedValues<EF>,
+    proof: &'p Proof<K, EF, P, D::Val>,
 ) -> Result<Vec<OpeningClaim<'p, EF, K, D>>, AllocError>
-    ensures { IfOk result (λ claims. map (claim_view D.coset_of) claims.items ≡ claims_of (D.coset_of domain) zeta next_zeta (option_map (λ k. k.now) key.entry) commitments.now.trace commitments.now.quotient_chunks commitments.now.random (openings_view opened.now)) }
+    ensures { IfOk result (AreClaims D.coset_of (proof_rounds (D.coset_of domain) zeta next_zeta
+        (option_copied key.entry) (proof_view proof.now))) }
 {
+    // The order is the prover's: a scheme may combine the claims in it. The preprocessed round is
+    // the last, at the place that the scheme is told.
+    let (commitments, opened) = (&proof.commitments, &proof.opened_values);
     let mut claims = opened_rounds(alloc, domain, zeta, next_zeta, commitments, opened)?;
     match key {
         Some(key) => match &opened.preprocessed {
@@ -164,7 +181,7 @@ pub fn claims_of<'p, EF: Copy, K, D: PolynomialSpace>(
 
 /// The place of the preprocessed round, where a key is given.
 pub fn preprocessed_place<K>(is_zk: bool, key: Option<&PreprocessedVerifierKey<K>>) -> Option<usize>
-    ensures { result ≡ preprocessed_place is_zk (option_map (λ k. k.now) key.entry) }
+    ensures { result ≡ preprocessed_place is_zk (option_copied key.entry) }
 {
     match key {
         Some(_) => Some(StarkOpeningLayout::new(is_zk).preprocessed),

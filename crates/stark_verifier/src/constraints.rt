@@ -1,10 +1,10 @@
 //! The test of an AIR's constraints at the point out of the domain.
-ghost use Rattle.std.specs.Prelude.{◌≡◌, ◌≢◌, ◌⊎◌, ◌↔◌, length, IfOk, IfErr, IsTrue};
-ghost use Rattle.stark_support.specs.Coset.{coset_size, coset_vanishing};
-ghost use Rattle.stark_support.specs.Subgroup.{subgroup_of};
-ghost use Rattle.stark_air.specs.Layout.{Covers};
-ghost use Rattle.stark_protocol.specs.Equation.{ConstraintsFault, ConstraintsHold, OpenedRows, opened_layout, row_or_empty};
+ghost use Rattle.std.specs.Prelude.{◌≡◌, ◌↔◌, IfErr, IfOk, IsTrue};
+ghost use Rattle.stark_protocol.specs.Equation.{row_or_empty};
+ghost use Rattle.stark_verifier.specs.Constraints.{AreWideEnough, FailsOnRows, HoldsOnRows, LiesOutside, given_rows};
+ghost use Rattle.stark_verifier.specs.MemoryAside.{IfErrMemoryAside};
 
+use crate::contracts::StarkFields;
 use stark_air::Air;
 use stark_parts::{Domain, StarkGenericConfig, Val, fold_constraints};
 use stark_support::{Field, PolynomialSpace};
@@ -27,15 +27,15 @@ fn is_balanced<EF: Field>(folded: EF, vanishing: EF, quotient: EF) -> bool
     folded == vanishing * quotient
 }
 
-/// Tests that the constraints, folded by alpha over the opened values, are the vanishing value at `zeta` times the
-/// quotient.
+/// Tests that the constraints, folded by alpha over the opened values, are the vanishing value at
+/// `zeta` times the quotient.
 ///
-/// The rows have at least the AIR's widths and counts, the two preprocessed ones only where they are of one length; a
-/// row that isn't opened is given as zeros, an absent preprocessed one has length 0. `trace_domain` is the subgroup H,
-/// and `zeta` lies outside it.
+/// The rows have at least the AIR's widths and counts, the two preprocessed ones only where they
+/// are of one length; a row that isn't opened is given as zeros, an absent preprocessed one has
+/// length 0. `trace_domain` is the subgroup H, and `zeta` lies outside it.
 ///
-/// - `PreprocessedTraceWidthMismatch` where the two preprocessed lengths differ: the current length three times, then
-///   the next one's.
+/// - `PreprocessedTraceWidthMismatch` where the two preprocessed lengths differ: the current length
+///   three times, then the next one's.
 /// - `OodEvaluationMismatch { index: None }` where the equation fails.
 /// - `OutOfMemory` only where the AIR's `eval` takes memory of its own, and was refused a growth.
 pub fn verify_constraints<SC: StarkGenericConfig, A: Air<Val<SC>>, PcsErr>(
@@ -52,19 +52,27 @@ pub fn verify_constraints<SC: StarkGenericConfig, A: Air<Val<SC>>, PcsErr>(
     quotient: SC::Challenge,
 ) -> Result<(), VerificationError<PcsErr>>
     requires subgroup { (SC.Pcs.Domain.coset_of trace_domain).shift ≡ SC.Pcs.Domain.Val.ring.one }
-    requires outside { coset_vanishing SC.Challenge.ring (λ c. c) SC.Challenge.inverse_of (coset_size (SC.Pcs.Domain.coset_of trace_domain)) (SC.Challenge.embed (SC.Pcs.Domain.coset_of trace_domain).shift) zeta ≢ SC.Challenge.ring.zero }
-    requires widths { let rows : OpenedRows SC.Pcs.Domain.Val SC.Challenge = record { local = trace_local.now; next = trace_next.now; preprocessed_local = row_or_empty (λ r. r.now) preprocessed_local; preprocessed_next = row_or_empty (λ r. r.now) preprocessed_next; periodic = periodic_values.now; publics = public_values.now } in
-        length rows.preprocessed_local ≡ length rows.preprocessed_next → Covers (opened_layout rows) (A.layout air.now) }
-    ensures holds { IfOk result (λ _. ConstraintsHold SC.Pcs.Domain.Val.ring SC.Challenge.ring SC.Challenge.embed (subgroup_of SC.Challenge.inverse_of SC.Challenge.embed SC.Pcs.Domain.Val.root (SC.Pcs.Domain.coset_of trace_domain)) (A.constraints air.now)
-        (record { local = trace_local.now; next = trace_next.now; preprocessed_local = row_or_empty (λ r. r.now) preprocessed_local.entry; preprocessed_next = row_or_empty (λ r. r.now) preprocessed_next.entry; periodic = periodic_values.now; publics = public_values.now })
+    requires outside { LiesOutside SC.Challenge.ring SC.Challenge.inverse_of SC.Challenge.embed
+        (SC.Pcs.Domain.coset_of trace_domain) zeta }
+    requires widths { AreWideEnough (A.layout air.now) trace_local.now trace_next.now
+        preprocessed_local preprocessed_next periodic_values.now public_values.now }
+    ensures holds { IfOk result (λ _. HoldsOnRows ⟦<SC as StarkFields>⟧.fields
+        (SC.Pcs.Domain.coset_of trace_domain) (A.constraints air.now)
+        (given_rows trace_local.now trace_next.now preprocessed_local.entry
+        preprocessed_next.entry periodic_values.now public_values.now)
         zeta alpha quotient) }
-    ensures fault { IfErr result (λ error. (error ≡ VerificationError.OutOfMemory) ⊎ ConstraintsFault SC.Pcs.Domain.Val.ring SC.Challenge.ring SC.Challenge.embed (subgroup_of SC.Challenge.inverse_of SC.Challenge.embed SC.Pcs.Domain.Val.root (SC.Pcs.Domain.coset_of trace_domain)) (A.constraints air.now)
-        (record { local = trace_local.now; next = trace_next.now; preprocessed_local = row_or_empty (λ r. r.now) preprocessed_local.entry; preprocessed_next = row_or_empty (λ r. r.now) preprocessed_next.entry; periodic = periodic_values.now; publics = public_values.now })
-        zeta alpha quotient error) }
-    ensures memory { IfErr result (λ error. error ≡ VerificationError.OutOfMemory → A.takes_memory air.now) }
+    ensures fault { IfErrMemoryAside result (FailsOnRows ⟦<SC as StarkFields>⟧.fields
+        (SC.Pcs.Domain.coset_of trace_domain) (A.constraints air.now)
+        (given_rows trace_local.now trace_next.now preprocessed_local.entry
+        preprocessed_next.entry periodic_values.now public_values.now)
+        zeta alpha quotient) }
+    ensures memory { IfErr result (λ error. error ≡ VerificationError.OutOfMemory
+        → A.takes_memory air.now) }
 {
     let preprocessed_local = row_or_empty(preprocessed_local);
     let preprocessed_next = row_or_empty(preprocessed_next);
+    // The two rows are one window of the constraints, where an absent one has no columns. This
+    // stands here since the call is public: a verifier has tested both against the AIR's width.
     let (got_local, got_next) = (preprocessed_local.len(), preprocessed_next.len());
     if got_local != got_next {
         return Err(VerificationError::InvalidProofShape(
@@ -76,6 +84,8 @@ pub fn verify_constraints<SC: StarkGenericConfig, A: Air<Val<SC>>, PcsErr>(
             },
         ));
     }
+    // The folded constraints over Z_H are the quotient. Multiplied out this says as much: zeta lies
+    // outside H, and so Z_H(zeta) isn't zero.
     let selectors = trace_domain.selectors_at_point(zeta);
     let folded = fold_constraints::<SC, A>(
         air,

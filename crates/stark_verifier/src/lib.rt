@@ -1,22 +1,20 @@
 //! The verifier: the tests of a proof, in their order, and its verdict.
 #![tactic(auto)]
 
-mod argument;
-mod checks;
 mod claims;
 mod constraints;
+mod contracts;
 mod equation;
-mod findings;
 mod instance;
 mod opened;
+mod openings;
 mod point;
 mod preprocessed;
-mod run;
 mod shape;
-mod steps;
+mod transcript;
 mod verdict;
 
 pub use constraints::verify_constraints;
-pub use findings::StarkVerdict;
+pub use contracts::StarkFields;
 pub use shape::validate_degree_bits;
-pub use verdict::{verify, verify_with_preprocessed};
+pub use verdict::{StarkVerdict, verify, verify_with_preprocessed};

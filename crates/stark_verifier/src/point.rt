@@ -1,14 +1,18 @@
 //! Tests of the sampled point and of the periodic columns.
-ghost use Rattle.std.specs.Prelude.{◌≡◌, ◌≢◌, ◌⊎◌, ◌↔◌, ℕ, ◌^◌, IfErr, IfOk, IsTrue, None, false, length, map, vec_len};
-ghost use Rattle.stark_support.specs.Coset.{coset_size, coset_vanishing};
-ghost use Rattle.stark_support.specs.Periodic.{first_fault, periodic_value};
-ghost use Rattle.stark_support.specs.Powers.{power};
+ghost use Rattle.std.specs.Prelude.{◌≡◌, ◌↔◌, IfErr, IfOk, IsTrue, None, false, map, vec_len};
+ghost use Rattle.stark_support.specs.Periodic.{first_fault};
 ghost use Rattle.stark_protocol.specs.FirstFault.{PointFault};
-ghost use Rattle.stark_transcript.specs.declared.error.VerificationError.TheVariants.{OutOfMemory};
+ghost use Rattle.stark_verifier.specs.Constraints.{IsPower, Vanishes};
+ghost use Rattle.stark_verifier.specs.MemoryAside.{IfErrMemoryAside};
 
-use crate::steps::ProofDomains;
-use stark_air::BaseAir;
-use stark_support::{DomainShape, ExtensionField, Field, PeriodicColumns, PolynomialSpace};
+use crate::contracts::StarkChecks;
+use crate::instance::InstanceOf;
+use crate::shape::ProofDomains;
+use stark_air::{Air, BaseAir};
+use stark_parts::{Domain, PcsError, StarkGenericConfig, Val};
+use stark_support::{
+    DomainShape, ExtensionField, Field, GrindingChallenger, PeriodicColumns, PolynomialSpace,
+};
 use stark_transcript::VerificationError;
 use std::alloc::Global;
 
@@ -18,14 +22,17 @@ fn lies_in<D: PolynomialSpace, EF: ExtensionField<D::Val>>(
     zeta: EF,
 ) -> bool
     requires subgroup { (D.coset_of domains.now.trace).shift ≡ D.Val.ring.one }
-    ensures vanishing { IsTrue result ↔ (coset_vanishing EF.ring (λ c. c) EF.inverse_of (coset_size (D.coset_of domains.now.trace)) (EF.embed (D.coset_of domains.now.trace).shift) zeta ≡ EF.ring.zero) }
-    ensures point { IsTrue result ↔ ((i : ℕ) × (zeta ≡ power EF.ring (EF.embed (D.Val.root (D.coset_of domains.now.trace).log_size)) i)) }
+    ensures vanishing { IsTrue result
+        ↔ Vanishes EF.ring EF.inverse_of EF.embed (D.coset_of domains.now.trace) zeta }
+    ensures point { IsTrue result
+        ↔ IsPower EF.ring EF.embed D.Val.root (D.coset_of domains.now.trace) zeta }
 {
+    // Z_H is zero on H alone, so its one value at zeta decides it.
     domains.trace.vanishing_poly_at_point(zeta) == EF::ZERO
 }
 
-/// Tests that the sampled point doesn't lie in a domain of so many points, as is told, and then that periodic columns fit it;
-/// the answer is the columns beside it.
+/// Tests that the sampled point doesn't lie in a domain of so many points, as is told, and then
+/// that periodic columns fit it; the answer is the columns beside it.
 fn fitting_columns<'c, F, X>(
     inside: bool,
     columns: &'c [Vec<F>],
@@ -35,7 +42,8 @@ fn fitting_columns<'c, F, X>(
     ensures columns { IfOk result (λ fitting. fitting.columns.now ≡ columns.entry.now) }
     ensures size { IfOk result (λ fitting. fitting.trace_len ≡ size) }
     ensures fitting { IfOk result (λ _. first_fault size 0 (map vec_len columns.entry.now) ≡ None) }
-    ensures fault { IfErr result (PointFault (IsTrue inside) (first_fault size 0 (map vec_len columns.entry.now))) }
+    ensures fault { IfErr result (PointFault (IsTrue inside)
+        (first_fault size 0 (map vec_len columns.entry.now))) }
 {
     if inside {
         return Err(VerificationError::OodPointInDomain);
@@ -46,25 +54,28 @@ fn fitting_columns<'c, F, X>(
     }
 }
 
-/// Tests that the sampled point lies outside the trace's domain, and that the periodic columns fit that domain; the answer
-/// is the periodic columns' values at the point.
-pub fn check_point<D: PolynomialSpace, EF: ExtensionField<D::Val>, A: BaseAir<D::Val>, X>(
+/// Tests that the sampled point lies outside the trace's domain, and that the periodic columns fit
+/// that domain; the answer is the periodic columns' values at the point.
+pub(crate) fn check_point<SC, A>(
     alloc: Global,
-    air: &A,
-    domains: &ProofDomains<D>,
-    zeta: EF,
-) -> Result<Vec<EF>, VerificationError<X>>
-    requires subgroup { (D.coset_of domains.now.trace).shift ≡ D.Val.ring.one }
-    ensures outside { IfOk result (λ _. ((i : ℕ) × (zeta ≡ power EF.ring (EF.embed (D.Val.root (D.coset_of domains.now.trace).log_size)) i)) → ⊥) }
-    ensures nonzero { IfOk result (λ _. coset_vanishing EF.ring (λ c. c) EF.inverse_of (coset_size (D.coset_of domains.now.trace)) (EF.embed (D.coset_of domains.now.trace).shift) zeta ≢ EF.ring.zero) }
-    ensures fitting { IfOk result (λ _. first_fault (coset_size (D.coset_of domains.now.trace)) 0 (map (λ column. length column) (A.periodic_columns air.now)) ≡ None) }
-    ensures values { IfOk result (λ values. values.items ≡ map (λ column. periodic_value D.Val.ring D.Val.inverse_of (D.Val.root (D.coset_of domains.now.trace).log_size) (coset_size (D.coset_of domains.now.trace)) EF.ring EF.embed column zeta) (A.periodic_columns air.now)) }
-    ensures fault { IfErr result (λ error. (error ≡ OutOfMemory) ⊎ PointFault ((i : ℕ) × (zeta ≡ power EF.ring (EF.embed (D.Val.root (D.coset_of domains.now.trace).log_size)) i))
-        (first_fault (coset_size (D.coset_of domains.now.trace)) 0 (map (λ column. length column) (A.periodic_columns air.now))) error) }
+    on: &InstanceOf<'_, SC, A>,
+    domains: ProofDomains<Domain<SC>>,
+    zeta: SC::Challenge,
+) -> Result<Vec<SC::Challenge>, VerificationError<PcsError<SC>>>
+where
+    SC: StarkGenericConfig,
+    SC::Challenger: GrindingChallenger<Witness = Val<SC>>,
+    A: Air<Val<SC>>,
+    requires domains { ⟦<SC as StarkChecks<A>>⟧.are_domains on.now domains.trace domains.committed }
+    ensures sampled { IfOk result (λ values.
+        ⟦<SC as StarkChecks<A>>⟧.is_sampled on.now domains zeta values.items) }
+    ensures fault { IfErrMemoryAside result (⟦<SC as StarkChecks<A>>⟧.point_fault on.now zeta) }
 {
+    // On H the equation says nothing of the quotient, which it multiplies by zero, and a selector
+    // has no value. As many draws fall there as H has points.
     let trace = &domains.trace;
-    let inside = lies_in(domains, zeta);
-    let columns = fitting_columns(inside, air.periodic_columns(), trace.size())?;
+    let inside = lies_in(&domains, zeta);
+    let columns = fitting_columns(inside, on.air.periodic_columns(), trace.size())?;
     let values = trace.evaluate_periodic_columns_at(alloc, &columns, zeta)?;
     Ok(values)
 }

@@ -2,6 +2,7 @@
 ghost use Rattle.std.specs.Prelude.{◌≡◌, map};
 ghost use Rattle.stark_support.specs.Sponge.{observed_all};
 ghost use Rattle.stark_bench.specs.Challenges.{column_elements, commitment_elements, count_elements, matrix_elements};
+ghost use Rattle.stark_bench.specs.CommitmentJson.{matrices_list};
 
 use stark_support::{CanObserve, PrimeField64, observe_bytes, observe_slice};
 use std::marker::Model;
@@ -17,13 +18,15 @@ impl<F> Model for ClearCommitment<F> {
 
     ghost Value = { List (List (List F)) };
 
-    ghost view = { λ c. map (λ matrix. map (λ column. column.items) matrix.items) c.matrices.items };
+    ghost view = { λ c. map (λ matrix. map (λ column. column.items) matrix.items)
+        c.matrices.items };
 }
 
 impl<F> ClearCommitment<F> {
     /// The commitment to these matrices.
     pub fn new(matrices: Vec<Vec<Vec<F>>>) -> ClearCommitment<F>
-        ensures { result ≡ map (λ matrix. map (λ column. column.items) matrix.items) matrices.items }
+        ensures { result ≡ map (λ matrix. map (λ column. column.items) matrix.items)
+            matrices.items }
     {
         ClearCommitment { matrices }
     }
@@ -39,14 +42,16 @@ impl<F> ClearCommitment<F> {
 // A count is its 8 bytes, each as an element.
 #[tactic(auto, using(stark_support::specs::SpongeFacts::observed_as_elements), unfolding(stark_support::specs::Seed::number))]
 fn observe_count<C: CanObserve<F>, F: PrimeField64>(challenger: &mut C, count: usize)
-    ensures { challenger.new ≡ observed_all C.after_observe (count_elements F.of_number count) challenger.old }
+    ensures { challenger.new ≡ observed_all C.after_observe (count_elements F.of_number count)
+        challenger.old }
 {
     observe_bytes::<C, F>(challenger, &count.to_be_bytes());
 }
 
 #[tactic(auto, using(stark_support::specs::SpongeFacts::observed_append))]
 fn observe_column<C: CanObserve<F>, F: PrimeField64>(challenger: &mut C, column: &[F])
-    ensures { challenger.new ≡ observed_all C.after_observe (column_elements F.of_number column.now) challenger.old }
+    ensures { challenger.new ≡ observed_all C.after_observe (column_elements F.of_number column.now)
+        challenger.old }
 {
     observe_count::<C, F>(&mut *challenger, column.len());
     observe_slice(challenger, column);
@@ -54,7 +59,9 @@ fn observe_column<C: CanObserve<F>, F: PrimeField64>(challenger: &mut C, column:
 
 #[tactic(auto, using(stark_support::specs::SpongeFacts::observed_append))]
 fn observe_matrix<C: CanObserve<F>, F: PrimeField64>(challenger: &mut C, columns: &[Vec<F>])
-    ensures { challenger.new ≡ observed_all C.after_observe (matrix_elements F.of_number (map (λ column. column.items) columns.now)) challenger.old }
+    ensures { challenger.new ≡ observed_all C.after_observe
+        (matrix_elements F.of_number (map (λ column. column.items) columns.now))
+        challenger.old }
 {
     observe_count::<C, F>(&mut *challenger, columns.len());
     for column in columns {
@@ -62,13 +69,17 @@ fn observe_matrix<C: CanObserve<F>, F: PrimeField64>(challenger: &mut C, columns
     }
 }
 
-/// The number of matrices, then each: its number of columns, then each: its length and its coefficients.
+/// The number of matrices, then each: its number of columns, then each: its length and its
+/// coefficients.
 #[tactic(auto, using(stark_support::specs::SpongeFacts::observed_append))]
 pub(super) fn observe_matrices<C: CanObserve<F>, F: PrimeField64>(
     challenger: &mut C,
     matrices: &[Vec<Vec<F>>],
 )
-    ensures { challenger.new ≡ observed_all C.after_observe (commitment_elements F.of_number (map (λ matrix. map (λ column. column.items) matrix.items) matrices.now)) challenger.old }
+    ensures { challenger.new ≡ observed_all C.after_observe
+        (commitment_elements F.of_number
+        (matrices_list matrices.now))
+        challenger.old }
 {
     observe_count::<C, F>(&mut *challenger, matrices.len());
     for matrix in matrices {

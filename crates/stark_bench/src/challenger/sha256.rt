@@ -83,7 +83,8 @@ impl<M: Modulus, Kind> CanObserve<Residue<M, Kind>> for Sha256Challenger<Residue
 
 impl<M: Modulus, Kind> CanObserve<ClearCommitment<Residue<M, Kind>>>
     for Sha256Challenger<Residue<M, Kind>> {
-    ghost after_observe = { λ s commitment. observed_all after_element (commitment_elements residue commitment) s };
+    ghost after_observe = { λ s commitment.
+        observed_all after_element (commitment_elements residue commitment) s };
 
     fn observe(&mut self, value: &ClearCommitment<Residue<M, Kind>>) {
         observe_matrices(self, value.matrices());

@@ -28,7 +28,8 @@ pub enum ClearError {
 }
 
 fn columns_have_size<F>(columns: &[Vec<F>], size: usize) -> bool
-    ensures { IsTrue result ↔ AllByRecursion (λ column. length column ≡ size) (map column_list columns.now) }
+    ensures { IsTrue result ↔ AllByRecursion (λ column. length column
+        ≡ size) (map column_list columns.now) }
 {
     for column in columns {
         if column.len() != size {
@@ -53,7 +54,8 @@ fn round_has_shape<D: PolynomialSpace, EF>(
     matrices: &[Vec<Vec<D::Val>>],
     claims: &[MatrixClaim<'_, EF, D>],
 ) -> bool
-    ensures { IsTrue result ↔ PlaceByPlace MatrixHasShape (map columns_list matrices.now) (map (matrix_view D.coset_of) claims.now) }
+    ensures { IsTrue result ↔ PlaceByPlace MatrixHasShape (map columns_list matrices.now)
+        (map (matrix_view D.coset_of) claims.now) }
 {
     if claims.len() != matrices.len() {
         return false;
@@ -77,7 +79,8 @@ fn has_values<F: Field, EF: ExtensionField<F>>(
     point: EF,
     values: &[EF],
 ) -> bool
-    ensures { IsTrue result ↔ PlaceByPlace (HasValue EF.ring EF.embed point) (map column_list columns.now) (map (λ v. v) values.now) }
+    ensures { IsTrue result ↔ PlaceByPlace (HasValue EF.ring EF.embed point)
+        (map column_list columns.now) (map (λ v. v) values.now) }
 {
     if values.len() != columns.len() {
         return false;
@@ -96,7 +99,8 @@ fn matrix_is_true<F: Field, EF: ExtensionField<F>>(
     columns: &[Vec<F>],
     points: &[(EF, &[EF])],
 ) -> bool
-    ensures { IsTrue result ↔ AllByRecursion (HasValues EF.ring EF.embed (map column_list columns.now)) (map point_view points.now) }
+    ensures { IsTrue result ↔ AllByRecursion
+        (HasValues EF.ring EF.embed (map column_list columns.now)) (map point_view points.now) }
 {
     for point in points {
         if !has_values::<F, EF>(alloc, columns, point.0, point.1) {
@@ -111,7 +115,8 @@ fn round_is_true<D: PolynomialSpace, EF: ExtensionField<D::Val>>(
     matrices: &[Vec<Vec<D::Val>>],
     claims: &[MatrixClaim<'_, EF, D>],
 ) -> bool
-    ensures { IsTrue result ↔ PlaceByPlace (MatrixIsTrue EF.ring EF.embed) (map columns_list matrices.now) (map (matrix_view D.coset_of) claims.now) }
+    ensures { IsTrue result ↔ PlaceByPlace (MatrixIsTrue EF.ring EF.embed)
+        (map columns_list matrices.now) (map (matrix_view D.coset_of) claims.now) }
 {
     if claims.len() != matrices.len() {
         return false;
@@ -144,7 +149,8 @@ fn first_wrong_value<D: PolynomialSpace, EF: ExtensionField<D::Val>>(
     alloc: Global,
     claims: &[OpeningClaim<'_, EF, ClearCommitment<D::Val>, D>],
 ) -> Option<usize>
-    ensures { FindsFirstFault (RoundIsTrue EF.ring EF.embed) (map (claim_view D.coset_of) claims.now) result }
+    ensures { FindsFirstFault (RoundIsTrue EF.ring EF.embed)
+        (map (claim_view D.coset_of) claims.now) result }
 {
     for i in 0..claims.len() {
         let claim = &claims[i];
@@ -163,8 +169,10 @@ pub fn check_claims<D: PolynomialSpace, EF: ExtensionField<D::Val>>(
     alloc: Global,
     claims: &[OpeningClaim<'_, EF, ClearCommitment<D::Val>, D>],
 ) -> Result<(), ClearError>
-    ensures accepted { IfOk result (λ _. ClaimsAreTrue EF.ring EF.embed (map (claim_view D.coset_of) claims.now)) }
-    ensures refused { IfErr result (λ error. ClaimsFault EF.ring EF.embed (map (claim_view D.coset_of) claims.now) error) }
+    ensures accepted { IfOk result (λ _.
+        ClaimsAreTrue EF.ring EF.embed (map (claim_view D.coset_of) claims.now)) }
+    ensures refused { IfErr result (λ error.
+        ClaimsFault EF.ring EF.embed (map (claim_view D.coset_of) claims.now) error) }
 {
     if let Some(round) = first_wrong_shape::<D, EF>(claims) {
         return Err(ClearError::Shape { round });

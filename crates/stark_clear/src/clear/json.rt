@@ -16,7 +16,8 @@ impl JsonCodec for ClearProof {
 
     /// Null alone. It takes no memory.
     fn from_json(_alloc: Global, value: &Value) -> Result<ClearProof, JsonFault>
-        ensures reads { Gives (λ x. x) result (⟦<ClearProof as JsonCodec>⟧.reading (view value.now)) }
+        ensures reads { Gives (λ x. x) result
+            (⟦<ClearProof as JsonCodec>⟧.reading (view value.now)) }
         ensures no_memory { IfErr result (λ fault. fault ≡ JsonFault.Invalid) }
     {
         if value.is_null() {

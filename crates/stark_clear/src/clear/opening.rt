@@ -13,7 +13,8 @@ pub fn open_rounds<F: Field, EF: ExtensionField<F>>(
     alloc: Global,
     rounds: &[OpeningRound<'_, EF, ClearCommitment<F>>],
 ) -> Result<OpenedRounds<EF>, AllocError>
-    ensures { IfOk result (λ opened. opened_view opened ≡ map (opened_round EF.ring EF.embed) (map round_view rounds.now)) }
+    ensures { IfOk result (λ opened. opened_view opened
+        ≡ map (opened_round EF.ring EF.embed) (map round_view rounds.now)) }
 {
     let mut opened = Vec::new(alloc);
     for round in rounds {

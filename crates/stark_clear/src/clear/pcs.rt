@@ -1,18 +1,14 @@
 //! The scheme in the clear.
-ghost use Rattle.std.specs.Prelude.{◌≡◌, ◌≢◌, ◌≤◌, ◌↔◌, ◌/◌, ◌*◌, ◌^◌, IsTrue, None, false, map, length, Result, IfErr, IfOk};
+ghost use Rattle.std.specs.Prelude.{◌≡◌, ◌≢◌, ◌≤◌, ◌↔◌, ◌/◌, ◌*◌, ◌^◌, IsTrue, None, false, length, Result, IfErr, IfOk};
 ghost use Rattle.std.specs.Int.{IsPowerOfTwo};
-ghost use Rattle.std.specs.List.{AllByRecursion};
-ghost use Rattle.stark_support.specs.Claims.{IfRefused, claim_view, opened_view, round_view};
-ghost use Rattle.stark_support.specs.Coset.{coset_size};
-ghost use Rattle.stark_support.specs.PeriodicTable.{HasPeriodicValues};
+ghost use Rattle.stark_support.specs.Claims.{IfRefusal, claims_view};
+ghost use Rattle.stark_support.specs.Coset.{coset_size, coset_from};
 ghost use Rattle.stark_support.specs.Scheme.{zk_bits};
-ghost use Rattle.stark_support.specs.Polynomial.{value};
 ghost use Rattle.stark_clear.specs.ClearFacts.{clear_laws};
-ghost use Rattle.stark_clear.specs.ClearCalls.{clear_calls};
-ghost use Rattle.stark_clear.specs.ClearScheme.{clear_pcs, clear_scheme, stopping_pcs};
-ghost use Rattle.stark_columns.specs.ColumnPoints.{IsPolynomialBelow};
+ghost use Rattle.stark_clear.specs.ClearCalls.{clear_calls, IsPlainCommitment, IsPlainQuotient};
+ghost use Rattle.stark_clear.specs.ClearScheme.{clear_pcs, clear_scheme, stopping_pcs, AcceptsTrue, RefusesClaims};
 ghost use Rattle.stark_clear.specs.Stops.{StopsAt};
-ghost use Rattle.stark_columns.specs.SchemeClauses.{CommitsChunks, CommitsRows, OpensTrueValues, ProvesTrueClaims};
+ghost use Rattle.stark_support.specs.SchemeClauses.{CommitsChunks, CommitsRows, OpensTrueValues, ProvesTrueClaims, IsTableOver};
 
 use crate::clear::call::ClearCall;
 use crate::clear::check::{ClearError, check_claims};
@@ -22,7 +18,7 @@ use stark_bench::{ClearCommitment, Coset};
 use stark_columns::{chunks_of, columns_of, rows_on};
 use stark_dft::periodic_lde_table;
 use stark_support::{
-    ExtensionField, OpenedRounds, OpeningClaim, OpeningRound, Pcs, PeriodicColumns,
+    ExtensionField, OpenedRounds, Opening, OpeningClaim, OpeningRound, Pcs, PeriodicColumns,
     PeriodicLdeTable, PolynomialSpace, RowMajorMatrix, SchemeFault, TwoAdicField,
     UnivariateStarkPcs, log2_strict_usize,
 };
@@ -42,12 +38,13 @@ pub enum ClearProverError {
 #[derive(Clone, Copy, Debug, Drop, PartialEq, Eq)]
 pub struct ClearProof;
 
-/// A scheme that commits to columns by listing their coefficients, so that it hides nothing and needs no proof of an opening.
-/// Each committed column has as many coefficients as its domain has points. It commits to traces of 1 to `2^TWO_ADICITY` rows,
-/// by transforms in a time of n log n, and leaves the challenger alone. Verifying is Ok exactly where all claims are true of
-/// the listed columns; else it names the first round at fault. It is never refused for want of
-/// memory: it takes some for the powers of a point, and where that is refused it takes longer.
-/// It may be made to stop at one call, which then refuses, for tests of the layers above.
+/// A scheme that commits to columns by listing their coefficients, so that it hides nothing and
+/// needs no proof of an opening. Each committed column has as many coefficients as its domain has
+/// points. It commits to traces of 1 to `2^TWO_ADICITY` rows, by transforms in a time of n log n,
+/// and leaves the challenger alone. Verifying is Ok exactly where all claims are true of the listed
+/// columns; else it names the first round at fault. It is never refused for want of memory: it
+/// takes some for the powers of a point, and where that is refused it takes longer. It may be made
+/// to stop at one call, which then refuses, for tests of the layers above.
 #[derive(Clone, Debug, Drop)]
 pub struct ClearPcs<F> {
     pub field: PhantomData<F>,
@@ -71,8 +68,8 @@ impl<F> ClearPcs<F> {
         }
     }
 
-    /// The scheme that stops at this call: the call refuses with `Stopped` whatever it is handed, and each other call
-    /// answers as ever.
+    /// The scheme that stops at this call: the call refuses with `Stopped` whatever it is handed,
+    /// and each other call answers as ever.
     pub fn stopping_at(call: ClearCall) -> ClearPcs<F>
         ensures { result ≡ stopping_pcs call }
     {
@@ -94,7 +91,8 @@ impl<F> ClearPcs<F> {
     /// The refusal of a call with this error, where the scheme stops there.
     pub(crate) fn pass<E: Drop>(&self, call: ClearCall, stopped: E) -> Result<(), SchemeFault<E>>
         ensures goes { IfOk result (λ _. StopsAt self.now.stops_at call → ⊥) }
-        ensures stops { IfErr result (λ fault. StopsAt self.now.stops_at call × (fault ≡ SchemeFault.Refused stopped)) }
+        ensures stops { IfErr result (λ fault. StopsAt self.now.stops_at call
+            × (fault ≡ SchemeFault.Refused stopped)) }
     {
         if self.stops(call) {
             return Err(SchemeFault::Refused(stopped));
@@ -118,7 +116,8 @@ impl<F: TwoAdicField, EF: ExtensionField<F>, C> Pcs<EF, C> for ClearPcs<F> {
 
     ghost ZK = { false };
 
-    ghost scheme = { clear_scheme EF.ring EF.embed F.TWO_ADICITY (λ s. s.stops_at) (clear_calls F.ring F.root) };
+    ghost scheme = { clear_scheme EF.ring EF.embed F.TWO_ADICITY (λ s.
+        s.stops_at) (clear_calls F.ring F.root) };
 
     const ZK: bool = false;
 
@@ -137,12 +136,16 @@ impl<F: TwoAdicField, EF: ExtensionField<F>, C> Pcs<EF, C> for ClearPcs<F> {
 
     fn commit(&self, alloc: Global, domain: Coset<F>, matrix: RowMajorMatrix<F>) -> Committed<F>
         requires power { IsPowerOfTwo (length matrix.values.items / matrix.width) }
-        requires within { coset_size (⟦<Coset<F> as PolynomialSpace>⟧.coset_of domain) ≤ 2 ^ F.TWO_ADICITY }
-        requires room { length matrix.values.items / matrix.width ≤ coset_size (⟦<Coset<F> as PolynomialSpace>⟧.coset_of domain) }
-        ensures stands { IfOk result (CommitsRows ⟦<ClearPcs<F> as Pcs<EF, C>>⟧.scheme F.ring F.root self.now (⟦<Coset<F> as PolynomialSpace>⟧.coset_of domain) matrix.values.items matrix.width) }
-        ensures refused { IfErr result (λ fault. IfRefused fault (⟦<ClearPcs<F> as Pcs<EF, C>>⟧.scheme.RefusesCommit self.now (⟦<Coset<F> as PolynomialSpace>⟧.coset_of domain) matrix.values.items matrix.width)) }
-        ensures made { IfOk result (⟦<ClearPcs<F> as Pcs<EF, C>>⟧.scheme.calls.Commits self.now (⟦<Coset<F> as PolynomialSpace>⟧.coset_of domain) matrix.values.items matrix.width) }
-        ensures stops { StopsAt self.now.stops_at ClearCall.Commit → result ≡ Result.Err (SchemeFault.Refused ClearProverError.Stopped) }
+        requires within { coset_size (⟦<Coset<F> as PolynomialSpace>⟧.coset_of domain)
+            ≤ 2 ^ F.TWO_ADICITY }
+        requires room { length matrix.values.items / matrix.width
+            ≤ coset_size (⟦<Coset<F> as PolynomialSpace>⟧.coset_of domain) }
+        ensures stands { IfOk result (CommitsRows ⟦<ClearPcs<F> as Pcs<EF, C>>⟧.scheme F.ring F.root
+            self.now (coset_from domain.shift domain.log_size) matrix) }
+        ensures refused { IfRefusal result (λ _. StopsAt self.now.stops_at ClearCall.Commit) }
+        ensures made { IfOk result (IsPlainCommitment F.ring matrix) }
+        ensures stops { StopsAt self.now.stops_at ClearCall.Commit → result
+            ≡ Result.Err (SchemeFault.Refused ClearProverError.Stopped) }
     {
         self.pass(ClearCall::Commit, ClearProverError::Stopped)?;
         let columns = columns_of(alloc, &domain, &matrix)?;
@@ -178,12 +181,17 @@ impl<F: TwoAdicField, EF: ExtensionField<F>, C> UnivariateStarkPcs<EF, C> for Cl
         matrix: RowMajorMatrix<F>,
     ) -> Committed<F>
         requires power { IsPowerOfTwo (length matrix.values.items / matrix.width) }
-        requires within { coset_size (⟦<Coset<F> as PolynomialSpace>⟧.coset_of domain) ≤ 2 ^ F.TWO_ADICITY }
-        requires room { length matrix.values.items / matrix.width ≤ coset_size (⟦<Coset<F> as PolynomialSpace>⟧.coset_of domain) }
-        ensures stands { IfOk result (CommitsRows ⟦<ClearPcs<F> as Pcs<EF, C>>⟧.scheme F.ring F.root self.now (⟦<Coset<F> as PolynomialSpace>⟧.coset_of domain) matrix.values.items matrix.width) }
-        ensures refused { IfErr result (λ fault. IfRefused fault (⟦<ClearPcs<F> as Pcs<EF, C>>⟧.scheme.RefusesPreprocessing self.now (⟦<Coset<F> as PolynomialSpace>⟧.coset_of domain) matrix.values.items matrix.width)) }
-        ensures made { IfOk result (⟦<ClearPcs<F> as Pcs<EF, C>>⟧.scheme.calls.CommitsPreprocessing self.now (⟦<Coset<F> as PolynomialSpace>⟧.coset_of domain) matrix.values.items matrix.width) }
-        ensures stops { StopsAt self.now.stops_at ClearCall.CommitPreprocessing → result ≡ Result.Err (SchemeFault.Refused ClearProverError.Stopped) }
+        requires within { coset_size (⟦<Coset<F> as PolynomialSpace>⟧.coset_of domain)
+            ≤ 2 ^ F.TWO_ADICITY }
+        requires room { length matrix.values.items / matrix.width
+            ≤ coset_size (⟦<Coset<F> as PolynomialSpace>⟧.coset_of domain) }
+        ensures stands { IfOk result (CommitsRows ⟦<ClearPcs<F> as Pcs<EF, C>>⟧.scheme F.ring F.root
+            self.now (coset_from domain.shift domain.log_size) matrix) }
+        ensures refused { IfRefusal result (λ _.
+            StopsAt self.now.stops_at ClearCall.CommitPreprocessing) }
+        ensures made { IfOk result (IsPlainCommitment F.ring matrix) }
+        ensures stops { StopsAt self.now.stops_at ClearCall.CommitPreprocessing → result
+            ≡ Result.Err (SchemeFault.Refused ClearProverError.Stopped) }
     {
         self.pass(ClearCall::CommitPreprocessing, ClearProverError::Stopped)?;
         let columns = columns_of(alloc, &domain, &matrix)?;
@@ -198,14 +206,21 @@ impl<F: TwoAdicField, EF: ExtensionField<F>, C> UnivariateStarkPcs<EF, C> for Cl
         flat: RowMajorMatrix<F>,
         num_chunks: usize,
     ) -> Committed<F>
-        requires height { length flat.values.items ≡ coset_size (⟦<Coset<F> as PolynomialSpace>⟧.coset_of domain) * flat.width }
+        requires height { length flat.values.items
+            ≡ coset_size (⟦<Coset<F> as PolynomialSpace>⟧.coset_of domain) * flat.width }
         requires power { IsPowerOfTwo num_chunks }
         requires parts { num_chunks ≤ coset_size (⟦<Coset<F> as PolynomialSpace>⟧.coset_of domain) }
-        requires within { coset_size (⟦<Coset<F> as PolynomialSpace>⟧.coset_of domain) * 2 ^ zk_bits false ≤ num_chunks * 2 ^ F.TWO_ADICITY }
-        ensures stands { IfOk result (CommitsChunks ⟦<ClearPcs<F> as Pcs<EF, C>>⟧.scheme F.ring F.root EF.ring EF.inverse_of EF.embed false self.now (⟦<Coset<F> as PolynomialSpace>⟧.coset_of domain) flat.values.items flat.width num_chunks) }
-        ensures made { IfOk result (⟦<ClearPcs<F> as Pcs<EF, C>>⟧.scheme.calls.CommitsQuotient self.now (⟦<Coset<F> as PolynomialSpace>⟧.coset_of domain) flat.values.items flat.width num_chunks) }
-        ensures refused { IfErr result (λ fault. IfRefused fault (⟦<ClearPcs<F> as Pcs<EF, C>>⟧.scheme.RefusesQuotient self.now (⟦<Coset<F> as PolynomialSpace>⟧.coset_of domain) flat.values.items flat.width num_chunks)) }
-        ensures stops { StopsAt self.now.stops_at ClearCall.CommitQuotient → result ≡ Result.Err (SchemeFault.Refused ClearProverError.Stopped) }
+        requires within { coset_size (⟦<Coset<F> as PolynomialSpace>⟧.coset_of domain) * 2 ^ zk_bits
+            false ≤ num_chunks * 2 ^ F.TWO_ADICITY }
+        ensures stands { IfOk result (CommitsChunks
+            ⟦<ClearPcs<F> as Opening<EF, C>>⟧.opening self.now
+            (coset_from domain.shift domain.log_size) flat num_chunks) }
+        ensures made { IfOk result (IsPlainQuotient F.ring F.root
+            (coset_from domain.shift domain.log_size) flat num_chunks) }
+        ensures refused { IfRefusal result (λ _.
+            StopsAt self.now.stops_at ClearCall.CommitQuotient) }
+        ensures stops { StopsAt self.now.stops_at ClearCall.CommitQuotient → result
+            ≡ Result.Err (SchemeFault.Refused ClearProverError.Stopped) }
     {
         self.pass(ClearCall::CommitQuotient, ClearProverError::Stopped)?;
         let chunks = chunks_of(alloc, &domain, &flat, num_chunks)?;
@@ -219,8 +234,10 @@ impl<F: TwoAdicField, EF: ExtensionField<F>, C> UnivariateStarkPcs<EF, C> for Cl
         _domain: Coset<F>,
     ) -> Result<Option<(ClearCommitment<F>, ClearCommitment<F>)>, SchemeFault<ClearProverError>>
         ensures none { IfOk result (λ made. made ≡ None) }
-        ensures refused { IfErr result (λ fault. IfRefused fault (⟦<ClearPcs<F> as Pcs<EF, C>>⟧.scheme.RefusesRandomization self.now (⟦<Coset<F> as PolynomialSpace>⟧.coset_of _domain))) }
-        ensures stops { StopsAt self.now.stops_at ClearCall.Randomization → result ≡ Result.Err (SchemeFault.Refused ClearProverError.Stopped) }
+        ensures refused { IfRefusal result (λ _.
+            StopsAt self.now.stops_at ClearCall.Randomization) }
+        ensures stops { StopsAt self.now.stops_at ClearCall.Randomization → result
+            ≡ Result.Err (SchemeFault.Refused ClearProverError.Stopped) }
     {
         self.pass(ClearCall::Randomization, ClearProverError::Stopped)?;
         Ok(None)
@@ -233,9 +250,10 @@ impl<F: TwoAdicField, EF: ExtensionField<F>, C> UnivariateStarkPcs<EF, C> for Cl
         trace_domain: Coset<F>,
         quotient_domain: Coset<F>,
     ) -> Result<PeriodicLdeTable<F>, AllocError>
-        requires { columns.now.trace_len ≡ coset_size (⟦<Coset<F> as PolynomialSpace>⟧.coset_of trace_domain) }
-        ensures { IfOk result (λ table. HasPeriodicValues F.ring F.inverse_of F.root (⟦<Coset<F> as PolynomialSpace>⟧.coset_of trace_domain) (⟦<Coset<F> as PolynomialSpace>⟧.coset_of quotient_domain)
-            (map (λ column. column.items) columns.now.columns.now) table.values.items table.width table.period) }
+        requires { columns.now.trace_len ≡ coset_size
+            (⟦<Coset<F> as PolynomialSpace>⟧.coset_of trace_domain) }
+        ensures { IfOk result (IsTableOver F.ring F.inverse_of F.root
+            ⟦<Coset<F> as PolynomialSpace>⟧.coset_of trace_domain quotient_domain columns.now) }
     {
         let table = periodic_lde_table(alloc, columns, &trace_domain, &quotient_domain)?;
         Ok(table)
@@ -248,10 +266,13 @@ impl<F: TwoAdicField, EF: ExtensionField<F>, C> UnivariateStarkPcs<EF, C> for Cl
         _challenger: &mut C,
         _preprocessed_index: Option<usize>,
     ) -> Result<(OpenedRounds<EF>, ClearProof), SchemeFault<ClearProverError>>
-        ensures true_values { IfOk result (λ opened. OpensTrueValues ⟦<ClearPcs<F> as Pcs<EF, C>>⟧.scheme EF.ring EF.embed self.now (map round_view rounds.entry.items) (opened_view opened.0)) }
-        ensures whole { IfOk result (λ opened. ProvesTrueClaims ⟦<ClearPcs<F> as Pcs<EF, C>>⟧.scheme EF.ring EF.embed self.now (map round_view rounds.entry.items) opened.1 _challenger.old _preprocessed_index) }
-        ensures refused { IfErr result (λ fault. IfRefused fault (⟦<ClearPcs<F> as Pcs<EF, C>>⟧.scheme.RefusesOpening self.now (map round_view rounds.entry.items) _challenger.old _preprocessed_index)) }
-        ensures stops { StopsAt self.now.stops_at ClearCall.Open → result ≡ Result.Err (SchemeFault.Refused ClearProverError.Stopped) }
+        ensures true_values { IfOk result (OpensTrueValues ⟦<ClearPcs<F> as Pcs<EF, C>>⟧.scheme
+            EF.ring EF.embed self.now rounds.entry) }
+        ensures whole { IfOk result (ProvesTrueClaims ⟦<ClearPcs<F> as Pcs<EF, C>>⟧.scheme EF.ring
+            EF.embed self.now rounds.entry _challenger.old _preprocessed_index) }
+        ensures refused { IfRefusal result (λ _. StopsAt self.now.stops_at ClearCall.Open) }
+        ensures stops { StopsAt self.now.stops_at ClearCall.Open → result
+            ≡ Result.Err (SchemeFault.Refused ClearProverError.Stopped) }
     {
         self.pass(ClearCall::Open, ClearProverError::Stopped)?;
         let opened = open_rounds::<F, EF>(alloc, &rounds)?;
@@ -266,10 +287,15 @@ impl<F: TwoAdicField, EF: ExtensionField<F>, C> UnivariateStarkPcs<EF, C> for Cl
         _challenger: &mut C,
         _preprocessed_index: Option<usize>,
     ) -> Result<(), SchemeFault<ClearError>>
-        ensures accepted { IfOk result (λ _. ⟦<ClearPcs<F> as Pcs<EF, C>>⟧.scheme.Accepts self.now (map (claim_view ⟦<Coset<F> as PolynomialSpace>⟧.coset_of) claims.entry.items) _proof.now _challenger.old _preprocessed_index) }
-        ensures refused { IfErr result (λ fault. IfRefused fault (⟦<ClearPcs<F> as Pcs<EF, C>>⟧.scheme.Refuses self.now (map (claim_view ⟦<Coset<F> as PolynomialSpace>⟧.coset_of) claims.entry.items) _proof.now _challenger.old _preprocessed_index)) }
+        ensures accepted { IfOk result (λ _.
+            AcceptsTrue EF.ring EF.embed self.now.stops_at
+            (claims_view ⟦<Coset<F> as PolynomialSpace>⟧.coset_of claims.entry)) }
+        ensures refused { IfRefusal result
+            (RefusesClaims EF.ring EF.embed self.now.stops_at
+            (claims_view ⟦<Coset<F> as PolynomialSpace>⟧.coset_of claims.entry)) }
         ensures no_memory { IfErr result (λ fault. fault ≢ SchemeFault.OutOfMemory) }
-        ensures stops { StopsAt self.now.stops_at ClearCall.Verify → result ≡ Result.Err (SchemeFault.Refused ClearError.Stopped) }
+        ensures stops { StopsAt self.now.stops_at ClearCall.Verify → result
+            ≡ Result.Err (SchemeFault.Refused ClearError.Stopped) }
     {
         self.pass(ClearCall::Verify, ClearError::Stopped)?;
         match check_claims::<Coset<F>, EF>(alloc, &claims) {
@@ -278,5 +304,6 @@ impl<F: TwoAdicField, EF: ExtensionField<F>, C> UnivariateStarkPcs<EF, C> for Cl
         }
     }
 
-    ghost scheme_laws = { clear_laws EF.ring EF.embed F.TWO_ADICITY (λ s. s.stops_at) (clear_calls F.ring F.root) F.two_adic.bounded };
+    ghost scheme_laws = { clear_laws EF.ring EF.embed F.TWO_ADICITY (λ s.
+        s.stops_at) (clear_calls F.ring F.root) F.two_adic.bounded };
 }

@@ -1,11 +1,11 @@
 //! The masks of a quotient's chunks.
-ghost use Rattle.std.specs.Prelude.{◌≡◌, ◌<◌, ◌≤◌, ◌*◌, ◌^◌, ◌-◌, ℕ, List, IfOk, length, map, replicate};
+ghost use Rattle.std.specs.Prelude.{◌≡◌, ◌<◌, ◌≤◌, ◌*◌, ◌^◌, ◌-◌, IfOk, length, map, replicate};
 ghost use Rattle.std.specs.Int.{IsPowerOfTwo};
 ghost use Rattle.std.specs.List.{AllByRecursion};
-ghost use Rattle.stark_support.specs.Coset.{coset_size};
-ghost use Rattle.stark_support.specs.Scheme.{matrix_row};
+ghost use Rattle.stark_support.specs.Coset.{coset_size, coset_from};
 ghost use Rattle.stark_columns.specs.Columns.{columns_list};
-ghost use Rattle.stark_clear.specs.Masks.{AreMaskedChunks, HasMaskAt, HasMasks, balancing_mask, balancing_masks, chunk_columns, masked_chunks, quotient_masks, vanishing_scale};
+ghost use Rattle.stark_clear.specs.Masks.{HasMaskAt, HasMasks, balancing_mask, balancing_masks, masked_chunks, quotient_masks, vanishing_scale};
+ghost use Rattle.stark_clear.specs.ClearCalls.{IsMaskedOf, MasksChunks};
 
 use crate::masked::columns::{masked_columns, take_off};
 use crate::masked::list::chunk_lists;
@@ -35,7 +35,8 @@ fn balancing_mask<F: Field>(
     size: usize,
 ) -> Result<Vec<F>, AllocError>
     requires { AllByRecursion (HasMaskAt column size) (map columns_list chosen.now) }
-    ensures { IfOk result (λ mask. mask.items ≡ balancing_mask F.ring (map columns_list chosen.now) size column) }
+    ensures { IfOk result (λ mask. mask.items
+        ≡ balancing_mask F.ring (map columns_list chosen.now) size column) }
 {
     let mut mask = zeros(alloc, size)?;
     for masks in chosen {
@@ -52,7 +53,8 @@ fn balancing_masks<F: Field>(
     size: usize,
 ) -> Result<Vec<Vec<F>>, AllocError>
     requires { AllByRecursion (HasMasks width size) (map columns_list chosen.now) }
-    ensures { IfOk result (λ masks. columns_list masks ≡ balancing_masks F.ring (map columns_list chosen.now) size width) }
+    ensures { IfOk result (λ masks. columns_list masks
+        ≡ balancing_masks F.ring (map columns_list chosen.now) size width) }
 {
     let mut masks = Vec::new(alloc);
     for column in 0..width {
@@ -62,8 +64,9 @@ fn balancing_masks<F: Field>(
     Ok(masks)
 }
 
-/// The masks of `count` chunks from the list, and those of the last chunk, which make the sum of each column's masks zero.
-/// The parts of one coset have equal weights in a recomposition, so that the weighted sum is zero too.
+/// The masks of `count` chunks from the list, and those of the last chunk, which make the sum of
+/// each column's masks zero. The parts of one coset have equal weights in a recomposition, so that
+/// the weighted sum is zero too.
 fn quotient_masks<F: Field>(
     alloc: Global,
     masks: &[F],
@@ -72,7 +75,8 @@ fn quotient_masks<F: Field>(
     size: usize,
 ) -> Result<Vec<Vec<Vec<F>>>, AllocError>
     requires { 0 < length masks.now }
-    ensures { IfOk result (λ chunks. map columns_list chunks.items ≡ quotient_masks F.ring masks.now count width size) }
+    ensures { IfOk result (λ chunks. map columns_list chunks.items
+        ≡ quotient_masks F.ring masks.now count width size) }
 {
     let mut chunks = chunk_lists(alloc, masks, count, width, size)?;
     let last = balancing_masks(alloc, &chunks, width, size)?;
@@ -80,9 +84,11 @@ fn quotient_masks<F: Field>(
     Ok(chunks)
 }
 
-/// `s^-n`, for a coset of `n` points with the shift `s`: times it, `X^n` less one is the coset's vanishing polynomial.
+/// `s^-n`, for a coset of `n` points with the shift `s`: times it, `X^n` less one is the coset's
+/// vanishing polynomial.
 fn vanishing_scale<F: TwoAdicField>(coset: &Coset<F>) -> F
-    ensures { result ≡ vanishing_scale F.ring F.inverse_of (⟦<Coset<F> as PolynomialSpace>⟧.coset_of coset.now) }
+    ensures { result ≡ vanishing_scale F.ring F.inverse_of
+        (⟦<Coset<F> as PolynomialSpace>⟧.coset_of coset.now) }
 {
     squared_times(coset.shift.inverse(), coset.log_size)
 }
@@ -96,8 +102,8 @@ fn masked_chunks<F: TwoAdicField>(
 ) -> Result<Vec<Vec<Vec<F>>>, AllocError>
     requires plain { length plain.now ≡ length parts.now }
     requires masks { length masks.now ≡ length parts.now }
-    ensures { IfOk result (λ chunks. map columns_list chunks.items
-        ≡ chunk_columns (masked_chunks F.ring F.inverse_of (map ⟦<Coset<F> as PolynomialSpace>⟧.coset_of parts.now) (map columns_list plain.now) (map columns_list masks.now))) }
+    ensures { IfOk result (λ c. MasksChunks F.ring F.inverse_of
+        (map ⟦<Coset<F> as PolynomialSpace>⟧.coset_of parts.now) plain.now masks.now c.items) }
 {
     let mut chunks = Vec::new(alloc);
     for i in 0..parts.len() {
@@ -109,8 +115,9 @@ fn masked_chunks<F: TwoAdicField>(
     Ok(chunks)
 }
 
-/// The columns of each chunk of a quotient, on its part of the domain, with masks of as many coefficients times the part's
-/// vanishing polynomial. All but the last chunk's masks are from the list.
+/// The columns of each chunk of a quotient, on its part of the domain, with masks of as many
+/// coefficients times the part's vanishing polynomial. All but the last chunk's masks are from the
+/// list.
 pub fn masked_chunks_of<F: TwoAdicField>(
     alloc: Global,
     masks: &[F],
@@ -119,12 +126,12 @@ pub fn masked_chunks_of<F: TwoAdicField>(
     num_chunks: usize,
 ) -> Result<Vec<Vec<Vec<F>>>, AllocError>
     requires masks { 0 < length masks.now }
-    requires height { length flat.now.values.items ≡ coset_size (⟦<Coset<F> as PolynomialSpace>⟧.coset_of domain.now) * flat.now.width }
+    requires height { length flat.now.values.items
+        ≡ coset_size (⟦<Coset<F> as PolynomialSpace>⟧.coset_of domain.now) * flat.now.width }
     requires power { IsPowerOfTwo num_chunks }
     requires parts { num_chunks ≤ coset_size (⟦<Coset<F> as PolynomialSpace>⟧.coset_of domain.now) }
-    ensures { IfOk result (λ chunks. (plain : List (List (List F))) × ((log_parts : ℕ) → 2 ^ log_parts ≡ num_chunks
-        → AreMaskedChunks F.ring F.inverse_of F.root (⟦<Coset<F> as PolynomialSpace>⟧.coset_of domain.now) log_parts flat.now.width (matrix_row flat.now.values.items flat.now.width)
-        (quotient_masks F.ring masks.now (num_chunks - 1) flat.now.width (2 ^ ((⟦<Coset<F> as PolynomialSpace>⟧.coset_of domain.now).log_size - log_parts))) plain (map columns_list chunks.items))) }
+    ensures { IfOk result (λ c. IsMaskedOf F.ring F.inverse_of F.root masks.now
+        (coset_from domain.now.shift domain.now.log_size) flat.now num_chunks c.items) }
 {
     let parts = domain.split_domains(alloc, num_chunks)?;
     let plain = chunks_of(alloc, domain, flat, num_chunks)?;

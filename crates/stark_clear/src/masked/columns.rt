@@ -39,7 +39,9 @@ pub fn masked_columns<F: Field>(
     masks: &[Vec<F>],
     scale: F,
 ) -> Result<Vec<Vec<F>>, AllocError>
-    ensures { IfOk result (λ columns. columns_list columns ≡ zip2 (masked_polynomial F.ring scale) (map column_list plain.now) (map column_list masks.now)) }
+    ensures { IfOk result (λ columns. columns_list columns
+        ≡ zip2 (masked_polynomial F.ring scale) (map column_list plain.now)
+        (map column_list masks.now)) }
 {
     let mut columns = Vec::new(alloc);
     for i in 0..plain.len().min(masks.len()) {

@@ -1,11 +1,10 @@
 //! The masked columns of a matrix.
-ghost use Rattle.std.specs.Prelude.{◌≡◌, ◌≤◌, ◌<◌, ◌-◌, ◌/◌, ◌^◌, ℕ, IfOk, length};
+ghost use Rattle.std.specs.Prelude.{◌≤◌, ◌<◌, ◌-◌, ◌/◌, IfOk, length};
 ghost use Rattle.std.specs.Int.{IsPowerOfTwo};
-ghost use Rattle.std.specs.List.{AllByRecursion};
-ghost use Rattle.stark_support.specs.Coset.{coset_size};
-ghost use Rattle.stark_support.specs.Scheme.{TakesRows, matrix_row, natural_coset};
+ghost use Rattle.stark_support.specs.Coset.{coset_size, coset_from};
 ghost use Rattle.stark_columns.specs.Columns.{columns_list};
-ghost use Rattle.stark_clear.specs.Masks.{AreMaskedBy, mask_lists};
+ghost use Rattle.stark_clear.specs.ClearCalls.{AreMaskedColumns};
+ghost use Rattle.stark_columns.specs.ColumnPoints.{AreFull, TakeMatrix};
 
 use crate::masked::columns::masked_columns;
 use crate::masked::list::next_lists;
@@ -16,9 +15,10 @@ use stark_support::{
 };
 use std::alloc::{AllocError, Global};
 
-/// The columns of a matrix that take its rows on the natural domain of its height, each with a multiple of that domain's
-/// vanishing polynomial added, so that it has as many coefficients as the domain points. The multiples' coefficients are
-/// the list's numbers, from its start on, column after column.
+/// The columns of a matrix that take its rows on the natural domain of its height, each with a
+/// multiple of that domain's vanishing polynomial added, so that it has as many coefficients as the
+/// domain points. The multiples' coefficients are the list's numbers, from its start on, column
+/// after column.
 pub fn masked_columns_of<F: TwoAdicField>(
     alloc: Global,
     masks: &[F],
@@ -27,12 +27,15 @@ pub fn masked_columns_of<F: TwoAdicField>(
 ) -> Result<Vec<Vec<F>>, AllocError>
     requires masks { 0 < length masks.now }
     requires power { IsPowerOfTwo (length matrix.now.values.items / matrix.now.width) }
-    requires room { length matrix.now.values.items / matrix.now.width ≤ coset_size (⟦<Coset<F> as PolynomialSpace>⟧.coset_of domain.now) }
-    ensures full { IfOk result (λ columns. AllByRecursion (λ column. length column ≡ coset_size (⟦<Coset<F> as PolynomialSpace>⟧.coset_of domain.now)) (columns_list columns)) }
-    ensures rows { IfOk result (λ columns. (log_height : ℕ) → 2 ^ log_height ≡ length matrix.now.values.items / matrix.now.width
-        → TakesRows F.ring F.root (natural_coset F.ring log_height) matrix.now.width (matrix_row matrix.now.values.items matrix.now.width) (columns_list columns)) }
-    ensures masked { IfOk result (λ columns. AreMaskedBy F.ring (length matrix.now.values.items / matrix.now.width)
-        (mask_lists F.ring masks.now 0 matrix.now.width (coset_size (⟦<Coset<F> as PolynomialSpace>⟧.coset_of domain.now) - length matrix.now.values.items / matrix.now.width)) (columns_list columns)) }
+    requires room { length matrix.now.values.items / matrix.now.width
+        ≤ coset_size (⟦<Coset<F> as PolynomialSpace>⟧.coset_of domain.now) }
+    ensures full { IfOk result (λ columns.
+        AreFull (coset_from domain.now.shift domain.now.log_size) (columns_list columns)) }
+    ensures rows { IfOk result (λ columns.
+        TakeMatrix F.ring F.root matrix.now (columns_list columns)) }
+    ensures masked { IfOk result (λ columns.
+        AreMaskedColumns F.ring masks.now (coset_from domain.now.shift domain.now.log_size)
+        matrix.now.values.items matrix.now.width (columns_list columns)) }
 {
     let natural = Coset::subgroup(log2_strict_usize(matrix.height()));
     let plain = columns_of(alloc, &natural, matrix)?;

@@ -34,7 +34,8 @@ pub fn next_lists<F: Field>(
     size: usize,
 ) -> Result<Vec<Vec<F>>, AllocError>
     requires { place.old < length masks.now }
-    ensures lists { IfOk result (λ lists. columns_list lists ≡ mask_lists F.ring masks.now place.old count size) }
+    ensures lists { IfOk result (λ lists. columns_list lists
+        ≡ mask_lists F.ring masks.now place.old count size) }
     ensures place { OnOk result (place.new ≡ (place.old + count * size) % length masks.now) }
 {
     let mut lists = Vec::new(alloc);
@@ -54,7 +55,8 @@ pub fn chunk_lists<F: Field>(
     size: usize,
 ) -> Result<Vec<Vec<Vec<F>>>, AllocError>
     requires { 0 < length masks.now }
-    ensures { IfOk result (λ chunks. map columns_list chunks.items ≡ chunk_masks F.ring masks.now 0 count width size) }
+    ensures { IfOk result (λ chunks. map columns_list chunks.items
+        ≡ chunk_masks F.ring masks.now 0 count width size) }
 {
     let mut place = 0;
     let mut chunks = Vec::new(alloc);

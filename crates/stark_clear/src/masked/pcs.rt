@@ -1,18 +1,14 @@
 //! The scheme in the clear with masks.
-ghost use Rattle.std.specs.Prelude.{◌≡◌, ◌≢◌, ◌≤◌, ◌<◌, ◌-◌, ◌/◌, ◌*◌, ◌^◌, ℕ, List, [], ◌∷◌, true, None, Some, is_some, length, map, Result, IfErr, IfOk, IfSome};
+ghost use Rattle.std.specs.Prelude.{◌≡◌, ◌≢◌, ◌≤◌, ◌<◌, ◌-◌, ◌/◌, ◌*◌, ◌^◌, true, None, Some, is_some, length, Result, IfErr, IfOk, IfSome};
 ghost use Rattle.std.specs.Int.{IsPowerOfTwo};
-ghost use Rattle.std.specs.List.{AllByRecursion};
-ghost use Rattle.stark_support.specs.Claims.{IfRefused, claim_view, opened_view, round_view};
-ghost use Rattle.stark_support.specs.Coset.{coset_size};
-ghost use Rattle.stark_support.specs.Scheme.{matrix_row, zk_bits};
-ghost use Rattle.stark_support.specs.Polynomial.{value};
+ghost use Rattle.stark_support.specs.Claims.{IfRefusal, claims_view};
+ghost use Rattle.stark_support.specs.Coset.{coset_size, coset_from};
+ghost use Rattle.stark_support.specs.Scheme.{zk_bits};
 ghost use Rattle.stark_clear.specs.ClearFacts.{clear_laws};
-ghost use Rattle.stark_clear.specs.ClearCalls.{masked_calls};
-ghost use Rattle.stark_clear.specs.ClearScheme.{clear_scheme};
-ghost use Rattle.stark_columns.specs.ColumnPoints.{IsPolynomialBelow};
+ghost use Rattle.stark_clear.specs.ClearCalls.{masked_calls, IsPlainCommitment, IsMaskedCommitment, IsMaskedQuotient, AreMasks};
+ghost use Rattle.stark_clear.specs.ClearScheme.{clear_scheme, AcceptsTrue, RefusesClaims};
 ghost use Rattle.stark_clear.specs.Stops.{StopsAt};
-ghost use Rattle.stark_columns.specs.SchemeClauses.{CommitsChunks, CommitsRows, OpensTrueValues, ProvesTrueClaims};
-ghost use Rattle.stark_clear.specs.Masks.{AreMaskedBy, AreMaskedChunks, mask_lists, quotient_masks};
+ghost use Rattle.stark_support.specs.SchemeClauses.{CommitsChunks, CommitsRows, OpensTrueValues, ProvesTrueClaims, CommitsColumns};
 
 use crate::clear::{
     ClearCall, ClearError, ClearPcs, ClearProof, ClearProverError, Committed, committed,
@@ -23,17 +19,17 @@ use crate::masked::commit::masked_columns_of;
 use crate::masked::list::next_lists;
 use stark_bench::{ClearCommitment, Coset};
 use stark_support::{
-    DomainShape, ExtensionField, OpenedRounds, OpeningClaim, OpeningRound, Pcs, PeriodicColumns,
-    PeriodicLdeTable, PolynomialSpace, RowMajorMatrix, SchemeFault, TwoAdicField,
+    DomainShape, ExtensionField, OpenedRounds, Opening, OpeningClaim, OpeningRound, Pcs,
+    PeriodicColumns, PeriodicLdeTable, PolynomialSpace, RowMajorMatrix, SchemeFault, TwoAdicField,
     UnivariateStarkPcs,
 };
 use std::alloc::{AllocError, Global};
 use std::marker::Model;
 
-/// The scheme in the clear with masks from a list, which it reads round and round, from its start at each call. It masks
-/// as a scheme that hides does, so that all that is to be done for one is done, and hides nothing: its commitments list
-/// the masked columns, and who made the scheme knows the masks. What needs no mask is done by the scheme without, which
-/// stops where this one does.
+/// The scheme in the clear with masks from a list, which it reads round and round, from its start
+/// at each call. It masks as a scheme that hides does, so that all that is to be done for one is
+/// done, and hides nothing: its commitments list the masked columns, and who made the scheme knows
+/// the masks. What needs no mask is done by the scheme without, which stops where this one does.
 #[derive(Clone, Debug, Drop)]
 pub struct MaskedClearPcs<F> {
     masks: Vec<F>,
@@ -63,8 +59,8 @@ impl<F> MaskedClearPcs<F> {
         }
     }
 
-    /// The scheme with these masks that stops at this call: the call refuses with `Stopped` whatever it is handed, and each
-    /// other call answers as ever.
+    /// The scheme with these masks that stops at this call: the call refuses with `Stopped`
+    /// whatever it is handed, and each other call answers as ever.
     pub fn stopping_at(masks: Vec<F>, call: ClearCall) -> MaskedClearPcs<F>
         requires { 0 < length masks.items }
         ensures { result ≡ record { masks = masks.items; stops_at = Some call } }
@@ -91,7 +87,8 @@ impl<F: TwoAdicField, EF: ExtensionField<F>, C> Pcs<EF, C> for MaskedClearPcs<F>
 
     ghost ZK = { true };
 
-    ghost scheme = { clear_scheme EF.ring EF.embed F.TWO_ADICITY (λ s. s.stops_at) (masked_calls F.ring F.inverse_of F.root EF.DIMENSION) };
+    ghost scheme = { clear_scheme EF.ring EF.embed F.TWO_ADICITY (λ s.
+        s.stops_at) (masked_calls F.ring F.inverse_of F.root EF.DIMENSION) };
 
     const ZK: bool = true;
 
@@ -109,12 +106,17 @@ impl<F: TwoAdicField, EF: ExtensionField<F>, C> Pcs<EF, C> for MaskedClearPcs<F>
 
     fn commit(&self, alloc: Global, domain: Coset<F>, matrix: RowMajorMatrix<F>) -> Committed<F>
         requires power { IsPowerOfTwo (length matrix.values.items / matrix.width) }
-        requires within { coset_size (⟦<Coset<F> as PolynomialSpace>⟧.coset_of domain) ≤ 2 ^ F.TWO_ADICITY }
-        requires room { length matrix.values.items / matrix.width ≤ coset_size (⟦<Coset<F> as PolynomialSpace>⟧.coset_of domain) }
-        ensures stands { IfOk result (CommitsRows ⟦<MaskedClearPcs<F> as Pcs<EF, C>>⟧.scheme F.ring F.root self.now (⟦<Coset<F> as PolynomialSpace>⟧.coset_of domain) matrix.values.items matrix.width) }
-        ensures refused { IfErr result (λ fault. IfRefused fault (⟦<MaskedClearPcs<F> as Pcs<EF, C>>⟧.scheme.RefusesCommit self.now (⟦<Coset<F> as PolynomialSpace>⟧.coset_of domain) matrix.values.items matrix.width)) }
-        ensures made { IfOk result (⟦<MaskedClearPcs<F> as Pcs<EF, C>>⟧.scheme.calls.Commits self.now (⟦<Coset<F> as PolynomialSpace>⟧.coset_of domain) matrix.values.items matrix.width) }
-        ensures stops { StopsAt self.now.stops_at ClearCall.Commit → result ≡ Result.Err (SchemeFault.Refused ClearProverError.Stopped) }
+        requires within { coset_size (⟦<Coset<F> as PolynomialSpace>⟧.coset_of domain)
+            ≤ 2 ^ F.TWO_ADICITY }
+        requires room { length matrix.values.items / matrix.width
+            ≤ coset_size (⟦<Coset<F> as PolynomialSpace>⟧.coset_of domain) }
+        ensures stands { IfOk result (CommitsRows ⟦<MaskedClearPcs<F> as Pcs<EF, C>>⟧.scheme F.ring
+            F.root self.now (coset_from domain.shift domain.log_size) matrix) }
+        ensures refused { IfRefusal result (λ _. StopsAt self.now.stops_at ClearCall.Commit) }
+        ensures made { IfOk result (IsMaskedCommitment F.ring self.now.masks
+            (coset_from domain.shift domain.log_size) matrix) }
+        ensures stops { StopsAt self.now.stops_at ClearCall.Commit → result
+            ≡ Result.Err (SchemeFault.Refused ClearProverError.Stopped) }
     {
         self.plain
             .pass(ClearCall::Commit, ClearProverError::Stopped)?;
@@ -156,12 +158,17 @@ impl<F: TwoAdicField, EF: ExtensionField<F>, C> UnivariateStarkPcs<EF, C> for Ma
         matrix: RowMajorMatrix<F>,
     ) -> Committed<F>
         requires power { IsPowerOfTwo (length matrix.values.items / matrix.width) }
-        requires within { coset_size (⟦<Coset<F> as PolynomialSpace>⟧.coset_of domain) ≤ 2 ^ F.TWO_ADICITY }
-        requires room { length matrix.values.items / matrix.width ≤ coset_size (⟦<Coset<F> as PolynomialSpace>⟧.coset_of domain) }
-        ensures stands { IfOk result (CommitsRows ⟦<MaskedClearPcs<F> as Pcs<EF, C>>⟧.scheme F.ring F.root self.now (⟦<Coset<F> as PolynomialSpace>⟧.coset_of domain) matrix.values.items matrix.width) }
-        ensures refused { IfErr result (λ fault. IfRefused fault (⟦<MaskedClearPcs<F> as Pcs<EF, C>>⟧.scheme.RefusesPreprocessing self.now (⟦<Coset<F> as PolynomialSpace>⟧.coset_of domain) matrix.values.items matrix.width)) }
-        ensures made { IfOk result (⟦<MaskedClearPcs<F> as Pcs<EF, C>>⟧.scheme.calls.CommitsPreprocessing self.now (⟦<Coset<F> as PolynomialSpace>⟧.coset_of domain) matrix.values.items matrix.width) }
-        ensures stops { StopsAt self.now.stops_at ClearCall.CommitPreprocessing → result ≡ Result.Err (SchemeFault.Refused ClearProverError.Stopped) }
+        requires within { coset_size (⟦<Coset<F> as PolynomialSpace>⟧.coset_of domain)
+            ≤ 2 ^ F.TWO_ADICITY }
+        requires room { length matrix.values.items / matrix.width
+            ≤ coset_size (⟦<Coset<F> as PolynomialSpace>⟧.coset_of domain) }
+        ensures stands { IfOk result (CommitsRows ⟦<MaskedClearPcs<F> as Pcs<EF, C>>⟧.scheme F.ring
+            F.root self.now (coset_from domain.shift domain.log_size) matrix) }
+        ensures refused { IfRefusal result (λ _.
+            StopsAt self.now.stops_at ClearCall.CommitPreprocessing) }
+        ensures made { IfOk result (IsPlainCommitment F.ring matrix) }
+        ensures stops { StopsAt self.now.stops_at ClearCall.CommitPreprocessing → result
+            ≡ Result.Err (SchemeFault.Refused ClearProverError.Stopped) }
     {
         <ClearPcs<F> as UnivariateStarkPcs<EF, C>>::commit_preprocessing(
             &self.plain,
@@ -178,14 +185,21 @@ impl<F: TwoAdicField, EF: ExtensionField<F>, C> UnivariateStarkPcs<EF, C> for Ma
         flat: RowMajorMatrix<F>,
         num_chunks: usize,
     ) -> Committed<F>
-        requires height { length flat.values.items ≡ coset_size (⟦<Coset<F> as PolynomialSpace>⟧.coset_of domain) * flat.width }
+        requires height { length flat.values.items
+            ≡ coset_size (⟦<Coset<F> as PolynomialSpace>⟧.coset_of domain) * flat.width }
         requires power { IsPowerOfTwo num_chunks }
         requires parts { num_chunks ≤ coset_size (⟦<Coset<F> as PolynomialSpace>⟧.coset_of domain) }
-        requires within { coset_size (⟦<Coset<F> as PolynomialSpace>⟧.coset_of domain) * 2 ^ zk_bits true ≤ num_chunks * 2 ^ F.TWO_ADICITY }
-        ensures stands { IfOk result (CommitsChunks ⟦<MaskedClearPcs<F> as Pcs<EF, C>>⟧.scheme F.ring F.root EF.ring EF.inverse_of EF.embed true self.now (⟦<Coset<F> as PolynomialSpace>⟧.coset_of domain) flat.values.items flat.width num_chunks) }
-        ensures refused { IfErr result (λ fault. IfRefused fault (⟦<MaskedClearPcs<F> as Pcs<EF, C>>⟧.scheme.RefusesQuotient self.now (⟦<Coset<F> as PolynomialSpace>⟧.coset_of domain) flat.values.items flat.width num_chunks)) }
-        ensures made { IfOk result (⟦<MaskedClearPcs<F> as Pcs<EF, C>>⟧.scheme.calls.CommitsQuotient self.now (⟦<Coset<F> as PolynomialSpace>⟧.coset_of domain) flat.values.items flat.width num_chunks) }
-        ensures stops { StopsAt self.now.stops_at ClearCall.CommitQuotient → result ≡ Result.Err (SchemeFault.Refused ClearProverError.Stopped) }
+        requires within { coset_size (⟦<Coset<F> as PolynomialSpace>⟧.coset_of domain) * 2 ^ zk_bits
+            true ≤ num_chunks * 2 ^ F.TWO_ADICITY }
+        ensures stands { IfOk result (CommitsChunks
+            ⟦<MaskedClearPcs<F> as Opening<EF, C>>⟧.opening self.now
+            (coset_from domain.shift domain.log_size) flat num_chunks) }
+        ensures refused { IfRefusal result (λ _.
+            StopsAt self.now.stops_at ClearCall.CommitQuotient) }
+        ensures made { IfOk result (IsMaskedQuotient F.ring F.inverse_of F.root self.now.masks
+            (coset_from domain.shift domain.log_size) flat num_chunks) }
+        ensures stops { StopsAt self.now.stops_at ClearCall.CommitQuotient → result
+            ≡ Result.Err (SchemeFault.Refused ClearProverError.Stopped) }
     {
         self.plain
             .pass(ClearCall::CommitQuotient, ClearProverError::Stopped)?;
@@ -199,14 +213,19 @@ impl<F: TwoAdicField, EF: ExtensionField<F>, C> UnivariateStarkPcs<EF, C> for Ma
         alloc: Global,
         domain: Coset<F>,
     ) -> Result<Option<(ClearCommitment<F>, ClearCommitment<F>)>, SchemeFault<ClearProverError>>
-        requires within { coset_size (⟦<Coset<F> as PolynomialSpace>⟧.coset_of domain) ≤ 2 ^ F.TWO_ADICITY }
+        requires within { coset_size (⟦<Coset<F> as PolynomialSpace>⟧.coset_of domain)
+            ≤ 2 ^ F.TWO_ADICITY }
         ensures there { IfOk result (λ made. is_some made ≡ true) }
-        ensures stands { IfOk result (λ made. IfSome made (λ made. (columns : List (List F))
-            × ⟦<MaskedClearPcs<F> as Pcs<EF, C>>⟧.scheme.Stands self.now made.0 made.1 (record { domain = ⟦<Coset<F> as PolynomialSpace>⟧.coset_of domain; columns = columns } ∷ [])
-            × (length columns ≡ EF.DIMENSION))) }
-        ensures refused { IfErr result (λ fault. IfRefused fault (⟦<MaskedClearPcs<F> as Pcs<EF, C>>⟧.scheme.RefusesRandomization self.now (⟦<Coset<F> as PolynomialSpace>⟧.coset_of domain))) }
-        ensures made { IfOk result (λ made. IfSome made (⟦<MaskedClearPcs<F> as Pcs<EF, C>>⟧.scheme.calls.Randomizes self.now (⟦<Coset<F> as PolynomialSpace>⟧.coset_of domain))) }
-        ensures stops { StopsAt self.now.stops_at ClearCall.Randomization → result ≡ Result.Err (SchemeFault.Refused ClearProverError.Stopped) }
+        ensures stands { IfOk result (λ made.
+            IfSome made (CommitsColumns ⟦<MaskedClearPcs<F> as Pcs<EF, C>>⟧.scheme self.now
+            (coset_from domain.shift domain.log_size) EF.DIMENSION)) }
+        ensures refused { IfRefusal result (λ _.
+            StopsAt self.now.stops_at ClearCall.Randomization) }
+        ensures made { IfOk result (λ made.
+            IfSome made (AreMasks F.ring self.now.masks EF.DIMENSION
+            (coset_from domain.shift domain.log_size))) }
+        ensures stops { StopsAt self.now.stops_at ClearCall.Randomization → result
+            ≡ Result.Err (SchemeFault.Refused ClearProverError.Stopped) }
     {
         self.plain
             .pass(ClearCall::Randomization, ClearProverError::Stopped)?;
@@ -239,10 +258,14 @@ impl<F: TwoAdicField, EF: ExtensionField<F>, C> UnivariateStarkPcs<EF, C> for Ma
         challenger: &mut C,
         preprocessed_index: Option<usize>,
     ) -> Result<(OpenedRounds<EF>, ClearProof), SchemeFault<ClearProverError>>
-        ensures true_values { IfOk result (λ opened. OpensTrueValues ⟦<MaskedClearPcs<F> as Pcs<EF, C>>⟧.scheme EF.ring EF.embed self.now (map round_view rounds.entry.items) (opened_view opened.0)) }
-        ensures whole { IfOk result (λ opened. ProvesTrueClaims ⟦<MaskedClearPcs<F> as Pcs<EF, C>>⟧.scheme EF.ring EF.embed self.now (map round_view rounds.entry.items) opened.1 challenger.old preprocessed_index) }
-        ensures refused { IfErr result (λ fault. IfRefused fault (⟦<MaskedClearPcs<F> as Pcs<EF, C>>⟧.scheme.RefusesOpening self.now (map round_view rounds.entry.items) challenger.old preprocessed_index)) }
-        ensures stops { StopsAt self.now.stops_at ClearCall.Open → result ≡ Result.Err (SchemeFault.Refused ClearProverError.Stopped) }
+        ensures true_values { IfOk result
+            (OpensTrueValues ⟦<MaskedClearPcs<F> as Pcs<EF, C>>⟧.scheme EF.ring EF.embed
+            self.now rounds.entry) }
+        ensures whole { IfOk result (ProvesTrueClaims ⟦<MaskedClearPcs<F> as Pcs<EF, C>>⟧.scheme
+            EF.ring EF.embed self.now rounds.entry challenger.old preprocessed_index) }
+        ensures refused { IfRefusal result (λ _. StopsAt self.now.stops_at ClearCall.Open) }
+        ensures stops { StopsAt self.now.stops_at ClearCall.Open → result
+            ≡ Result.Err (SchemeFault.Refused ClearProverError.Stopped) }
     {
         <ClearPcs<F> as UnivariateStarkPcs<EF, C>>::open_with_preprocessing(
             &self.plain,
@@ -261,10 +284,15 @@ impl<F: TwoAdicField, EF: ExtensionField<F>, C> UnivariateStarkPcs<EF, C> for Ma
         challenger: &mut C,
         preprocessed_index: Option<usize>,
     ) -> Result<(), SchemeFault<ClearError>>
-        ensures accepted { IfOk result (λ _. ⟦<MaskedClearPcs<F> as Pcs<EF, C>>⟧.scheme.Accepts self.now (map (claim_view ⟦<Coset<F> as PolynomialSpace>⟧.coset_of) claims.entry.items) proof.now challenger.old preprocessed_index) }
-        ensures refused { IfErr result (λ fault. IfRefused fault (⟦<MaskedClearPcs<F> as Pcs<EF, C>>⟧.scheme.Refuses self.now (map (claim_view ⟦<Coset<F> as PolynomialSpace>⟧.coset_of) claims.entry.items) proof.now challenger.old preprocessed_index)) }
+        ensures accepted { IfOk result (λ _.
+            AcceptsTrue EF.ring EF.embed self.now.stops_at
+            (claims_view ⟦<Coset<F> as PolynomialSpace>⟧.coset_of claims.entry)) }
+        ensures refused { IfRefusal result
+            (RefusesClaims EF.ring EF.embed self.now.stops_at
+            (claims_view ⟦<Coset<F> as PolynomialSpace>⟧.coset_of claims.entry)) }
         ensures no_memory { IfErr result (λ fault. fault ≢ SchemeFault.OutOfMemory) }
-        ensures stops { StopsAt self.now.stops_at ClearCall.Verify → result ≡ Result.Err (SchemeFault.Refused ClearError.Stopped) }
+        ensures stops { StopsAt self.now.stops_at ClearCall.Verify → result
+            ≡ Result.Err (SchemeFault.Refused ClearError.Stopped) }
     {
         <ClearPcs<F> as UnivariateStarkPcs<EF, C>>::verify_with_preprocessing(
             &self.plain,
@@ -276,5 +304,6 @@ impl<F: TwoAdicField, EF: ExtensionField<F>, C> UnivariateStarkPcs<EF, C> for Ma
         )
     }
 
-    ghost scheme_laws = { clear_laws EF.ring EF.embed F.TWO_ADICITY (λ s. s.stops_at) (masked_calls F.ring F.inverse_of F.root EF.DIMENSION) F.two_adic.bounded };
+    ghost scheme_laws = { clear_laws EF.ring EF.embed F.TWO_ADICITY (λ s.
+        s.stops_at) (masked_calls F.ring F.inverse_of F.root EF.DIMENSION) F.two_adic.bounded };
 }

@@ -156,7 +156,8 @@ fn norm<F: QuarticBase>(x: Ext4<F>) -> F
 
 /// What times `x` gives the norm of `x` times `factor`.
 fn cofactor<F: QuarticBase>(x: Ext4<F>, factor: F) -> Ext4<F>
-    ensures { result ≡ of_coordinates (quartic_cofactor F.ring F.QUARTIC_CONSTANT (coordinates_of x) factor) }
+    ensures { result ≡ of_coordinates (quartic_cofactor F.ring F.QUARTIC_CONSTANT (coordinates_of x)
+        factor) }
 {
     let w = F::QUARTIC_CONSTANT;
     let low = ((x.c0 * x.c0 + w * (x.c2 * x.c2)) - w * (x.c1 * x.c3 + x.c1 * x.c3)) * factor;
@@ -239,7 +240,8 @@ impl<F: QuarticBase> Field for Ext4<F> {
 
     ghost inverse_of = { ext4_inverse F.ring F.inverse_of F.QUARTIC_CONSTANT };
 
-    ghost is_element = { λ x. (F.is_element x.c0) × (F.is_element x.c1) × (F.is_element x.c2) × (F.is_element x.c3) };
+    ghost is_element = { λ x. (F.is_element x.c0) × (F.is_element x.c1) × (F.is_element x.c2)
+        × (F.is_element x.c3) };
 
     ghost ZERO = { embedded F.ring F.ring.zero };
 
@@ -267,7 +269,12 @@ impl<F: QuarticBase> Field for Ext4<F> {
 
     ghost field_laws = { ext4_laws F.field_laws F.QUARTIC_CONSTANT F.quartic_constant };
 
-    ghost every_value = { λ x. (F.every_value x.c0, F.every_value x.c1, F.every_value x.c2, F.every_value x.c3) };
+    ghost every_value = { λ x. (
+      F.every_value x.c0,
+      F.every_value x.c1,
+      F.every_value x.c2,
+      F.every_value x.c3,
+    ) };
 
     ghost zero_is = { refl };
 
@@ -296,7 +303,8 @@ impl<F: QuarticBase> Field for Ext4<F> {
 
 /// The sum of the basis times the coordinates.
 fn from_coordinates<F: QuarticBase>(c0: F, c1: F, c2: F, c3: F) -> Ext4<F>
-    ensures { result ≡ basis_sum (ext4_ring F.ring F.QUARTIC_CONSTANT) (λ c. c) (basis_of F.ring) (map (embedded F.ring) (c0 ∷ (c1 ∷ (c2 ∷ (c3 ∷ []))))) }
+    ensures { result ≡ basis_sum (ext4_ring F.ring F.QUARTIC_CONSTANT) (λ c. c) (basis_of F.ring)
+        (map (embedded F.ring) (c0 ∷ (c1 ∷ (c2 ∷ (c3 ∷ []))))) }
 {
     Ext4 { c0, c1, c2, c3 }
 }
@@ -414,5 +422,7 @@ impl<F: QuarticBase + TwoAdicField> TwoAdicField for Ext4<F> {
         }
     }
 
-    ghost two_adic = { embedded_two_adic (embedded_is_embedding F.field_laws.of_ring F.QUARTIC_CONSTANT) F.TWO_ADICITY F.root F.GENERATOR F.two_adic };
+    ghost two_adic = { embedded_two_adic
+        (embedded_is_embedding F.field_laws.of_ring F.QUARTIC_CONSTANT) F.TWO_ADICITY F.root
+        F.GENERATOR F.two_adic };
 }

@@ -1,14 +1,12 @@
 //! The extension's operations on four elements at once: each works lane by lane.
-ghost use Rattle.std.specs.Prelude.{[], ◌≡◌, ◌∷◌, ◌<◌, ℕ, Some, refl};
-ghost use Rattle.std.specs.List.{slice_get};
+ghost use Rattle.std.specs.Prelude.{[], ◌≡◌, ◌∷◌, ◌<◌};
 ghost use Rattle.std.proofs.Common.{lit<};
 ghost use Rattle.stark_support.specs.Ring.{difference};
 ghost use Rattle.stark_support.specs.Operations.{exact};
-ghost use Rattle.stark_fields.specs.SmallResidues.{Residue12289};
 ghost use Rattle.stark_fields.specs.Residues.{residue, residue_ring};
-ghost use Rattle.stark_fields.specs.Ext4Field.{basis_of, embedded, ext4_ring};
+ghost use Rattle.stark_fields.specs.Ext4Field.{ext4_ring};
 ghost use Rattle.stark_fields.specs.ResidueLanes.{in_each_lane, lane};
-ghost use Rattle.stark_fields.specs.Ext4Lanes.{element, element_in_each_lane, elements_of, embedded_lanes, extension_lanes_ring, extension_is_lane_by_lane};
+ghost use Rattle.stark_fields.specs.Ext4Lanes.{element_in_each_lane, elements_of, embedded_lanes, extension_lanes_ring, extension_is_lane_by_lane, AddsCoordinate};
 
 use crate::ext4::Ext4;
 use crate::extension_lanes::ExtensionLanes;
@@ -29,8 +27,7 @@ impl<Kind> ExtensionLanes<Kind> {
     /// The elements with residues added to the coordinate of this index.
     pub(crate) fn plus_coordinate(self, index: usize, residues: Lanes<Kind>) -> ExtensionLanes<Kind>
         requires { index < 4 }
-        ensures { (element_of_basis : Ext4 (Residue12289 Kind)) → slice_get (basis_of residue_ring) index ≡ Some element_of_basis → (i : ℕ) → i < 4 → element result i
-            ≡ (ext4_ring residue_ring (residue 11)).add ((ext4_ring residue_ring (residue 11)).mul element_of_basis (embedded residue_ring (lane residues i))) (element self i) }
+        ensures { AddsCoordinate index residues self result }
     {
         match index {
             0 => ExtensionLanes {

@@ -1,5 +1,5 @@
 //! The operations on four residues at once: each works lane by lane.
-ghost use Rattle.std.specs.Prelude.{[], ◌≡◌, ◌∷◌, ◌<◌, ◌≤◌, ◌+◌, ℕ, Some, length, option_map, refl, slice_index};
+ghost use Rattle.std.specs.Prelude.{[], ◌≡◌, ◌∷◌, ◌<◌, ◌≤◌, ◌+◌, ℕ, Some, length, option_map, slice_index};
 ghost use Rattle.std.specs.List.{slice_get};
 ghost use Rattle.std.specs.Simd.Lanes.{zip2};
 ghost use Rattle.std.proofs.Common.{lit<};
@@ -7,7 +7,7 @@ ghost use Rattle.stark_support.specs.Combination.{linear_combination};
 ghost use Rattle.stark_support.specs.Ring.{difference};
 ghost use Rattle.stark_support.specs.Operations.{exact, ring_operations};
 ghost use Rattle.stark_fields.specs.Residues.{residue, residue_ring};
-ghost use Rattle.stark_fields.specs.ResidueLanes.{lanes_of, in_each_lane, lanes_ring, is_lane_by_lane, number_sums, number_products, number_complements, number_remainders};
+ghost use Rattle.stark_fields.specs.ResidueLanes.{lanes_of, in_each_lane, lanes_ring, is_lane_by_lane, number_sums, number_products, number_complements, number_remainders, product, plus_product};
 
 use crate::lanes::Lanes;
 use crate::residue::Residue;
@@ -24,8 +24,8 @@ fn sums<Kind>(x: Lanes<Kind>, y: Lanes<Kind>) -> u32x4
     x.numbers.strict_add(y.numbers)
 }
 
-/// The numbers. That they have no more than 14 bits shows in the code, so that a compiler may multiply them as halves of lanes, which is
-/// faster.
+/// The numbers. That they have no more than 14 bits shows in the code, so that a compiler may
+/// multiply them as halves of lanes, which is faster.
 fn short_numbers<Kind>(x: Lanes<Kind>) -> u32x4
     ensures { result ≡ x.numbers }
 {
@@ -46,8 +46,8 @@ fn complements<Kind>(x: Lanes<Kind>) -> u32x4
     u32x4::splat(12289).strict_sub(x.numbers)
 }
 
-/// Each number modulo 12289, in its lane; the numbers are below twice that. Where a number is less than 12289, the difference
-/// wraps and is the greater one.
+/// Each number modulo 12289, in its lane; the numbers are below twice that. Where a number is less
+/// than 12289, the difference wraps and is the greater one.
 fn reduced_once<Kind>(numbers: u32x4) -> Lanes<Kind>
     requires four { length numbers ≡ 4 }
     requires below { (lane : ℕ) → slice_index numbers lane < 24578 }
@@ -59,8 +59,8 @@ fn reduced_once<Kind>(numbers: u32x4) -> Lanes<Kind>
     }
 }
 
-/// The numbers less 12289 times a quotient that falls short by at most one (Barrett's reduction): `2^29 / 12289` is 43687 and
-/// a fraction.
+/// The numbers less 12289 times a quotient that falls short by at most one (Barrett's reduction):
+/// `2^29 / 12289` is 43687 and a fraction.
 fn nearly_reduced(numbers: u32x4) -> u32x4
     requires four { length numbers ≡ 4 }
     requires below { (lane : ℕ) → slice_index numbers lane ≤ 754987008 }
@@ -72,7 +72,8 @@ fn nearly_reduced(numbers: u32x4) -> u32x4
     numbers - (scaled >> u32x4::splat(16)) * u32x4::splat(12289)
 }
 
-/// Each number modulo 12289, in its lane; the numbers are at most five times the greatest product of two residues, and a residue.
+/// Each number modulo 12289, in its lane; the numbers are at most five times the greatest product
+/// of two residues, and a residue.
 fn reduced<Kind>(numbers: u32x4) -> Lanes<Kind>
     requires four { length numbers ≡ 4 }
     requires below { (lane : ℕ) → slice_index numbers lane ≤ 754987008 }
@@ -81,7 +82,8 @@ fn reduced<Kind>(numbers: u32x4) -> Lanes<Kind>
     reduced_once(nearly_reduced(numbers))
 }
 
-/// As `nearly_reduced` does, with factors below 2^15, which are multiplied as halves of lanes: `2^28 / 12289` is 21843 and a fraction.
+/// As `nearly_reduced` does, with factors below 2^15, which are multiplied as halves of lanes:
+/// `2^28 / 12289` is 21843 and a fraction.
 fn nearly_reduced_product(numbers: u32x4) -> u32x4
     requires four { length numbers ≡ 4 }
     requires below { (lane : ℕ) → slice_index numbers lane ≤ 150994944 }
@@ -93,7 +95,8 @@ fn nearly_reduced_product(numbers: u32x4) -> u32x4
     numbers - (scaled >> u32x4::splat(15)) * u32x4::splat(12289)
 }
 
-/// Each number modulo 12289, in its lane; the numbers are at most the greatest product of two residues.
+/// Each number modulo 12289, in its lane; the numbers are at most the greatest product of two
+/// residues.
 fn reduced_product<Kind>(numbers: u32x4) -> Lanes<Kind>
     requires four { length numbers ≡ 4 }
     requires below { (lane : ℕ) → slice_index numbers lane ≤ 150994944 }
@@ -107,14 +110,16 @@ pub(crate) type Factors<Kind> = (Lanes<Kind>, Lanes<Kind>);
 
 /// The products of the numbers of both, added, lane by lane.
 fn sums_of_products<Kind>(first: Factors<Kind>, second: Factors<Kind>) -> u32x4
-    ensures { result ≡ zip2 (λ a b. a + b) (number_products first.0 first.1) (number_products second.0 second.1) }
+    ensures { result ≡ zip2 (λ a b. a + b) (number_products first.0 first.1)
+        (number_products second.0 second.1) }
 {
     products(first.0, first.1).strict_add(products(second.0, second.1))
 }
 
 /// Two products, added, lane by lane; reduced once.
 pub(crate) fn two_products<Kind>(first: Factors<Kind>, second: Factors<Kind>) -> Lanes<Kind>
-    ensures { result ≡ lanes_ring.add (lanes_ring.mul first.0 first.1) (lanes_ring.mul second.0 second.1) }
+    ensures { result ≡ lanes_ring.add (product first)
+        (product second) }
 {
     reduced(sums_of_products(first, second))
 }
@@ -125,8 +130,11 @@ pub(crate) fn three_products<Kind>(
     second: Factors<Kind>,
     third: Factors<Kind>,
 ) -> Lanes<Kind>
-    ensures first_two { result ≡ lanes_ring.add (lanes_ring.add (lanes_ring.mul first.0 first.1) (lanes_ring.mul second.0 second.1)) (lanes_ring.mul third.0 third.1) }
-    ensures last_two { result ≡ lanes_ring.add (lanes_ring.mul first.0 first.1) (lanes_ring.add (lanes_ring.mul second.0 second.1) (lanes_ring.mul third.0 third.1)) }
+    ensures first_two { result ≡ lanes_ring.add
+        (lanes_ring.add (product first) (product second))
+        (product third) }
+    ensures last_two { result ≡ lanes_ring.add (product first)
+        (lanes_ring.add (product second) (product third)) }
 {
     reduced(sums_of_products(first, second).strict_add(products(third.0, third.1)))
 }
@@ -138,8 +146,13 @@ pub(crate) fn four_products<Kind>(
     third: Factors<Kind>,
     fourth: Factors<Kind>,
 ) -> Lanes<Kind>
-    ensures in_pairs { result ≡ lanes_ring.add (lanes_ring.add (lanes_ring.mul first.0 first.1) (lanes_ring.mul second.0 second.1)) (lanes_ring.add (lanes_ring.mul third.0 third.1) (lanes_ring.mul fourth.0 fourth.1)) }
-    ensures middle_first { result ≡ lanes_ring.add (lanes_ring.add (lanes_ring.mul first.0 first.1) (lanes_ring.add (lanes_ring.mul second.0 second.1) (lanes_ring.mul third.0 third.1))) (lanes_ring.mul fourth.0 fourth.1) }
+    ensures in_pairs { result ≡ lanes_ring.add
+        (lanes_ring.add (product first) (product second))
+        (lanes_ring.add (product third) (product fourth)) }
+    ensures middle_first { result ≡ lanes_ring.add
+        (lanes_ring.add (product first)
+        (lanes_ring.add (product second) (product third)))
+        (product fourth) }
 {
     reduced(sums_of_products(first, second).strict_add(sums_of_products(third, fourth)))
 }
@@ -154,7 +167,7 @@ fn plus_products<Kind>(first: Factors<Kind>, rest: u32x4) -> u32x4
 
 /// A product and the rest, added, lane by lane; reduced once.
 fn one_term_more<Kind>(first: Factors<Kind>, rest: Lanes<Kind>) -> Lanes<Kind>
-    ensures { result ≡ lanes_ring.add (lanes_ring.mul first.0 first.1) rest }
+    ensures { result ≡ lanes_ring.add (product first) rest }
 {
     reduced(plus_products(first, rest.numbers))
 }
@@ -168,8 +181,9 @@ fn five_terms_more<Kind>(
     fifth: Factors<Kind>,
     rest: Lanes<Kind>,
 ) -> Lanes<Kind>
-    ensures { result ≡ lanes_ring.add (lanes_ring.mul first.0 first.1) (lanes_ring.add (lanes_ring.mul second.0 second.1) (lanes_ring.add (lanes_ring.mul third.0 third.1)
-        (lanes_ring.add (lanes_ring.mul fourth.0 fourth.1) (lanes_ring.add (lanes_ring.mul fifth.0 fifth.1) rest)))) }
+    ensures { result ≡ plus_product first
+        (plus_product second (plus_product third
+        (plus_product fourth (plus_product fifth rest)))) }
 {
     let last = plus_products(fifth, rest.numbers);
     let last_two = plus_products(fourth, last);
@@ -198,7 +212,8 @@ pub(crate) fn weighted_sum<Kind>(
     weights: &[Residue<M12289, Kind>],
 ) -> Lanes<Kind>
     requires { length values.now ≡ length weights.now }
-    ensures { result ≡ linear_combination (ring_operations lanes_ring in_each_lane) (residue 0) values.now weights.now }
+    ensures { result ≡ linear_combination (ring_operations lanes_ring in_each_lane) (residue 0)
+        values.now weights.now }
 {
     let mut sum = Lanes::from(Residue::ZERO);
     let mut index = values.len();

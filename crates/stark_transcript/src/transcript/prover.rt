@@ -1,15 +1,14 @@
 //! The prover's side of a transcript.
-ghost use Rattle.std.specs.Prelude.{◌≡◌, false, ltb, IfOk, OnErr, None, is_some, length, option_map};
+ghost use Rattle.std.specs.Prelude.{◌≡◌, ltb, IfOk, OnErr, None, is_some, length};
 ghost use Rattle.std.specs.Fn.{FnOnceReturnsAtMut, FnOnceTakesAtMut};
-ghost use Rattle.stark_support.specs.Sponge.{observed_bytes, replay};
-ghost use Rattle.stark_support.specs.Seed.{shape_seed};
-ghost use Rattle.stark_transcript.specs.Shape.{shape_numbers};
-ghost use Rattle.stark_transcript.specs.Replay.{IsWitness, constraint_events, constraint_outcome, ood_events, ood_outcome, preprocessed_fault, prover_constraint_outcome, prover_ood_outcome, random_fault, succeeds};
+ghost use Rattle.stark_transcript.specs.Shape.{after_seed};
+ghost use Rattle.stark_transcript.specs.Replay.{preprocessed_fault, random_fault};
+ghost use Rattle.stark_transcript.specs.Phases.{DrawsAlpha, DrawsZeta, HasNoAlphaWitness, HasNoZetaWitness, alpha_search, zeta_search};
 
 use crate::shape::{GrindExhausted, StarkShape, TranscriptPhase};
-use crate::transcript::{find_work, observe_optional, observe_seed, play_values};
+use crate::transcript::{observe_optional, observe_seed, play_values, sample_after_grind};
 use stark_support::{
-    CanObserve, CanSample, ExtensionField, GrindingChallenger, PrimeField64, TranscriptSponge,
+    CanObserve, CanSample, ExtensionField, GrindingChallenger, PrimeField64, Sponge,
 };
 use std::alloc::{AllocError, Global};
 use std::marker::PhantomData;
@@ -27,14 +26,17 @@ where
     F: PrimeField64,
     EF: ExtensionField<F>,
 {
-    /// Observes the shape's seed. It is Err only where memory was refused, and then nothing was observed.
+    /// Observes the shape's seed. It is Err only where memory was refused, and then nothing was
+    /// observed.
     pub fn new(alloc: Global, challenger: &'a mut C, shape: StarkShape) -> Result<Self, AllocError>
     where
         C: CanObserve<F>,
-        ensures same_reference { IfOk result (λ t. t.challenger.ghost_name ≡ challenger.entry.ghost_name) }
+        ensures same_reference { IfOk result (λ t. t.challenger.ghost_name
+            ≡ challenger.entry.ghost_name) }
         ensures opened { IfOk result (λ t. t.phase ≡ TranscriptPhase.Opened) }
         ensures described { IfOk result (λ t. t.shape ≡ shape) }
-        ensures seeded { IfOk result (λ t. t.challenger.now ≡ observed_bytes C.after_observe F.of_number (shape_seed 1 EF.DIMENSION (shape_numbers shape)) challenger.old) }
+        ensures seeded { IfOk result (λ t. t.challenger.now
+            ≡ after_seed C.after_observe F.of_number EF.DIMENSION shape challenger.old) }
     {
         observe_seed::<C, F, EF>(alloc, &mut *challenger, &shape)?;
         Ok(StarkProverTranscript {
@@ -45,9 +47,10 @@ where
         })
     }
 
-    /// Observes the commitments to the traces and the public values, searches a witness where work is asked for, and draws
-    /// alpha. It fails where no element is a witness; the challenger then has the state before the search. A verifier of the
-    /// same state, inputs and witness draws the same.
+    /// Observes the commitments to the traces and the public values, searches a witness where work
+    /// is asked for, and draws alpha. It fails where no element is a witness; the challenger then
+    /// has the state before the search. A verifier of the same state, inputs and witness draws the
+    /// same.
     pub fn constraint_phase<K>(
         &mut self,
         trace: &K,
@@ -61,18 +64,26 @@ where
         requires described { preprocessed_fault self.old.shape (is_some preprocessed) ≡ None }
         ensures same_reference { self.new.challenger.ghost_name ≡ self.old.challenger.ghost_name }
         ensures shape { self.new.shape ≡ self.old.shape }
-        ensures answer { result ≡ (prover_constraint_outcome ⟦<C as TranscriptSponge<F, EF, K>>⟧.sponge self.old.shape trace.now (option_map (λ k. k.now) preprocessed.entry) public_values.now self.old.challenger.now).answer }
-        ensures state { self.new.challenger.now ≡ (prover_constraint_outcome ⟦<C as TranscriptSponge<F, EF, K>>⟧.sponge self.old.shape trace.now (option_map (λ k. k.now) preprocessed.entry) public_values.now self.old.challenger.now).state }
-        ensures phase { self.new.phase ≡ (prover_constraint_outcome ⟦<C as TranscriptSponge<F, EF, K>>⟧.sponge self.old.shape trace.now (option_map (λ k. k.now) preprocessed.entry) public_values.now self.old.challenger.now).phase }
+        ensures answer { result ≡ (alpha_search ⟦<C as Sponge<F, EF, K>>⟧.sponge self.old
+            trace.now preprocessed.entry public_values.now).answer }
+        ensures state { self.new.challenger.now
+            ≡ (alpha_search ⟦<C as Sponge<F, EF, K>>⟧.sponge self.old trace.now
+            preprocessed.entry public_values.now).state }
+        ensures phase { self.new.phase ≡ (alpha_search ⟦<C as Sponge<F, EF, K>>⟧.sponge
+            self.old trace.now preprocessed.entry public_values.now).phase }
         ensures bound { IfOk result (λ _. self.new.phase ≡ TranscriptPhase.Bound) }
-        ensures worked { IfOk result (λ drawn. is_some drawn.1 ≡ ltb 0 self.old.shape.constraint_pow_bits) }
-        ensures exhausted { OnErr result ((witness : F) → ⟦<C as TranscriptSponge<F, EF, K>>⟧.sponge.passes (replay ⟦<C as TranscriptSponge<F, EF, K>>⟧.sponge (constraint_events trace.now (option_map (λ k. k.now) preprocessed.entry) public_values.now) self.old.challenger.now) self.old.shape.constraint_pow_bits witness ≡ false) }
-        ensures as_verifier { IfOk result (λ drawn. (witness : F) → IsWitness drawn.1 witness → constraint_outcome ⟦<C as TranscriptSponge<F, EF, K>>⟧.sponge self.old.shape trace.now (option_map (λ k. k.now) preprocessed.entry) public_values.now witness self.old.challenger.now ≡ succeeds drawn.0 self.new.challenger.now TranscriptPhase.Bound) }
+        ensures worked { IfOk result (λ drawn. is_some drawn.1
+            ≡ ltb 0 self.old.shape.constraint_pow_bits) }
+        ensures exhausted { OnErr result (HasNoAlphaWitness
+            ⟦<C as Sponge<F, EF, K>>⟧.sponge self.old trace.now preprocessed.entry
+            public_values.now) }
+        ensures as_verifier { IfOk result (DrawsAlpha ⟦<C as Sponge<F, EF, K>>⟧.sponge
+            self.old trace.now preprocessed.entry public_values.now self.new.challenger.now) }
     {
         self.challenger.observe(trace);
         play_values::<C, F, EF, K>(&mut *self.challenger, preprocessed, public_values);
         let bits = self.shape.constraint_pow_bits;
-        match find_work::<C, F, EF, K>(&mut *self.challenger, bits) {
+        match sample_after_grind::<C, F, EF, K>(&mut *self.challenger, bits) {
             Ok(bound) => {
                 self.phase = TranscriptPhase::Bound;
                 Ok(bound)
@@ -84,9 +95,9 @@ where
         }
     }
 
-    /// Observes the commitments to the quotient's chunks and to a random polynomial, searches a witness where work is
-    /// asked for, and draws zeta. It fails where no element is a witness. A verifier of the same state, inputs and
-    /// witness draws the same.
+    /// Observes the commitments to the quotient's chunks and to a random polynomial, searches a
+    /// witness where work is asked for, and draws zeta. It fails where no element is a witness. A
+    /// verifier of the same state, inputs and witness draws the same.
     pub fn ood_phase<K>(
         &mut self,
         quotient: &K,
@@ -98,18 +109,25 @@ where
         requires described { random_fault self.old.shape (is_some random) ≡ None }
         ensures same_reference { self.new.challenger.ghost_name ≡ self.old.challenger.ghost_name }
         ensures shape { self.new.shape ≡ self.old.shape }
-        ensures answer { result ≡ (prover_ood_outcome ⟦<C as TranscriptSponge<F, EF, K>>⟧.sponge self.old.shape quotient.now (option_map (λ k. k.now) random.entry) self.old.challenger.now).answer }
-        ensures state { self.new.challenger.now ≡ (prover_ood_outcome ⟦<C as TranscriptSponge<F, EF, K>>⟧.sponge self.old.shape quotient.now (option_map (λ k. k.now) random.entry) self.old.challenger.now).state }
-        ensures phase { self.new.phase ≡ (prover_ood_outcome ⟦<C as TranscriptSponge<F, EF, K>>⟧.sponge self.old.shape quotient.now (option_map (λ k. k.now) random.entry) self.old.challenger.now).phase }
+        ensures answer { result ≡ (zeta_search ⟦<C as Sponge<F, EF, K>>⟧.sponge self.old
+            quotient.now random.entry).answer }
+        ensures state { self.new.challenger.now
+            ≡ (zeta_search ⟦<C as Sponge<F, EF, K>>⟧.sponge self.old quotient.now
+            random.entry).state }
+        ensures phase { self.new.phase ≡ (zeta_search ⟦<C as Sponge<F, EF, K>>⟧.sponge
+            self.old quotient.now random.entry).phase }
         ensures drawn { IfOk result (λ _. self.new.phase ≡ TranscriptPhase.Drawn) }
-        ensures worked { IfOk result (λ drawn. is_some drawn.1 ≡ ltb 0 self.old.shape.ood_pow_bits) }
-        ensures exhausted { OnErr result ((witness : F) → ⟦<C as TranscriptSponge<F, EF, K>>⟧.sponge.passes (replay ⟦<C as TranscriptSponge<F, EF, K>>⟧.sponge (ood_events quotient.now (option_map (λ k. k.now) random.entry)) self.old.challenger.now) self.old.shape.ood_pow_bits witness ≡ false) }
-        ensures as_verifier { IfOk result (λ drawn. (witness : F) → IsWitness drawn.1 witness → ood_outcome ⟦<C as TranscriptSponge<F, EF, K>>⟧.sponge self.old.shape quotient.now (option_map (λ k. k.now) random.entry) witness self.old.challenger.now ≡ succeeds drawn.0 self.new.challenger.now TranscriptPhase.Drawn) }
+        ensures worked { IfOk result (λ drawn. is_some drawn.1
+            ≡ ltb 0 self.old.shape.ood_pow_bits) }
+        ensures exhausted { OnErr result (HasNoZetaWitness
+            ⟦<C as Sponge<F, EF, K>>⟧.sponge self.old quotient.now random.entry) }
+        ensures as_verifier { IfOk result (DrawsZeta ⟦<C as Sponge<F, EF, K>>⟧.sponge
+            self.old quotient.now random.entry self.new.challenger.now) }
     {
         self.challenger.observe(quotient);
         observe_optional::<C, F, EF, K>(&mut *self.challenger, random);
         let bits = self.shape.ood_pow_bits;
-        match find_work::<C, F, EF, K>(&mut *self.challenger, bits) {
+        match sample_after_grind::<C, F, EF, K>(&mut *self.challenger, bits) {
             Ok(drawn) => {
                 self.phase = TranscriptPhase::Drawn;
                 Ok(drawn)
@@ -128,7 +146,8 @@ where
         ensures same_reference { self.new.challenger.ghost_name ≡ self.old.challenger.ghost_name }
         ensures shape { self.new.shape ≡ self.old.shape }
         ensures phase { self.new.phase ≡ TranscriptPhase.Delegated }
-        ensures ran { FnOnceReturnsAtMut G.FnOnce run self.old.challenger.now result self.new.challenger.now }
+        ensures ran { FnOnceReturnsAtMut G.FnOnce run self.old.challenger.now result
+            self.new.challenger.now }
     {
         let output = run(&mut *self.challenger);
         self.phase = TranscriptPhase::Delegated;

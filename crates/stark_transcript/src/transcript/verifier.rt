@@ -1,17 +1,16 @@
 //! The verifier's side of a transcript.
-ghost use Rattle.std.specs.Prelude.{◌≡◌, IfOk, length, option_map};
+ghost use Rattle.std.specs.Prelude.{◌≡◌, IfOk, length};
 ghost use Rattle.std.specs.Fn.{FnOnceReturnsAtMut, FnOnceTakesAtMut};
-ghost use Rattle.stark_support.specs.Sponge.{observed_bytes};
-ghost use Rattle.stark_support.specs.Seed.{shape_seed};
-ghost use Rattle.stark_transcript.specs.Shape.{shape_numbers};
-ghost use Rattle.stark_transcript.specs.Replay.{constraint_outcome, ood_outcome};
+ghost use Rattle.stark_transcript.specs.Shape.{after_seed};
+ghost use Rattle.stark_transcript.specs.Phases.{alpha_run, zeta_run};
 
 use crate::shape::{StarkShape, StarkTranscriptFailure, TranscriptPhase};
 use crate::transcript::{
-    check_work, observe_optional, observe_seed, play_values, preprocessed_fault, random_fault,
+    observe_optional, observe_seed, play_values, preprocessed_fault, random_fault,
+    sample_after_check,
 };
 use stark_support::{
-    CanObserve, CanSample, ExtensionField, GrindingChallenger, PrimeField64, TranscriptSponge,
+    CanObserve, CanSample, ExtensionField, GrindingChallenger, PrimeField64, Sponge,
 };
 use std::alloc::{AllocError, Global};
 use std::marker::PhantomData;
@@ -29,14 +28,17 @@ where
     F: PrimeField64,
     EF: ExtensionField<F>,
 {
-    /// Observes the shape's seed. It is Err only where memory was refused, and then nothing was observed.
+    /// Observes the shape's seed. It is Err only where memory was refused, and then nothing was
+    /// observed.
     pub fn new(alloc: Global, challenger: &'a mut C, shape: StarkShape) -> Result<Self, AllocError>
     where
         C: CanObserve<F>,
-        ensures same_reference { IfOk result (λ t. t.challenger.ghost_name ≡ challenger.entry.ghost_name) }
+        ensures same_reference { IfOk result (λ t. t.challenger.ghost_name
+            ≡ challenger.entry.ghost_name) }
         ensures opened { IfOk result (λ t. t.phase ≡ TranscriptPhase.Opened) }
         ensures described { IfOk result (λ t. t.shape ≡ shape) }
-        ensures seeded { IfOk result (λ t. t.challenger.now ≡ observed_bytes C.after_observe F.of_number (shape_seed 1 EF.DIMENSION (shape_numbers shape)) challenger.old) }
+        ensures seeded { IfOk result (λ t. t.challenger.now
+            ≡ after_seed C.after_observe F.of_number EF.DIMENSION shape challenger.old) }
     {
         observe_seed::<C, F, EF>(alloc, &mut *challenger, &shape)?;
         Ok(StarkVerifierTranscript {
@@ -47,9 +49,10 @@ where
         })
     }
 
-    /// Observes the commitments to the traces and the public values, checks the work where some is asked for, and draws
-    /// alpha. It fails where the commitment to the preprocessed trace isn't there though the shape describes one, or is
-    /// there though it describes none, and where the witness doesn't pass. Where no work is asked for, the witness plays no part
+    /// Observes the commitments to the traces and the public values, checks the work where some is
+    /// asked for, and draws alpha. It fails where the commitment to the preprocessed trace isn't
+    /// there though the shape describes one, or is there though it describes none, and where the
+    /// witness doesn't pass. Where no work is asked for, the witness plays no part
     /// (`alpha_without_work`).
     pub fn constraint_phase<K>(
         &mut self,
@@ -64,9 +67,13 @@ where
         requires count { length public_values.now ≡ self.old.shape.num_public_values }
         ensures same_reference { self.new.challenger.ghost_name ≡ self.old.challenger.ghost_name }
         ensures shape { self.new.shape ≡ self.old.shape }
-        ensures answer { result ≡ (constraint_outcome ⟦<C as TranscriptSponge<F, EF, K>>⟧.sponge self.old.shape trace.now (option_map (λ k. k.now) preprocessed.entry) public_values.now witness self.old.challenger.now).answer }
-        ensures state { self.new.challenger.now ≡ (constraint_outcome ⟦<C as TranscriptSponge<F, EF, K>>⟧.sponge self.old.shape trace.now (option_map (λ k. k.now) preprocessed.entry) public_values.now witness self.old.challenger.now).state }
-        ensures phase { self.new.phase ≡ (constraint_outcome ⟦<C as TranscriptSponge<F, EF, K>>⟧.sponge self.old.shape trace.now (option_map (λ k. k.now) preprocessed.entry) public_values.now witness self.old.challenger.now).phase }
+        ensures answer { result ≡ (alpha_run ⟦<C as Sponge<F, EF, K>>⟧.sponge self.old
+            trace.now preprocessed.entry public_values.now witness).answer }
+        ensures state { self.new.challenger.now
+            ≡ (alpha_run ⟦<C as Sponge<F, EF, K>>⟧.sponge self.old trace.now
+            preprocessed.entry public_values.now witness).state }
+        ensures phase { self.new.phase ≡ (alpha_run ⟦<C as Sponge<F, EF, K>>⟧.sponge
+            self.old trace.now preprocessed.entry public_values.now witness).phase }
         ensures bound { IfOk result (λ _. self.new.phase ≡ TranscriptPhase.Bound) }
     {
         self.challenger.observe(trace);
@@ -77,7 +84,7 @@ where
         play_values::<C, F, EF, K>(&mut *self.challenger, preprocessed, public_values);
         let bits = self.shape.constraint_pow_bits;
         let failure = StarkTranscriptFailure::AlphaPowWitness { bits };
-        match check_work::<C, F, EF, K>(&mut *self.challenger, failure, bits, witness) {
+        match sample_after_check::<C, F, EF, K>(&mut *self.challenger, failure, bits, witness) {
             Ok(alpha) => {
                 self.phase = TranscriptPhase::Bound;
                 Ok(alpha)
@@ -89,9 +96,10 @@ where
         }
     }
 
-    /// Observes the commitments to the quotient's chunks and to a random polynomial, checks the work where some is asked
-    /// for, and draws zeta. It fails where the random commitment isn't there though the shape describes one, or is there
-    /// though it describes none, and where the witness doesn't pass.
+    /// Observes the commitments to the quotient's chunks and to a random polynomial, checks the
+    /// work where some is asked for, and draws zeta. It fails where the random commitment isn't
+    /// there though the shape describes one, or is there though it describes none, and where the
+    /// witness doesn't pass.
     pub fn ood_phase<K>(
         &mut self,
         quotient: &K,
@@ -103,9 +111,13 @@ where
         requires phase { self.old.phase ≡ TranscriptPhase.Bound }
         ensures same_reference { self.new.challenger.ghost_name ≡ self.old.challenger.ghost_name }
         ensures shape { self.new.shape ≡ self.old.shape }
-        ensures answer { result ≡ (ood_outcome ⟦<C as TranscriptSponge<F, EF, K>>⟧.sponge self.old.shape quotient.now (option_map (λ k. k.now) random.entry) witness self.old.challenger.now).answer }
-        ensures state { self.new.challenger.now ≡ (ood_outcome ⟦<C as TranscriptSponge<F, EF, K>>⟧.sponge self.old.shape quotient.now (option_map (λ k. k.now) random.entry) witness self.old.challenger.now).state }
-        ensures phase { self.new.phase ≡ (ood_outcome ⟦<C as TranscriptSponge<F, EF, K>>⟧.sponge self.old.shape quotient.now (option_map (λ k. k.now) random.entry) witness self.old.challenger.now).phase }
+        ensures answer { result ≡ (zeta_run ⟦<C as Sponge<F, EF, K>>⟧.sponge self.old
+            quotient.now random.entry witness).answer }
+        ensures state { self.new.challenger.now
+            ≡ (zeta_run ⟦<C as Sponge<F, EF, K>>⟧.sponge self.old quotient.now
+            random.entry witness).state }
+        ensures phase { self.new.phase ≡ (zeta_run ⟦<C as Sponge<F, EF, K>>⟧.sponge
+            self.old quotient.now random.entry witness).phase }
         ensures drawn { IfOk result (λ _. self.new.phase ≡ TranscriptPhase.Drawn) }
     {
         self.challenger.observe(quotient);
@@ -116,7 +128,7 @@ where
         observe_optional::<C, F, EF, K>(&mut *self.challenger, random);
         let bits = self.shape.ood_pow_bits;
         let failure = StarkTranscriptFailure::OodPowWitness { bits };
-        match check_work::<C, F, EF, K>(&mut *self.challenger, failure, bits, witness) {
+        match sample_after_check::<C, F, EF, K>(&mut *self.challenger, failure, bits, witness) {
             Ok(zeta) => {
                 self.phase = TranscriptPhase::Drawn;
                 Ok(zeta)
@@ -135,7 +147,8 @@ where
         ensures same_reference { self.new.challenger.ghost_name ≡ self.old.challenger.ghost_name }
         ensures shape { self.new.shape ≡ self.old.shape }
         ensures phase { self.new.phase ≡ TranscriptPhase.Delegated }
-        ensures ran { FnOnceReturnsAtMut G.FnOnce run self.old.challenger.now result self.new.challenger.now }
+        ensures ran { FnOnceReturnsAtMut G.FnOnce run self.old.challenger.now result
+            self.new.challenger.now }
     {
         let output = run(&mut *self.challenger);
         self.phase = TranscriptPhase::Delegated;

@@ -1,6 +1,6 @@
 use Rattle.std.proofs.Common.{◌≡◌, ◌∙◌, ◌*◌, ◌^◌, ap, arith, sym, refl, length, ℕ, None}
 use Rattle.stark_support.specs.CosetFacts.{root_has_order, root_nonzero}
-use Rattle.stark_protocol.specs.Instance.{FieldsOps}
+use Rattle.stark_support.specs.FieldPair.{FieldsOps}
 use Rattle.stark_protocol.proofs.Carried.{on_ok}
 use Rattle.stark_prover.specs.Honest.{declared_row}
 use Rattle.guide_tests.specs.Counting.{counted_from}
@@ -46,7 +46,7 @@ returns g c = record {
       let is_public = c.deref.ensures.value ∙ c.in_ok-publics.ensures in
       on_ok _ _ c.prove_and_verify.result (λ made complete least whole drawn_here.
       let drawn = drawn_with _ _ _ c.deref.result.now is_public drawn_here in
-      complete h (height_of h _ _ (ap length are ∙ counted_length ring c.args.start 0 (2 ^ h)) c.new_col-trace.ensures.width) least whole (record {
+      complete h (record { rows = height_of h _ _ (ap length are ∙ counted_length ring c.args.start 0 (2 ^ h)) c.new_col-trace.ensures.width; least = least; complete = whole }) (record {
         set_up = refl;
         satisfied = holds_in_each_row fields laws h (root_has_order laws val.TwoAdicField.TWO_ADICITY val.TwoAdicField.root val.Field.GENERATOR two_adic h c.requires.group)
             (root_nonzero laws val.TwoAdicField.TWO_ADICITY val.TwoAdicField.root val.Field.GENERATOR two_adic h c.requires.group) c.args.start val.Element.ONE g.met.SC.Pcs.Domain.Val.Field.one_is (declared_row None) _ _ _ are c.new_col-trace.ensures.width is_public;

@@ -19,11 +19,11 @@ returns-in-Ok-prove_with_preprocessed-clause-accepted g c = λ height provable s
     let within = within_field _ _ _ _ _ _ _ _ (proved.made height provable.rows c.requires.stands.0 c.requires.stands.1) in
     let constraints = g.A.Air.constraints c.args.air.now in
     let hint = g.A.BaseAir.degree_hint c.args.air.now in
-    proved.honest height provable.rows provable.least provable.whole key set_up (c.in-Ok.ensures.satisfied height provable.rows within)
+    proved.complete height provable.rows provable.least provable.complete key set_up (c.in-Ok.ensures.satisfied height provable.rows within)
     (sizable_degrees_fit constraints sizable hint g.SC.Pcs.Pcs.ZK height)
 
 pub returns-in-Ok-prove_with_preprocessed-clause-sized : goal.returns-in-Ok-prove_with_preprocessed-clause-sized
 returns-in-Ok-prove_with_preprocessed-clause-sized g c = λ height provable sized key set_up.
     let proved = c.in-Ok-prove_with_preprocessed.ensures in
     let within = within_field _ _ _ _ _ _ _ _ (proved.made height provable.rows c.requires.stands.0 c.requires.stands.1) in
-    proved.honest height provable.rows provable.least provable.whole key set_up (c.in-Ok.ensures.satisfied height provable.rows within) sized
+    proved.complete height provable.rows provable.least provable.complete key set_up (c.in-Ok.ensures.satisfied height provable.rows within) sized

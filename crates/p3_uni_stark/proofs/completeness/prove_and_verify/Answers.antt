@@ -4,8 +4,8 @@ use Rattle.p3_uni_stark.proofs.HonestVerdict.{honest_is_accepted, memory_alone}
 use Rattle.p3_uni_stark.proofs.completeness.prove_and_verify.Goals as goal
 
 pub returns-clause-complete : goal.returns-clause-complete
-returns-clause-complete g c = λ height rows least whole honest.
-    memory_alone _ c.verify_with_preprocessed-verdict.ensures.exact (honest_is_accepted (c.in_ok-proof.ensures.honest height rows least whole _) honest)
+returns-clause-complete g c = λ height provable honest.
+    memory_alone _ c.verify_with_preprocessed-verdict.ensures.exact (honest_is_accepted (c.in_ok-proof.ensures.complete height provable.rows provable.least provable.complete _) honest)
 
 pub returns-in_err-proof : goal.returns-in_err-proof
 returns-in_err-proof c = grind (arith, common_steps)

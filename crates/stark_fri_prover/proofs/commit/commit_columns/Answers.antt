@@ -2,10 +2,9 @@ use Rattle.std.proofs.Common.{◌≡◌, ◌∙◌, ◌∷◌, ◌^◌, ◌+◌,
 use Rattle.std.specs.List.{AllByRecursion}
 use Rattle.std.specs.Option.{IsSome}
 use Rattle.std.proofs.lemmas.List.FromFn.{length-map-range_with_len}
-use Rattle.stark_columns.specs.ColumnPoints.{coset_from}
 use Rattle.stark_columns.specs.Columns.{columns_list}
 use Rattle.stark_merkle.specs.Tree.{digests_in, layer_above, layers_from, node_of, top_of}
-use Rattle.stark_support.specs.Coset.{TwoAdicCoset}
+use Rattle.stark_support.specs.Coset.{TwoAdicCoset, coset_from}
 use Rattle.stark_merkle.specs.TreeFacts.{full_has_root, top_is_root}
 use Rattle.stark_fri_prover.specs.Commit.{AreExtended, HasRow, extension_of, leaf_at, leaves_of}
 use Rattle.stark_fri_prover.specs.CommitFacts.{have_rows, same_leaves}

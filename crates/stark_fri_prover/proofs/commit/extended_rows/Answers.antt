@@ -1,6 +1,6 @@
 use Rattle.std.proofs.Common.{◌≡◌, List, [], arith, length, map}
 use Rattle.std.proofs.lemmas.List.{length-map}
-use Rattle.stark_columns.specs.ColumnPoints.{coset_from}
+use Rattle.stark_support.specs.Coset.{coset_from}
 use Rattle.stark_columns.specs.Columns.{columns_list}
 use Rattle.stark_fri_prover.specs.Commit.{IsExtended}
 use Rattle.stark_fri_prover.proofs.Steps.{none_related, one_more_taken}

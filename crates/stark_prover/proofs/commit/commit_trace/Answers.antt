@@ -7,15 +7,15 @@ use Rattle.stark_prover.proofs.Faults.{scheme_fault_at}
 use Rattle.stark_prover.proofs.commit.commit_trace.Goals as goal
 
 pub commit-requires-clause-power : goal.commit-requires-clause-power
-commit-requires-clause-power g c = (log_height g.SC.Pcs.Pcs.ZK c.args.degree_bits, height_is _ _ _ c.requires.columns c.requires.height)
+commit-requires-clause-power g c = (log_height g.SC.Pcs.Pcs.ZK c.args.domains.degree_bits, height_is _ _ _ c.requires.columns c.requires.height)
 
 pub commit-requires-clause-within : goal.commit-requires-clause-within
 commit-requires-clause-within g c =
-    subst (λ s. coset_size (g.SC.Pcs.Domain.PolynomialSpace.coset_of c.args.committed) ≤ 2 ^ g.SC.Pcs.Pcs.scheme.log_max_trace_height s) (sym c.pcs.ensures)
+    subst (λ s. coset_size (g.SC.Pcs.Domain.PolynomialSpace.coset_of c.args.domains.committed) ≤ 2 ^ g.SC.Pcs.Pcs.scheme.log_max_trace_height s) (sym c.pcs.ensures)
     (committed_within g.SC.Pcs.Domain.Val.Field.ring _ _ _ c.requires.domain c.requires.within)
 
 pub commit-requires-clause-room : goal.commit-requires-clause-room
-commit-requires-clause-room g c = trace_room g.SC.Pcs.Domain.Val.Field.ring _ _ _ g.SC.Pcs.Pcs.ZK c.args.degree_bits c.requires.columns c.requires.height c.requires.domain
+commit-requires-clause-room g c = trace_room g.SC.Pcs.Domain.Val.Field.ring _ _ _ g.SC.Pcs.Pcs.ZK c.args.domains.degree_bits c.requires.columns c.requires.height c.requires.domain
 
 pub returns-in-Ok-clause-stands : goal.returns-in-Ok-clause-stands
 returns-in-Ok-clause-stands g c =

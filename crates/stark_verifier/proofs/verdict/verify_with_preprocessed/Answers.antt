@@ -21,19 +21,19 @@ returns-in_err-point-clause-exact g c =
     carried _ _ _ c.from_residual-in_err-point.ensures
     (exact g.met.SC.Pcs.UnivariateStarkPcs.scheme_laws (run_refused c.in_ok-domains.ensures.clear c.in_err-point.ensures.fault))
 
-pub returns-in_err-test_equation-clause-refused : goal.returns-in_err-test_equation-clause-refused
-returns-in_err-test_equation-clause-refused g c =
-    carried _ _ _ c.from_residual-in_err-test_equation.ensures
-    (equation_refused c.in_ok-domains.ensures.clear c.in_ok-point.ensures.holds c.in_err-test_equation.ensures.fault)
+pub returns-in_err-check_equation-clause-refused : goal.returns-in_err-check_equation-clause-refused
+returns-in_err-check_equation-clause-refused g c =
+    carried _ _ _ c.from_residual-in_err-check_equation.ensures
+    (equation_refused c.in_ok-domains.ensures.clear c.in_ok-point.ensures.holds c.in_err-check_equation.ensures.fault)
 
-pub returns-in_err-test_equation-clause-exact : goal.returns-in_err-test_equation-clause-exact
-returns-in_err-test_equation-clause-exact g c =
-    carried _ _ _ c.from_residual-in_err-test_equation.ensures
-    (exact g.met.SC.Pcs.UnivariateStarkPcs.scheme_laws (equation_refused c.in_ok-domains.ensures.clear c.in_ok-point.ensures.holds c.in_err-test_equation.ensures.fault))
+pub returns-in_err-check_equation-clause-exact : goal.returns-in_err-check_equation-clause-exact
+returns-in_err-check_equation-clause-exact g c =
+    carried _ _ _ c.from_residual-in_err-check_equation.ensures
+    (exact g.met.SC.Pcs.UnivariateStarkPcs.scheme_laws (equation_refused c.in_ok-domains.ensures.clear c.in_ok-point.ensures.holds c.in_err-check_equation.ensures.fault))
 
 pub returns-clause-sound : goal.returns-clause-sound
 returns-clause-sound g c =
-    sound_of_parts c.in_ok-domains.ensures.clear c.in_ok-point.ensures.holds c.in_ok-test_equation.ensures.holds g.met.SC.Challenge.Field.field_laws (g.met.A.Air.leaves_within c.args.air.now) (g.met.A.BaseAir.as_declared c.args.air.now)
+    sound_of_parts c.in_ok-domains.ensures.clear c.in_ok-point.ensures.holds c.in_ok-check_equation.ensures.holds g.met.SC.Challenge.Field.field_laws (g.met.A.Air.leaves_within c.args.air.now) (g.met.A.BaseAir.as_declared c.args.air.now)
 
 pub returns-clause-accepted : goal.returns-clause-accepted
 returns-clause-accepted g c = search rules
@@ -56,8 +56,8 @@ returns-in_err-domains-clause-accepted g c = search rules
 pub returns-in_err-domains-clause-sound : goal.returns-in_err-domains-clause-sound
 returns-in_err-domains-clause-sound g c = search rules
 
-pub returns-in_err-test_equation-clause-accepted : goal.returns-in_err-test_equation-clause-accepted
-returns-in_err-test_equation-clause-accepted g c = search rules
+pub returns-in_err-check_equation-clause-accepted : goal.returns-in_err-check_equation-clause-accepted
+returns-in_err-check_equation-clause-accepted g c = search rules
 
-pub returns-in_err-test_equation-clause-sound : goal.returns-in_err-test_equation-clause-sound
-returns-in_err-test_equation-clause-sound g c = search rules
+pub returns-in_err-check_equation-clause-sound : goal.returns-in_err-check_equation-clause-sound
+returns-in_err-check_equation-clause-sound g c = search rules

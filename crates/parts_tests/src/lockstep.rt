@@ -1,0 +1,152 @@
+//! Two packed values at a time: each lane computes what the field does of the element in it, and so
+//! does the lockstep folder.
+use crate::elements::elements_in;
+use crate::lanes::{base_powers, lanes_agree, lanes_of};
+use crate::rows::{apart, numbers_in};
+use stark_air::{BaseAirBuilder, ExtensionBuilder, RowWindow};
+use stark_parts::{PackedVal, StarkGenericConfig, Val};
+use stark_prover_folder::{VectorizedChallenge, VectorizedConstraintFolder, VectorizedVal};
+use stark_support::{
+    Algebra, ExtensionField, PackedExtensionField, PackedField, PackedValue, PrimeField64,
+    RowMajorMatrixView, Vectorized,
+};
+use std::alloc::{AllocError, Global};
+use std::fmt::Debug;
+use std::test::Fail;
+
+/// Whether the lanes of two packs agree with the field.
+pub fn pairs_of_lanes<F: PrimeField64 + PackedField>(
+    alloc: Global,
+    text: &str,
+) -> Result<String, Fail> {
+    let agree = lanes_agree::<Vectorized<F, 2>>(&elements_in::<F>(alloc, text)?);
+    Ok(format!(in alloc; "{agree}")?)
+}
+
+/// A number in each lane.
+fn in_pairs<SC: StarkGenericConfig>(number: u8) -> VectorizedVal<SC, 2>
+where
+    Val<SC>: PackedField,
+{
+    VectorizedVal::<SC, 2>::from(Val::<SC>::from_u8(number))
+}
+
+/// Asserts that x is 1, that x is 2, over the extension, and that x is 3.
+fn assert_pairs<SC: StarkGenericConfig>(
+    folder: &mut VectorizedConstraintFolder<'_, SC, 2>,
+    x: VectorizedVal<SC, 2>,
+) -> Result<(), AllocError>
+where
+    Val<SC>: PackedField,
+    SC::Challenge: PackedExtensionField<Val<SC>>,
+{
+    folder.assert_zero(x - in_pairs::<SC>(1))?;
+    folder.assert_zero_ext(VectorizedChallenge::<SC, 2>::from(x - in_pairs::<SC>(2)))?;
+    folder.assert_zero(x - in_pairs::<SC>(3))
+}
+
+/// The folded sum; none where the powers are not as many as the kept values.
+fn finalized<SC: StarkGenericConfig>(
+    folder: &VectorizedConstraintFolder<'_, SC, 2>,
+    scratch: &mut Vec<PackedVal<SC>>,
+) -> Result<Option<VectorizedChallenge<SC, 2>>, AllocError>
+where
+    Val<SC>: PackedField,
+    SC::Challenge: PackedExtensionField<Val<SC>>,
+{
+    let count = folder.base_constraints.len();
+    let rows = folder.base_alpha_powers;
+    let fits = rows.len() == SC::Challenge::DIMENSION
+        && rows.iter().all(|row| row.len() == count)
+        && folder.ext_constraints.len() == folder.ext_alpha_powers.len();
+    if fits {
+        Ok(Some(folder.finalize_constraints(scratch)?))
+    } else {
+        Ok(None)
+    }
+}
+
+/// The lockstep folder over a main column of these values and no other, which keeps nothing yet;
+/// none where they are not two.
+fn folder_on<'a, SC: StarkGenericConfig>(
+    alloc: Global,
+    x: &VectorizedVal<SC, 2>,
+    column: &'a [VectorizedVal<SC, 2>],
+    publics: &'a [Val<SC>],
+    base_alpha_powers: &'a [Vec<Val<SC>>],
+    ext_alpha_powers: &'a [SC::Challenge],
+) -> Option<VectorizedConstraintFolder<'a, SC, 2>>
+where
+    Val<SC>: PackedField,
+    SC::Challenge: PackedExtensionField<Val<SC>>,
+{
+    if column.len() != 2 {
+        return None;
+    }
+    let none = &column[..0];
+    Some(VectorizedConstraintFolder {
+        main: RowMajorMatrixView::new(column, 1),
+        preprocessed: RowMajorMatrixView::new(none, 0),
+        preprocessed_window: RowWindow::from_two_rows(none, none),
+        periodic_values: none,
+        public_values: publics,
+        is_first_row: x.dup(),
+        is_last_row: x.dup(),
+        is_transition: x.dup(),
+        base_alpha_powers,
+        ext_alpha_powers,
+        base_constraints: Vec::new(alloc),
+        ext_constraints: Vec::new(alloc),
+        constraint_index: 0,
+        constraint_count: 3,
+    })
+}
+
+/// What the lockstep folder makes of those assertions with alpha 4; none where there are not as
+/// many elements as lanes.
+fn folded<SC: StarkGenericConfig>(
+    alloc: Global,
+    elements: &[Val<SC>],
+    scratch: &mut Vec<PackedVal<SC>>,
+) -> Result<Option<VectorizedChallenge<SC, 2>>, AllocError>
+where
+    Val<SC>: PackedField,
+    SC::Challenge: PackedExtensionField<Val<SC>>,
+{
+    if elements.len() != VectorizedVal::<SC, 2>::WIDTH {
+        return Ok(None);
+    }
+    let x = VectorizedVal::<SC, 2>::from_slice(elements);
+    let mut column = Vec::new(alloc);
+    column.push(x.dup())?;
+    column.push(x.dup())?;
+    let base = base_powers::<Val<SC>>(alloc, SC::Challenge::DIMENSION)?;
+    let mut ext = Vec::new(alloc);
+    ext.push(SC::Challenge::from_base(Val::<SC>::from_u8(4)))?;
+    let none = &elements[..0];
+    let Some(mut folder) = folder_on::<SC>(alloc, &x, &column, none, &base, &ext) else {
+        return Ok(None);
+    };
+    assert_pairs(&mut folder, x)?;
+    finalized(&folder, scratch)
+}
+
+/// What is folded of elements in lanes, with a scratch vector that held so many other values.
+pub fn folded_text<SC: StarkGenericConfig>(alloc: Global, text: &str) -> Result<String, Fail>
+where
+    Val<SC>: PackedField,
+    SC::Challenge: PackedExtensionField<Val<SC>> + Debug,
+{
+    let (held, elements) = apart(text)?;
+    let [held] = numbers_in::<1>(held)?;
+    let elements = elements_in::<Val<SC>>(alloc, elements)?;
+    let mut scratch = Vec::new(alloc);
+    for _value in 0..held {
+        scratch.push(PackedVal::<SC>::from(Val::<SC>::from_u8(9)))?;
+    }
+    let found = match folded::<SC>(alloc, &elements, &mut scratch)? {
+        Some(pack) => Some(lanes_of(alloc, pack)?),
+        None => None,
+    };
+    Ok(format!(in alloc; "{found:?}")?)
+}

@@ -1,0 +1,124 @@
+//! The answers to rows: over two fields, and over each packing of the smaller where they ask for
+//! lanes.
+use crate::elements::elements_in;
+use crate::rows::apart;
+use crate::{
+    airs, chains, constraints, domains, hostile_inputs, preprocessing, proofs, provers, quotients,
+    security, sizing, trees, verdicts,
+};
+use stark_bench::{
+    BabyBearField, ClearCommitment, Ext4, F12289, P12289, S12289, ScriptChallenger,
+    Sha256Challenger,
+};
+use stark_parts::StarkChallenger;
+use stark_support::{
+    NeverNull, PackedExtensionField, PackedField, PrimeField64, QuarticBase, TwoAdicField,
+};
+use std::alloc::Global;
+use std::fmt::Debug;
+use std::test::Fail;
+
+/// The answer to a row of a subject that asks for lanes, over any field and extension, with a
+/// challenger that no other row has seen.
+fn answer_in_lanes<F, EF, C>(
+    alloc: Global,
+    challenger: C,
+    subject: &str,
+    row: &str,
+) -> Result<String, Fail>
+where
+    F: PrimeField64 + TwoAdicField + PackedField + NeverNull,
+    EF: PackedExtensionField<F> + NeverNull + Debug,
+    C: StarkChallenger<F, EF, ClearCommitment<F>>,
+{
+    match subject {
+        "provers" => provers::answer::<F, EF, C>(alloc, challenger, row),
+        "quotients" => quotients::answer::<F, EF, C>(alloc, challenger, row),
+        _ => Err(Fail::new("no such subject")),
+    }
+}
+
+/// The same of each subject. What asks for no lanes is asked over fields of one lane.
+fn answer<F, EF, C>(alloc: Global, challenger: C, subject: &str, row: &str) -> Result<String, Fail>
+where
+    F: PrimeField64 + TwoAdicField + QuarticBase + PackedField + NeverNull + Debug,
+    EF: PackedExtensionField<F> + NeverNull + Debug,
+    C: StarkChallenger<F, EF, ClearCommitment<F>>,
+{
+    match subject {
+        "airs" => airs::answer::<F, EF, C>(alloc, row),
+        "chains" => chains::answer::<F, EF>(alloc, row),
+        "constraints" => constraints::answer::<F, EF, C>(alloc, row),
+        "domains" => domains::answer::<F, EF, C>(alloc, row),
+        "hostile inputs" => hostile_inputs::answer::<F, EF, C>(alloc, challenger, row),
+        "preprocessing" => preprocessing::answer::<F, EF, C>(alloc, challenger, row),
+        "proofs" => proofs::answer::<F, EF>(alloc, row),
+        "security" => security::answer::<F, EF, C>(alloc, row),
+        "sizing" => sizing::answer::<F, EF>(alloc, row),
+        "trees" => trees::answer::<F, EF, C>(alloc, challenger, row),
+        "verdicts" => verdicts::answer::<F, EF, C>(alloc, challenger, row),
+        _ => answer_in_lanes::<F, EF, C>(alloc, challenger, subject, row),
+    }
+}
+
+/// The numbers of the script where a row names no challenger.
+const NUMBERS: &str = "4 0 0 0 3 0 0 0";
+
+/// The challenger that hands out the numbers behind a row's first word `script`, or some where a
+/// row names no challenger; none where the first word is `sha256`.
+fn script<F: PrimeField64>(alloc: Global, row: &str) -> Result<Option<ScriptChallenger<F>>, Fail> {
+    if row.starts_with("sha256 | ") {
+        return Ok(None);
+    }
+    let numbers = match row.strip_prefix("script ") {
+        Some(rest) => apart(rest)?.0,
+        None => NUMBERS,
+    };
+    let elements = elements_in::<F>(alloc, numbers)?;
+    if elements.is_empty() {
+        return Err(Fail::new("a script of no elements"));
+    }
+    Ok(Some(ScriptChallenger::new(elements)))
+}
+
+pub fn scalar(alloc: Global, subject: &str, row: &str) -> Result<String, Fail> {
+    match script::<S12289>(alloc, row)? {
+        Some(challenger) => answer::<S12289, Ext4<S12289>, ScriptChallenger<S12289>>(
+            alloc, challenger, subject, row,
+        ),
+        None => provers::answer::<S12289, Ext4<S12289>, Sha256Challenger<S12289>>(
+            alloc,
+            Sha256Challenger::new(),
+            row,
+        ),
+    }
+}
+
+pub fn baby_bear(alloc: Global, subject: &str, row: &str) -> Result<String, Fail> {
+    match script::<BabyBearField>(alloc, row)? {
+        Some(challenger) => answer::<
+            BabyBearField,
+            Ext4<BabyBearField>,
+            ScriptChallenger<BabyBearField>,
+        >(alloc, challenger, subject, row),
+        None => provers::answer::<
+            BabyBearField,
+            Ext4<BabyBearField>,
+            Sha256Challenger<BabyBearField>,
+        >(alloc, Sha256Challenger::new(), row),
+    }
+}
+
+pub fn packed(alloc: Global, subject: &str, row: &str) -> Result<String, Fail> {
+    let challenger = script::<P12289>(alloc, row)?.ok_or("hashing in lanes")?;
+    answer_in_lanes::<P12289, Ext4<P12289>, ScriptChallenger<P12289>>(
+        alloc, challenger, subject, row,
+    )
+}
+
+pub fn lockstep(alloc: Global, subject: &str, row: &str) -> Result<String, Fail> {
+    let challenger = script::<F12289>(alloc, row)?.ok_or("hashing in lanes")?;
+    answer_in_lanes::<F12289, Ext4<F12289>, ScriptChallenger<F12289>>(
+        alloc, challenger, subject, row,
+    )
+}

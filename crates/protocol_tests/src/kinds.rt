@@ -1,0 +1,61 @@
+//! The AIRs of the rows, as types.
+use stark_samples::{AnySampleAir, SmallAir};
+use stark_tree_air::TreeAir;
+
+/// What an AIR asks of its columns: four of them, whose next row is read, where nothing else is
+/// said.
+#[derive(Clone, Copy)]
+pub enum Kind {
+    Nothing,
+    /// That column 0 is zero.
+    Column,
+    /// That column 0, and the next row's columns 1 and 2, are zero.
+    Columns,
+    /// That the cube of column 0 is zero.
+    Cube,
+    /// That the square of column 0 is zero on each row but the last.
+    SteppedSquare,
+    /// That the first three of eight columns are zero; with or without a next row.
+    Wide(bool),
+}
+
+/// An AIR without preprocessed and periodic columns and public values; with the author's own bound
+/// on the degree.
+#[derive(Drop)]
+pub struct SizedAir {
+    pub kind: Kind,
+    pub hint: Option<usize>,
+}
+
+/// The cubic, with a bound of its own on the degree multiple.
+#[derive(Drop)]
+pub struct BoundedCubic {
+    pub hint: Option<usize>,
+}
+
+/// The counter with what else an AIR may declare: its constraints read no more than the counter's.
+/// Where it doesn't read the next row it has none.
+#[derive(Drop)]
+pub struct DeclaringAir<F> {
+    /// Whether the next row is read.
+    pub reads_next: bool,
+    /// Whether there is a preprocessed column.
+    pub has_fixed: bool,
+    /// Whether the preprocessed column's next row is read.
+    pub reads_fixed_next: bool,
+    /// The periodic columns.
+    pub periodic: Vec<Vec<F>>,
+    /// The bound on the degree multiple.
+    pub hint: Option<usize>,
+}
+
+/// Any AIR that a row names, or that is made of what stands in one. What a table asks of them is
+/// asked of this type alone.
+#[derive(Drop)]
+pub enum NamedAir<F> {
+    Sample(AnySampleAir<F>),
+    Small(SmallAir),
+    Bounded(BoundedCubic),
+    Declaring(DeclaringAir<F>),
+    Tree(TreeAir<F>),
+}

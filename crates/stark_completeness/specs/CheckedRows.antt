@@ -1,0 +1,32 @@
+-- The rows that a check goes through, and what it says of them.
+use Rattle.std.specs.Prelude.{◌≡◌, ℕ, ◌*◌, ◌^◌, ◌≤◌, List, length, map}
+use Rattle.std.specs.Vec.{vec_items}
+use Rattle.stark_support.specs.Ring.{RingOps}
+use Rattle.stark_air.specs.Layout.{Layout}
+use Rattle.stark_air.specs.Tree.{Constraint}
+use Rattle.stark_security.specs.ConstraintPolynomial.{AirInstance}
+use Rattle.stark_completeness.specs.RowSatisfaction.{TraceRows}
+use Rattle.stark_completeness.specs.RowCheck.{base_air, rows_in}
+use Rattle.stark_completeness.specs.declared.check.CheckedTrace.{CheckedTrace}
+
+module _ {F : Type 0} where
+  -- The rows that are checked.
+  abbrev pub checked_rows : CheckedTrace F → TraceRows F
+  checked_rows t = rows_in t.main.values.now t.main.width t.preprocessed.values.now t.preprocessed.width t.public_values.now
+
+  -- The AIR of the constraints, over as many rows.
+  abbrev pub checked_air : RingOps F → (F → F) → (ℕ → F) → List (Constraint F) → CheckedTrace F → AirInstance F F
+  checked_air ring inverse root constraints t = base_air ring inverse root constraints (map vec_items t.periodic_columns.now) t.log_height
+
+  -- The matrices have all rows, as wide as a layout declares, and there are as many public values and periodic columns. What is read of a
+  -- next row is no wider than the row.
+  pub record FitsLayout (l : Layout) (adicity : ℕ) (t : CheckedTrace F) : Type 0 where
+    pub within : t.log_height ≤ adicity
+    pub main_width : t.main.width ≡ l.main
+    pub main_rows : length t.main.values.now ≡ 2 ^ t.log_height * t.main.width
+    pub main_next : l.main_next ≤ l.main
+    pub fixed_width : t.preprocessed.width ≡ l.preprocessed
+    pub fixed_rows : length t.preprocessed.values.now ≡ 2 ^ t.log_height * t.preprocessed.width
+    pub fixed_next : l.preprocessed_next ≤ l.preprocessed
+    pub publics : length t.public_values.now ≡ l.publics
+    pub periodics : length t.periodic_columns.now ≡ l.periodics

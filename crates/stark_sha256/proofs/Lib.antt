@@ -1,0 +1,3 @@
+pub mod WordFacts
+pub mod LaneFacts
+pub mod TextFacts

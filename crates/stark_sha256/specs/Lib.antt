@@ -1,0 +1,4 @@
+pub mod Lanes
+pub mod Rounds
+pub mod Pieces
+pub mod Texts

@@ -1,0 +1,23 @@
+-- Texts in pieces, and how long they are with their padding.
+use Rattle.std.specs.Prelude.{◌≡◌, ◌+◌, ◌-◌, ◌%◌, ◌<◌, ℕ, List, [], ◌∷◌, ◌++◌, length, map, slice_index_or}
+use Rattle.std.specs.Borrow.{Bor}
+
+-- a byte, and two pieces behind it
+abbrev pub text_of : ℕ → List ℕ → List ℕ → List ℕ
+text_of tag first second = tag ∷ (first ++ second)
+
+-- what the slice in lane j holds
+abbrev pub piece : List (Bor (List ℕ)) → ℕ → List ℕ
+piece slices j = slice_index_or (map (λ slice. slice.now) slices) j []
+
+-- how many zeros the padding of so many bytes has
+abbrev pub zeros_behind : ℕ → ℕ
+zeros_behind n = (119 - n % 64) % 64
+
+-- how long so many bytes are with their padding
+abbrev pub padded_len : ℕ → ℕ
+padded_len n = n + 9 + zeros_behind n
+
+-- the slices have so many bytes each
+abbrev pub HaveLength : ℕ → List (Bor (List ℕ)) → Type 0
+HaveLength len slices = (j : ℕ) → j < 4 → length (piece slices j) ≡ len

@@ -1,0 +1,13 @@
+//! SHA-256 of several texts at once, lane by lane.
+#![tactic(auto)]
+
+mod blocks;
+mod compress;
+mod digest;
+mod padding;
+#[cfg(test)]
+mod tests;
+mod texts;
+mod words;
+
+pub use digest::{LANES, sha256_lanes};

@@ -1,5 +1,5 @@
 //! The opening argument at the sampled point.
-ghost use Rattle.std.specs.Prelude.{◌≡◌, IfOk};
+ghost use Rattle.std.specs.Prelude.{◌≡◌};
 ghost use Rattle.stark_transcript.specs.declared.shape.TranscriptPhase.TheVariants.{Delegated, Drawn};
 ghost use Rattle.stark_verifier.specs.Rounds.{IsSchemeVerdict};
 
@@ -51,7 +51,7 @@ where
     requires phase { transcript.old.phase ≡ Drawn }
     ensures same_reference { transcript.new.challenger.ghost_name
         ≡ transcript.old.challenger.ghost_name }
-    ensures phase { IfOk result (λ _. transcript.new.phase ≡ Delegated) }
+    ensures phase { transcript.new.phase ≡ Delegated }
     ensures verdict { ⟦<SC as StarkChecks<A>>⟧.openings_verdict on.now zeta
         transcript.old.challenger.now result }
 {

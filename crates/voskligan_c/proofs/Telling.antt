@@ -1,0 +1,23 @@
+-- Texts told one behind another.
+use Rattle.std.proofs.Common.{◌≡◌, ℕ, ◌<◌, ◌≤◌, List, [], ◌∷◌, ◌++◌, ◌+◌, length, take, drop, ap, refl, arith}
+use Rattle.std.proofs.lemmas.List.{drop_all, length-append, take-append-le}
+use Rattle.voskligan_c.specs.Message.{told}
+
+-- where the first leaves a byte
+pub told_behind : (a b old : List ℕ) → length a < length old → a ++ told b (drop (length a) old) ≡ told (a ++ b) old
+told_behind [] b old h = refl
+told_behind (x ∷ a) b [] h = absurd (omega arith)
+told_behind (x ∷ a) b (o ∷ []) h = absurd (omega arith)
+told_behind (x ∷ a) b (o ∷ (p ∷ bs)) h =
+    let e : a ++ told b (drop (length a) (p ∷ bs)) ≡ told (a ++ b) (p ∷ bs) = told_behind a b (p ∷ bs) (omega arith) in
+    ap (λ (l : List ℕ). x ∷ l) e
+
+-- where it leaves none
+pub told_alone : (a b old : List ℕ) → length old ≤ length a → told a old ≡ told (a ++ b) old
+told_alone a b [] h = refl
+told_alone a b (o ∷ bs) h =
+    let n : length (a ++ b) ≡ length a + length b = length-append a b in
+    let e : take (length bs) (a ++ b) ≡ take (length bs) a = take-append-le (length bs) a b (omega arith) in
+    let f : drop (length a) bs ≡ [] = drop_all (length a) bs (omega arith) in
+    let g : drop (length (a ++ b)) bs ≡ [] = drop_all (length (a ++ b)) bs (omega arith) in
+    cc

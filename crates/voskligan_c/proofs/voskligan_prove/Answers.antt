@@ -1,0 +1,22 @@
+use Rattle.std.proofs.Common.{◌≡◌, pos, w32, to_z, of_z, rules, length}
+use Rattle.stark_commands.specs.declared.task.TraceTask.TheVariants.{Prove}
+use Rattle.voskligan_c.specs.Calls.{handed_of, status_told}
+use Rattle.voskligan_c.specs.Message.{words_of}
+use Rattle.voskligan_c.proofs.Statuses.{line_placed, not_check, pos_zero}
+use Rattle.voskligan_c.specs.contracts.answers.ProgramProgramAnswers.TheImpl as program
+use Rattle.voskligan_c.proofs.voskligan_prove.Goals as goal
+
+pub returns-clause-proved : goal.returns-clause-proved
+returns-clause-proved c = λ e.
+    let f = c.prove_statement-report.result.answer in
+    let status : to_z w32 (of_z w32 c.status.result) ≡ pos (status_told (handed_of f (length c.args.proof.now)) f) = search rules in
+    let s = c.args.statement.now in
+    let t = c.args.trace.now in
+    rw (c.hand_over-handed.ensures.needed, c.hand_over-handed.ensures.placed)
+    (line_placed (program.found-value.it Prove s t) (program.accepts_none-value.it Prove s t) (program.shows_none-value.it Prove s t)
+    (program.proof_line-value.it s t) (program.finds_proofs-value.it Prove s t) (λ found. not_check (program.satisfied_checks-value.it Prove s t found))
+    f c.args.proof.now c.prove_statement-report.ensures.found (pos_zero _ _ status e))
+
+pub returns-clause-told : goal.returns-clause-told
+returns-clause-told c =
+    (c.prove_statement-report.result.answer, (words_of c.prove_statement-report.result.reason, (c.prove_statement-report.ensures.found, search rules, search rules, search rules, search rules)))

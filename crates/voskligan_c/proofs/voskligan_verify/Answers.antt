@@ -1,0 +1,15 @@
+use Rattle.std.proofs.Common.{◌≡◌, pos, w32, to_z, of_z, rules}
+use Rattle.stark_commands.specs.Verdict.{end_of, status_of}
+use Rattle.voskligan_c.specs.Message.{words_of}
+use Rattle.voskligan_c.proofs.Statuses.{accepted_from, pos_zero}
+use Rattle.voskligan_c.proofs.voskligan_verify.Goals as goal
+
+pub returns-clause-told : goal.returns-clause-told
+returns-clause-told c =
+    (c.verify_statement-said.result.answer, (words_of c.verify_statement-said.result.reason, (c.verify_statement-said.ensures.verdict, search rules, search rules)))
+
+pub returns-clause-sound : goal.returns-clause-sound
+returns-clause-sound c = λ e.
+    let v = c.verify_statement-said.result.answer in
+    let status : to_z w32 (of_z w32 c.from.result) ≡ pos (status_of (end_of v)) = search rules in
+    c.verify_statement-said.ensures.sound (accepted_from v (pos_zero _ _ status e))

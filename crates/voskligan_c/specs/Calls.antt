@@ -1,0 +1,65 @@
+-- What the calls answer, and what they leave in the buffers that they are given.
+use Rattle.std.specs.Prelude.{◌≡◌, ◌⊎◌, ℕ, ℤ, pos, if◌then◌else◌, nat_le, List, [], ◌++◌, Option, length, drop, codes, string_bytes}
+use Rattle.stark_commands.specs.Finding.{finding_end, finding_line}
+use Rattle.stark_commands.specs.TraceChecks.{OrLacksMemory}
+use Rattle.stark_commands.specs.Verdict.{end_of, line_of, status_of}
+use Rattle.stark_commands.specs.declared.finding.Finding.{Finding}
+use Rattle.stark_commands.specs.declared.finding.Finding.TheVariants as finding
+use Rattle.stark_commands.specs.declared.verdict.Verdict.{Verdict}
+use Rattle.stark_commands.specs.declared.verdict.Verdict.TheVariants as verdict
+use Rattle.voskligan_c.specs.Message.{line_behind, told}
+use Rattle.voskligan_c.specs.declared.proof.Handed.{Handed}
+use Rattle.voskligan_c.specs.declared.proof.Handed.TheVariants.{NoProof, NoRoom, Placed}
+
+-- There is such a verdict, unless memory was wanting; the status is that of a run that ends so, and the message is the verdict's line and what is said
+-- behind it.
+abbrev pub IsVerdictTold : (Verdict → Type 0) → ℤ → List ℕ → List ℕ → Type 0
+IsVerdictTold IsVerdict status old new =
+    (v : Verdict) × ((reason : Option (List ℕ)) × (((v ≡ verdict.OutOfMemory) ⊎ IsVerdict v) × (status ≡ pos (status_of (end_of v))) × (new ≡ told (line_of v ++ line_behind reason) old)))
+
+-- The same of what is found of a trace.
+abbrev pub IsFindingTold : (Finding → Type 0) → ℤ → List ℕ → List ℕ → Type 0
+IsFindingTold IsFound status old new =
+    (f : Finding) × ((reason : Option (List ℕ)) × (OrLacksMemory IsFound f × (status ≡ pos (status_of (finding_end f))) × (new ≡ told (finding_line f ++ line_behind reason) old)))
+
+-- the bytes of a proof that was found; none where none was
+abbrev pub proof_of : Finding → List ℕ
+proof_of (finding.Verdict v) = []
+proof_of (finding.Proof line) = string_bytes line
+proof_of (finding.Text text) = []
+proof_of finding.Satisfied = []
+proof_of (finding.Broken row) = []
+
+-- Bytes at the head of a buffer that has room for them; else what was there.
+abbrev pub placed : List ℕ → List ℕ → List ℕ
+placed bytes old = if nat_le (length bytes) (length old) then bytes ++ drop (length bytes) old else old
+
+-- what becomes of so many bytes of a proof, by the room that there is for them
+abbrev pub handed_where : ℕ → ℕ → Handed
+handed_where count room = if nat_le count room then Placed else NoRoom
+
+-- what becomes of what was found
+abbrev pub handed_of : Finding → ℕ → Handed
+handed_of (finding.Verdict v) room = NoProof
+handed_of (finding.Proof line) room = handed_where (length (string_bytes line)) room
+handed_of (finding.Text text) room = NoProof
+handed_of finding.Satisfied room = NoProof
+handed_of (finding.Broken row) room = NoProof
+
+-- the status of a call to prove
+abbrev pub status_told : Handed → Finding → ℕ
+status_told Placed f = 0
+status_told NoRoom f = 3
+status_told NoProof f = status_of (finding_end f)
+
+-- what a message is told of a proof, or else of what was found and why
+abbrev pub lines_told : Handed → Finding → Option (List ℕ) → List ℕ
+lines_told Placed f reason = codes "proved\n"
+lines_told NoRoom f reason = codes "no room\n"
+lines_told NoProof f reason = finding_line f ++ line_behind reason
+
+-- A finding of a trace that was to be proved: its proof's length is told, and the proof is placed where there is room for it.
+abbrev pub IsProofTold : (Finding → Type 0) → ℤ → ℕ → List ℕ → List ℕ → List ℕ → List ℕ → Type 0
+IsProofTold IsFound status needed old_proof new_proof old new =
+    (f : Finding) × ((reason : Option (List ℕ)) × (let handed = handed_of f (length old_proof) in OrLacksMemory IsFound f × (status ≡ pos (status_told handed f))
+    × (needed ≡ length (proof_of f)) × (new_proof ≡ placed (proof_of f) old_proof) × (new ≡ told (lines_told handed f reason) old)))

@@ -1,0 +1,58 @@
+//! Texts told to a buffer that a caller gave.
+
+ghost use Rattle.std.specs.Prelude.{◌≡◌, ◌++◌};
+ghost use Rattle.voskligan_c.specs.Message.{line_behind, told, words_of};
+
+/// Tells a text: as much of it as leaves a byte, a 0 byte, and behind it what was there.
+pub(crate) fn tell(text: &[u8], message: &mut [u8])
+    ensures { message.new ≡ told text.now message.old }
+{
+    let Some(last) = message.len().checked_sub(1) else {
+        return;
+    };
+    let count = text.len().min(last);
+    let (head, rest) = message.split_at_mut(count);
+    head.copy_from_slice(&text[..count]);
+    rest[0] = 0;
+}
+
+/// Tells two texts as one.
+#[tactic(auto, using(crate::proofs::Telling::told_behind, crate::proofs::Telling::told_alone))]
+fn tell_both(first: &[u8], second: &[u8], message: &mut [u8])
+    ensures { message.new ≡ told (first.now ++ second.now) message.old }
+{
+    let count = first.len();
+    if count >= message.len() {
+        tell(first, message);
+        return;
+    }
+    let (head, rest) = message.split_at_mut(count);
+    head.copy_from_slice(first);
+    tell(second, rest);
+}
+
+/// Tells three texts as one.
+#[tactic(auto, using(crate::proofs::Telling::told_behind, crate::proofs::Telling::told_alone))]
+fn tell_three(first: &[u8], second: &[u8], third: &[u8], message: &mut [u8])
+    ensures { message.new ≡ told (first.now ++ (second.now ++ third.now)) message.old }
+{
+    let count = first.len();
+    if count >= message.len() {
+        tell(first, message);
+        return;
+    }
+    let (head, rest) = message.split_at_mut(count);
+    head.copy_from_slice(first);
+    tell_both(second, third, rest);
+}
+
+/// Tells a line and, where there is a reason, the reason as a second line.
+pub(crate) fn tell_report(line: &str, reason: &Option<String>, message: &mut [u8])
+    ensures { message.new
+        ≡ told (line.now ++ line_behind (words_of reason.now)) message.old }
+{
+    match reason {
+        Some(words) => tell_three(line.as_bytes(), words.as_bytes(), b"\n", message),
+        None => tell(line.as_bytes(), message),
+    }
+}

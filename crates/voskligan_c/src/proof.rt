@@ -1,0 +1,78 @@
+//! A proof handed over in a buffer that a caller gave.
+
+ghost use Rattle.std.specs.Prelude.{◌≡◌, length, pos};
+ghost use Rattle.voskligan_c.specs.Calls.{handed_of, handed_where, lines_told, placed, proof_of, status_told};
+ghost use Rattle.voskligan_c.specs.Message.{told, words_of};
+
+use crate::message::{tell, tell_report};
+use stark_commands::{Finding, Report};
+
+/// What became of a proof.
+#[derive(Clone, Copy, Debug, PartialEq, Eq)]
+pub(crate) enum Handed {
+    /// It stands in the buffer.
+    Placed,
+    /// The buffer is too small for it.
+    NoRoom,
+    /// There is none.
+    NoProof,
+}
+
+impl Handed {
+    /// The status of a call that found this: 0 where a proof stands in the buffer, 3 where it is
+    /// too small for it, and else that of what was found.
+    pub(crate) fn status(self, found: &Finding) -> i32
+        ensures { result ≡ pos (status_told self found.now) }
+    {
+        match self {
+            Handed::Placed => 0,
+            Handed::NoRoom => 3,
+            Handed::NoProof => i32::from(found.end().status()),
+        }
+    }
+
+    /// Tells `proved`, `no room`, or what was found and why.
+    pub(crate) fn tell(self, report: &Report<Finding>, message: &mut [u8])
+        ensures { message.new ≡ told
+            (lines_told self report.now.answer (words_of report.now.reason)) message.old }
+    {
+        match self {
+            Handed::Placed => tell(b"proved\n", message),
+            Handed::NoRoom => tell(b"no room\n", message),
+            Handed::NoProof => tell_report(report.answer.line(), &report.reason, message),
+        }
+    }
+}
+
+/// Places bytes at the head of a buffer that has room for them; else it stays as it was. Says
+/// whether it had room.
+fn place(bytes: &[u8], buffer: &mut [u8]) -> Handed
+    ensures handed { result ≡ handed_where (length bytes.now) (length buffer.old) }
+    ensures placed { buffer.new ≡ placed bytes.now buffer.old }
+{
+    let count = bytes.len();
+    if count > buffer.len() {
+        return Handed::NoRoom;
+    }
+    let (head, _rest) = buffer.split_at_mut(count);
+    head.copy_from_slice(bytes);
+    Handed::Placed
+}
+
+/// Hands the bytes of a proof over, if that is what was found, and tells how many they are.
+pub(crate) fn hand_over(found: &Finding, proof: &mut [u8], needed: &mut usize) -> Handed
+    ensures handed { result ≡ handed_of found.now (length proof.old) }
+    ensures needed { needed.new ≡ length (proof_of found.now) }
+    ensures placed { proof.new ≡ placed (proof_of found.now) proof.old }
+{
+    match found {
+        Finding::Proof(line) => {
+            *needed = line.len();
+            place(line.as_bytes(), proof)
+        }
+        _ => {
+            *needed = 0;
+            Handed::NoProof
+        }
+    }
+}

@@ -1,0 +1,74 @@
+//! Each call on a statement written by hand: a column that begins at 5 and goes up by one.
+
+use crate::{voskligan_check, voskligan_prove, voskligan_verify, voskligan_version};
+use std::alloc::AllocError;
+
+const STATEMENT: &[u8] =
+    br#"{"air":{"width":1,"publics":1,"periodic":[],"constants":[1],"nodes":[["main",0],["first"],["public",0],["sub",0,2],["mul",1,3],["transition"],["next",0],["sub",6,0],["constant",0],["sub",7,8],["mul",5,9]],"constraints":[{"base":4},{"base":10}]},"public_values":[5]}"#;
+
+const TRACE: &[u8] = b"[[5],[6],[7],[8]]";
+
+const FALSE_TRACE: &[u8] = b"[[5],[6],[7],[9]]";
+
+#[test]
+fn a_proof_is_made_and_accepted(rt: HostRuntime) -> Result<(), AllocError> {
+    let mut proof = Vec::from_elem(rt.alloc(), 0u8, 8192)?;
+    let mut message = [7u8; 32];
+    let mut needed = 0;
+    let made = voskligan_prove(
+        rt.alloc(),
+        STATEMENT,
+        TRACE,
+        proof.as_mut_slice(),
+        &mut needed,
+        &mut message,
+    );
+    assert_eq!(rt; made, 0);
+    assert!(rt; message.starts_with(b"proved\n\0\x07"));
+    let proof = proof.get(..needed).unwrap_or(b"");
+    assert!(rt; proof.starts_with(b"{") && proof.ends_with(b"}\n"));
+    let verified = voskligan_verify(rt.alloc(), STATEMENT, proof, &mut message);
+    assert_eq!(rt; verified, 0);
+    assert!(rt; message.starts_with(b"accepted\n\0"));
+    Ok(())
+}
+
+#[test]
+fn a_trace_is_checked(rt: HostRuntime) {
+    let mut message = [7u8; 32];
+    let satisfied = voskligan_check(rt.alloc(), STATEMENT, TRACE, &mut message);
+    assert_eq!(rt; satisfied, 0);
+    assert!(rt; message.starts_with(b"satisfied\n\0"));
+    let broken = voskligan_check(rt.alloc(), STATEMENT, FALSE_TRACE, &mut message);
+    assert_eq!(rt; broken, 1);
+    assert!(rt; message.starts_with(b"row 2: constraint 1 is "));
+}
+
+#[test]
+fn small_buffers_are_not_passed(rt: HostRuntime) {
+    let mut proof = [7u8; 8];
+    let mut message = [7u8; 4];
+    let mut needed = 0;
+    let made = voskligan_prove(
+        rt.alloc(),
+        STATEMENT,
+        TRACE,
+        &mut proof,
+        &mut needed,
+        &mut message,
+    );
+    assert_eq!(rt; made, 3);
+    assert_eq!(rt; message, *b"no \0");
+    let unread = voskligan_verify(rt.alloc(), STATEMENT, b"{", &mut message);
+    assert_eq!(rt; unread, 2);
+    assert_eq!(rt; message, *b"bad\0");
+    let empty = voskligan_verify(rt.alloc(), b"", b"", &mut []);
+    assert_eq!(rt; empty, 2);
+}
+
+#[test]
+fn the_version_is_told(rt: HostRuntime) {
+    let mut text = [7u8; 8];
+    assert_eq!(rt; voskligan_version(&mut text), 5);
+    assert_eq!(rt; text, *b"0.1.0\0\x07\x07");
+}

@@ -1,0 +1,172 @@
+/*
+ * Tries the library: threads STATEMENT TRACE FALSE_TRACE. Eight threads, each on a stack of 192 KB, verify 1,000 proofs,
+ * every third of them spoiled, and each compares what it is told with what one thread was told before; then the
+ * buffers that a caller may get wrong, and what a call leaves as it was. Status 0 where all is as it has to be.
+ */
+#include <pthread.h>
+#include <stdio.h>
+#include <stdlib.h>
+#include <string.h>
+
+#include "voskligan.h"
+
+enum { THREADS = 8, PROOFS = 1000, SPOILED = 97, STACK = 192 * 1024, ROOM = 256 };
+
+/* Ends the program where something isn't as it has to be. */
+#define HAS(fact) \
+    do { \
+        if (!(fact)) { \
+            fprintf(stderr, "line %d: not so: %s\n", __LINE__, #fact); \
+            exit(1); \
+        } \
+    } while (0)
+
+static uint8_t statement[1 << 16], trace[1 << 16], false_trace[1 << 16];
+static size_t statement_length, trace_length, false_length, proof_length;
+static uint8_t *proof;
+
+/* What one thread was told of the proof, and of it with its byte at a place turned round. */
+static int answers[SPOILED + 1];
+static char messages[SPOILED + 1][ROOM];
+
+static size_t read_whole(const char *path, uint8_t *bytes, size_t room)
+{
+    FILE *file = fopen(path, "rb");
+    HAS(file != NULL);
+    size_t length = fread(bytes, 1, room, file);
+    HAS(length < room && !ferror(file));
+    fclose(file);
+    return length;
+}
+
+/* The proof, whole for the number SPOILED, and below it with one byte turned round. */
+static void make_copy(uint8_t *copy, int number)
+{
+    memcpy(copy, proof, proof_length);
+    if (number < SPOILED)
+        copy[proof_length * (size_t)number / SPOILED] ^= 1;
+}
+
+static int verify_copy(uint8_t *copy, int number, char *message)
+{
+    make_copy(copy, number);
+    return voskligan_verify(statement, statement_length, copy, proof_length, (uint8_t *)message, ROOM);
+}
+
+static void *verify_some(void *argument)
+{
+    uint8_t *copy = malloc(proof_length);
+    char message[ROOM];
+    HAS(copy != NULL);
+    for (int k = (int)(intptr_t)argument; k < PROOFS; k += THREADS) {
+        int number = k % 3 == 0 ? k / 3 % SPOILED : SPOILED;
+        HAS(verify_copy(copy, number, message) == answers[number]);
+        HAS(strcmp(message, messages[number]) == 0);
+    }
+    free(copy);
+    return NULL;
+}
+
+/* One thread first, then eight at once. */
+static void try_threads(void)
+{
+    pthread_t threads[THREADS];
+    pthread_attr_t attributes;
+    uint8_t *copy = malloc(proof_length);
+    int spoiled = 0;
+    HAS(copy != NULL);
+    for (int number = 0; number <= SPOILED; number++) {
+        answers[number] = verify_copy(copy, number, messages[number]);
+        spoiled += answers[number] != VOSKLIGAN_ACCEPTED;
+    }
+    free(copy);
+    HAS(answers[SPOILED] == VOSKLIGAN_ACCEPTED);
+    HAS(strcmp(messages[SPOILED], "accepted\n") == 0);
+    /* A byte that is turned round is another number or no JSON. */
+    HAS(spoiled == SPOILED);
+    HAS(pthread_attr_init(&attributes) == 0);
+    HAS(pthread_attr_setstacksize(&attributes, STACK) == 0);
+    for (intptr_t k = 0; k < THREADS; k++)
+        HAS(pthread_create(&threads[k], &attributes, verify_some, (void *)k) == 0);
+    for (int k = 0; k < THREADS; k++)
+        HAS(pthread_join(threads[k], NULL) == 0);
+    pthread_attr_destroy(&attributes);
+}
+
+/* Proofs that are cut, of no bytes, and of none at no place. */
+static void try_lengths(void)
+{
+    uint8_t message[ROOM];
+    for (size_t length = 0; length < proof_length; length += 7)
+        HAS(voskligan_verify(statement, statement_length, proof, length, message, ROOM) != VOSKLIGAN_ACCEPTED
+            || length == proof_length - 1);
+    HAS(voskligan_verify(statement, statement_length, NULL, 0, message, ROOM) == VOSKLIGAN_NOT_JUDGED);
+    HAS(strncmp((char *)message, "bad input\n", 10) == 0);
+    HAS(voskligan_verify(NULL, 0, proof, proof_length, message, ROOM) == VOSKLIGAN_NOT_JUDGED);
+    HAS(voskligan_verify(NULL, 0, NULL, 0, NULL, 0) == VOSKLIGAN_NOT_JUDGED);
+    HAS(voskligan_check(NULL, 0, NULL, 0, NULL, 0) == VOSKLIGAN_NOT_JUDGED);
+    HAS(voskligan_verify(statement, statement_length, proof, proof_length, NULL, 0) == VOSKLIGAN_ACCEPTED);
+}
+
+/* A message of each room: what fits, a 0 byte, and behind it what was there. */
+static void try_rooms(void)
+{
+    const char *told = "accepted\n";
+    for (size_t room = 0; room < 20; room++) {
+        uint8_t message[20];
+        memset(message, 7, sizeof message);
+        HAS(voskligan_verify(statement, statement_length, proof, proof_length, message, room) == VOSKLIGAN_ACCEPTED);
+        size_t fits = room == 0 ? 0 : room - 1 < strlen(told) ? room - 1 : strlen(told);
+        HAS(memcmp(message, told, fits) == 0);
+        HAS(room == 0 || message[fits] == 0);
+        for (size_t k = room == 0 ? 0 : fits + 1; k < sizeof message; k++)
+            HAS(message[k] == 7);
+    }
+}
+
+/* A proof's buffer one byte too small stays as it was; the next is filled, and nothing behind it. */
+static void try_proofs(void)
+{
+    uint8_t message[ROOM];
+    size_t needed;
+    uint8_t *room = malloc(proof_length + 1);
+    HAS(room != NULL);
+    memset(room, 7, proof_length + 1);
+    HAS(voskligan_prove(statement, statement_length, trace, trace_length, room, proof_length - 1, &needed, message,
+                        ROOM) == VOSKLIGAN_NO_ROOM);
+    HAS(needed == proof_length && strcmp((char *)message, "no room\n") == 0);
+    for (size_t k = 0; k <= proof_length; k++)
+        HAS(room[k] == 7);
+    HAS(voskligan_prove(statement, statement_length, trace, trace_length, room, proof_length, &needed, message, ROOM)
+        == VOSKLIGAN_ACCEPTED);
+    HAS(needed == proof_length && memcmp(room, proof, needed) == 0 && room[proof_length] == 7);
+    HAS(voskligan_prove(statement, statement_length, false_trace, false_length, room, proof_length, &needed, message,
+                        ROOM) == VOSKLIGAN_REFUSED);
+    HAS(needed == 0 && memcmp(room, proof, proof_length) == 0);
+    HAS(strncmp((char *)message, "row ", 4) == 0);
+    free(room);
+}
+
+int main(int count, char **words)
+{
+    uint8_t message[ROOM];
+    HAS(count == 4);
+    statement_length = read_whole(words[1], statement, sizeof statement);
+    trace_length = read_whole(words[2], trace, sizeof trace);
+    false_length = read_whole(words[3], false_trace, sizeof false_trace);
+    HAS(voskligan_check(statement, statement_length, trace, trace_length, message, ROOM) == VOSKLIGAN_ACCEPTED);
+    HAS(voskligan_prove(statement, statement_length, trace, trace_length, NULL, 0, &proof_length, message, ROOM)
+        == VOSKLIGAN_NO_ROOM);
+    proof = malloc(proof_length);
+    HAS(proof != NULL);
+    HAS(voskligan_prove(statement, statement_length, trace, trace_length, proof, proof_length, &proof_length, message,
+                        ROOM) == VOSKLIGAN_ACCEPTED);
+    try_threads();
+    try_lengths();
+    try_rooms();
+    try_proofs();
+    HAS(voskligan_version(message, ROOM) == strlen((char *)message));
+    free(proof);
+    printf("%s: %d proofs, %d threads, %d KB of stack: as they have to be\n", message, PROOFS, THREADS, STACK / 1024);
+    return 0;
+}

@@ -1,0 +1,87 @@
+/*
+ * voskligan.h: a STARK verifier, a check of traces and a prover, as libvoskligan.a.
+ *
+ * Each function is proved: what a call answers and what it writes is told below, and holds of every statement, proof
+ * and trace, whatever their bytes. It is proved of the code that is compiled, under this one condition on a call:
+ *
+ *   - each pointer is valid for as many bytes as the length behind it says, for reads where it is `const` and for
+ *     reads and writes otherwise, from the call to its return; and a length is at most PTRDIFF_MAX. Where a length is
+ *     0 the pointer may be NULL. `needed` is never NULL, and points at an aligned `size_t`.
+ *   - what a call writes (`message`, `proof` of voskligan_prove, `needed`, `text`) overlaps nothing else that the call
+ *     is given, and meanwhile nobody else reads or writes it, or writes what the call reads.
+ *
+ * Nothing tests this: a call that breaks it is undefined, as in C.
+ *
+ * Memory comes from malloc, realloc and free, and all of it is freed before a call returns; where memory is refused
+ * the answer is 2. The library keeps no state, prints nothing, starts no thread, opens no file, and ends no process.
+ * So it may be called from any thread, and from many at once; not from a signal handler, and not in the forked child
+ * of a process with threads. A call takes less than 192 KB of stack. The code is for Linux on x86-64-v2.
+ */
+#ifndef VOSKLIGAN_H
+#define VOSKLIGAN_H
+
+#include <stddef.h>
+#include <stdint.h>
+
+#ifdef __cplusplus
+extern "C" {
+#endif
+
+/* What a call answers. */
+enum {
+    /* The proof is accepted, the trace satisfies the AIR, or the proof is made and stands in the buffer. */
+    VOSKLIGAN_ACCEPTED = 0,
+    /* The proof is refused, a row of the trace breaks a constraint, the prover refuses, or the AIR passes a limit. */
+    VOSKLIGAN_REFUSED = 1,
+    /* Nothing was judged: the statement, the proof or the trace can't be read, or memory was refused. */
+    VOSKLIGAN_NOT_JUDGED = 2,
+    /* voskligan_prove alone: there is a proof, and no room for it. */
+    VOSKLIGAN_NO_ROOM = 3
+};
+
+/*
+ * A message is one line or two, each ended by a newline: the line that the program `voskligan` writes, as "accepted",
+ * "refused OodEvaluationMismatch", "bad input", "out of memory", "satisfied" or "row 3: constraint 1 is 10292"; and
+ * behind it, where there is something to say and memory to say it, the reason in words, or below a broken row its
+ * constraint. It is cut to `room` - 1 bytes, a 0 byte stands behind it, and the bytes behind that stay as they were.
+ * Where `room` is 0 nothing is written.
+ */
+
+/*
+ * The verdict on a proof for a statement, from the bytes of both (JSON, docs/FORMATS.md).
+ *
+ * VOSKLIGAN_ACCEPTED is answered exactly where the verifier, whose challenger has observed the whole statement first,
+ * accepts the proof; then the columns that the proof lists break no constraint of the statement's AIR, or one of the
+ * two challenges is among the few that are bad. The statement has to be fixed before a proof is looked at.
+ */
+int voskligan_verify(const uint8_t *statement, size_t statement_length, const uint8_t *proof, size_t proof_length,
+                     uint8_t *message, size_t room);
+
+/*
+ * Whether a trace satisfies a statement's AIR. VOSKLIGAN_REFUSED tells the first row that breaks a constraint, and in
+ * it the first constraint.
+ */
+int voskligan_check(const uint8_t *statement, size_t statement_length, const uint8_t *trace, size_t trace_length,
+                    uint8_t *message, size_t room);
+
+/*
+ * Proves a trace that satisfies a statement's AIR.
+ *
+ * `*needed` becomes the length of the proof, or 0 where there is none. Under VOSKLIGAN_ACCEPTED the first `*needed`
+ * bytes of `proof` are the proof, with a newline at its end; else `proof` stays as it was, and under
+ * VOSKLIGAN_NO_ROOM a call with `*needed` bytes makes the same proof. Nothing is written behind `proof_room` bytes.
+ * The message is "proved", "no room", or that of voskligan_check or of the prover's refusal.
+ */
+int voskligan_prove(const uint8_t *statement, size_t statement_length, const uint8_t *trace, size_t trace_length,
+                    uint8_t *proof, size_t proof_room, size_t *needed, uint8_t *message, size_t room);
+
+/*
+ * The library's version, told to `text` as a message is, with no newline. Answers its length, whatever `room` is.
+ */
+size_t voskligan_version(uint8_t *text, size_t room);
+
+#ifdef __cplusplus
+}
+#endif
+
+#endif

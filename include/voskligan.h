@@ -50,9 +50,10 @@ enum {
 /*
  * The verdict on a proof for a statement, from the bytes of both (JSON, docs/FORMATS.md).
  *
- * VOSKLIGAN_ACCEPTED is answered exactly where the verifier, whose challenger has observed the whole statement first,
- * accepts the proof; then the columns that the proof lists break no constraint of the statement's AIR, or one of the
- * two challenges is among the few that are bad. The statement has to be fixed before a proof is looked at.
+ * VOSKLIGAN_ACCEPTED is answered where the verifier, whose challenger has observed the whole statement first, accepts
+ * the proof, and nowhere else; but where memory is refused nothing is judged. Then the columns that the proof lists
+ * break no constraint of the statement's AIR, or one of the two challenges is among the few that are bad. The statement
+ * has to be fixed before a proof is looked at.
  */
 int voskligan_verify(const uint8_t *statement, size_t statement_length, const uint8_t *proof, size_t proof_length,
                      uint8_t *message, size_t room);

@@ -1,7 +1,8 @@
 /*
  * Tries the library: threads STATEMENT TRACE FALSE_TRACE. Eight threads, each on a stack of 192 KB, verify 1,000 proofs,
- * every third of them spoiled, and each compares what it is told with what one thread was told before; then the
- * buffers that a caller may get wrong, and what a call leaves as it was. Status 0 where all is as it has to be.
+ * every third of them spoiled, and each compares what it is told with what one thread was told before; then, on such a
+ * stack, lengths and rooms that a caller may get wrong, what a call leaves as it was, texts that nest deep, and an AIR
+ * of 100,000 nodes in a chain. Status 0 where all is as it has to be.
  */
 #include <pthread.h>
 #include <stdio.h>
@@ -39,6 +40,18 @@ static size_t read_whole(const char *path, uint8_t *bytes, size_t room)
     return length;
 }
 
+/* A thread on a small stack. */
+static pthread_t start(void *(*body)(void *), void *argument)
+{
+    pthread_t thread;
+    pthread_attr_t attributes;
+    HAS(pthread_attr_init(&attributes) == 0);
+    HAS(pthread_attr_setstacksize(&attributes, STACK) == 0);
+    HAS(pthread_create(&thread, &attributes, body, argument) == 0);
+    pthread_attr_destroy(&attributes);
+    return thread;
+}
+
 /* The proof, whole for the number SPOILED, and below it with one byte turned round. */
 static void make_copy(uint8_t *copy, int number)
 {
@@ -71,7 +84,6 @@ static void *verify_some(void *argument)
 static void try_threads(void)
 {
     pthread_t threads[THREADS];
-    pthread_attr_t attributes;
     uint8_t *copy = malloc(proof_length);
     int spoiled = 0;
     HAS(copy != NULL);
@@ -84,13 +96,10 @@ static void try_threads(void)
     HAS(strcmp(messages[SPOILED], "accepted\n") == 0);
     /* A byte that is turned round is another number or no JSON. */
     HAS(spoiled == SPOILED);
-    HAS(pthread_attr_init(&attributes) == 0);
-    HAS(pthread_attr_setstacksize(&attributes, STACK) == 0);
     for (intptr_t k = 0; k < THREADS; k++)
-        HAS(pthread_create(&threads[k], &attributes, verify_some, (void *)k) == 0);
+        threads[k] = start(verify_some, (void *)k);
     for (int k = 0; k < THREADS; k++)
         HAS(pthread_join(threads[k], NULL) == 0);
-    pthread_attr_destroy(&attributes);
 }
 
 /* Proofs that are cut, of no bytes, and of none at no place. */
@@ -147,6 +156,57 @@ static void try_proofs(void)
     free(room);
 }
 
+/* Arrays in arrays, as a statement, a proof and a trace. */
+static void try_depths(void)
+{
+    static uint8_t text[2000];
+    uint8_t message[ROOM];
+    for (size_t depth = 1; depth <= 1000; depth++) {
+        memset(text, '[', depth);
+        memset(text + depth, ']', depth);
+        HAS(voskligan_verify(text, 2 * depth, proof, proof_length, message, ROOM) == VOSKLIGAN_NOT_JUDGED);
+        HAS(voskligan_verify(statement, statement_length, text, 2 * depth, message, ROOM) == VOSKLIGAN_NOT_JUDGED);
+        HAS(voskligan_check(statement, statement_length, text, 2 * depth, message, ROOM) == VOSKLIGAN_NOT_JUDGED);
+    }
+}
+
+/* An AIR of one constraint, whose nodes are each the sum of the one before and itself, and a trace of zeros. */
+static void try_long_chain(void)
+{
+    enum { NODES = 100000 };
+    const char *zeros = "[[0],[0],[0],[0]]";
+    size_t room = NODES * 24 + 256, needed;
+    char *text = malloc(room);
+    uint8_t message[ROOM];
+    HAS(text != NULL);
+    int length = snprintf(text, room, "{\"air\":{\"width\":1,\"publics\":0,\"periodic\":[],\"constants\":[],"
+                          "\"nodes\":[[\"main\",0]");
+    for (int k = 0; k < NODES; k++)
+        length += snprintf(text + length, room - (size_t)length, ",[\"add\",%d,%d]", k, k);
+    length += snprintf(text + length, room - (size_t)length, "],\"constraints\":[{\"base\":%d}]},\"public_values\":[]}",
+                       NODES);
+    uint8_t *chain = (uint8_t *)text, *columns = (uint8_t *)zeros;
+    HAS(voskligan_prove(chain, (size_t)length, columns, strlen(zeros), NULL, 0, &needed, message, ROOM)
+        == VOSKLIGAN_NO_ROOM);
+    uint8_t *made = malloc(needed);
+    HAS(made != NULL);
+    HAS(voskligan_prove(chain, (size_t)length, columns, strlen(zeros), made, needed, &needed, message, ROOM)
+        == VOSKLIGAN_ACCEPTED);
+    HAS(voskligan_verify(chain, (size_t)length, made, needed, message, ROOM) == VOSKLIGAN_ACCEPTED);
+    free(made);
+    free(text);
+}
+
+static void *try_buffers(void *argument)
+{
+    try_lengths();
+    try_rooms();
+    try_proofs();
+    try_depths();
+    try_long_chain();
+    return argument;
+}
+
 int main(int count, char **words)
 {
     uint8_t message[ROOM];
@@ -162,9 +222,7 @@ int main(int count, char **words)
     HAS(voskligan_prove(statement, statement_length, trace, trace_length, proof, proof_length, &proof_length, message,
                         ROOM) == VOSKLIGAN_ACCEPTED);
     try_threads();
-    try_lengths();
-    try_rooms();
-    try_proofs();
+    HAS(pthread_join(start(try_buffers, NULL), NULL) == 0);
     HAS(voskligan_version(message, ROOM) == strlen((char *)message));
     free(proof);
     printf("%s: %d proofs, %d threads, %d KB of stack: as they have to be\n", message, PROOFS, THREADS, STACK / 1024);

@@ -7,8 +7,11 @@ ghost use Rattle.stark_commands.specs.declared.task.TraceTask.{TraceTask};
 ghost use Rattle.stark_commands.specs.declared.verdict.Verdict.{Verdict};
 
 use stark_bench::F12289;
-use stark_commands::StatementAnswers;
+use stark_commands::StatementAnswers as Answers;
 use stark_statement::Statement;
+
+// Which statements are judged, and above by whose answers: nothing else in this crate names them.
+type Judged = Statement<F12289>;
 
 /// The program whose answers the calls give.
 pub struct Program;
@@ -56,27 +59,26 @@ pub trait ProgramAnswers {
         → found asked statement trace f → IsText f → ⊥ };
 }
 
-// The one place that names which statements are judged, and by whose answers.
 impl ProgramAnswers for Program {
-    ghost verdict = { ⟦<Statement<F12289> as StatementAnswers>⟧.verdict };
+    ghost verdict = { ⟦<Judged as Answers>⟧.verdict };
 
-    ghost sound = { ⟦<Statement<F12289> as StatementAnswers>⟧.sound };
+    ghost sound = { ⟦<Judged as Answers>⟧.sound };
 
-    ghost found = { ⟦<Statement<F12289> as StatementAnswers>⟧.found };
+    ghost found = { ⟦<Judged as Answers>⟧.found };
 
-    ghost checked = { ⟦<Statement<F12289> as StatementAnswers>⟧.found TraceTask.Check };
+    ghost checked = { ⟦<Judged as Answers>⟧.found TraceTask.Check };
 
-    ghost proved = { ⟦<Statement<F12289> as StatementAnswers>⟧.found TraceTask.Prove };
+    ghost proved = { ⟦<Judged as Answers>⟧.found TraceTask.Prove };
 
-    ghost proof_line = { ⟦<Statement<F12289> as StatementAnswers>⟧.proof_line };
+    ghost proof_line = { ⟦<Judged as Answers>⟧.proof_line };
 
-    ghost finds_proofs = { ⟦<Statement<F12289> as StatementAnswers>⟧.finds_proofs };
+    ghost finds_proofs = { ⟦<Judged as Answers>⟧.finds_proofs };
 
-    ghost checks_alone = { ⟦<Statement<F12289> as StatementAnswers>⟧.checks_alone };
+    ghost checks_alone = { ⟦<Judged as Answers>⟧.checks_alone };
 
-    ghost satisfied_checks = { ⟦<Statement<F12289> as StatementAnswers>⟧.satisfied_checks };
+    ghost satisfied_checks = { ⟦<Judged as Answers>⟧.satisfied_checks };
 
-    ghost accepts_none = { ⟦<Statement<F12289> as StatementAnswers>⟧.accepts_none };
+    ghost accepts_none = { ⟦<Judged as Answers>⟧.accepts_none };
 
-    ghost shows_none = { ⟦<Statement<F12289> as StatementAnswers>⟧.shows_none };
+    ghost shows_none = { ⟦<Judged as Answers>⟧.shows_none };
 }

@@ -26,7 +26,7 @@ static uint8_t statement[1 << 16], trace[1 << 16], false_trace[1 << 16];
 static size_t statement_length, trace_length, false_length, proof_length;
 static uint8_t *proof;
 
-/* What one thread was told of the proof, and of it with its byte at a place turned round. */
+/* What one thread was told of the proof, and of it with another digit at a place. */
 static int answers[SPOILED + 1];
 static char messages[SPOILED + 1][ROOM];
 
@@ -52,12 +52,16 @@ static pthread_t start(void *(*body)(void *), void *argument)
     return thread;
 }
 
-/* The proof, whole for the number SPOILED, and below it with one byte turned round. */
+/* The proof, whole for the number SPOILED; below it with another digit at the next place that has one. */
 static void make_copy(uint8_t *copy, int number)
 {
     memcpy(copy, proof, proof_length);
-    if (number < SPOILED)
-        copy[proof_length * (size_t)number / SPOILED] ^= 1;
+    if (number == SPOILED)
+        return;
+    size_t place = proof_length * (size_t)number / SPOILED;
+    while (copy[place] < '0' || copy[place] > '9')
+        place = (place + 1) % proof_length;
+    copy[place] ^= 1;
 }
 
 static int verify_copy(uint8_t *copy, int number, char *message)
@@ -94,7 +98,7 @@ static void try_threads(void)
     free(copy);
     HAS(answers[SPOILED] == VOSKLIGAN_ACCEPTED);
     HAS(strcmp(messages[SPOILED], "accepted\n") == 0);
-    /* A byte that is turned round is another number or no JSON. */
+    /* No digit of a proof can be another. */
     HAS(spoiled == SPOILED);
     for (intptr_t k = 0; k < THREADS; k++)
         threads[k] = start(verify_some, (void *)k);

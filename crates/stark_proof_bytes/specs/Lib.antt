@@ -1,0 +1,5 @@
+pub mod Bytes
+pub mod BytesFacts
+pub mod Elements
+pub mod Roots
+pub mod FriBytes

@@ -1,5 +1,5 @@
 -- Values as bytes.
-use Rattle.std.specs.Prelude.{◌≡◌, ◌==◌, ◌&&◌, ℕ, zero, suc, ◌<◌, ◌≤◌, ◌^◌, Bool, true, nat_lt, if◌then◌else◌, List, [], ◌∷◌, ◌++◌, length, slice_index, take, drop, flat_map, Option, None, Some, IfSome, Result, Ok, Err}
+use Rattle.std.specs.Prelude.{◌≡◌, ◌==◌, ◌&&◌, ℕ, zero, suc, ◌<◌, ◌≤◌, ◌^◌, Bool, true, false, nat_lt, if◌then◌else◌, List, [], ◌∷◌, ◌++◌, length, slice_index, take, drop, flat_map, Option, None, Some, IfSome, Result, Ok, Err}
 use Rattle.std.specs.List.{list_all}
 use Rattle.std.specs.Int.{w64, from_be_bytes}
 use Rattle.stark_support.specs.Seed.{number}
@@ -62,6 +62,19 @@ count_reading bytes = number_reading bytes >>= unless_longer
 abbrev pub number_ops : BytesOps ℕ
 number_ops = record { writing = number; reading = number_reading; fits = λ n. nat_lt n (2 ^ 64) }
 
+-- ---- flags
+
+abbrev pub flag_if : Bool → List ℕ → Result (Bool × List ℕ) BytesFault
+flag_if b rest = if b then Ok (true, rest) else Err OutOfRange
+
+abbrev pub flag_by : Bool → ℕ → List ℕ → Result (Bool × List ℕ) BytesFault
+flag_by b tag rest = if b then Ok (false, rest) else flag_if (tag == 1) rest
+
+-- a byte, 0 or 1
+abbrev pub flag_reading : List ℕ → Result (Bool × List ℕ) BytesFault
+flag_reading [] = Err Truncated
+flag_reading (tag ∷ rest) = flag_by (tag == 0) tag rest
+
 -- ---- of parts
 
 -- one after the other
@@ -85,14 +98,12 @@ module _ {A : Type 0} (ops : BytesOps A) where
   option_writing None = 0 ∷ []
   option_writing (Some x) = 1 ∷ ops.writing x
 
-  abbrev pub option_by : ℕ → List ℕ → Result (Option A × List ℕ) BytesFault
-  option_by tag rest =
-      if tag == 0 then Ok (None, rest)
-      else (if tag == 1 then (ops.reading rest >>= λ x end. Ok (Some x, end)) else Err OutOfRange)
+  abbrev pub option_by : Bool → List ℕ → Result (Option A × List ℕ) BytesFault
+  option_by false rest = Ok (None, rest)
+  option_by true rest = ops.reading rest >>= λ x end. Ok (Some x, end)
 
   abbrev pub option_reading : List ℕ → Result (Option A × List ℕ) BytesFault
-  option_reading [] = Err Truncated
-  option_reading (tag ∷ rest) = option_by tag rest
+  option_reading bytes = flag_reading bytes >>= option_by
 
   abbrev pub option_fits : Option A → Bool
   option_fits None = true

@@ -11,7 +11,7 @@ use Rattle.stark_support.specs.Seed.{number}
 use Rattle.stark_support.specs.SeedFacts.{length-number}
 use Rattle.stark_proof_bytes.specs.declared.fault.BytesFault.{BytesFault}
 use Rattle.stark_proof_bytes.specs.declared.fault.BytesFault.TheVariants.{Truncated, TooLong, OutOfRange, Magic, TrailingBytes, OutOfMemory}
-use Rattle.stark_proof_bytes.specs.Bytes.{AreBytes, BytesLaws, BytesOps, behind, named, bytes_reading, count_reading, each_reading, list_ops, list_reading, number_ops, number_reading, option_by, option_ops, option_reading, pair_ops, turned_ops, unless_longer, ◌>>=◌}
+use Rattle.stark_proof_bytes.specs.Bytes.{AreBytes, BytesLaws, BytesOps, behind, named, bytes_reading, count_reading, each_reading, flag_by, flag_if, flag_reading, list_ops, list_reading, number_ops, number_reading, option_by, option_ops, option_reading, pair_ops, turned_ops, unless_longer, ◌>>=◌}
 
 -- ---- steps of a reading
 
@@ -122,6 +122,30 @@ number_laws = record {
   some = λ n. omega (arith, length-number n);
 }
 
+-- ---- flags
+
+abbrev pub flag_number : Bool → ℕ
+flag_number false = 0
+flag_number true = 1
+
+flag_one : (tag : ℕ) (mid : List ℕ) (b : Bool) (rest : List ℕ) (t : Bool) → (tag == 1) ≡ t → flag_if t mid ≡ Ok (b, rest) → tag ∷ mid ≡ flag_number b ∷ rest
+flag_one tag mid b rest true is e =
+    let h = same_ok true b mid rest e in
+    let one : tag ≡ 1 = grind (arith, nat_tests, is) in
+    (λ i. one i ∷ mid) ∙ (λ i. flag_number (h.0 i) ∷ h.1 i)
+flag_one tag mid b rest false is e = absurd (cc)
+
+flag_tag : (tag : ℕ) (mid : List ℕ) (b : Bool) (rest : List ℕ) (t : Bool) → (tag == 0) ≡ t → flag_by t tag mid ≡ Ok (b, rest) → tag ∷ mid ≡ flag_number b ∷ rest
+flag_tag tag mid b rest true is e =
+    let h = same_ok false b mid rest e in
+    let none : tag ≡ 0 = grind (arith, nat_tests, is) in
+    (λ i. none i ∷ mid) ∙ (λ i. flag_number (h.0 i) ∷ h.1 i)
+flag_tag tag mid b rest false is e = flag_one tag mid b rest (tag == 1) refl e
+
+pub flag_is : (bytes : List ℕ) (b : Bool) (rest : List ℕ) → flag_reading bytes ≡ Ok (b, rest) → bytes ≡ flag_number b ∷ rest
+flag_is [] b rest e = absurd (cc)
+flag_is (tag ∷ mid) b rest e = flag_tag tag mid b rest (tag == 0) refl e
+
 -- ---- of parts
 
 module _ {A B : Type 0} (a : BytesOps A) (b : BytesOps B) (la : BytesLaws a) (lb : BytesLaws b) where
@@ -166,35 +190,26 @@ module _ {A B : Type 0} (turn : B → A) (back : A → B) (is : (y : B) → back
 module _ {A : Type 0} (ops : BytesOps A) (laws : BytesLaws ops) where
   -- ---- values that may be missing
 
-  option_back : (x : Option A) (rest : List ℕ) → (option_ops ops).fits x ≡ true → (option_ops ops).reading ((option_ops ops).writing x ++ rest) ≡ Ok (x, rest)
+  option_back : (x : Option A) (rest : List ℕ) → (option_ops ops).fits x ≡ true → option_reading ops ((option_ops ops).writing x ++ rest) ≡ Ok (x, rest)
   option_back None rest fits = refl
   option_back (Some x) rest fits = ap (λ r. r >>= λ y end. Ok (Some y, end)) (laws.read_back x rest fits)
 
-  option_found : (tag : ℕ) (bytes : List ℕ) (x : Option A) (rest : List ℕ) → AreBytes bytes → tag ≡ 1 → (ops.reading bytes >>= λ y end. Ok (Some y, end)) ≡ Ok (x, rest)
-      → tag ∷ bytes ≡ (option_ops ops).writing x ++ rest
-  option_found tag bytes x rest are one e =
-      let s = step_of (ops.reading bytes) (λ y end. Ok (Some y, end)) (x, rest) e in
-      let h = same_ok (Some s.value) x s.rest rest s.after in
-      (λ i. one i ∷ laws.canonical bytes s.value s.rest are s.read i) ∙ (λ i. (option_ops ops).writing (h.0 i) ++ h.1 i)
-
-  option_one : (tag : ℕ) (bytes : List ℕ) (x : Option A) (rest : List ℕ) → AreBytes bytes → (b : Bool) → (tag == 1) ≡ b
-      → (if b then (ops.reading bytes >>= λ y end. Ok (Some y, end)) else Err OutOfRange) ≡ Ok (x, rest) → tag ∷ bytes ≡ (option_ops ops).writing x ++ rest
-  option_one tag bytes x rest are true is e = option_found tag bytes x rest are (grind (arith, nat_tests, is)) e
-  option_one tag bytes x rest are false is e = absurd (cc)
-
-  option_tag : (tag : ℕ) (bytes : List ℕ) (x : Option A) (rest : List ℕ) → AreBytes bytes → (b : Bool) → (tag == 0) ≡ b
-      → (if b then Ok (None, bytes) else (if tag == 1 then (ops.reading bytes >>= λ y end. Ok (Some y, end)) else Err OutOfRange)) ≡ Ok (x, rest)
-      → tag ∷ bytes ≡ (option_ops ops).writing x ++ rest
-  option_tag tag bytes x rest are true is e =
+  option_found : (b : Bool) (bytes mid : List ℕ) (x : Option A) (rest : List ℕ) → AreBytes bytes → bytes ≡ flag_number b ∷ mid → option_by ops b mid ≡ Ok (x, rest)
+      → bytes ≡ (option_ops ops).writing x ++ rest
+  option_found false bytes mid x rest are is e =
       let none : Option A = None in
-      let h = same_ok none x bytes rest e in
-      let zero_is : tag ≡ 0 = grind (arith, nat_tests, is) in
-      (λ i. zero_is i ∷ bytes) ∙ (λ i. (option_ops ops).writing (h.0 i) ++ h.1 i)
-  option_tag tag bytes x rest are false is e = option_one tag bytes x rest are (tag == 1) refl e
+      let h = same_ok none x mid rest e in
+      is ∙ (λ i. (option_ops ops).writing (h.0 i) ++ h.1 i)
+  option_found true bytes mid x rest are is e =
+      let s = step_of (ops.reading mid) (λ y end. Ok (Some y, end)) (x, rest) e in
+      let h = same_ok (Some s.value) x s.rest rest s.after in
+      let behind_it : AreBytes mid = bytes_left bytes (1 ∷ []) mid is are in
+      is ∙ (λ i. 1 ∷ laws.canonical mid s.value s.rest behind_it s.read i) ∙ (λ i. (option_ops ops).writing (h.0 i) ++ h.1 i)
 
   option_canonical : (bytes : List ℕ) (x : Option A) (rest : List ℕ) → AreBytes bytes → option_reading ops bytes ≡ Ok (x, rest) → bytes ≡ (option_ops ops).writing x ++ rest
-  option_canonical [] x rest are e = absurd (cc)
-  option_canonical (tag ∷ bytes) x rest are e = option_tag tag bytes x rest (λ place. are (suc place)) (tag == 0) refl e
+  option_canonical bytes x rest are e =
+      let s = step_of (flag_reading bytes) (option_by ops) (x, rest) e in
+      option_found s.value bytes s.rest x rest are (flag_is bytes s.value s.rest s.read) s.after
 
   option_some : (x : Option A) → 1 ≤ length ((option_ops ops).writing x)
   option_some None = omega arith

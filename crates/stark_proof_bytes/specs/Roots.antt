@@ -1,10 +1,13 @@
 -- Roots as bytes.
-use Rattle.std.specs.Prelude.{◌≡◌, ℕ, zero, suc, ◌<◌, ◌≤◌, ◌%◌, true, List, [], ◌∷◌, ◌++◌, length, slice_index, drop, Result, Ok, Err, refl}
+use Rattle.std.specs.Prelude.{◌≡◌, ℕ, zero, suc, ◌<◌, ◌≤◌, ◌%◌, true, List, [], ◌∷◌, ◌++◌, ◌^◌, ◌&&◌, Bool, length, nat_lt, slice_index, drop, flat_map, Result, Ok, Err, refl}
+use Rattle.std.specs.List.{list_all}
+use Rattle.stark_support.specs.Seed.{number}
 use Rattle.std.proofs.Common.{◌∙◌, sym, ap, subst, arith}
 use Rattle.std.proofs.lemmas.Nat.{mod_below}
 use Rattle.std.proofs.Math.Nat.{mod-eq_of_lt}
 use Rattle.stark_merkle.specs.declared.root.Root.{Root}
 use Rattle.stark_merkle.specs.RootJson.{same_root}
+use Rattle.stark_fri_proof.specs.Paths.{digests_of}
 use Rattle.stark_proof_bytes.specs.declared.fault.BytesFault.{BytesFault}
 use Rattle.stark_proof_bytes.specs.Bytes.{AreBytes, BytesLaws, BytesOps, bytes_reading, list_ops, ◌>>=◌}
 use Rattle.stark_proof_bytes.specs.BytesFacts.{bytes_before, front_is, front_read, list_laws, same_ok, step_of}
@@ -72,8 +75,50 @@ root_canonical bytes x rest are e =
 pub root_laws : BytesLaws root_ops
 root_laws = record { read_back = root_back; canonical = root_canonical; some = λ x. omega (arith, x.sized) }
 
+pub same_roots : (xs ys : List Root) → digests_of xs ≡ digests_of ys → xs ≡ ys
+same_roots [] [] e = refl
+same_roots [] (y ∷ ys) e = absurd (cc)
+same_roots (x ∷ xs) [] e = absurd (cc)
+same_roots (x ∷ xs) (y ∷ ys) e =
+    let first : x.bytes ≡ y.bytes = cc in
+    let rest : digests_of xs ≡ digests_of ys = cc in
+    let a = same_root x y first in
+    let b = same_roots xs ys rest in
+    λ i. a i ∷ b i
+
 abbrev pub path_ops : BytesOps (List Root)
 path_ops = list_ops root_ops
 
 pub path_laws : BytesLaws path_ops
 path_laws = list_laws root_ops root_laws
+
+-- what a reader of the roots makes of them
+pub path_read : (bytes : List ℕ) (roots path : List Root) (rest : List ℕ) → path_ops.reading bytes ≡ Ok (roots, rest) → digests_of path ≡ digests_of roots → path_ops.reading bytes ≡ Ok (path, rest)
+path_read bytes roots path rest e is = let same = same_roots roots path (sym is) in e ∙ (λ i. Ok (same i, rest))
+
+abbrev pub bytes_joined : List (List ℕ) → List ℕ
+bytes_joined digests = flat_map (λ digest. digest) digests
+
+-- the digests of a path as bytes
+abbrev pub digests_writing : List (List ℕ) → List ℕ
+digests_writing digests = number (length digests) ++ bytes_joined digests
+
+as_many : (path : List Root) → length (digests_of path) ≡ length path
+as_many [] = refl
+as_many (x ∷ path) = ap suc (as_many path)
+
+one_by_one : (path : List Root) → bytes_joined (digests_of path) ≡ flat_map root_ops.writing path
+one_by_one [] = refl
+one_by_one (x ∷ path) = ap (λ l. x.bytes ++ l) (one_by_one path)
+
+pub path_written : (path : List Root) → digests_writing (digests_of path) ≡ path_ops.writing path
+path_written path = λ i. number (as_many path i) ++ one_by_one path i
+
+all_roots_fit : (path : List Root) → list_all root_ops.fits path ≡ true
+all_roots_fit [] = refl
+all_roots_fit (x ∷ path) = all_roots_fit path
+
+pub path_fits : (path : List Root) → nat_lt (length (digests_of path)) (2 ^ 64) ≡ true → path_ops.fits path ≡ true
+path_fits path small =
+    ap (λ n. nat_lt n (2 ^ 64) && list_all root_ops.fits path) (sym (as_many path))
+    ∙ ap (λ b. b && list_all root_ops.fits path) small ∙ all_roots_fit path

@@ -4,11 +4,14 @@
 mod codec;
 mod elements;
 mod fault;
+mod fri;
 mod lists;
+mod options;
 mod reader;
 mod roots;
 
 pub use codec::BytesCodec;
 pub use fault::BytesFault;
 pub use lists::{read_list, read_lists, write_list, write_lists, write_number};
+pub use options::{read_list_option, read_option, write_list_option, write_option};
 pub use reader::ByteReader;

@@ -1,6 +1,6 @@
 //! Bytes that are read from the front.
 ghost use Rattle.std.specs.Prelude.{◌≡◌, length};
-ghost use Rattle.stark_proof_bytes.specs.Bytes.{Takes, bytes_reading, count_reading, number_reading};
+ghost use Rattle.stark_proof_bytes.specs.Bytes.{Takes, bytes_reading, count_reading, flag_reading, number_reading};
 
 use crate::fault::BytesFault;
 use std::marker::Model;
@@ -43,6 +43,22 @@ impl<'a> ByteReader<'a> {
         };
         self.bytes = rest;
         Ok(*front)
+    }
+
+    /// Whether the next byte is 1: `Truncated` where none is left, `OutOfRange` where it is neither
+    /// 0 nor 1.
+    pub fn next_flag(&mut self) -> Result<bool, BytesFault>
+        ensures { Takes (λ x. x) result self.new (flag_reading self.old) }
+    {
+        let Some((tag, rest)) = self.bytes.split_first() else {
+            return Err(BytesFault::Truncated);
+        };
+        self.bytes = rest;
+        match *tag {
+            0 => Ok(false),
+            1 => Ok(true),
+            _ => Err(BytesFault::OutOfRange),
+        }
     }
 
     /// The number of the next 8 bytes, the high one first; `Truncated` where fewer are left.

@@ -14,8 +14,8 @@ returns-in_err-value g c =
     let falls : left ≡ suc next = omega arith in
     let found = c.loop-place.found.items in
     let told : IfSome (named c.in_err-value.field-0.0) (λ fault. list_reading ops c.args.reader.now ≡ Err fault) =
-        told_more c.in_err-value.field-0.0 (ops.reading c.loop-place.reader) (list_reading ops c.args.reader.now)
-        (λ fault is. c.loop-place.invariant ∙ no_more ops (g.met.T.BytesCodec.bytes_laws) left next c.loop-place.reader fault found falls is) c.in_err-value.ensures in
+    told_more c.in_err-value.field-0.0 (ops.reading c.loop-place.reader) (list_reading ops c.args.reader.now)
+    (λ fault is. c.loop-place.invariant ∙ no_more ops (g.met.T.BytesCodec.bytes_laws) left next c.loop-place.reader fault found falls is) c.in_err-value.ensures in
     search rules
 
 pub loop-place-preserved : goal.loop-place-preserved

@@ -14,8 +14,8 @@ returns-in_err-list g c =
     let falls : left ≡ suc next = omega arith in
     let found = map items_of c.loop-place.found.items in
     let told : IfSome (named c.in_err-list.field-0.0) (λ fault. list_reading ops c.args.reader.now ≡ Err fault) =
-        told_more c.in_err-list.field-0.0 (ops.reading c.loop-place.reader) (list_reading ops c.args.reader.now)
-        (λ fault is. c.loop-place.invariant ∙ no_more ops (list_laws g.T.BytesCodec.bytes g.met.T.BytesCodec.bytes_laws) left next c.loop-place.reader fault found falls is) c.in_err-list.ensures in
+    told_more c.in_err-list.field-0.0 (ops.reading c.loop-place.reader) (list_reading ops c.args.reader.now)
+    (λ fault is. c.loop-place.invariant ∙ no_more ops (list_laws g.T.BytesCodec.bytes g.met.T.BytesCodec.bytes_laws) left next c.loop-place.reader fault found falls is) c.in_err-list.ensures in
     search rules
 
 pub loop-place-preserved : goal.loop-place-preserved

@@ -62,6 +62,12 @@ count_reading bytes = number_reading bytes >>= unless_longer
 abbrev pub number_ops : BytesOps ℕ
 number_ops = record { writing = number; reading = number_reading; fits = λ n. nat_lt n (2 ^ 64) }
 
+-- ---- single bytes
+
+abbrev pub byte_reading : List ℕ → Result (ℕ × List ℕ) BytesFault
+byte_reading [] = Err Truncated
+byte_reading (byte ∷ rest) = Ok (byte, rest)
+
 -- ---- flags
 
 abbrev pub flag_if : Bool → List ℕ → Result (Bool × List ℕ) BytesFault

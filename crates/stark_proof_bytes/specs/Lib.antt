@@ -3,3 +3,5 @@ pub mod BytesFacts
 pub mod Elements
 pub mod Roots
 pub mod FriBytes
+pub mod ClearBytes
+pub mod ProofBytes

@@ -1,12 +1,14 @@
 //! Proofs as bytes: numbers of a fixed width, the high byte first, and nothing between them.
 #![tactic(auto)]
 
+mod clear;
 mod codec;
 mod elements;
 mod fault;
 mod fri;
 mod lists;
 mod options;
+mod proof;
 mod reader;
 mod roots;
 

@@ -1,6 +1,6 @@
 //! Bytes that are read from the front.
 ghost use Rattle.std.specs.Prelude.{◌≡◌, length};
-ghost use Rattle.stark_proof_bytes.specs.Bytes.{Takes, bytes_reading, count_reading, flag_reading, number_reading};
+ghost use Rattle.stark_proof_bytes.specs.Bytes.{Takes, byte_reading, bytes_reading, count_reading, flag_reading, number_reading};
 
 use crate::fault::BytesFault;
 use std::marker::Model;
@@ -43,6 +43,17 @@ impl<'a> ByteReader<'a> {
         };
         self.bytes = rest;
         Ok(*front)
+    }
+
+    /// The next byte; `Truncated` where none is left.
+    pub fn next_byte(&mut self) -> Result<u8, BytesFault>
+        ensures { Takes (λ x. x) result self.new (byte_reading self.old) }
+    {
+        let Some((byte, rest)) = self.bytes.split_first() else {
+            return Err(BytesFault::Truncated);
+        };
+        self.bytes = rest;
+        Ok(*byte)
     }
 
     /// Whether the next byte is 1: `Truncated` where none is left, `OutOfRange` where it is neither

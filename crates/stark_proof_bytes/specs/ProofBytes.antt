@@ -1,0 +1,123 @@
+-- Whole proofs as bytes: the text that tells kind and version, and the parts in the order of their fields.
+use Rattle.std.specs.Prelude.{◌≡◌, ◌≤◌, ◌&&◌, Bool, true, false, if◌then◌else◌, ℕ, List, [], ◌∷◌, ◌++◌, length, drop, codes, IfSome, Option, Result, Ok, Err, refl, ⊤, nat_eq}
+use Rattle.std.specs.List.{starts_with}
+use Rattle.std.proofs.Common.{◌∙◌, ap, arith, sym}
+use Rattle.std.proofs.lemmas.Bool.Decides.{Decides-eqb}
+use Rattle.std.proofs.lemmas.Slice.Eq.{starts_is}
+use Rattle.stark_proof.specs.ProofView.{OpeningsView, PreprocessedView, ProofView}
+use Rattle.stark_proof.specs.declared.values.Commitments.{Commitments}
+use Rattle.stark_proof_bytes.specs.declared.fault.BytesFault.{BytesFault}
+use Rattle.stark_proof_bytes.specs.declared.fault.BytesFault.TheVariants.{Magic, TrailingBytes}
+use Rattle.stark_proof_bytes.specs.Bytes.{AreBytes, BytesLaws, BytesOps, list_ops, named, number_ops, option_ops, pair_ops, turned_ops, ◌>>=◌}
+use Rattle.stark_proof_bytes.specs.BytesFacts.{list_laws, number_laws, option_laws, pair_laws, same_ok, turned_laws}
+
+-- ---- commitments
+
+module _ {K : Type 0} (ops : BytesOps K) where
+  abbrev pub commitments_ops : BytesOps (Commitments K)
+  commitments_ops = turned_ops (λ x. (x.trace, (x.quotient_chunks, x.random))) (λ p. record { trace = p.0; quotient_chunks = p.1.0; random = p.1.1 })
+      (pair_ops ops (pair_ops ops (option_ops ops)))
+
+  pub commitments_laws : BytesLaws ops → BytesLaws commitments_ops
+  commitments_laws laws = turned_laws (λ (x : Commitments K). (x.trace, (x.quotient_chunks, x.random))) (λ p. record { trace = p.0; quotient_chunks = p.1.0; random = p.1.1 })
+      (λ x. refl) (λ p. refl) (pair_ops ops (pair_ops ops (option_ops ops))) (pair_laws ops _ laws (pair_laws ops (option_ops ops) laws (option_laws ops laws)))
+
+-- ---- opened values
+
+module _ {E : Type 0} (ops : BytesOps E) where
+  abbrev pub preprocessed_ops : BytesOps (PreprocessedView E)
+  preprocessed_ops = turned_ops (λ x. (x.local, x.next)) (λ p. record { local = p.0; next = p.1 }) (pair_ops (list_ops ops) (option_ops (list_ops ops)))
+
+  pub preprocessed_laws : BytesLaws ops → BytesLaws preprocessed_ops
+  preprocessed_laws laws = turned_laws (λ (x : PreprocessedView E). (x.local, x.next)) (λ p. record { local = p.0; next = p.1 }) (λ x. refl) (λ p. refl)
+      (pair_ops (list_ops ops) (option_ops (list_ops ops))) (pair_laws _ _ (list_laws ops laws) (option_laws (list_ops ops) (list_laws ops laws)))
+
+  abbrev pub opened_parts : BytesOps (List E × (Option (List E) × (Option (PreprocessedView E) × (List (List E) × Option (List E)))))
+  opened_parts = pair_ops (list_ops ops) (pair_ops (option_ops (list_ops ops)) (pair_ops (option_ops preprocessed_ops) (pair_ops (list_ops (list_ops ops)) (option_ops (list_ops ops)))))
+
+  abbrev pub openings_ops : BytesOps (OpeningsView E)
+  openings_ops = turned_ops (λ x. (x.trace_local, (x.trace_next, (x.preprocessed, (x.quotient_chunks, x.random)))))
+      (λ p. record { trace_local = p.0; trace_next = p.1.0; preprocessed = p.1.1.0; quotient_chunks = p.1.1.1.0; random = p.1.1.1.1 }) opened_parts
+
+  pub openings_laws : BytesLaws ops → BytesLaws openings_ops
+  openings_laws laws =
+      let rows = list_laws ops laws in
+      let row_if = option_laws (list_ops ops) rows in
+      turned_laws (λ (x : OpeningsView E). (x.trace_local, (x.trace_next, (x.preprocessed, (x.quotient_chunks, x.random)))))
+      (λ p. record { trace_local = p.0; trace_next = p.1.0; preprocessed = p.1.1.0; quotient_chunks = p.1.1.1.0; random = p.1.1.1.1 })
+      (λ x. refl) (λ p. refl) opened_parts
+      (pair_laws _ _ rows (pair_laws _ _ row_if (pair_laws _ _ (option_laws preprocessed_ops (preprocessed_laws laws)) (pair_laws _ _ (list_laws (list_ops ops) rows) row_if))))
+
+-- ---- the whole
+
+-- a codec of each part of a proof
+pub record ProofCodecs (K E P F : Type 0) : Type 0 where
+  pub commitment : BytesOps K
+  pub challenge : BytesOps E
+  pub opening : BytesOps P
+  pub value : BytesOps F
+
+pub record ProofCodecsLaws {K E P F : Type 0} (ops : ProofCodecs K E P F) : Type 0 where
+  pub commitment : BytesLaws ops.commitment
+  pub challenge : BytesLaws ops.challenge
+  pub opening : BytesLaws ops.opening
+  pub value : BytesLaws ops.value
+
+-- the bytes that each file begins with
+abbrev pub magic : List ℕ
+magic = codes "voskligan proof 1"
+
+abbrev pub magic_if : Bool → List ℕ → Result (⊤ × List ℕ) BytesFault
+magic_if b rest = if b then Ok (tt, rest) else Err Magic
+
+abbrev pub magic_reading : List ℕ → Result (⊤ × List ℕ) BytesFault
+magic_reading bytes = magic_if (starts_with nat_eq bytes magic) (drop 17 bytes)
+
+abbrev pub magic_ops : BytesOps ⊤
+magic_ops = record { writing = λ x. magic; reading = magic_reading; fits = λ x. true }
+
+magic_by : (bytes : List ℕ) (x : ⊤) (rest : List ℕ) (b : Bool) → starts_with nat_eq bytes magic ≡ b → magic_if b (drop 17 bytes) ≡ Ok (x, rest) → bytes ≡ magic ++ rest
+magic_by bytes x rest true is e =
+    let h = same_ok tt x (drop 17 bytes) rest e in
+    (starts_is Decides-eqb bytes magic (starts_with nat_eq bytes magic) refl).0 is ∙ ap (λ l. magic ++ l) h.1
+magic_by bytes x rest false is e = absurd (cc)
+
+pub magic_laws : BytesLaws magic_ops
+magic_laws = record {
+  read_back = λ x rest fits. refl;
+  canonical = λ bytes x rest are e. magic_by bytes x rest (starts_with nat_eq bytes magic) refl e;
+  some = λ x. omega arith;
+}
+
+-- the value, where nothing is left
+abbrev pub alone : {A : Type 0} → A → List ℕ → Result A BytesFault
+alone x [] = Ok x
+alone x (byte ∷ rest) = Err TrailingBytes
+
+abbrev pub ended : {A : Type 0} → Result (A × List ℕ) BytesFault → Result A BytesFault
+ended (Ok p) = alone p.0 p.1
+ended (Err fault) = Err fault
+
+module _ {K E P F : Type 0} (ops : ProofCodecs K E P F) where
+  abbrev pub proof_parts : BytesOps (Commitments K × (OpeningsView E × (P × (ℕ × (F × F)))))
+  proof_parts = pair_ops (commitments_ops ops.commitment) (pair_ops (openings_ops ops.challenge) (pair_ops ops.opening (pair_ops number_ops (pair_ops ops.value ops.value))))
+
+  abbrev pub proof_ops : BytesOps (ProofView K E P F)
+  proof_ops = turned_ops (λ x. (x.commitments, (x.opened_values, (x.opening_proof, (x.degree_bits, (x.ood_pow_witness, x.alpha_pow_witness))))))
+      (λ p. record { commitments = p.0; opened_values = p.1.0; opening_proof = p.1.1.0; degree_bits = p.1.1.1.0; ood_pow_witness = p.1.1.1.1.0; alpha_pow_witness = p.1.1.1.1.1 }) proof_parts
+
+  -- the bytes of a file
+  abbrev pub proof_writing : ProofView K E P F → List ℕ
+  proof_writing proof = magic ++ proof_ops.writing proof
+
+  abbrev pub proof_front : List ℕ → Result (ProofView K E P F × List ℕ) BytesFault
+  proof_front bytes = magic_reading bytes >>= λ begun rest. proof_ops.reading rest
+
+  -- the proof that the bytes of a file name, or their first fault
+  unfoldable pub proof_reading : List ℕ → Result (ProofView K E P F) BytesFault
+  proof_reading bytes = ended (proof_front bytes)
+
+-- What a reader returned, seen by view, is what reading gives: the value, or the fault, unless memory ran out.
+abbrev pub Decodes : {A B : Type 0} → (A → B) → Result A BytesFault → Result B BytesFault → Type 0
+Decodes view (Ok a) reading = reading ≡ Ok (view a)
+Decodes view (Err error) reading = IfSome (named error) (λ fault. reading ≡ Err fault)

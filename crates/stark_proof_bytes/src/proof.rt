@@ -1,0 +1,151 @@
+//! Whole proofs as bytes.
+ghost use Rattle.std.specs.Prelude.{◌≡◌, ◌++◌, IfOk, Ok, OnOk, option_map, true};
+ghost use Rattle.stark_proof.specs.ProofView.{openings_view, preprocessed_view, proof_view};
+ghost use Rattle.stark_proof_bytes.specs.Bytes.{Takes, option_ops};
+ghost use Rattle.stark_proof_bytes.specs.ProofBytes.{Decodes, commitments_laws, commitments_ops, openings_ops, preprocessed_ops, proof_front, proof_ops, proof_reading, proof_writing};
+
+use crate::codec::BytesCodec;
+use crate::fault::BytesFault;
+use crate::lists::{read_list, read_lists, write_list, write_lists, write_number};
+use crate::options::{read_list_option, read_option, write_list_option, write_option};
+use crate::reader::ByteReader;
+use stark_proof::{Commitments, OpenedValues, PreprocessedOpenedValues, Proof};
+use std::alloc::{AllocError, Global};
+
+/// What each file begins with: the kind, and the version of the writing.
+const MAGIC: &str = "voskligan proof 1";
+
+impl<Com: BytesCodec + Drop> BytesCodec for Commitments<Com> {
+    ghost bytes = { commitments_ops Com.bytes };
+
+    /// The commitments to the trace, to the quotient's chunks, and to a random polynomial where
+    /// there is one.
+    fn read_from(alloc: Global, reader: &mut ByteReader) -> Result<Commitments<Com>, BytesFault> {
+        let trace = Com::read_from(alloc, &mut *reader)?;
+        let quotient_chunks = Com::read_from(alloc, &mut *reader)?;
+        let random = read_option(alloc, reader)?;
+        Ok(Commitments {
+            trace,
+            quotient_chunks,
+            random,
+        })
+    }
+
+    fn write_to(&self, out: &mut Vec<u8>) -> Result<(), AllocError> {
+        self.trace.write_to(&mut *out)?;
+        self.quotient_chunks.write_to(&mut *out)?;
+        write_option(&self.random, out)
+    }
+
+    ghost bytes_laws = { commitments_laws Com.bytes Com.bytes_laws };
+}
+
+/// The preprocessed rows of the next bytes, where the first of them says that there are some.
+fn read_preprocessed<E: BytesCodec + Drop>(
+    alloc: Global,
+    reader: &mut ByteReader,
+) -> Result<Option<PreprocessedOpenedValues<E>>, BytesFault>
+    ensures { Takes (option_map preprocessed_view) result reader.new
+        ((option_ops (preprocessed_ops E.bytes)).reading reader.old) }
+{
+    if !reader.next_flag()? {
+        return Ok(None);
+    }
+    let local = read_list(alloc, &mut *reader)?;
+    let next = read_list_option(alloc, reader)?;
+    Ok(Some(PreprocessedOpenedValues { local, next }))
+}
+
+/// Appends the byte 0, or 1 and the rows.
+fn write_preprocessed<E: BytesCodec>(
+    rows: &Option<PreprocessedOpenedValues<E>>,
+    out: &mut Vec<u8>,
+) -> Result<(), AllocError>
+    ensures written { OnOk result (out.new.items ≡ out.old.items
+        ++ (option_ops (preprocessed_ops E.bytes)).writing (option_map preprocessed_view rows.now)) }
+    ensures fits { OnOk result ((option_ops (preprocessed_ops E.bytes)).fits
+        (option_map preprocessed_view rows.now) ≡ true) }
+{
+    match rows {
+        Some(rows) => {
+            out.push(1)?;
+            write_list(&rows.local, &mut *out)?;
+            write_list_option(&rows.next, out)
+        }
+        None => {
+            out.push(0)?;
+            Ok(())
+        }
+    }
+}
+
+/// The opened values of the next bytes. Preprocessed rows of any widths are taken.
+fn read_openings<E: BytesCodec + Drop>(
+    alloc: Global,
+    reader: &mut ByteReader,
+) -> Result<OpenedValues<E>, BytesFault>
+    ensures { Takes openings_view result reader.new ((openings_ops E.bytes).reading reader.old) }
+{
+    let trace_local = read_list(alloc, &mut *reader)?;
+    let trace_next = read_list_option(alloc, &mut *reader)?;
+    let preprocessed = read_preprocessed(alloc, &mut *reader)?;
+    let quotient_chunks = read_lists(alloc, &mut *reader)?;
+    let random = read_list_option(alloc, reader)?;
+    Ok(OpenedValues {
+        trace_local,
+        trace_next,
+        preprocessed,
+        quotient_chunks,
+        random,
+    })
+}
+
+/// Appends the opened values.
+fn write_openings<E: BytesCodec>(
+    opened_values: &OpenedValues<E>,
+    out: &mut Vec<u8>,
+) -> Result<(), AllocError>
+    ensures written { OnOk result (out.new.items
+        ≡ out.old.items ++ (openings_ops E.bytes).writing (openings_view opened_values.now)) }
+    ensures fits { OnOk result
+        ((openings_ops E.bytes).fits (openings_view opened_values.now) ≡ true) }
+{
+    write_list(&opened_values.trace_local, &mut *out)?;
+    write_list_option(&opened_values.trace_next, &mut *out)?;
+    write_preprocessed(&opened_values.preprocessed, &mut *out)?;
+    write_lists(&opened_values.quotient_chunks, &mut *out)?;
+    write_list_option(&opened_values.random, out)
+}
+
+/// The parts of a proof, behind what the file begins with.
+fn read_proof<
+    Com: BytesCodec + Drop,
+    Challenge: BytesCodec + Drop,
+    PcsProof: BytesCodec + Drop,
+    Val: BytesCodec + Drop,
+>(
+    alloc: Global,
+    reader: &mut ByteReader,
+) -> Result<Proof<Com, Challenge, PcsProof, Val>, BytesFault>
+    ensures { Takes proof_view result reader.new ((proof_ops (record {
+      commitment = Com.bytes;
+      challenge = Challenge.bytes;
+      opening = PcsProof.bytes;
+      value = Val.bytes;
+    })).reading reader.old) }
+{
+    let commitments = Commitments::read_from(alloc, &mut *reader)?;
+    let opened_values = read_openings(alloc, &mut *reader)?;
+    let opening_proof = PcsProof::read_from(alloc, &mut *reader)?;
+    let degree_bits = reader.next_number()?;
+    let ood_pow_witness = Val::read_from(alloc, &mut *reader)?;
+    let alpha_pow_witness = Val::read_from(alloc, reader)?;
+    Ok(Proof {
+        commitments,
+        opened_values,
+        opening_proof,
+        degree_bits,
+        ood_pow_witness,
+        alpha_pow_witness,
+    })
+}

@@ -1,6 +1,6 @@
 -- Values as bytes.
-use Rattle.std.specs.Prelude.{◌≡◌, ◌==◌, ◌&&◌, ℕ, zero, suc, ◌<◌, ◌≤◌, ◌^◌, Bool, true, false, nat_lt, if◌then◌else◌, List, [], ◌∷◌, ◌++◌, length, slice_index, take, drop, flat_map, Option, None, Some, IfSome, Result, Ok, Err}
-use Rattle.std.specs.List.{list_all}
+use Rattle.std.specs.Prelude.{◌≡◌, ◌==◌, ◌&&◌, ℕ, zero, suc, ◌<◌, ◌≤◌, ◌^◌, Bool, true, false, nat_lt, if◌then◌else◌, List, [], ◌∷◌, ◌++◌, length, slice_index, take, drop, flat_map, Option, None, Some, IfSome, Result, Ok, Err, ⊤, nat_eq}
+use Rattle.std.specs.List.{list_all, starts_with}
 use Rattle.std.specs.Int.{w64, from_be_bytes}
 use Rattle.stark_support.specs.Seed.{number}
 use Rattle.stark_proof_bytes.specs.declared.fault.BytesFault.{BytesFault}
@@ -67,6 +67,12 @@ number_ops = record { writing = number; reading = number_reading; fits = λ n. n
 abbrev pub byte_reading : List ℕ → Result (ℕ × List ℕ) BytesFault
 byte_reading [] = Err Truncated
 byte_reading (byte ∷ rest) = Ok (byte, rest)
+
+-- ---- a prefix
+
+-- bytes that have to come first
+abbrev pub prefix_reading : List ℕ → List ℕ → Result (⊤ × List ℕ) BytesFault
+prefix_reading prefix bytes = if starts_with nat_eq bytes prefix then Ok (tt, drop (length prefix) bytes) else Err Magic
 
 -- ---- flags
 

@@ -50,7 +50,7 @@ regrouped : {A : Type 0} (found : List A) (x : A) (r : Result (List A × List �
 regrouped found x (Ok p) = λ i. Ok (sym (append_assoc found (x ∷ []) p.0) i, p.1)
 regrouped found x (Err fault) = refl
 
-append_none : {A : Type 0} (xs : List A) → xs ++ [] ≡ xs
+pub append_none : {A : Type 0} (xs : List A) → xs ++ [] ≡ xs
 append_none [] = refl
 append_none (x ∷ xs) = λ i. x ∷ append_none xs i
 

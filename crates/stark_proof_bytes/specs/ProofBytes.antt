@@ -8,8 +8,8 @@ use Rattle.stark_proof.specs.ProofView.{OpeningsView, PreprocessedView, ProofVie
 use Rattle.stark_proof.specs.declared.values.Commitments.{Commitments}
 use Rattle.stark_proof_bytes.specs.declared.fault.BytesFault.{BytesFault}
 use Rattle.stark_proof_bytes.specs.declared.fault.BytesFault.TheVariants.{Magic, TrailingBytes}
-use Rattle.stark_proof_bytes.specs.Bytes.{AreBytes, BytesLaws, BytesOps, list_ops, named, number_ops, option_ops, pair_ops, turned_ops, ◌>>=◌}
-use Rattle.stark_proof_bytes.specs.BytesFacts.{list_laws, number_laws, option_laws, pair_laws, same_ok, turned_laws}
+use Rattle.stark_proof_bytes.specs.Bytes.{AreBytes, BytesLaws, BytesOps, list_ops, named, number_ops, option_ops, pair_ops, prefix_reading, turned_ops, ◌>>=◌}
+use Rattle.stark_proof_bytes.specs.BytesFacts.{TakenAs, append_none, bytes_left, list_laws, number_laws, option_laws, pair_laws, same_ok, step_of, turned_laws}
 
 -- ---- commitments
 
@@ -71,14 +71,14 @@ abbrev pub magic_if : Bool → List ℕ → Result (⊤ × List ℕ) BytesFault
 magic_if b rest = if b then Ok (tt, rest) else Err Magic
 
 abbrev pub magic_reading : List ℕ → Result (⊤ × List ℕ) BytesFault
-magic_reading bytes = magic_if (starts_with nat_eq bytes magic) (drop 17 bytes)
+magic_reading bytes = prefix_reading magic bytes
 
 abbrev pub magic_ops : BytesOps ⊤
 magic_ops = record { writing = λ x. magic; reading = magic_reading; fits = λ x. true }
 
-magic_by : (bytes : List ℕ) (x : ⊤) (rest : List ℕ) (b : Bool) → starts_with nat_eq bytes magic ≡ b → magic_if b (drop 17 bytes) ≡ Ok (x, rest) → bytes ≡ magic ++ rest
+magic_by : (bytes : List ℕ) (x : ⊤) (rest : List ℕ) (b : Bool) → starts_with nat_eq bytes magic ≡ b → magic_if b (drop (length magic) bytes) ≡ Ok (x, rest) → bytes ≡ magic ++ rest
 magic_by bytes x rest true is e =
-    let h = same_ok tt x (drop 17 bytes) rest e in
+    let h = same_ok tt x (drop (length magic) bytes) rest e in
     (starts_is Decides-eqb bytes magic (starts_with nat_eq bytes magic) refl).0 is ∙ ap (λ l. magic ++ l) h.1
 magic_by bytes x rest false is e = absurd (cc)
 
@@ -117,7 +117,48 @@ module _ {K E P F : Type 0} (ops : ProofCodecs K E P F) where
   unfoldable pub proof_reading : List ℕ → Result (ProofView K E P F) BytesFault
   proof_reading bytes = ended (proof_front bytes)
 
+abbrev pub codecs : {K E P F : Type 0} → BytesOps K → BytesOps E → BytesOps P → BytesOps F → ProofCodecs K E P F
+codecs commitment challenge opening value = record { commitment = commitment; challenge = challenge; opening = opening; value = value }
+
 -- What a reader returned, seen by view, is what reading gives: the value, or the fault, unless memory ran out.
 abbrev pub Decodes : {A B : Type 0} → (A → B) → Result A BytesFault → Result B BytesFault → Type 0
 Decodes view (Ok a) reading = reading ≡ Ok (view a)
 Decodes view (Err error) reading = IfSome (named error) (λ fault. reading ≡ Err fault)
+
+-- ---- what is written is read back, and what is read is what would be written
+
+alone_is : {A : Type 0} (y : A) (rest : List ℕ) (x : A) → alone y rest ≡ Ok x → TakenAs y rest x []
+alone_is y [] x e = let same : y ≡ x = cc in λ i. Ok (same i, [])
+alone_is y (byte ∷ rest) x e = absurd (cc)
+
+ended_is : {A : Type 0} (r : Result (A × List ℕ) BytesFault) (x : A) → ended r ≡ Ok x → r ≡ Ok (x, [])
+ended_is (Ok p) x e = alone_is p.0 p.1 x e
+ended_is (Err fault) x e = absurd (cc)
+
+module _ {K E P F : Type 0} (ops : ProofCodecs K E P F) (laws : ProofCodecsLaws ops) where
+  parts_laws : BytesLaws (proof_parts ops)
+  parts_laws =
+      pair_laws _ _ (commitments_laws ops.commitment laws.commitment)
+      (pair_laws _ _ (openings_laws ops.challenge laws.challenge)
+      (pair_laws _ _ laws.opening (pair_laws _ _ number_laws (pair_laws _ _ laws.value laws.value))))
+
+  pub proof_laws : BytesLaws (proof_ops ops)
+  proof_laws = turned_laws (λ (x : ProofView K E P F). (x.commitments, (x.opened_values, (x.opening_proof, (x.degree_bits, (x.ood_pow_witness, x.alpha_pow_witness))))))
+      (λ p. record { commitments = p.0; opened_values = p.1.0; opening_proof = p.1.1.0; degree_bits = p.1.1.1.0; ood_pow_witness = p.1.1.1.1.0; alpha_pow_witness = p.1.1.1.1.1 })
+      (λ x. refl) (λ p. refl) (proof_parts ops) parts_laws
+
+  pub written_is_read : (proof : ProofView K E P F) → (proof_ops ops).fits proof ≡ true → proof_reading ops (proof_writing ops proof) ≡ Ok proof
+  unfolding proof_reading
+  written_is_read proof fits =
+      let body = (proof_ops ops).writing proof in
+      ap (λ r. ended (r >>= λ begun rest. (proof_ops ops).reading rest)) (magic_laws.read_back tt body refl)
+      ∙ ap (λ bytes. ended ((proof_ops ops).reading bytes)) (sym (append_none body))
+      ∙ ap (λ r. ended r) (proof_laws.read_back proof [] fits)
+
+  pub read_is_written : (bytes : List ℕ) (proof : ProofView K E P F) → AreBytes bytes → proof_reading ops bytes ≡ Ok proof → bytes ≡ proof_writing ops proof
+  unfolding proof_reading
+  read_is_written bytes proof are e =
+      let s = step_of (magic_reading bytes) (λ begun rest. (proof_ops ops).reading rest) (proof, []) (ended_is (proof_front ops bytes) proof e) in
+      let front = magic_laws.canonical bytes s.value s.rest are s.read in
+      let back = proof_laws.canonical s.rest proof [] (bytes_left bytes magic s.rest front are) s.after in
+      front ∙ ap (λ l. magic ++ l) (back ∙ append_none ((proof_ops ops).writing proof))

@@ -11,9 +11,11 @@ mod options;
 mod proof;
 mod reader;
 mod roots;
+mod whole;
 
 pub use codec::BytesCodec;
 pub use fault::BytesFault;
 pub use lists::{read_list, read_lists, write_list, write_lists, write_number};
 pub use options::{read_list_option, read_option, write_list_option, write_option};
 pub use reader::ByteReader;
+pub use whole::{proof_from_bytes, proof_to_bytes};

@@ -1,8 +1,8 @@
-//! Whole proofs as bytes.
-ghost use Rattle.std.specs.Prelude.{◌≡◌, ◌++◌, IfOk, Ok, OnOk, option_map, true};
+//! The parts of proofs as bytes.
+ghost use Rattle.std.specs.Prelude.{◌≡◌, ◌++◌, OnOk, option_map, true};
 ghost use Rattle.stark_proof.specs.ProofView.{openings_view, preprocessed_view, proof_view};
 ghost use Rattle.stark_proof_bytes.specs.Bytes.{Takes, option_ops};
-ghost use Rattle.stark_proof_bytes.specs.ProofBytes.{Decodes, commitments_laws, commitments_ops, openings_ops, preprocessed_ops, proof_front, proof_ops, proof_reading, proof_writing};
+ghost use Rattle.stark_proof_bytes.specs.ProofBytes.{codecs, commitments_laws, commitments_ops, openings_ops, preprocessed_ops, proof_ops};
 
 use crate::codec::BytesCodec;
 use crate::fault::BytesFault;
@@ -11,9 +11,6 @@ use crate::options::{read_list_option, read_option, write_list_option, write_opt
 use crate::reader::ByteReader;
 use stark_proof::{Commitments, OpenedValues, PreprocessedOpenedValues, Proof};
 use std::alloc::{AllocError, Global};
-
-/// What each file begins with: the kind, and the version of the writing.
-const MAGIC: &str = "voskligan proof 1";
 
 impl<Com: BytesCodec + Drop> BytesCodec for Commitments<Com> {
     ghost bytes = { commitments_ops Com.bytes };
@@ -118,7 +115,7 @@ fn write_openings<E: BytesCodec>(
 }
 
 /// The parts of a proof, behind what the file begins with.
-fn read_proof<
+pub(crate) fn read_proof<
     Com: BytesCodec + Drop,
     Challenge: BytesCodec + Drop,
     PcsProof: BytesCodec + Drop,
@@ -127,12 +124,8 @@ fn read_proof<
     alloc: Global,
     reader: &mut ByteReader,
 ) -> Result<Proof<Com, Challenge, PcsProof, Val>, BytesFault>
-    ensures { Takes proof_view result reader.new ((proof_ops (record {
-      commitment = Com.bytes;
-      challenge = Challenge.bytes;
-      opening = PcsProof.bytes;
-      value = Val.bytes;
-    })).reading reader.old) }
+    ensures { Takes proof_view result reader.new ((proof_ops
+        (codecs Com.bytes Challenge.bytes PcsProof.bytes Val.bytes)).reading reader.old) }
 {
     let commitments = Commitments::read_from(alloc, &mut *reader)?;
     let opened_values = read_openings(alloc, &mut *reader)?;
@@ -148,4 +141,26 @@ fn read_proof<
         ood_pow_witness,
         alpha_pow_witness,
     })
+}
+
+/// Appends the parts of a proof.
+pub(crate) fn write_proof<
+    Com: BytesCodec + Drop,
+    Challenge: BytesCodec,
+    PcsProof: BytesCodec,
+    Val: BytesCodec,
+>(proof: &Proof<Com, Challenge, PcsProof, Val>, out: &mut Vec<u8>) -> Result<(), AllocError>
+    ensures written { OnOk result (out.new.items ≡ out.old.items ++ (proof_ops
+        (codecs Com.bytes Challenge.bytes PcsProof.bytes Val.bytes)).writing
+        (proof_view proof.now)) }
+    ensures fits { OnOk result ((proof_ops
+        (codecs Com.bytes Challenge.bytes PcsProof.bytes Val.bytes)).fits
+        (proof_view proof.now) ≡ true) }
+{
+    proof.commitments.write_to(&mut *out)?;
+    write_openings(&proof.opened_values, &mut *out)?;
+    proof.opening_proof.write_to(&mut *out)?;
+    write_number(proof.degree_bits, &mut *out)?;
+    proof.ood_pow_witness.write_to(&mut *out)?;
+    proof.alpha_pow_witness.write_to(out)
 }

@@ -1,6 +1,6 @@
 //! Bytes that are read from the front.
 ghost use Rattle.std.specs.Prelude.{◌≡◌, length};
-ghost use Rattle.stark_proof_bytes.specs.Bytes.{Takes, byte_reading, bytes_reading, count_reading, flag_reading, number_reading};
+ghost use Rattle.stark_proof_bytes.specs.Bytes.{Takes, byte_reading, bytes_reading, count_reading, flag_reading, number_reading, prefix_reading};
 
 use crate::fault::BytesFault;
 use std::marker::Model;
@@ -43,6 +43,17 @@ impl<'a> ByteReader<'a> {
         };
         self.bytes = rest;
         Ok(*front)
+    }
+
+    /// Passes bytes that have to come next; `Magic` where others do.
+    pub fn next_prefix(&mut self, prefix: &[u8]) -> Result<(), BytesFault>
+        ensures { Takes (λ x. x) result self.new (prefix_reading prefix.now self.old) }
+    {
+        if !self.bytes.starts_with(prefix) {
+            return Err(BytesFault::Magic);
+        }
+        self.bytes = &self.bytes[prefix.len()..];
+        Ok(())
     }
 
     /// The next byte; `Truncated` where none is left.

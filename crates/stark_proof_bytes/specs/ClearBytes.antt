@@ -1,5 +1,5 @@
 -- What the scheme in the clear commits to and proves by, as bytes.
-use Rattle.std.specs.Prelude.{◌≡◌, ◌==◌, ◌≤◌, Bool, true, false, if◌then◌else◌, ℕ, List, [], ◌∷◌, ◌++◌, length, Result, Ok, Err, refl}
+use Rattle.std.specs.Prelude.{◌≡◌, ◌==◌, Bool, true, false, if◌then◌else◌, ℕ, List, [], ◌∷◌, ◌++◌, Result, Ok, Err, refl}
 use Rattle.std.proofs.Common.{arith}
 use Rattle.std.proofs.lemmas.Bool.Decides.{nat_tests}
 use Rattle.stark_clear.specs.declared.clear.pcs.ClearProof.{ClearProof}

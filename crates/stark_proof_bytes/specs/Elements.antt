@@ -1,5 +1,5 @@
 -- Elements of the fields as bytes.
-use Rattle.std.specs.Prelude.{◌≡◌, ℕ, ◌<◌, ◌≤◌, ◌^◌, Bool, true, false, nat_lt, if◌then◌else◌, List, ◌++◌, length, Result, Ok, Err, refl}
+use Rattle.std.specs.Prelude.{◌≡◌, ℕ, ◌<◌, ◌^◌, Bool, true, false, nat_lt, if◌then◌else◌, List, ◌++◌, length, Result, Ok, Err, refl}
 use Rattle.std.specs.Int.{w32, from_be_bytes, to_be_bytes}
 use Rattle.std.proofs.Common.{◌∙◌, sym, ap, subst, arith}
 use Rattle.std.proofs.lemmas.Nat.{be_bytes_4, from_be_bytes-to_be_bytes_4}
@@ -14,7 +14,7 @@ use Rattle.stark_fields.specs.Ext4Field.{ext4}
 use Rattle.stark_proof_bytes.specs.declared.fault.BytesFault.{BytesFault}
 use Rattle.stark_proof_bytes.specs.declared.fault.BytesFault.TheVariants.{OutOfRange}
 use Rattle.stark_proof_bytes.specs.Bytes.{AreBytes, BytesLaws, BytesOps, bytes_reading, pair_ops, turned_ops, ◌>>=◌}
-use Rattle.stark_proof_bytes.specs.BytesFacts.{IsFront, bytes_before, front_is, front_read, pair_laws, same_ok, step_of, turned_laws}
+use Rattle.stark_proof_bytes.specs.BytesFacts.{bytes_before, front_is, front_read, pair_laws, same_ok, step_of, turned_laws}
 
 -- 4 bytes, the high one first
 unfoldable pub small_number : ℕ → List ℕ

@@ -1,6 +1,5 @@
 -- Proofs of FRI as bytes: the parts in the order of their fields.
 use Rattle.std.specs.Prelude.{List, refl}
-use Rattle.stark_merkle.specs.declared.root.Root.{Root}
 use Rattle.stark_fri_proof.specs.Parts.{FriProofView, InputOpening, QueryProof}
 use Rattle.stark_fri_proof.specs.declared.proof.LayerOpening.{LayerOpening}
 use Rattle.stark_fri_proof.specs.declared.proof.Phase.{Phase}

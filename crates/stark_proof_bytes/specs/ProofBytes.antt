@@ -1,5 +1,5 @@
 -- Whole proofs as bytes: the text that tells kind and version, and the parts in the order of their fields.
-use Rattle.std.specs.Prelude.{◌≡◌, ◌≤◌, ◌&&◌, Bool, true, false, if◌then◌else◌, ℕ, List, [], ◌∷◌, ◌++◌, length, drop, codes, IfSome, Option, Result, Ok, Err, refl, ⊤, nat_eq}
+use Rattle.std.specs.Prelude.{◌≡◌, Bool, true, false, if◌then◌else◌, ℕ, List, [], ◌∷◌, ◌++◌, length, drop, codes, IfSome, Option, Result, Ok, Err, refl, ⊤, nat_eq}
 use Rattle.std.specs.List.{starts_with}
 use Rattle.std.proofs.Common.{◌∙◌, ap, arith, sym}
 use Rattle.std.proofs.lemmas.Bool.Decides.{Decides-eqb}
@@ -106,9 +106,15 @@ module _ {K E P F : Type 0} (ops : ProofCodecs K E P F) where
   proof_ops = turned_ops (λ x. (x.commitments, (x.opened_values, (x.opening_proof, (x.degree_bits, (x.ood_pow_witness, x.alpha_pow_witness))))))
       (λ p. record { commitments = p.0; opened_values = p.1.0; opening_proof = p.1.1.0; degree_bits = p.1.1.1.0; ood_pow_witness = p.1.1.1.1.0; alpha_pow_witness = p.1.1.1.1.1 }) proof_parts
 
+  abbrev pub proof_body : ProofView K E P F → List ℕ
+  proof_body proof = proof_ops.writing proof
+
+  abbrev pub proof_fits : ProofView K E P F → Bool
+  proof_fits proof = proof_ops.fits proof
+
   -- the bytes of a file
   abbrev pub proof_writing : ProofView K E P F → List ℕ
-  proof_writing proof = magic ++ proof_ops.writing proof
+  proof_writing proof = magic ++ proof_body proof
 
   abbrev pub proof_front : List ℕ → Result (ProofView K E P F × List ℕ) BytesFault
   proof_front bytes = magic_reading bytes >>= λ begun rest. proof_ops.reading rest

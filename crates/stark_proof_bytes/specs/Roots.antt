@@ -1,5 +1,5 @@
 -- Roots as bytes.
-use Rattle.std.specs.Prelude.{◌≡◌, ℕ, zero, suc, ◌<◌, ◌≤◌, ◌%◌, true, List, [], ◌∷◌, ◌++◌, ◌^◌, ◌&&◌, Bool, length, nat_lt, slice_index, drop, flat_map, Result, Ok, Err, refl}
+use Rattle.std.specs.Prelude.{◌≡◌, ℕ, zero, suc, ◌<◌, ◌%◌, true, List, [], ◌∷◌, ◌++◌, ◌^◌, ◌&&◌, length, nat_lt, slice_index, drop, flat_map, Result, Ok, refl}
 use Rattle.std.specs.List.{list_all}
 use Rattle.stark_support.specs.Seed.{number}
 use Rattle.std.proofs.Common.{◌∙◌, sym, ap, subst, arith}

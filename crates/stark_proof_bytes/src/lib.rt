@@ -11,6 +11,8 @@ mod options;
 mod proof;
 mod reader;
 mod roots;
+#[cfg(test)]
+mod tests;
 mod whole;
 
 pub use codec::BytesCodec;

@@ -2,7 +2,7 @@
 ghost use Rattle.std.specs.Prelude.{◌≡◌, ◌++◌, OnOk, option_map, true};
 ghost use Rattle.stark_proof.specs.ProofView.{openings_view, preprocessed_view, proof_view};
 ghost use Rattle.stark_proof_bytes.specs.Bytes.{Takes, option_ops};
-ghost use Rattle.stark_proof_bytes.specs.ProofBytes.{codecs, commitments_laws, commitments_ops, openings_ops, preprocessed_ops, proof_ops};
+ghost use Rattle.stark_proof_bytes.specs.ProofBytes.{codecs, commitments_laws, commitments_ops, openings_ops, preprocessed_ops, proof_body, proof_fits, proof_ops};
 
 use crate::codec::BytesCodec;
 use crate::fault::BytesFault;
@@ -59,7 +59,8 @@ fn write_preprocessed<E: BytesCodec>(
     out: &mut Vec<u8>,
 ) -> Result<(), AllocError>
     ensures written { OnOk result (out.new.items ≡ out.old.items
-        ++ (option_ops (preprocessed_ops E.bytes)).writing (option_map preprocessed_view rows.now)) }
+        ++ (option_ops (preprocessed_ops E.bytes)).writing
+        (option_map preprocessed_view rows.now)) }
     ensures fits { OnOk result ((option_ops (preprocessed_ops E.bytes)).fits
         (option_map preprocessed_view rows.now) ≡ true) }
 {
@@ -150,12 +151,11 @@ pub(crate) fn write_proof<
     PcsProof: BytesCodec,
     Val: BytesCodec,
 >(proof: &Proof<Com, Challenge, PcsProof, Val>, out: &mut Vec<u8>) -> Result<(), AllocError>
-    ensures written { OnOk result (out.new.items ≡ out.old.items ++ (proof_ops
-        (codecs Com.bytes Challenge.bytes PcsProof.bytes Val.bytes)).writing
-        (proof_view proof.now)) }
-    ensures fits { OnOk result ((proof_ops
-        (codecs Com.bytes Challenge.bytes PcsProof.bytes Val.bytes)).fits
-        (proof_view proof.now) ≡ true) }
+    ensures written { OnOk result (out.new.items ≡ out.old.items ++ proof_body
+        (codecs Com.bytes Challenge.bytes PcsProof.bytes Val.bytes) (proof_view proof.now)) }
+    ensures fits { OnOk result (proof_fits
+        (codecs Com.bytes Challenge.bytes PcsProof.bytes Val.bytes) (proof_view proof.now)
+        ≡ true) }
 {
     proof.commitments.write_to(&mut *out)?;
     write_openings(&proof.opened_values, &mut *out)?;

@@ -1,9 +1,8 @@
-use Rattle.std.proofs.Common.{◌≡◌, ◌∙◌, ◌+◌, ◌-◌, ◌++◌, [], ◌∷◌, Err, ap, arith, map, rules, suc, sym}
+use Rattle.std.proofs.Common.{◌≡◌, ◌∙◌, ◌+◌, ◌-◌, ◌++◌, [], ◌∷◌, Err, ap, arith, rules, suc, sym}
 use Rattle.std.specs.Prelude.{IfSome}
 use Rattle.std.proofs.lemmas.Grind.{common_steps}
-use Rattle.stark_merkle.specs.Tree.{items_of}
-use Rattle.stark_proof_bytes.specs.Bytes.{behind, each_reading, list_ops, list_reading, named}
-use Rattle.stark_proof_bytes.specs.BytesFacts.{all_read, list_laws, no_more, one_more, told_more}
+use Rattle.stark_proof_bytes.specs.Bytes.{behind, each_reading, list_reading, named}
+use Rattle.stark_proof_bytes.specs.BytesFacts.{all_read, no_more, one_more, told_more}
 use Rattle.stark_proof_bytes.proofs.lists.read_list.Goals as goal
 
 pub returns-in_err-value : goal.returns-in_err-value

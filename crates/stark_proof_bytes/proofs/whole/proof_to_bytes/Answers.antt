@@ -1,5 +1,4 @@
 use Rattle.std.proofs.Common.{◌≡◌, ◌∙◌, ap, rules}
-use Rattle.std.proofs.lemmas.Grind.{common_steps}
 use Rattle.stark_proof.specs.ProofView.{proof_view}
 use Rattle.stark_proof_bytes.specs.ProofBytes.{ProofCodecsLaws, codecs, proof_reading, proof_writing, written_is_read}
 use Rattle.stark_proof_bytes.proofs.whole.proof_to_bytes.Goals as goal

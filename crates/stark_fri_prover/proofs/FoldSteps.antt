@@ -85,6 +85,7 @@ module _ {F E : Type 0} (number_of : F → ℕ) (coordinates : E → List F) (ze
       → IsLayerOf number_of coordinates zero hash left phase.root layer → next ≡ left - 1 → LayersSoFar log_size left phases layers → LayersSoFar log_size next later more
   layer_more log_size left next phases later layers more phase layer pushed pushed_too here half so_far =
       let number = length-append layers (layer ∷ []) in
-      subst (λ t. LayersSoFar log_size next t more) (sym pushed) (subst (λ t. LayersSoFar log_size next (phases ++ phase ∷ []) t) (sym pushed_too)
-      (one_layer_more log_size phases layers phase layer so_far.0 (subst (λ n. IsLayerOf number_of coordinates zero hash n phase.root layer) so_far.1 here),
-      omega (arith, number, half, so_far.1)))
+      subst (λ t. LayersSoFar log_size next t more) (sym pushed) (subst (λ t. LayersSoFar log_size next (phases ++ phase ∷ []) t) (sym pushed_too) (
+        one_layer_more log_size phases layers phase layer so_far.0 (subst (λ n. IsLayerOf number_of coordinates zero hash n phase.root layer) so_far.1 here),
+        omega (arith, number, half, so_far.1),
+      ))

@@ -1,5 +1,5 @@
 -- The trees over the pairs of a word, and what a query opens of them.
-use Rattle.std.specs.Prelude.{◌≡◌, ℕ, ◌+◌, ◌-◌, ◌/◌, ◌<◌, ◌≤◌, ⊤, List, [], ◌∷◌, length, map, get_or, slice_index_or, Some}
+use Rattle.std.specs.Prelude.{◌≡◌, ℕ, ◌+◌, ◌-◌, ◌*◌, ◌/◌, cond, ltb, ◌<◌, ◌≤◌, ⊤, List, [], ◌∷◌, length, map, get_or, slice_index_or, Some}
 use Rattle.std.specs.List.{range_with_len, slice_get}
 use Rattle.stark_fri_proof.specs.Paths.{digests_of}
 use Rattle.stark_fri_proof.specs.declared.proof.LayerOpening.{LayerOpening}
@@ -57,3 +57,27 @@ module _ {F E : Type 0} (number_of : F → ℕ) (coordinates : E → List F) (ze
   AreLayersOf log_size [] (layer ∷ layers) = ⊥
   AreLayersOf log_size (phase ∷ phases) [] = ⊥
   AreLayersOf log_size (phase ∷ phases) (layer ∷ layers) = IsLayerOf log_size phase.root layer × AreLayersOf (log_size - 1) phases layers
+
+-- Where a place of a word of so many pairs leads: the pair's place.
+abbrev pub pair_place : ℕ → ℕ → ℕ
+pair_place half place = cond (ltb place half) place (place - half)
+
+module _ {E : Type 0} where
+  abbrev pub half_of : Layer E → ℕ
+  half_of layer = length layer.values.items / 2
+
+  -- Each layer has the place that the way from this one comes to.
+  unfoldable pub HavePlaces : List (Layer E) → ℕ → Type 0
+  HavePlaces [] place = ⊤
+  HavePlaces (layer ∷ layers) place = (place < half_of layer * 2) × HavePlaces layers (pair_place (half_of layer) place)
+
+  -- On the way through the layers these are opened.
+  unfoldable pub OpenWay : List (Layer E) → ℕ → List (LayerOpening E) → Type 0
+  OpenWay [] place [] = ⊤
+  OpenWay [] place (opening ∷ opened) = ⊥
+  OpenWay (layer ∷ layers) place [] = ⊥
+  OpenWay (layer ∷ layers) place (opening ∷ opened) =
+      OpensPlace layer.values.items (digests_in layer.tree.items) place opening × OpenWay layers (pair_place (half_of layer) place) opened
+
+  abbrev pub OpensWay : List (Layer E) → ℕ → List (LayerOpening E) → Type 0
+  OpensWay layers place opened = HavePlaces layers place → OpenWay layers place opened

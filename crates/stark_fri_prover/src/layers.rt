@@ -1,7 +1,7 @@
 //! The layers of a folding: the words that are folded, and the trees over their pairs.
 ghost use Rattle.std.specs.Prelude.{◌≡◌, ◌+◌, ◌*◌, ◌/◌, ◌<◌, ◌≤◌, IfOk, IfSome, IsSome, length};
 ghost use Rattle.stark_merkle.specs.Tree.{digests_in};
-ghost use Rattle.stark_fri_prover.specs.Layers.{AreFourLeaves, IsLayerOf, OpensPlace, pair_leaves_of, pair_of};
+ghost use Rattle.stark_fri_prover.specs.Layers.{AreFourLeaves, IsLayerOf, OpensPlace, OpensWay, pair_leaves_of, pair_of, pair_place};
 
 use crate::commit::path_or_none;
 use stark_bench::Coset;
@@ -174,22 +174,28 @@ fn open_layer<EF: Copy>(
     }))
 }
 
+/// The place of a place's pair, in a word of so many pairs.
+fn pair_place(half: usize, place: usize) -> usize
+    ensures { result ≡ pair_place half place }
+{
+    if place < half { place } else { place - half }
+}
+
 /// What a query opens of the layers on its way.
 pub(crate) fn open_layers<EF: Copy>(
     alloc: Global,
     layers: &[Layer<EF>],
     start: usize,
-) -> Result<Vec<LayerOpening<EF>>, AllocError> {
+) -> Result<Vec<LayerOpening<EF>>, AllocError>
+    ensures { IfOk result (λ opened. OpensWay layers.now start opened.items) }
+{
     let mut opened = Vec::new(alloc);
     let mut place = start;
     for layer in layers {
         if let Some(opening) = open_layer(alloc, layer, place)? {
             opened.push(opening)?;
         }
-        let half = layer.values.len() / 2;
-        if place >= half {
-            place -= half;
-        }
+        place = pair_place(layer.values.len() / 2, place);
     }
     Ok(opened)
 }

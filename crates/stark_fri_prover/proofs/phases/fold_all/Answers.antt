@@ -22,13 +22,12 @@ loop-fold-preserved g c =
     let bits = c.args.bits in
     let state = c.loop-fold.challenger in
     let one = subst (λ r. IfSome r (λ made. IsFold sponge ring bits state c.fold.new.challenger c.deref.result.now made.1 made.2.items)) c.in-Some.is c.in_ok-folded.ensures.folded in
-    let layer = subst (λ r. IfSome r (CommitsLayer number_of coordinates ring.zero hash c.loop-fold.coset.log_size)) c.in-Some.is c.in_ok-folded.ensures.layer in
-    (
+    let layer = subst (λ r. IfSome r (CommitsLayer number_of coordinates ring.zero hash c.loop-fold.coset.log_size)) c.in-Some.is c.in_ok-folded.ensures.layer in (
       one_more_fold sponge bits ring c.args.challenger.now c.args.polynomial.items c.loop-fold._fold state c.fold.new.challenger c.loop-fold.phases.items c.push-in-loop-fold.new.self.items
-      c.loop-fold.last.items c.in-Some.half.items c.in-Some.phase c.in_ok-push-2.ensures.items
-      (subst (λ t. IsFold sponge ring bits state c.fold.new.challenger t c.in-Some.phase c.in-Some.half.items) c.deref.ensures.value one) c.loop-fold.invariant.0,
+          c.loop-fold.last.items c.in-Some.half.items c.in-Some.phase c.in_ok-push-2.ensures.items
+          (subst (λ t. IsFold sponge ring bits state c.fold.new.challenger t c.in-Some.phase c.in-Some.half.items) c.deref.ensures.value one) c.loop-fold.invariant.0,
       layer_more number_of coordinates ring.zero hash c.args.domain.log_size c.loop-fold.coset.log_size _ c.loop-fold.phases.items c.push-in-loop-fold.new.self.items
-      c.loop-fold.layers.items _ c.in-Some.phase c.in-Some.layer c.in_ok-push-2.ensures.items c.in_ok-push.ensures.items layer c.squares-coset.ensures c.loop-fold.invariant.1,
+          c.loop-fold.layers.items _ c.in-Some.phase c.in-Some.layer c.in_ok-push-2.ensures.items c.in_ok-push.ensures.items layer c.squares-coset.ensures c.loop-fold.invariant.1,
     )
 
 pub returns-clause-folded : goal.returns-clause-folded

@@ -5,7 +5,11 @@ use Rattle.stark_fri_proof.specs.Paths.{digests_of}
 use Rattle.stark_fri_proof.specs.declared.proof.LayerOpening.{LayerOpening}
 use Rattle.stark_fri_proof.specs.declared.proof.Phase.{Phase}
 use Rattle.stark_fri_prover.specs.declared.layers.Layer.{Layer}
-use Rattle.stark_fri_prover.specs.Commit.{IsPathOrNone}
+use Rattle.std.specs.Borrow.{Bor}
+use Rattle.stark_fri_proof.specs.Parts.{InputOpening}
+use Rattle.stark_support.specs.Faults.{PlaceByPlace}
+use Rattle.stark_support.specs.declared.matrix.RowMajorMatrix.{RowMajorMatrix}
+use Rattle.stark_fri_prover.specs.Commit.{HaveRow, IsPathOrNone, row_of}
 use Rattle.stark_merkle.specs.Bytes.{pair_bytes_of}
 use Rattle.stark_merkle.specs.declared.root.Root.{Root}
 use Rattle.stark_merkle.specs.Tree.{digests_in, layers_from, leaf_of, node_of, top_of}
@@ -81,3 +85,14 @@ module _ {E : Type 0} where
 
   abbrev pub OpensWay : List (Layer E) → ℕ → List (LayerOpening E) → Type 0
   OpensWay layers place opened = HavePlaces layers place → OpenWay layers place opened
+
+-- ---- rows
+
+-- Where each matrix has the row it is opened, with the path of its place.
+pub record OpensRow {F : Type 0} (place : ℕ) (extended : List (RowMajorMatrix F)) (layers : List (List (List ℕ))) (opened : InputOpening F) : Type 0 where
+  pub rows : HaveRow place extended → opened.rows ≡ map (row_of place) extended
+  pub path : HaveRow place extended → IsPathOrNone layers place (digests_of opened.path)
+
+-- The same of each round's data in memory.
+abbrev pub OpensRows : {F T X : Type 0} → (T → List (RowMajorMatrix F)) → (T → List (List (List ℕ))) → ℕ → List (Bor T × X) → List (InputOpening F) → Type 0
+OpensRows extended_of layers_of place rounds opened = PlaceByPlace (λ round input. OpensRow place (extended_of round.0.now) (layers_of round.0.now) input) rounds opened

@@ -6,7 +6,7 @@ use Rattle.stark_fri_proof.specs.declared.proof.LayerOpening.{LayerOpening}
 use Rattle.stark_fri_proof.specs.declared.proof.Phase.{Phase}
 use Rattle.stark_fri_prover.specs.declared.layers.Layer.{Layer}
 use Rattle.std.specs.Borrow.{Bor}
-use Rattle.stark_fri_proof.specs.Parts.{InputOpening}
+use Rattle.stark_fri_proof.specs.Parts.{InputOpening, QueryProof}
 use Rattle.stark_support.specs.Faults.{PlaceByPlace}
 use Rattle.stark_support.specs.declared.matrix.RowMajorMatrix.{RowMajorMatrix}
 use Rattle.stark_fri_prover.specs.Commit.{HaveRow, IsPathOrNone, row_of}
@@ -96,3 +96,11 @@ pub record OpensRow {F : Type 0} (place : ℕ) (extended : List (RowMajorMatrix 
 -- The same of each round's data in memory.
 abbrev pub OpensRows : {F T X : Type 0} → (T → List (RowMajorMatrix F)) → (T → List (List (List ℕ))) → ℕ → List (Bor T × X) → List (InputOpening F) → Type 0
 OpensRows extended_of layers_of place rounds opened = PlaceByPlace (λ round input. OpensRow place (extended_of round.0.now) (layers_of round.0.now) input) rounds opened
+
+-- At each place a row of each round, and what the way through the layers opens.
+module _ {F E T X : Type 0} (extended_of : T → List (RowMajorMatrix F)) (layers_of : T → List (List (List ℕ))) (rounds : List (Bor T × X)) (layers : List (Layer E)) where
+  abbrev pub OpensAt : ℕ → QueryProof F E → Type 0
+  OpensAt place query = OpensRows extended_of layers_of place rounds query.inputs × OpensWay layers place query.layers
+
+  abbrev pub OpensEach : List ℕ → List (QueryProof F E) → Type 0
+  OpensEach places queries = PlaceByPlace OpensAt places queries

@@ -7,7 +7,7 @@ ghost use Rattle.stark_fri.specs.Accept.{Accepted};
 ghost use Rattle.stark_fri.specs.Scheme.{OpeningRefused, instance_of, own_rounds};
 ghost use Rattle.stark_merkle.specs.Tree.{digests_in};
 ghost use Rattle.stark_fri_prover.specs.Commit.{data_seen};
-ghost use Rattle.stark_fri_prover.specs.Layers.{OpensRows, OpensWay};
+ghost use Rattle.stark_fri_prover.specs.Layers.{OpensEach, OpensRows, OpensWay};
 ghost use Rattle.stark_fri_prover.specs.OwnClaims.{opened_rounds, RefusesOwn};
 ghost use Rattle.stark_fri.specs.Found.{AcceptsRounds};
 
@@ -76,7 +76,10 @@ fn open_queries<F: TwoAdicField, EF: ExtensionField<F>>(
     rounds: &[OpeningRound<'_, EF, FriData<F>>],
     layers: &[Layer<EF>],
     places: &[usize],
-) -> Result<Vec<QueryProof<F, EF>>, AllocError> {
+) -> Result<Vec<QueryProof<F, EF>>, AllocError>
+    ensures { IfOk result (λ queries. OpensEach (λ d. d.extended.items)
+        (λ d. digests_in d.layers.items) rounds.now layers.now places.now queries.items) }
+{
     let mut queries = Vec::with_capacity(alloc, places.len())?;
     for place in places {
         let query = open_query(alloc, rounds, layers, *place)?;

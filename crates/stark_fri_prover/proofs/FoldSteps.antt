@@ -1,5 +1,5 @@
 -- One fold more.
-use Rattle.std.proofs.Common.{◌≡◌, ◌∙◌, ℕ, ◌+◌, List, [], ◌∷◌, ◌++◌, ap, arith, length, refl, subst, sym}
+use Rattle.std.proofs.Common.{◌≡◌, ◌∙◌, ℕ, suc, ◌+◌, ◌-◌, List, [], ◌∷◌, ◌++◌, ap, arith, length, refl, subst, sym}
 use Rattle.std.proofs.lemmas.List.{length-append}
 use Rattle.std.specs.List.{AllByRecursion}
 use Rattle.stark_support.specs.Ring.{RingOps}
@@ -9,6 +9,8 @@ use Rattle.stark_fri.specs.Parts.{SpongeCalls}
 use Rattle.stark_fri.specs.Transcript.{Passes, after_phases, asked, betas_of, checks_of, worked}
 use Rattle.stark_fri_proof.specs.declared.proof.Phase.{Phase}
 use Rattle.stark_fri_prover.specs.Folds.{AreFolds, IsFold}
+use Rattle.stark_fri_prover.specs.Layers.{AreLayersOf, IsLayerOf}
+use Rattle.stark_fri_prover.specs.declared.layers.Layer.{Layer}
 
 folded_by_one_more : {E : Type 0} (ring : RingOps E) (betas : List E) (beta : E) (p : List E) → folded_all ring (betas ++ beta ∷ []) p ≡ folded ring beta (folded_all ring betas p)
 unfolding folded_all
@@ -53,3 +55,37 @@ module _ {C F E : Type 0} (sponge : SpongeCalls C F E) (bits : ℕ) where
               ∙ ap (λ t. folded_all ring t polynomial) (sym (betas_of_one_more before phases phase));
           state = one.state ∙ ap (λ s. sponge.after_draw (worked sponge bits s phase)) here ∙ sym (after_one_more before phases phase);
         })
+
+-- ---- layers
+
+module _ {F E : Type 0} (number_of : F → ℕ) (coordinates : E → List F) (zero : E) (hash : List ℕ → List ℕ) where
+  abbrev Are : ℕ → List (Phase F) → List (Layer E) → Type 0
+  Are log_size phases layers = AreLayersOf number_of coordinates zero hash log_size phases layers
+
+  -- The layers so far, and the size of the coset behind them.
+  abbrev pub LayersSoFar : ℕ → ℕ → List (Phase F) → List (Layer E) → Type 0
+  LayersSoFar log_size left phases layers = Are log_size phases layers × (left ≡ log_size - length layers)
+
+  pub no_layers : (log_size : ℕ) (phases : List (Phase F)) (layers : List (Layer E)) → phases ≡ [] → layers ≡ [] → LayersSoFar log_size log_size phases layers
+  unfolding AreLayersOf
+  no_layers log_size phases layers none none_either =
+      subst (λ t. LayersSoFar log_size log_size t layers) (sym none) (subst (λ t. LayersSoFar log_size log_size [] t) (sym none_either) (tt, omega arith))
+
+  one_layer_more : (log_size : ℕ) (phases : List (Phase F)) (layers : List (Layer E)) (phase : Phase F) (layer : Layer E) → Are log_size phases layers
+      → IsLayerOf number_of coordinates zero hash (log_size - length layers) phase.root layer → Are log_size (phases ++ phase ∷ []) (layers ++ layer ∷ [])
+  unfolding AreLayersOf
+  one_layer_more log_size [] [] phase layer all here = (subst (λ n. IsLayerOf number_of coordinates zero hash n phase.root layer) (omega arith) here, tt)
+  one_layer_more log_size [] (l ∷ layers) phase layer all here = absurd all
+  one_layer_more log_size (p ∷ phases) [] phase layer all here = absurd all
+  one_layer_more log_size (p ∷ phases) (l ∷ layers) phase layer all here =
+      let fewer : log_size - suc (length layers) ≡ log_size - 1 - length layers = omega arith in
+      (all.0, one_layer_more (log_size - 1) phases layers phase layer all.1 (subst (λ n. IsLayerOf number_of coordinates zero hash n phase.root layer) fewer here))
+
+  pub layer_more : (log_size left next : ℕ) (phases later : List (Phase F)) (layers more : List (Layer E)) (phase : Phase F) (layer : Layer E) → later ≡ phases ++ phase ∷ [] → more ≡ layers ++ layer ∷ []
+      → IsLayerOf number_of coordinates zero hash left phase.root layer → next ≡ left - 1 → LayersSoFar log_size left phases layers → LayersSoFar log_size next later more
+  layer_more log_size left next phases later layers more phase layer pushed pushed_too here half so_far =
+      let number = length-append layers (layer ∷ []) in
+      subst (λ t. LayersSoFar log_size next t more) (sym pushed) (subst (λ t. LayersSoFar log_size next (phases ++ phase ∷ []) t) (sym pushed_too) (
+        one_layer_more log_size phases layers phase layer so_far.0 (subst (λ n. IsLayerOf number_of coordinates zero hash n phase.root layer) so_far.1 here),
+        omega (arith, number, half, so_far.1),
+      ))

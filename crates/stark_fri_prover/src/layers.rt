@@ -1,5 +1,7 @@
 //! The layers of a folding: the words that are folded, and the trees over their pairs.
-ghost use Rattle.std.specs.Prelude.{◌≡◌, length};
+ghost use Rattle.std.specs.Prelude.{◌≡◌, ◌+◌, ◌*◌, ◌/◌, ◌<◌, ◌≤◌, IfOk, IfSome, IsSome, length};
+ghost use Rattle.stark_merkle.specs.Tree.{digests_in};
+ghost use Rattle.stark_fri_prover.specs.Layers.{AreFourLeaves, IsLayerOf, OpensPlace, OpensWay, pair_leaves_of, pair_of, pair_place};
 
 use crate::commit::path_or_none;
 use stark_bench::Coset;
@@ -68,19 +70,35 @@ fn values_of<F: TwoAdicField, EF: ExtensionField<F>>(
     elements_of(alloc, &rows.values, domain.size())
 }
 
-/// The leaves over four pairs.
+/// The bytes of the pair at a place: of the value there and the one half the word further.
+fn pair_at<F: PrimeField64, EF: ExtensionField<F>>(
+    alloc: Global,
+    values: &[EF],
+    half: usize,
+    place: usize,
+) -> Result<Vec<u8>, AllocError>
+    requires { half + place < length values.now }
+    ensures { IfOk result (λ bytes. bytes.items
+        ≡ pair_of F.number_of EF.coordinates EF.ring.zero values.now half place) }
+{
+    pair_bytes::<F, EF>(alloc, values[place], values[half + place])
+}
+
+/// The leaves over four pairs, from the place on.
 fn four_pair_leaves<F: PrimeField64, EF: ExtensionField<F>, H: TreeHash>(
     alloc: Global,
-    firsts: &[EF],
-    seconds: &[EF],
+    values: &[EF],
+    half: usize,
+    place: usize,
 ) -> Result<[[u8; 32]; 4], AllocError>
-    requires firsts { length firsts.now ≡ 4 }
-    requires seconds { length seconds.now ≡ 4 }
+    requires { half + place + 4 ≤ length values.now }
+    ensures { IfOk result (AreFourLeaves F.number_of EF.coordinates EF.ring.zero H.digest_of
+        values.now half place) }
 {
-    let one = pair_bytes::<F, EF>(alloc, firsts[0], seconds[0])?;
-    let two = pair_bytes::<F, EF>(alloc, firsts[1], seconds[1])?;
-    let three = pair_bytes::<F, EF>(alloc, firsts[2], seconds[2])?;
-    let four = pair_bytes::<F, EF>(alloc, firsts[3], seconds[3])?;
+    let one = pair_at::<F, EF>(alloc, values, half, place)?;
+    let two = pair_at::<F, EF>(alloc, values, half, place + 1)?;
+    let three = pair_at::<F, EF>(alloc, values, half, place + 2)?;
+    let four = pair_at::<F, EF>(alloc, values, half, place + 3)?;
     Ok(four_leaves::<H>([&one, &two, &three, &four]))
 }
 
@@ -88,21 +106,21 @@ fn four_pair_leaves<F: PrimeField64, EF: ExtensionField<F>, H: TreeHash>(
 fn pair_leaves<F: PrimeField64, EF: ExtensionField<F>, H: TreeHash>(
     alloc: Global,
     values: &[EF],
-) -> Result<Vec<[u8; 32]>, AllocError> {
+) -> Result<Vec<[u8; 32]>, AllocError>
+    ensures { IfOk result (λ leaves. leaves.items
+        ≡ pair_leaves_of F.number_of EF.coordinates EF.ring.zero H.digest_of values.now) }
+{
     let half = values.len() / 2;
     let mut leaves = Vec::with_capacity(alloc, half)?;
     let groups = half / 4;
     for group in 0..groups {
-        let at = 4 * group;
-        let firsts = &values[at..at + 4];
-        let seconds = &values[half + at..half + at + 4];
-        let four = four_pair_leaves::<F, EF, H>(alloc, firsts, seconds)?;
+        let four = four_pair_leaves::<F, EF, H>(alloc, values, half, 4 * group)?;
         for j in 0..4 {
             leaves.push(four[j])?;
         }
     }
-    for i in 4 * groups..half {
-        let bytes = pair_bytes::<F, EF>(alloc, values[i], values[i + half])?;
+    for place in 4 * groups..half {
+        let bytes = pair_at::<F, EF>(alloc, values, half, place)?;
         leaves.push(leaf::<H>(&bytes))?;
     }
     Ok(leaves)
@@ -113,7 +131,10 @@ pub(crate) fn layer_of<F: TwoAdicField + PrimeField64, EF: ExtensionField<F>, H:
     alloc: Global,
     polynomial: &[EF],
     domain: &Coset<F>,
-) -> Result<Option<(Root, Layer<EF>)>, AllocError> {
+) -> Result<Option<(Root, Layer<EF>)>, AllocError>
+    ensures { IfOk result (λ made. IfSome made (λ m. IsLayerOf F.number_of EF.coordinates
+        EF.ring.zero H.digest_of domain.now.log_size m.0 m.1)) }
+{
     let values = values_of(alloc, polynomial, domain)?;
     let leaves = pair_leaves::<F, EF, H>(alloc, &values)?;
     let tree = tree_layers::<H>(alloc, leaves, domain.log_size.saturating_sub(1))?;
@@ -128,7 +149,12 @@ fn open_layer<EF: Copy>(
     alloc: Global,
     layer: &Layer<EF>,
     place: usize,
-) -> Result<Option<LayerOpening<EF>>, AllocError> {
+) -> Result<Option<LayerOpening<EF>>, AllocError>
+    ensures opened { IfOk result (λ opened. IfSome opened
+        (OpensPlace layer.now.values.items (digests_in layer.now.tree.items) place)) }
+    ensures some { IfOk result (λ opened. place < length layer.now.values.items / 2 * 2
+        → IsSome opened) }
+{
     let half = layer.values.len() / 2;
     if place >= layer.values.len() {
         return Ok(None);
@@ -148,22 +174,28 @@ fn open_layer<EF: Copy>(
     }))
 }
 
+/// The place of a place's pair, in a word of so many pairs.
+fn pair_place(half: usize, place: usize) -> usize
+    ensures { result ≡ pair_place half place }
+{
+    if place < half { place } else { place - half }
+}
+
 /// What a query opens of the layers on its way.
 pub(crate) fn open_layers<EF: Copy>(
     alloc: Global,
     layers: &[Layer<EF>],
     start: usize,
-) -> Result<Vec<LayerOpening<EF>>, AllocError> {
+) -> Result<Vec<LayerOpening<EF>>, AllocError>
+    ensures { IfOk result (λ opened. OpensWay layers.now start opened.items) }
+{
     let mut opened = Vec::new(alloc);
     let mut place = start;
     for layer in layers {
         if let Some(opening) = open_layer(alloc, layer, place)? {
             opened.push(opening)?;
         }
-        let half = layer.values.len() / 2;
-        if place >= half {
-            place -= half;
-        }
+        place = pair_place(layer.values.len() / 2, place);
     }
     Ok(opened)
 }

@@ -5,7 +5,9 @@ ghost use Rattle.stark_support.specs.Claims.{IfRefused, opened_view, round_view,
 ghost use Rattle.stark_columns.specs.Columns.{columns_list};
 ghost use Rattle.stark_fri.specs.Accept.{Accepted};
 ghost use Rattle.stark_fri.specs.Scheme.{OpeningRefused, instance_of, own_rounds};
+ghost use Rattle.stark_merkle.specs.Tree.{digests_in};
 ghost use Rattle.stark_fri_prover.specs.Commit.{data_seen};
+ghost use Rattle.stark_fri_prover.specs.Layers.{OpensEach, OpensRows, OpensWay};
 ghost use Rattle.stark_fri_prover.specs.OwnClaims.{opened_rounds, RefusesOwn};
 ghost use Rattle.stark_fri.specs.Found.{AcceptsRounds};
 
@@ -54,7 +56,11 @@ fn open_query<F: TwoAdicField, EF: ExtensionField<F>>(
     rounds: &[OpeningRound<'_, EF, FriData<F>>],
     layers: &[Layer<EF>],
     place: usize,
-) -> Result<QueryProof<F, EF>, AllocError> {
+) -> Result<QueryProof<F, EF>, AllocError>
+    ensures rows { IfOk result (λ query. OpensRows (λ d. d.extended.items)
+        (λ d. digests_in d.layers.items) place rounds.now query.inputs) }
+    ensures way { IfOk result (λ query. OpensWay layers.now place query.layers) }
+{
     let mut inputs = Vec::new(alloc);
     for round in rounds {
         let input = round.0.open_at(alloc, place)?;
@@ -70,7 +76,10 @@ fn open_queries<F: TwoAdicField, EF: ExtensionField<F>>(
     rounds: &[OpeningRound<'_, EF, FriData<F>>],
     layers: &[Layer<EF>],
     places: &[usize],
-) -> Result<Vec<QueryProof<F, EF>>, AllocError> {
+) -> Result<Vec<QueryProof<F, EF>>, AllocError>
+    ensures { IfOk result (λ queries. OpensEach (λ d. d.extended.items)
+        (λ d. digests_in d.layers.items) rounds.now layers.now places.now queries.items) }
+{
     let mut queries = Vec::with_capacity(alloc, places.len())?;
     for place in places {
         let query = open_query(alloc, rounds, layers, *place)?;

@@ -1,6 +1,6 @@
 //! The folds' part of the transcript, as the prover plays it.
-ghost use Rattle.std.specs.Prelude.{◌≡◌, ◌-◌, IfOk, IfSome};
-ghost use Rattle.stark_fri_prover.specs.Folds.{AreFolds, IsFold, IsWitness};
+ghost use Rattle.std.specs.Prelude.{◌≡◌, ◌-◌, IfSome};
+ghost use Rattle.stark_fri_prover.specs.Folds.{CommitsLayer, CommitsLayers, IfMade, IsWitness, MakesFold, MakesFolds};
 
 use crate::layers::{Layer, layer_of};
 use stark_bench::Coset;
@@ -61,9 +61,10 @@ where
         + CanSample<EF>
         + CanSampleBits<usize>
         + GrindingChallenger<Witness = F>,
-    ensures { IfOk result (λ made. IfSome made (λ made.
-        IsFold ⟦<C as FriSponge<F, EF>>⟧.sponge_calls EF.ring bits challenger.old challenger.new
-        polynomial.now made.1 made.2.items)) }
+    ensures folded { IfMade result (MakesFold ⟦<C as FriSponge<F, EF>>⟧.sponge_calls EF.ring bits
+        challenger.old challenger.new polynomial.now) }
+    ensures layer { IfMade result (CommitsLayer F.number_of EF.coordinates EF.ring.zero H.digest_of
+        domain.now.log_size) }
 {
     let Some((root, layer)) = layer_of::<F, EF, H>(alloc, polynomial, domain)? else {
         return Ok(None);
@@ -96,9 +97,10 @@ where
         + CanSample<EF>
         + CanSampleBits<usize>
         + GrindingChallenger<Witness = F>,
-    ensures { IfOk result (λ made. IfSome made (λ made.
-        AreFolds ⟦<C as FriSponge<F, EF>>⟧.sponge_calls EF.ring bits count challenger.old
-        challenger.new polynomial.items made.phases.items made.last.items)) }
+    ensures folded { IfMade result (MakesFolds ⟦<C as FriSponge<F, EF>>⟧.sponge_calls EF.ring bits
+        count challenger.old challenger.new polynomial.items) }
+    ensures layers { IfMade result (CommitsLayers F.number_of EF.coordinates EF.ring.zero
+        H.digest_of domain.log_size) }
 {
     let mut layers = Vec::new(alloc);
     let mut phases = Vec::new(alloc);

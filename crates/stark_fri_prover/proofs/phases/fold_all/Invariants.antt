@@ -1,5 +1,6 @@
 use Rattle.stark_fri.specs.Parts.{SpongeCalls}
 use Rattle.stark_fri_prover.specs.Folds.{AreFolds}
+use Rattle.stark_fri_prover.proofs.FoldSteps.{LayersSoFar}
 use Rattle.stark_fri_prover.proofs.phases.fold_all.Given as goal
 
 abbrev pub sponge_of : (g : goal.Over) → SpongeCalls g.row.C.Denot g.row.F.Denot g.row.EF.Denot
@@ -20,4 +21,7 @@ sponge_of g = record {
 }
 
 abbrev pub invariant-loop-fold : goal.invariant-loop-fold
-invariant-loop-fold g l = AreFolds (sponge_of g) g.EF.Field.ring l.bits l._fold l.fn.challenger l.challenger l.fn.polynomial.items l.phases.items l.last.items
+invariant-loop-fold g l =
+    AreFolds (sponge_of g) g.EF.Field.ring l.bits l._fold l.fn.challenger l.challenger l.fn.polynomial.items l.phases.items l.last.items
+    × LayersSoFar g.F.PrimeField64.number_of g.EF.ExtensionField.coordinates g.EF.Field.ring.zero g.H.TreeHash.digest_of
+    l.fn.domain.log_size l.coset.log_size l.phases.items l.layers.items

@@ -15,7 +15,8 @@
  * Memory comes from malloc, realloc and free, and all of it is freed before a call returns; where memory is refused
  * the answer is 2. The library keeps no state, prints nothing, starts no thread, opens no file, and ends no process.
  * So it may be called from any thread, and from many at once; not from a signal handler, and not in the forked child
- * of a process with threads. A call takes less than 192 KB of stack. The code is for Linux on x86-64-v2.
+ * of a process with threads. A stack of 192 KB was enough wherever it was tried (examples/c/threads.c); that is not
+ * proved. The code is for Linux on x86-64-v2.
  */
 #ifndef VOSKLIGAN_H
 #define VOSKLIGAN_H

@@ -4,7 +4,7 @@ use Rattle.std.specs.List.{list_all}
 use Rattle.std.specs.Int.{w64, from_be_bytes}
 use Rattle.std.proofs.Common.{◌∙◌, sym, ap, subst, arith, append_assoc, length-append}
 use Rattle.std.proofs.lemmas.Nat.{be_bytes_8, from_be_bytes-to_be_bytes_8}
-use Rattle.std.proofs.lemmas.List.{get_or-append-add, length-take-le, take-append-drop}
+use Rattle.std.proofs.lemmas.List.{append-nil, get_or-append-add, length-take-le, take-append-drop}
 use Rattle.std.proofs.lemmas.Bool.Decides.{nat_tests}
 use Rattle.std.proofs.Math.Seq.{drop-append_seam, take-append_seam}
 use Rattle.stark_support.specs.Seed.{number}
@@ -49,10 +49,6 @@ bytes_left bytes front rest e are = bytes_behind front rest (subst AreBytes e ar
 regrouped : {A : Type 0} (found : List A) (x : A) (r : Result (List A × List ℕ) BytesFault) → behind found (r >>= λ ys end. Ok (x ∷ ys, end)) ≡ behind (found ++ x ∷ []) r
 regrouped found x (Ok p) = λ i. Ok (sym (append_assoc found (x ∷ []) p.0) i, p.1)
 regrouped found x (Err fault) = refl
-
-pub append_none : {A : Type 0} (xs : List A) → xs ++ [] ≡ xs
-append_none [] = refl
-append_none (x ∷ xs) = λ i. x ∷ append_none xs i
 
 -- ---- numbers
 
@@ -298,7 +294,7 @@ module _ {A : Type 0} (ops : BytesOps A) (laws : BytesLaws ops) where
 
   pub all_read : (n : ℕ) (bytes : List ℕ) (found : List A) → n ≡ 0 → behind found (each_reading ops n bytes) ≡ Ok (found, bytes)
   all_read n bytes found is =
-      ap (λ k. behind found (each_reading ops k bytes)) is ∙ (λ i. Ok (append_none found i, bytes))
+      ap (λ k. behind found (each_reading ops k bytes)) is ∙ (λ i. Ok (append-nil found i, bytes))
 
 -- A fault of a part is one of the whole.
 pub told_more : {A B : Type 0} (e : BytesFault) (inner : Result A BytesFault) (outer : Result B BytesFault) → ((fault : BytesFault) → inner ≡ Err fault → outer ≡ Err fault)

@@ -3,13 +3,14 @@ use Rattle.std.specs.Prelude.{◌≡◌, Bool, true, false, if◌then◌else◌,
 use Rattle.std.specs.List.{starts_with}
 use Rattle.std.proofs.Common.{◌∙◌, ap, arith, sym}
 use Rattle.std.proofs.lemmas.Bool.Decides.{Decides-eqb}
+use Rattle.std.proofs.lemmas.List.{append-nil}
 use Rattle.std.proofs.lemmas.Slice.Eq.{starts_is}
 use Rattle.stark_proof.specs.ProofView.{OpeningsView, PreprocessedView, ProofView}
 use Rattle.stark_proof.specs.declared.values.Commitments.{Commitments}
 use Rattle.stark_proof_bytes.specs.declared.fault.BytesFault.{BytesFault}
 use Rattle.stark_proof_bytes.specs.declared.fault.BytesFault.TheVariants.{Magic, TrailingBytes}
 use Rattle.stark_proof_bytes.specs.Bytes.{AreBytes, BytesLaws, BytesOps, list_ops, named, number_ops, option_ops, pair_ops, prefix_reading, turned_ops, ◌>>=◌}
-use Rattle.stark_proof_bytes.specs.BytesFacts.{TakenAs, append_none, bytes_left, list_laws, number_laws, option_laws, pair_laws, same_ok, step_of, turned_laws}
+use Rattle.stark_proof_bytes.specs.BytesFacts.{TakenAs, bytes_left, list_laws, number_laws, option_laws, pair_laws, same_ok, step_of, turned_laws}
 
 -- ---- commitments
 
@@ -158,7 +159,7 @@ module _ {K E P F : Type 0} (ops : ProofCodecs K E P F) (laws : ProofCodecsLaws 
   written_is_read proof fits =
       let body = (proof_ops ops).writing proof in
       ap (λ r. ended (r >>= λ begun rest. (proof_ops ops).reading rest)) (magic_laws.read_back tt body refl)
-      ∙ ap (λ bytes. ended ((proof_ops ops).reading bytes)) (sym (append_none body))
+      ∙ ap (λ bytes. ended ((proof_ops ops).reading bytes)) (sym (append-nil body))
       ∙ ap (λ r. ended r) (proof_laws.read_back proof [] fits)
 
   pub read_is_written : (bytes : List ℕ) (proof : ProofView K E P F) → AreBytes bytes → proof_reading ops bytes ≡ Ok proof → bytes ≡ proof_writing ops proof
@@ -167,4 +168,4 @@ module _ {K E P F : Type 0} (ops : ProofCodecs K E P F) (laws : ProofCodecsLaws 
       let s = step_of (magic_reading bytes) (λ begun rest. (proof_ops ops).reading rest) (proof, []) (ended_is (proof_front ops bytes) proof e) in
       let front = magic_laws.canonical bytes s.value s.rest are s.read in
       let back = proof_laws.canonical s.rest proof [] (bytes_left bytes magic s.rest front are) s.after in
-      front ∙ ap (λ l. magic ++ l) (back ∙ append_none ((proof_ops ops).writing proof))
+      front ∙ ap (λ l. magic ++ l) (back ∙ append-nil ((proof_ops ops).writing proof))

@@ -42,19 +42,21 @@ enum {
 
 /*
  * A message is one line or two, each ended by a newline: the line that the program `voskligan` writes, as "accepted",
- * "refused OodEvaluationMismatch", "bad input", "out of memory", "satisfied" or "row 3: constraint 1 is 10292"; and
+ * "refused OodEvaluationMismatch", "bad input", "out of memory", "satisfied" or "row 3: constraint 1 is 423446388"; and
  * behind it, where there is something to say and memory to say it, the reason in words, or below a broken row its
  * constraint. It is cut to `room` - 1 bytes, a 0 byte stands behind it, and the bytes behind that stay as they were.
  * Where `room` is 0 nothing is written.
  */
 
 /*
- * The verdict on a proof for a statement, from the bytes of both (JSON, docs/FORMATS.md).
+ * The verdict on a proof for a statement, from the bytes of both (docs/FORMATS.md): the statement JSON, the proof JSON or
+ * the form in bytes that `voskligan prove --binary` writes.
  *
  * VOSKLIGAN_ACCEPTED is answered where the verifier, whose challenger has observed the whole statement first, accepts
- * the proof, and nowhere else; but where memory is refused nothing is judged. Then the columns that the proof lists
- * break no constraint of the statement's AIR, or one of the two challenges is among the few that are bad. The statement
- * has to be fixed before a proof is looked at.
+ * the proof, and nowhere else; but where memory is refused nothing is judged. Then columns break no constraint of the
+ * statement's AIR, or one of the two challenges is among the few that are bad: by FRI, which a statement names by
+ * leaving its scheme out, any columns that take the proof's opened values; in the clear those that the proof lists. The
+ * statement, its field and its scheme with it, has to be fixed before a proof is looked at.
  */
 int voskligan_verify(const uint8_t *statement, size_t statement_length, const uint8_t *proof, size_t proof_length,
                      uint8_t *message, size_t room);

@@ -2,7 +2,7 @@
 use crate::program::Program;
 use crate::runs::{Faults, NO_FAULTS, end_of, is_said, run_at_once, run_slowly, words_of, written};
 use crate::table::{Row, bytes_of, rows_of};
-use stark_commands::RunEnd;
+use stark_answers::RunEnd;
 use std::alloc::Global;
 use std::process::Abort;
 use std::test::Fail;

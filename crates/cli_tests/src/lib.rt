@@ -5,6 +5,8 @@
 #[cfg(test)]
 mod check_rows;
 #[cfg(test)]
+mod delivery;
+#[cfg(test)]
 mod fault_rows;
 #[cfg(test)]
 mod faults;

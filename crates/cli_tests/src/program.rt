@@ -4,9 +4,10 @@ ghost use Rattle.std.specs.Prelude.{◌≡◌, false};
 
 use crate::texts::TEXTS;
 use crate::voskligan_texts::VOSKLIGAN_TEXTS;
+use stark_answers::{ProofForm, RunEnd, TraceTask};
 use stark_cli::statements::Verb;
-use stark_cli::{Sink, Source, samples, statements};
-use stark_commands::{RunEnd, TraceTask};
+use stark_cli::{Silent, Sink, Source, samples, statements};
+use stark_service::NamedFields;
 use std::alloc::Global;
 
 /// A program.
@@ -32,18 +33,30 @@ pub(crate) fn both_inputs(input: &[u8]) -> (&[u8], &[u8]) {
     }
 }
 
-/// The verb of a row's first word, or of two.
-fn verb_of(words: &[String]) -> Option<Verb> {
+/// What a prover is asked by the words behind `prove`.
+fn prover_of(flags: &[String]) -> Option<TraceTask> {
+    match flags {
+        [] => Some(TraceTask::Prove(ProofForm::Json)),
+        [flag] if flag.as_str() == "--unchecked" => {
+            Some(TraceTask::ProveUnchecked(ProofForm::Json))
+        }
+        [flag] if flag.as_str() == "--binary" => Some(TraceTask::Prove(ProofForm::Bytes)),
+        [first, flag] if first.as_str() == "--unchecked" && flag.as_str() == "--binary" => {
+            Some(TraceTask::ProveUnchecked(ProofForm::Bytes))
+        }
+        _ => None,
+    }
+}
+
+/// The verb of a row's words.
+pub(crate) fn verb_of(words: &[String]) -> Option<Verb> {
     match words {
-        [verb] => match verb.as_str() {
-            "verify" => Some(Verb::Verify),
-            "check" => Some(Verb::Trace(TraceTask::Check)),
-            "prove" => Some(Verb::Trace(TraceTask::Prove)),
-            "show" => Some(Verb::Show),
-            _ => None,
-        },
-        [verb, flag] if verb.as_str() == "prove" && flag.as_str() == "--unchecked" => {
-            Some(Verb::Trace(TraceTask::ProveUnchecked))
+        [verb] if verb.as_str() == "verify" => Some(Verb::Verify),
+        [verb] if verb.as_str() == "check" => Some(Verb::Trace(TraceTask::Check)),
+        [verb] if verb.as_str() == "show" => Some(Verb::Show),
+        [verb, flags @ ..] if verb.as_str() == "prove" => {
+            let asked = prover_of(flags)?;
+            Some(Verb::Trace(asked))
         }
         _ => None,
     }
@@ -94,7 +107,14 @@ impl Program {
         match self {
             Program::StarkRun => samples::run(alloc, words, reader, writer),
             Program::Voskligan => match verb_of(words) {
-                Some(verb) => statements::run(alloc, verb, reader, second, writer).end,
+                Some(verb) => statements::run::<NamedFields, _, _, _, _>(
+                    alloc,
+                    verb,
+                    reader,
+                    second,
+                    writer,
+                    &mut Silent,
+                ).end,
                 None => RunEnd::NotJudged,
             },
         }

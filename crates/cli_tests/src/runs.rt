@@ -2,8 +2,8 @@
 use crate::program::{Program, both_inputs};
 use crate::streams::{FailingReader, FailingWriter};
 use crate::table::{Row, bytes_of, rows_of};
+use stark_answers::RunEnd;
 use stark_cli::{WatchedReader, WatchedWriter};
-use stark_commands::RunEnd;
 use std::alloc::{AllocError, Global};
 use std::process::Abort;
 use std::test::Fail;

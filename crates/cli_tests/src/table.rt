@@ -46,7 +46,7 @@ fn expanded(alloc: Global, text: &str, names: &[Named]) -> Result<String, AllocE
 }
 
 /// Whether a line of a table is a run, or names a text.
-fn is_row(line: &str) -> bool {
+pub(crate) fn is_row(line: &str) -> bool {
     !line.is_empty() && !line.starts_with('#')
 }
 

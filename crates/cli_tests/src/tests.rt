@@ -7,7 +7,7 @@ use crate::prove_rows::PROVE;
 use crate::runs::{Outcome, all_rows, end_of, run_at_once, words_of};
 use crate::table::{Row, bytes_of, rows_of};
 use crate::verify_rows::VERIFY;
-use stark_commands::RunEnd;
+use stark_answers::RunEnd;
 use std::alloc::{AllocError, Global};
 use std::process::Abort;
 use std::test::Fail;

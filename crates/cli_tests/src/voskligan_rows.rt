@@ -19,6 +19,36 @@ prove --unchecked then verify | <machine false> | refused OodEvaluationMismatch
 prove --unchecked then verify | <preprocessed> | \1e[[1] => \1e[[2] | refused OodEvaluationMismatch
 prove --unchecked then verify | <counter> | accepted
 
+# Over BabyBear by FRI, where the statement names no configuration.
+prove then verify | <example counter> | accepted
+prove then verify | <example fibonacci> | accepted
+prove then verify | <example range> | accepted
+prove then verify | <example machine> | accepted
+prove --unchecked then verify | <example counter false> | refused OodEvaluationMismatch
+prove --unchecked then verify | <example fibonacci false> | refused OodEvaluationMismatch
+prove --unchecked then verify | <example range false> | refused OodEvaluationMismatch
+prove --unchecked then verify | <example machine false> | refused OodEvaluationMismatch
+
+# Each field by each scheme.
+prove then verify | <example counter> | "air" => "config":{},"air" | accepted
+prove then verify | <example counter> | "air" => "config":{"field":"koala_bear","num_queries":20},"air" | accepted
+prove then verify | <example counter> | "air" => "config":{"field":"f12289","scheme":"fri","log_blowup":2,"log_final_poly_len":1,"num_queries":4,"commit_proof_of_work_bits":2,"query_proof_of_work_bits":3},"air" | accepted
+prove then verify | <example counter> | "air" => "config":{"scheme":"clear"},"air" | accepted
+prove then verify | <example counter> | "air" => "config":{"field":"koala_bear","scheme":"clear"},"air" | accepted
+
+# A proof as bytes says what it says as JSON.
+prove --binary then verify | <counter> | accepted
+prove --binary then verify | <preprocessed> | accepted
+prove --binary then verify | <example range> | accepted
+prove --binary then verify | <example machine> | accepted
+prove --unchecked --binary then verify | <counter false> | refused OodEvaluationMismatch
+prove --unchecked --binary then verify | <example counter false> | refused OodEvaluationMismatch
+
+# A proof with another configuration is none.
+verify | <proved> | "field":"f12289" => "field":"baby_bear" | refused InvalidOpeningArgument
+verify | <proved> | "field":"f12289" => "field":"koala_bear" | refused InvalidOpeningArgument
+verify | <proved> | "config":{"field":"f12289","scheme":"clear"}, =>  | bad input
+
 # With work.
 prove then verify | <counter> | "public_values" => "ood_bits":3,"public_values" | accepted
 prove then verify | <counter> | "public_values" => "alpha_bits":3,"public_values" | accepted
@@ -34,8 +64,8 @@ verify | <proved> | [{"base":4},{"base":10}] => [{"base":10},{"base":4}] | refus
 verify | <proved> | ["sub",7,8] => ["add",7,8] | refused InvalidOpeningArgument
 verify | <proved> | "constants":[1] => "max_constraint_degree":2,"constants":[1] | refused InvalidOpeningArgument
 verify | <proved> | "constants":[1] => "constants":[1,3] | refused InvalidOpeningArgument
-verify | <proved> | "public_values" => "alpha_bits":3,"public_values" | refused InvalidAlphaPowWitness
-verify | <proved> | "public_values" => "ood_bits":1,"public_values" | refused InvalidOodPowWitness
+verify | <proved> | "public_values" => "alpha_bits":20,"public_values" | refused InvalidAlphaPowWitness
+verify | <proved> | "public_values" => "ood_bits":20,"public_values" | refused InvalidOodPowWitness
 
 # A proof whose AIR was chosen behind zeta.
 verify | <forged> | refused InvalidOpeningArgument
@@ -49,6 +79,14 @@ check | <fibonacci> | satisfied
 check | <range> | satisfied
 check | <machine> | satisfied
 check | <preprocessed> | satisfied
+check | <example counter> | satisfied
+check | <example fibonacci> | satisfied
+check | <example range> | satisfied
+check | <example machine> | satisfied
+check | <example counter false> | <check of example counter>
+check | <example fibonacci false> | <check of example fibonacci>
+check | <example range false> | <check of example range>
+check | <example machine false> | <check of example machine>
 check | <counter false> | <check of counter>
 check | <fibonacci false> | <check of fibonacci>
 check | <range false> | <check of range>
@@ -97,6 +135,10 @@ prove --unchecked | <wide>\1e | 65536 => 65537 | refused AirTooLarge
 
 // What is shown of each example.
 pub(crate) const SHOWN: &str = r#"
+show | <example counter> | <lines of example counter>
+show | <example fibonacci> | <lines of example fibonacci>
+show | <example range> | <lines of example range>
+show | <example machine> | <lines of example machine>
 show | <counter> | <lines of counter>
 show | <fibonacci> | <lines of fibonacci>
 show | <range> | <lines of range>
@@ -107,6 +149,15 @@ show | <mixed> | <lines of mixed>
 show | <squares> | <lines of squares>
 
 show | <small> | <lines of small>
+
+# By FRI: bits at 2^16 rows and at the greatest height, or at the latter alone where it isn't above; and none for a degree above the blow-up
+# and one, or for too many openings.
+show | <counter> | {"field":"f12289","scheme":"clear"} => {"field":"f12289"} | <counter to> 2^11 rows: 1 alpha, 4095 zeta\0a<challenges over 12289>\0aconjectured security: 38 bits at 2^11 rows; this is not proved
+show | <counter> | {"field":"f12289","scheme":"clear"} => {"field":"koala_bear","log_blowup":8} | <counter to> 2^16 rows: 1 alpha, 131071 zeta\0a<challenges over KoalaBear>\0aconjectured security: 95 bits at 2^16 rows; this is not proved
+show | <counter> | {"field":"f12289","scheme":"clear"} => {"field":"koala_bear","log_blowup":7} | <counter to> 2^17 rows: 1 alpha, 262143 zeta\0a<challenges over KoalaBear>\0aconjectured security: 96 bits at 2^16 rows, 95 bits at 2^17 rows; this is not proved
+show | <fourth power> | <equation of fourth power>\0aquotient chunks: 4\0aerror bound at 2^26 rows: 0 alpha, 335544319 zeta\0a<challenges by default>\0aconjectured security: none is stated for a constraint's degree above 3
+show | <fourth power> | "config":{} => "config":{"log_blowup":2} | <equation of fourth power>\0aquotient chunks: 4\0aerror bound at 2^25 rows: 0 alpha, 167772159 zeta\0a<challenges by default>\0aconjectured security: 99 bits at 2^16 rows, 90 bits at 2^25 rows; this is not proved
+show | <fourth power> | "config":{} => "config":{"log_blowup":2} | "width":1 => "max_constraint_degree":18446744073709551615,"width":1 | <equation of fourth power>\0aquotient chunks: 18446744073709551616\0aerror bound at 2^25 rows: none\0a<challenges by default>\0aconjectured security: none is stated for 2^64 opened values and more
 "#;
 
 // Inputs that are bad.
@@ -116,7 +167,7 @@ verify | {"air"\1e<proof of two rows> | bad input
 prove | []\1e[] | bad input
 show | \ff | bad input
 show | <nothing> | bad input
-verify | {"air":null,"public_values":[]}\1e<proof of two rows> | bad input
+verify | {"config":<in the clear>,"air":null,"public_values":[]}\1e<proof of two rows> | bad input
 prove | <counter> | "air" => "Air" | bad input
 show | <counter> | "air" => "other" | bad input
 
@@ -124,6 +175,19 @@ show | <counter> | "air" => "other" | bad input
 prove | <counter> | "public_values" => "ood_bit":3,"public_values" | bad input
 verify | <proved> | "public_values" => "challenger":"sha256","public_values" | bad input
 verify | <proved> | "public_values":[5] => "public_values":[5],"proof":null | bad input
+
+# A configuration that is none: each fault, and numbers of FRI beside the scheme in the clear.
+show | <counter> | {"field":"f12289","scheme":"clear"} => [] | bad input
+show | <counter> | "f12289" => "F12289" | bad input
+show | <counter> | "f12289" => 12289 | bad input
+show | <counter> | "scheme":"clear" => "scheme":"open" | bad input
+show | <counter> | "scheme":"clear" => "scheme":"clear","num_queries":20 | bad input
+show | <counter> | "scheme":"clear" => "queries":20 | bad input
+show | <counter> | "scheme":"clear" => "log_blowup":0 | bad input
+show | <counter> | "scheme":"clear" => "log_blowup":13 | bad input
+show | <counter> | "scheme":"clear" => "num_queries":0 | bad input
+show | <counter> | "scheme":"clear" => "num_queries":"20" | bad input
+show | <counter> | "scheme":"clear" => "query_proof_of_work_bits":64 | bad input
 
 # Its other faults: no public values, too many, one that isn't canonical, bits that are no number.
 prove | <counter> | ,"public_values":[5] =>  | bad input
@@ -156,11 +220,16 @@ prove | <small>\1e[[],[]] | bad input
 prove | <small> | bad input
 
 # What is no proof.
-verify | {"air":<air of counter>,"public_values":[5]}\1e | bad input
-verify | {"air":<air of counter>,"public_values":[5]}\1enull | bad input
-verify | {"air":<air of counter>,"public_values":[5]}\1e{"proof":<proof of two rows>} | bad input
+verify | {"config":<in the clear>,"air":<air of counter>,"public_values":[5]}\1e | bad input
+verify | {"config":<in the clear>,"air":<air of counter>,"public_values":[5]}\1enull | bad input
+verify | {"config":<in the clear>,"air":<air of counter>,"public_values":[5]}\1e{"proof":<proof of two rows>} | bad input
+
+# What begins as a proof's bytes do is read as such, and as no JSON: it is cut, or says no more.
+verify | {"config":<in the clear>,"air":<air of counter>,"public_values":[5]}\1evoskligan proof 1 | bad input
+verify | {"config":<in the clear>,"air":<air of counter>,"public_values":[5]}\1evoskligan proof 1<proof of two rows> | bad input
+verify | {"config":<in the clear>,"air":<air of counter>,"public_values":[5]}\1evoskligan proof <proof of two rows> | bad input
 verify | <proved> | "degree_bits":1 => "degree_bits":-1 | bad input
-verify | <proved> | [2893, => [12289, | bad input
+verify | <proved> | [4985, => [12289, | bad input
 "#;
 
 // AIRs at the limits of what is taken, and past them: nothing else of the statement, the proof or
@@ -197,15 +266,19 @@ show | <wide> | 65536,"publics":0 => 65537,"publics":1 | bad input
 // they spell.
 pub(crate) const DEAR: &str = r#"
 # As many public values as there are numbers, without one of them.
-show | {"air":{"width":0,"publics":18446744073709551615,"periodic":[],"constants":[],"nodes":[],"constraints":[]},"public_values":[]} | bad input
+show | {"config":<in the clear>,"air":{"width":0,"publics":18446744073709551615,"periodic":[],"constants":[],"nodes":[],"constraints":[]},"public_values":[]} | bad input
 
 # A preprocessed column of 4096 values, of which no proof opens a row; and a periodic one, at the height that a proof claims.
-verify | {"air":{"width":1,"publics":0,"periodic":[],"preprocessed":{"width":1,"rows":[\(4095 [1],)[1]]},"constants":[],"nodes":[],"constraints":[]},"public_values":[]}\1e<proof of two rows> | refused PreprocessedTraceWidthMismatch
+verify | {"config":<in the clear>,"air":{"width":1,"publics":0,"periodic":[],"preprocessed":{"width":1,"rows":[\(4095 [1],)[1]]},"constants":[],"nodes":[],"constraints":[]},"public_values":[]}\1e<proof of two rows> | refused PreprocessedTraceWidthMismatch
 verify | <proved> | "periodic":[] => "periodic":[[\(4095 1,)1]] | "degree_bits":1 => "degree_bits":12 | refused InvalidOpeningArgument
 
+# A fixed value that a blow-up makes 2^27 of, and one of 2^24, which is within the limit and no text of a proof.
+verify | {"config":{"log_blowup":27},"air":{"width":1,"publics":0,"periodic":[],"preprocessed":{"width":1,"rows":[[1]]},"constants":[],"nodes":[],"constraints":[]},"public_values":[]}\1e<proof of two rows> | refused AirTooLarge
+verify | {"config":{"log_blowup":24},"air":{"width":1,"publics":0,"periodic":[],"preprocessed":{"width":1,"rows":[[1]]},"constants":[],"nodes":[],"constraints":[]},"public_values":[]}\1e<proof of two rows> | bad input
+
 # As many chunks as the field has places for at 64 rows, and twice as many as it has at one.
-prove then verify | {"air":{"width":1,"publics":0,"periodic":[],"max_constraint_degree":65,"constants":[],"nodes":[],"constraints":[]},"public_values":[]}\1e[\(63 [0],)[0]] | accepted
-prove | {"air":{"width":1,"publics":0,"periodic":[],"max_constraint_degree":4098,"constants":[],"nodes":[],"constraints":[]},"public_values":[]}\1e[[0]] | refused QuotientDomainTooLarge
+prove then verify | {"config":<in the clear>,"air":{"width":1,"publics":0,"periodic":[],"max_constraint_degree":65,"constants":[],"nodes":[],"constraints":[]},"public_values":[]}\1e[\(63 [0],)[0]] | accepted
+prove | {"config":<in the clear>,"air":{"width":1,"publics":0,"periodic":[],"max_constraint_degree":4098,"constants":[],"nodes":[],"constraints":[]},"public_values":[]}\1e[[0]] | refused QuotientDomainTooLarge
 "#;
 
 // Expressions that are huge once they are written out.
@@ -223,11 +296,34 @@ verify | <many squares>\1e<proof of two rows> | refused QuotientDomainTooLarge
 // One of each verb: its inputs are cut before each byte, each of their reads fails, and each write.
 pub(crate) const WHOLE: &str = r#"
 verify | <proved> | accepted
-show | {"air":<air of counter>,"public_values":[5]} | <lines of counter>
+show | {"config":<in the clear>,"air":<air of counter>,"public_values":[5]} | <lines of counter>
 check | <two rows> | satisfied
 "#;
 
-// Words and what they ask for. Two quotes stand for the empty word.
+// Runs whose proof goes to an output of its own: what it has, or the writer.
+pub(crate) const DELIVERED: &str = r#"
+prove | <two rows> | <proof of two rows>
+prove --unchecked | <two rows> | <proof of two rows>
+prove | <two rows> | [[5],[6]] => [[6],[7]] | row 0: constraint 0 is 2\0a<equation 0 of counter>
+prove | <two rows> | [[5],[6]] => [[5],[6],[7]] | bad input
+check | <two rows> | satisfied
+verify | <proved> | accepted
+show | <small> | <lines of small>
+"#;
+
+// What is told of the stages of runs, a line each.
+pub(crate) const STAGES: &str = r#"
+prove | <two rows> | reading the statement\0areading the trace\0aproving: statement of 330 bytes, trace of 9 bytes\0awriting the proof: 403 bytes
+prove --unchecked | <two rows> | reading the statement\0areading the trace\0aproving: statement of 330 bytes, trace of 9 bytes\0awriting the proof: 403 bytes
+prove | <two rows> | [[5],[6]] => [[6],[7]] | reading the statement\0areading the trace\0aproving: statement of 330 bytes, trace of 9 bytes
+prove | {} | reading the statement\0areading the trace\0aproving: statement of 2 bytes, trace of 0 bytes
+check | <two rows> | reading the statement\0areading the trace\0achecking: statement of 330 bytes, trace of 9 bytes
+verify | <proved> | reading the statement\0areading the proof\0averifying: statement of 330 bytes, proof of 402 bytes
+show | <small> | reading the statement\0ashowing: statement of 152 bytes
+"#;
+
+// Words and what they ask for, which is nothing where a line says no more. A line that is empty or
+// begins with `#` is none. Two quotes stand for the empty word.
 pub(crate) const WORDS: &str = "
 verify statement.json proof.json = verify, file statement.json, file proof.json
 verify statement.json - = verify, file statement.json, standard
@@ -235,41 +331,139 @@ verify statement.json = verify, file statement.json, standard
 verify - proof.json = verify, standard, file proof.json
 prove statement.json trace.json = prove, file statement.json, file trace.json
 prove statement.json = prove, file statement.json, standard
-prove --unchecked statement.json trace.json = prove unchecked, file statement.json, file trace.json
-prove --unchecked statement.json = prove unchecked, file statement.json, standard
-prove --unchecked - trace.json = prove unchecked, standard, file trace.json
 check statement.json trace.json = check, file statement.json, file trace.json
 check statement.json = check, file statement.json, standard
 show statement.json = show, file statement.json, nothing
 show - = show, standard, nothing
 show verify = show, file verify, nothing
-prove statement.json --unchecked = prove, file statement.json, file --unchecked
-check --unchecked statement.json = check, file --unchecked, file statement.json
 --help = help
 --version = version
-verify = unknown
-verify - = unknown
-verify - - = unknown
-prove - - = unknown
-prove - = unknown
-prove --unchecked = unknown
-prove --unchecked - = unknown
-prove --unchecked - - = unknown
-prove --unchecked statement.json trace.json more = unknown
-prove --uncheck statement.json trace.json = unknown
-verify --unchecked statement.json proof.json = unknown
-check = unknown
-check - - = unknown
-check statement.json trace.json more = unknown
-Check statement.json = unknown
-show = unknown
-show statement.json proof.json = unknown
-verify statement.json proof.json more = unknown
-Verify statement.json proof.json = unknown
-verif statement.json = unknown
-verify --help = verify, file --help, standard
--help = unknown
---help --help = unknown
-'' = unknown
-'' statement.json = unknown
+
+prove --unchecked statement.json trace.json = prove unchecked, file statement.json, file trace.json
+prove --binary statement.json trace.json = prove binary, file statement.json, file trace.json
+prove --binary --unchecked statement.json = prove unchecked binary, file statement.json, standard
+prove --unchecked --binary statement.json = prove unchecked binary, file statement.json, standard
+prove --quiet --binary --output out in = prove binary, file in, standard, output out, quiet
+prove --unchecked statement.json = prove unchecked, file statement.json, standard
+prove --unchecked - trace.json = prove unchecked, standard, file trace.json
+verify --quiet statement.json proof.json = verify, file statement.json, file proof.json, quiet
+verify --quiet statement.json = verify, file statement.json, standard, quiet
+verify --quiet - proof.json = verify, standard, file proof.json, quiet
+check --quiet statement.json trace.json = check, file statement.json, file trace.json, quiet
+check --quiet statement.json - = check, file statement.json, standard, quiet
+prove --quiet statement.json trace.json = prove, file statement.json, file trace.json, quiet
+prove --output proof.json statement.json trace.json = prove, file statement.json, file trace.json, output proof.json
+prove --output proof.json statement.json = prove, file statement.json, standard, output proof.json
+prove --output proof.json - trace.json = prove, standard, file trace.json, output proof.json
+
+# In any order.
+prove --unchecked --quiet --output out in = prove unchecked, file in, standard, output out, quiet
+prove --unchecked --output out --quiet in = prove unchecked, file in, standard, output out, quiet
+prove --quiet --unchecked --output out in = prove unchecked, file in, standard, output out, quiet
+prove --quiet --output out --unchecked in = prove unchecked, file in, standard, output out, quiet
+prove --output out --unchecked --quiet in = prove unchecked, file in, standard, output out, quiet
+prove --output out --quiet --unchecked in = prove unchecked, file in, standard, output out, quiet
+
+# Paths that are like options.
+prove --output -out -in -trace = prove, file -in, file -trace, output -out
+prove --output ./--out ./--in ./--trace = prove, file ./--in, file ./--trace, output ./--out
+prove --output quiet output unchecked = prove, file output, file unchecked, output quiet
+
+# Options that are given twice.
+verify --quiet --quiet statement.json
+check --quiet --quiet statement.json
+prove --quiet --quiet statement.json
+prove --quiet --unchecked --quiet statement.json
+prove --unchecked --unchecked statement.json
+prove --binary --binary statement.json
+prove --binary --unchecked --binary statement.json
+verify --binary statement.json proof.json
+check --binary statement.json trace.json
+show --binary statement.json
+prove --unchecked --quiet --unchecked statement.json
+prove --output out --output out statement.json
+prove --output out --quiet --output another statement.json
+
+# Options of another verb.
+verify --unchecked statement.json proof.json
+verify --output out statement.json proof.json
+check --unchecked statement.json trace.json
+check --output out statement.json trace.json
+check --unchecked statement.json
+show --quiet statement.json
+show --unchecked statement.json
+show --output out statement.json
+
+# Options of none.
+prove --uncheck statement.json trace.json
+prove --quie statement.json
+prove --quietly statement.json
+prove --Quiet statement.json
+prove --output=out statement.json
+prove -- statement.json
+prove --force statement.json
+verify --help
+show --help
+show --statement.json
+verify --statement.json proof.json
+verify statement.json --proof.json
+
+# Options behind an input, or before the verb.
+prove statement.json --unchecked
+prove statement.json --quiet
+prove statement.json --output
+prove statement.json trace.json --quiet
+prove statement.json --output out
+prove - --quiet
+prove --unchecked statement.json --quiet
+verify statement.json --quiet
+check statement.json --quiet
+--quiet
+--quiet verify statement.json
+--unchecked prove statement.json
+
+# No path for the proof.
+prove --output
+prove --output out
+prove --output - statement.json
+prove --output -- statement.json
+prove --output --quiet statement.json trace.json
+prove --output --quiet out statement.json
+prove --quiet --output
+
+# No inputs, too many, or standard input twice.
+verify
+verify -
+verify - -
+verify --quiet
+verify --quiet -
+verify --quiet - -
+verify statement.json proof.json more
+verify --quiet statement.json proof.json more
+prove
+prove -
+prove - -
+prove --unchecked
+prove --unchecked -
+prove --unchecked - -
+prove --unchecked statement.json trace.json more
+prove --output out -
+prove --output out - -
+prove --output out statement.json trace.json more
+check
+check - -
+check --quiet
+check statement.json trace.json more
+show
+show statement.json proof.json
+
+# Other verbs.
+Check statement.json
+Verify statement.json proof.json
+verif statement.json
+--help --help
+--version --quiet
+-help
+''
+'' statement.json
 ";

@@ -1,5 +1,6 @@
 //! The verifier by one call.
-use stark_commands::{Verdict, verify_statement};
+use stark_answers::Verdict;
+use stark_service::verify_statement;
 use std::alloc::Global;
 
 /// Whether a proof is accepted for a statement.

@@ -11,9 +11,10 @@ use crate::sound;
 use crate::text::air_of;
 use p3_uni_stark::{StarkProof, prove, verify};
 use stark_air::{Air, BaseAir};
+use stark_answers::{ProofForm, TraceTask};
 use stark_bench::F12289;
-use stark_commands::{TraceTask, answer_trace};
 use stark_samples::CounterAir;
+use stark_service::answer_trace;
 use stark_support::{PrimeField64, RowMajorMatrix};
 use stark_tree_air::TreeAir;
 use std::alloc::{AllocError, Global};
@@ -38,9 +39,9 @@ const ONES: &str =
 /// the one with it.
 fn answers_of(alloc: Global, trace: &str) -> Result<(bool, bool), Fail> {
     let statement = STATEMENT.as_bytes();
-    let asked = TraceTask::ProveUnchecked;
+    let asked = TraceTask::ProveUnchecked(ProofForm::Json);
     let report = answer_trace(alloc, asked, statement, trace.as_bytes());
-    let proof = report.answer.line().as_bytes();
+    let proof = report.answer.written();
     let accepted = is_accepted(alloc, statement, proof);
     Ok((accepted, sound::is_accepted(alloc, statement, proof)))
 }

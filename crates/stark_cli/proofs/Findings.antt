@@ -1,17 +1,19 @@
 -- What a run found of its input.
 use Rattle.std.proofs.Common.{◌≡◌, ◌⊎◌, ◌∙◌, ℕ, List, Option, None, Some, IfOk, IfSome, Result, Ok, Err, refl, sym, subst, ap, inl, inr, arith}
 use Rattle.std.specs.Io.KnownBytes.{Appends, Keeps}
-use Rattle.stark_commands.specs.Finding.{finding_end, finding_line}
-use Rattle.stark_commands.specs.Verdict.{line_of, end_of}
-use Rattle.stark_commands.specs.declared.finding.Finding.{Finding}
-use Rattle.stark_commands.specs.declared.finding.Finding.TheVariants as finding
-use Rattle.stark_commands.specs.declared.report.Report.{Report}
-use Rattle.stark_commands.specs.declared.verdict.Verdict.{Verdict}
-use Rattle.stark_commands.specs.declared.verdict.Verdict.TheVariants as verdict
-use Rattle.stark_commands.specs.declared.verdict.Refusal.TheVariants as refusal
-use Rattle.stark_commands.specs.declared.verdict.RunEnd.{RunEnd}
-use Rattle.stark_commands.specs.declared.verdict.RunEnd.TheVariants.{Accepted, Refused, NotJudged, InputFailed, OutputFailed}
-use Rattle.stark_cli.specs.Running.{AcceptsOrTells, FindsSome, Found, IsFoundOrLacksMemory, IsInput, IsNoAnswer, Says, SaysFound, SaysOf, both}
+use Rattle.stark_answers.specs.Finding.{IsProof, finding_end, finding_bytes}
+use Rattle.stark_answers.specs.Verdict.{line_of, end_of}
+use Rattle.stark_answers.specs.declared.finding.Finding.{Finding}
+use Rattle.stark_answers.specs.declared.finding.Finding.TheVariants as finding
+use Rattle.stark_answers.specs.declared.task.ProofForm.{ProofForm}
+use Rattle.stark_answers.specs.declared.task.ProofForm.TheVariants.{Bytes, Json}
+use Rattle.stark_answers.specs.declared.report.Report.{Report}
+use Rattle.stark_answers.specs.declared.verdict.Verdict.{Verdict}
+use Rattle.stark_answers.specs.declared.verdict.Verdict.TheVariants as verdict
+use Rattle.stark_answers.specs.declared.verdict.Refusal.TheVariants as refusal
+use Rattle.stark_answers.specs.declared.verdict.RunEnd.{RunEnd}
+use Rattle.stark_answers.specs.declared.verdict.RunEnd.TheVariants.{Accepted, Refused, NotJudged, InputFailed, OutputFailed}
+use Rattle.stark_cli.specs.Running.{AcceptsOrTells, FindsSome, Found, IsFoundOrLacksMemory, IsInput, IsNoAnswer, IsSomeProof, Says, SaysAnswer, SaysFound, SaysOf, both, first_letter}
 
 -- an input that is the readers'
 abbrev pub some_of : {I : Type 0} → I → Option I → I
@@ -65,24 +67,32 @@ module _ {I : Type 0} (memory : Finding) (IsFound : I → Finding → Type 0) wh
   says_known (Some bytes) end old new (inr found) silent =
       (found.0, subst (λ input. IsFoundOrLacksMemory memory IsFound input found.0) found.1.1 found.1.2, found.2)
 
-only_accepted : (v : Verdict) → end_of v ≡ Accepted → v ≡ verdict.Accepted
+-- What is said of what is no proof is said of something that is found.
+module _ {I : Type 0} (memory : Finding) (IsFound : I → Finding → Type 0) where
+  pub said_found : (known : Option I) (end : RunEnd) (old new : Option (List ℕ)) → (end ≡ InputFailed) ⊎ SaysAnswer memory IsFound known end old new → (end ≡ InputFailed) ⊎ SaysFound memory IsFound known end old new
+  said_found known end old new (inl failed) = inl failed
+  said_found known end old new (inr said) = inr (said.0, said.2, said.3)
+
+pub only_accepted : (v : Verdict) → end_of v ≡ Accepted → v ≡ verdict.Accepted
 only_accepted verdict.Accepted e = refl
 only_accepted (verdict.Refused why) e = absurd (let h : Refused ≡ Accepted = e in cc)
 only_accepted verdict.BadInput e = absurd (let h : NotJudged ≡ Accepted = e in cc)
 only_accepted verdict.OutOfMemory e = absurd (let h : NotJudged ≡ Accepted = e in cc)
 
 module _ {I : Type 0} (memory : Finding) (no_answer : IsNoAnswer memory) (IsFound : I → Finding → Type 0) where
-  finds : (known : Option I) (f : Finding) → finding_end f ≡ Accepted → Found memory IsFound known f → FindsSome IsFound known f
+  -- A run that ends well found something of an input.
+  pub finds : (known : Option I) (f : Finding) → finding_end f ≡ Accepted → Found memory IsFound known f → FindsSome IsFound known f
   finds known f e found = elim found.2 [
     | inl here ↦ (found.0, found.1, here)
     | inr lacks ↦ absurd (no_answer.no_end (sym (ap finding_end lacks) ∙ e))
   ]
 
-  said_so : (known : Option I) (f : Finding) (old new : Option (List ℕ)) → finding_end f ≡ Accepted → Found memory IsFound known f → Appends old new (finding_line f) → AcceptsOrTells IsFound known old new
+  said_so : (known : Option I) (f : Finding) (old new : Option (List ℕ)) → finding_end f ≡ Accepted → Found memory IsFound known f → Appends old new (finding_bytes f) → AcceptsOrTells IsFound known old new
   said_so known (finding.Verdict v) old new e found wrote =
       let is : v ≡ verdict.Accepted = only_accepted v e in
       inl (subst (λ w. FindsSome IsFound known (finding.Verdict w)) is (finds known (finding.Verdict v) e found), subst (λ w. Appends old new (line_of w)) is wrote)
   said_so known (finding.Proof line) old new e found wrote = inr (finding.Proof line, inl tt, finds known (finding.Proof line) refl found, wrote)
+  said_so known (finding.ProofBytes bytes) old new e found wrote = inr (finding.ProofBytes bytes, inl tt, finds known (finding.ProofBytes bytes) refl found, wrote)
   said_so known (finding.Text text) old new e found wrote = inr (finding.Text text, inr (inl tt), finds known (finding.Text text) refl found, wrote)
   said_so known finding.Satisfied old new e found wrote = inr (finding.Satisfied, inr (inr refl), finds known finding.Satisfied refl found, wrote)
   said_so known (finding.Broken row) old new e found wrote = absurd (let h : Refused ≡ Accepted = e in cc)
@@ -103,10 +113,27 @@ refused_ends h = cc
 unjudged_ends : NotJudged ≡ Accepted → ⊥
 unjudged_ends h = cc
 
+refused_begins : (form : ProofForm) → 114 ≡ first_letter form → ⊥
+refused_begins Json e = absurd (let h : 114 ≡ 123 = e in omega arith)
+refused_begins Bytes e = absurd (let h : 114 ≡ 118 = e in omega arith)
+
+unjudged_begins : (form : ProofForm) → 111 ≡ first_letter form → ⊥
+unjudged_begins Json e = absurd (let h : 111 ≡ 123 = e in omega arith)
+unjudged_begins Bytes e = absurd (let h : 111 ≡ 118 = e in omega arith)
+
 -- `refused OutOfMemory` is no answer.
 pub refused_memory : IsNoAnswer (finding.Verdict (verdict.Refused refusal.OutOfMemory))
-refused_memory = record { no_end = refused_ends; not_accepted = λ e. absurd (let h : 114 ≡ 97 = e in omega arith); no_object = λ e. absurd (let h : 114 ≡ 123 = e in omega arith) }
+refused_memory = record { no_end = refused_ends; not_accepted = λ e. absurd (let h : 114 ≡ 97 = e in omega arith); no_proof = refused_begins }
 
 -- Nor is `out of memory`.
 pub unjudged_memory : IsNoAnswer (finding.Verdict verdict.OutOfMemory)
-unjudged_memory = record { no_end = unjudged_ends; not_accepted = λ e. absurd (let h : 111 ≡ 97 = e in omega arith); no_object = λ e. absurd (let h : 111 ≡ 123 = e in omega arith) }
+unjudged_memory = record { no_end = unjudged_ends; not_accepted = λ e. absurd (let h : 111 ≡ 97 = e in omega arith); no_proof = unjudged_begins }
+
+-- A proof has a form.
+pub form_of : (f : Finding) → IsSomeProof f → (form : ProofForm) × IsProof form f
+form_of (finding.Proof line) is = (Json, refl)
+form_of (finding.ProofBytes bytes) is = (Bytes, refl)
+form_of (finding.Verdict v) is = absurd is
+form_of (finding.Text text) is = absurd is
+form_of finding.Satisfied is = absurd is
+form_of (finding.Broken row) is = absurd is

@@ -1,5 +1,6 @@
+pub mod Delivery
 pub mod Findings
 pub mod Lines
+pub mod Options
 pub mod SampleMeaning
-mod ShowSteps
 pub mod StatementMeaning

@@ -1,21 +1,24 @@
 -- What is found under a command of a sample AIR, and what it means.
 use Rattle.std.proofs.Common.{◌≡◌, ◌⊎◌, inl, inr, ap, refl, ℕ, List, [], Option, None, Some, IfSome, sym, subst}
 use Rattle.std.specs.Io.KnownBytes.{Appends}
-use Rattle.stark_commands.specs.Airs.{log_chunks_of, sample, shape_of}
+use Rattle.stark_commands.specs.Airs.{log_chunks_of, sample}
+use Rattle.stark_answers.specs.CheckedAir.{shape_of}
 use Rattle.stark_commands.specs.Check.{check_verdict}
-use Rattle.stark_commands.specs.Finding.{IsProof, IsText, finding_line}
+use Rattle.stark_answers.specs.Finding.{IsProof, IsText, WhereLine, finding_bytes}
 use Rattle.stark_commands.specs.Input.{numbers_in}
-use Rattle.stark_commands.specs.Verdict.{line_of}
-use Rattle.stark_commands.specs.declared.finding.Finding.{Finding}
-use Rattle.stark_commands.specs.declared.finding.Finding.TheVariants as finding
+use Rattle.stark_answers.specs.Verdict.{line_of}
+use Rattle.stark_answers.specs.declared.finding.Finding.{Finding}
+use Rattle.stark_answers.specs.declared.finding.Finding.TheVariants as finding
+use Rattle.stark_answers.specs.declared.task.ProofForm.{ProofForm}
+use Rattle.stark_answers.specs.declared.task.ProofForm.TheVariants.{Json}
 use Rattle.stark_commands.specs.declared.sample.SampleAir.{SampleAir}
-use Rattle.stark_commands.specs.declared.verdict.Verdict.{Verdict}
-use Rattle.stark_commands.specs.declared.verdict.Verdict.TheVariants as verdict
-use Rattle.stark_commands.specs.declared.verdict.Refusal.TheVariants as refusal
+use Rattle.stark_answers.specs.declared.verdict.Verdict.{Verdict}
+use Rattle.stark_answers.specs.declared.verdict.Verdict.TheVariants as verdict
+use Rattle.stark_answers.specs.declared.verdict.Refusal.TheVariants as refusal
 use Rattle.stark_commands.proofs.CheckMeaning.{holds_of_read}
 use Rattle.stark_commands.proofs.Sizes.{cut_of_sample}
 use Rattle.stark_cli.specs.Running.{AcceptsOrTells, Found, IsFoundOrLacksMemory, IsFrontOfProof, IsInput}
-use Rattle.stark_cli.proofs.Findings.{input_found, is_some_of, some_of}
+use Rattle.stark_cli.proofs.Findings.{form_of, input_found, is_some_of, some_of}
 use Rattle.stark_cli.specs.SampleRun.{AcceptsInput, HoldsOf, IsFinding, OfVerified, ProvesTrace, WritesProof, bad_input_without_command, lacks_memory}
 use Rattle.stark_cli.specs.declared.words.Command.{Command}
 use Rattle.stark_cli.specs.declared.words.Command.TheVariants.{Check, Prove, Verify}
@@ -27,8 +30,8 @@ same_verdict : (v w : Verdict) → finding.Verdict v ≡ finding.Verdict w → v
 same_verdict v w e = cc
 
 -- A verdict is no proof, and no text.
-no_proof : (f : Finding) (v : Verdict) → f ≡ finding.Verdict v → IsProof f → ⊥
-no_proof f v is proof = subst IsProof is proof
+no_proof : (f : Finding) (v : Verdict) → f ≡ finding.Verdict v → (form : ProofForm) → IsProof form f → ⊥
+no_proof f v is form proof = subst (IsProof form) is proof
 
 no_text : (f : Finding) (v : Verdict) → f ≡ finding.Verdict v → IsText f → ⊥
 no_text f v is text = subst IsText is text
@@ -94,15 +97,16 @@ no_verdict v is = cc
 
 -- Where proofs that are found are proofs of the trace that was read.
 module _ (verified : SampleAir → List ℕ → Verdict → Type 0) (sound : SampleAir → List ℕ → Type 0) (proved : SampleAir → List ℕ → Finding → Type 0) (proof_line : SampleAir → List ℕ → List ℕ → Type 0)
-    (finds_proofs : (air : SampleAir) (input : List ℕ) (f : Finding) → proved air input f → IsProof f → proof_line air input (finding_line f))
+    (finds_proofs : (air : SampleAir) (input : List ℕ) (f : Finding) → proved air input f → WhereLine (proof_line air input) f)
     (shows_none : (air : SampleAir) (input : List ℕ) (f : Finding) → proved air input f → IsText f → ⊥)
     (satisfies_none : (air : SampleAir) (input : List ℕ) → proved air input finding.Satisfied → ⊥) where
-  named_prover : (command : Option Command) (input : List ℕ) (f : Finding) → IsFinding verified sound proved command input f → IsProof f → (air : SampleAir) × (command ≡ Some (Prove air)) × proof_line air input (finding_line f)
+  named_prover : (command : Option Command) (input : List ℕ) (f : Finding) → IsFinding verified sound proved command input f → (form : ProofForm) → IsProof form f
+      → (air : SampleAir) × (command ≡ Some (Prove air)) × proof_line air input (finding_bytes f)
   unfolding IsFinding
-  named_prover None input f found is = absurd (no_proof f verdict.BadInput found is)
-  named_prover (Some (Check air)) input f found is = absurd (no_proof f _ found is)
-  named_prover (Some (Verify air)) input f found is = absurd (no_proof f found.0 found.1 is)
-  named_prover (Some (Prove air)) input f found is = (air, refl, finds_proofs air input f found is)
+  named_prover None input f found form is = absurd (no_proof f verdict.BadInput found form is)
+  named_prover (Some (Check air)) input f found form is = absurd (no_proof f _ found form is)
+  named_prover (Some (Verify air)) input f found form is = absurd (no_proof f found.0 found.1 form is)
+  named_prover (Some (Prove air)) input f found form is = (air, refl, (finds_proofs air input f found form is).1)
 
   finds_no_text : (command : Option Command) (input : List ℕ) (f : Finding) → IsFinding verified sound proved command input f → IsText f → ⊥
   unfolding IsFinding
@@ -119,12 +123,12 @@ module _ (verified : SampleAir → List ℕ → Verdict → Type 0) (sound : Sam
   satisfies_nothing (Some (Prove air)) input found = satisfies_none air input found
 
   -- What begins as an object does is the front of a proof of the trace that was read.
-  proves_trace : (command : Option Command) (input bytes : List ℕ) → IsFrontOfProof (IsFinding verified sound proved command) input bytes → ProvesTrace proof_line command input bytes
+  proves_trace : (command : Option Command) (input bytes : List ℕ) → IsFrontOfProof (IsFinding verified sound proved command) Json input bytes → ProvesTrace proof_line command input bytes
   proves_trace command input bytes front =
-      let prover = named_prover command input front.0 front.2 front.1 in
-      (prover.0, prover.1, finding_line front.0, prover.2, front.3, front.4)
+      let prover = named_prover command input front.0 front.2 Json front.1 in
+      (prover.0, prover.1, finding_bytes front.0, prover.2, front.3, front.4)
 
-  pub told_traces : (command : Option Command) (known : Option (List ℕ)) (P : List ℕ → Type 0) (Q : List ℕ → Type 0) → IfSome known (λ input. (bytes : List ℕ) → P bytes → Q bytes → IsFrontOfProof (IsFinding verified sound proved command) input bytes)
+  pub told_traces : (command : Option Command) (known : Option (List ℕ)) (P : List ℕ → Type 0) (Q : List ℕ → Type 0) → IfSome known (λ input. (bytes : List ℕ) → P bytes → Q bytes → IsFrontOfProof (IsFinding verified sound proved command) Json input bytes)
       → IfSome known (λ input. (bytes : List ℕ) → P bytes → Q bytes → ProvesTrace proof_line command input bytes)
   told_traces command None P Q fronts = tt
   told_traces command (Some input) P Q fronts = λ bytes p q. proves_trace command input bytes (fronts bytes p q)
@@ -134,7 +138,8 @@ module _ (verified : SampleAir → List ℕ → Verdict → Type 0) (sound : Sam
       → (AcceptsInput verified sound proved command known × Appends old new (line_of verdict.Accepted)) ⊎ WritesProof proof_line command known old new
   ends_accepted command known old new (inl accepted) = inl accepted
   ends_accepted command known old new (inr (f, inl is, some, made)) =
-      let prover = named_prover command some.0 f some.2 is in
-      inr (finding_line f, (prover.0, prover.1, some.0, some.1, prover.2), made)
+      let formed = form_of f is in
+      let prover = named_prover command some.0 f some.2 formed.0 formed.1 in
+      inr (finding_bytes f, (prover.0, prover.1, some.0, some.1, prover.2), made)
   ends_accepted command known old new (inr (f, inr (inl is), some, made)) = absurd (finds_no_text command some.0 f some.2 is)
   ends_accepted command known old new (inr (f, inr (inr is), some, made)) = absurd (satisfies_nothing command some.0 (subst (λ g. IsFinding verified sound proved command some.0 g) is some.2))

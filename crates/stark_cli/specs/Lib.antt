@@ -2,5 +2,4 @@ pub mod Running
 pub mod Words
 pub mod SampleRun
 pub mod StatementRun
-pub mod Shown
 pub mod Arguments

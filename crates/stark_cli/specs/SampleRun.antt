@@ -2,16 +2,17 @@
 use Rattle.std.specs.Prelude.{◌≡◌, true, ℕ, List, take, Option, None, Some, ◌⊎◌, refl}
 use Rattle.std.specs.Io.KnownBytes.{Appends}
 use Rattle.std.proofs.Common.{subst, sym}
-use Rattle.stark_commands.specs.Airs.{log_chunks_of, sample, shape_of}
+use Rattle.stark_commands.specs.Airs.{log_chunks_of, sample}
+use Rattle.stark_answers.specs.CheckedAir.{shape_of}
 use Rattle.stark_commands.specs.Input.{CheckNumbers, has_shape, numbers_in}
-use Rattle.stark_commands.specs.Finding.{BeginsAsItsKind}
+use Rattle.stark_answers.specs.Finding.{BeginsAsItsKind}
 use Rattle.stark_cli.specs.Running.{FindsSome, IsInput, SaysOf}
-use Rattle.stark_commands.specs.declared.verdict.Refusal.TheVariants as refusal
-use Rattle.stark_commands.specs.declared.finding.Finding.{Finding}
-use Rattle.stark_commands.specs.declared.finding.Finding.TheVariants as finding
-use Rattle.stark_commands.specs.declared.verdict.Verdict.{Verdict}
-use Rattle.stark_commands.specs.declared.verdict.Verdict.TheVariants as verdict
-use Rattle.stark_commands.specs.declared.verdict.RunEnd.{RunEnd}
+use Rattle.stark_answers.specs.declared.verdict.Refusal.TheVariants as refusal
+use Rattle.stark_answers.specs.declared.finding.Finding.{Finding}
+use Rattle.stark_answers.specs.declared.finding.Finding.TheVariants as finding
+use Rattle.stark_answers.specs.declared.verdict.Verdict.{Verdict}
+use Rattle.stark_answers.specs.declared.verdict.Verdict.TheVariants as verdict
+use Rattle.stark_answers.specs.declared.verdict.RunEnd.{RunEnd}
 use Rattle.stark_cli.specs.declared.words.Command.{Command}
 use Rattle.stark_cli.specs.declared.words.Command.TheVariants.{Check, Prove, Verify}
 use Rattle.stark_commands.specs.declared.sample.SampleAir.{SampleAir}

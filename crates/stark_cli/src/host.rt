@@ -3,9 +3,9 @@
 ghost use Rattle.std.specs.Prelude.{◌≡◌, ◌⊎◌, IfErr, IfOk, drop};
 ghost use Rattle.std.specs.Process.{exit_status};
 ghost use Rattle.std.specs.Vec.Iter.{into_iter_items};
-ghost use Rattle.stark_commands.specs.Verdict.{status_of};
+ghost use Rattle.stark_answers.specs.Verdict.{status_of};
 
-use stark_commands::{Refusal, RunEnd, Verdict};
+use stark_answers::{Refusal, RunEnd, Verdict};
 use std::alloc::{AllocError, Global};
 use std::env::Args;
 use std::process::ExitCode;

@@ -6,8 +6,9 @@ mod arguments;
 mod files;
 mod host;
 mod outcome;
+mod output;
+mod progress;
 pub mod samples;
-mod show;
 mod sources;
 pub mod statements;
 mod streams;
@@ -17,7 +18,8 @@ pub use arguments::{InputWord, Request, Task, USAGE, request_of};
 pub use files::InputFile;
 pub use host::{exit_code, words_of};
 pub use outcome::tell;
-pub use show::show_statement;
+pub use output::{OutputFault, PartialFile};
+pub use progress::{Progress, Silent, Stage, StageLines};
 pub use sources::{WatchedReader, WatchedWriter};
 pub use streams::{
     InputFault, ReadFailed, RunWith, RunWithBoth, Sink, Source, WriteFailed, read_to_end, write_all,

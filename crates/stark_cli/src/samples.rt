@@ -6,17 +6,17 @@ ghost use Rattle.stark_cli.specs.Running.{Exchange, Found, IsFindingEnd, IsFound
 ghost use Rattle.stark_cli.specs.SampleRun.{AcceptsInput, HoldsOf, IsFinding, OfVerified, ProvesTrace, SaysFinding, WritesProof, lacks_memory};
 ghost use Rattle.stark_cli.specs.Words.{command_of};
 ghost use Rattle.stark_cli.specs.declared.words.Command.{Command};
-ghost use Rattle.stark_commands.specs.Verdict.{line_of};
-ghost use Rattle.stark_commands.specs.declared.finding.Finding.{Finding};
-ghost use Rattle.stark_commands.specs.declared.verdict.RunEnd.{RunEnd};
-ghost use Rattle.stark_commands.specs.declared.verdict.Verdict.{Verdict};
+ghost use Rattle.stark_answers.specs.Verdict.{line_of};
+ghost use Rattle.stark_answers.specs.declared.finding.Finding.{Finding};
+ghost use Rattle.stark_answers.specs.declared.verdict.RunEnd.{RunEnd};
+ghost use Rattle.stark_answers.specs.declared.verdict.Verdict.{Verdict};
 
 use crate::outcome::{tell, unread_input};
 use crate::streams::{RunWith, Sink, Source, read_to_end};
 use crate::words::{Command, named_command};
+use stark_answers::{Finding, Refusal, RunEnd, Verdict};
 use stark_commands::{
-    Finding, ProvedInput, Refusal, RunEnd, SampleAir, Verdict, VerifiedInput, check_sample,
-    prove_sample, verify_sample,
+    ProvedInput, SampleAir, VerifiedInput, check_sample, prove_sample, verify_sample,
 };
 use std::alloc::Global;
 

@@ -2,24 +2,21 @@
 
 ghost use Rattle.std.specs.Prelude.{◌≡◌, ◌↔◌, ◌⊎◌, ℕ, List, Option, true, false, IfErr, IfOk, IfSome, is_err};
 ghost use Rattle.std.specs.Io.KnownBytes.{Appends};
-ghost use Rattle.stark_cli.specs.Running.{Exchange, Found, IsFindingEnd, IsFoundOrLacksMemory, SaysFound, SaysOf, WhereAccepted, WhereObject, both};
-ghost use Rattle.stark_cli.specs.Shown.{IsShowing};
-ghost use Rattle.stark_cli.specs.StatementRun.{Accepts, AcceptsInput, IsFinding, ProvesTrace, SaysSatisfied, WritesProof, WritesText, no_memory};
+ghost use Rattle.stark_cli.specs.Running.{Exchange, Found, IsFindingEnd, IsFoundOrLacksMemory, SaysAnswer, SaysFound, SaysOf, SaysProof, WhereAccepted, WhereForm, both};
+ghost use Rattle.stark_cli.specs.StatementRun.{Accepts, AcceptsInput, DeliversProof, IsFinding, ProvesTrace, SaysSatisfied, WritesProof, WritesText, no_memory};
+ghost use Rattle.stark_cli.specs.declared.statements.Delivered.{Delivered};
 ghost use Rattle.stark_cli.specs.declared.statements.Verb.{Verb};
-ghost use Rattle.stark_commands.specs.Verdict.{line_of};
-ghost use Rattle.stark_commands.specs.declared.finding.Finding.{Finding};
-ghost use Rattle.stark_commands.specs.declared.verdict.RunEnd.{RunEnd};
-ghost use Rattle.stark_commands.specs.declared.verdict.Verdict.{Verdict};
+ghost use Rattle.stark_answers.specs.Verdict.{line_of};
+ghost use Rattle.stark_answers.specs.declared.task.ProofForm.{ProofForm};
+ghost use Rattle.stark_answers.specs.declared.finding.Finding.{Finding};
+ghost use Rattle.stark_answers.specs.declared.verdict.RunEnd.{RunEnd};
+ghost use Rattle.stark_answers.specs.declared.verdict.Verdict.{Verdict};
 
-use crate::outcome::{tell, unread_input};
-use crate::show::show_statement;
+use crate::outcome::{tell, tell_apart, unread_input};
+use crate::progress::{Progress, Stage, tell_proof, tell_second};
 use crate::streams::{InputFault, RunWithBoth, Sink, Source, read_to_end};
-use stark_bench::F12289;
-use stark_commands::{
-    Finding, Report, RunEnd, StatementAnswers, TraceTask, Verdict, answer_trace, verify_statement,
-};
-use stark_statement::Statement;
-use stark_support::PrimeField64;
+use stark_answers::{Finding, Report, RunEnd, TraceTask, Verdict};
+use stark_service::StatementAnswers;
 use std::alloc::Global;
 
 /// What is asked for a statement.
@@ -38,6 +35,14 @@ pub enum Verb {
 pub struct Ended {
     pub end: RunEnd,
     pub reason: Option<String>,
+}
+
+/// How a run ended whose proof goes to an output of its own.
+#[derive(Debug, Drop)]
+pub struct Delivered {
+    pub ended: Ended,
+    /// Whether a proof was found: then the output was written, and else the writer.
+    pub is_proof: bool,
 }
 
 /// What is found of a statement and a second input, what is shown, and what is said of a run that
@@ -62,71 +67,123 @@ pub trait StatementFindings {
     /// and the listed columns break no constraint, unless a challenge is bad.
     ghost sound: { Exchange (List ℕ × List ℕ) → Type 0 };
 
-    /// Where it wrote an object, that is the front of the line of a proof of the trace.
+    /// Where it wrote what begins as a proof does, that is the front of the file of one of the
+    /// trace, in the form that it begins as.
     ghost proved: { Verb → Exchange (List ℕ × List ℕ) → Type 0 };
 
-    /// It ended well only where it wrote `accepted` of inputs that are, the line of such a proof,
+    /// It ended well only where it wrote `accepted` of inputs that are, the file of such a proof,
     /// the text that shows the statement, or that a trace satisfies its AIR, as it does.
     ghost ends: { Verb → Exchange (List ℕ × List ℕ) → RunEnd → Type 0 };
 }
 
-impl StatementFindings for Statement<F12289> {
-    ghost finding = { IsFinding (⟦<Statement<F12289> as StatementAnswers>⟧.verdict)
-        (⟦<Statement<F12289> as StatementAnswers>⟧.sound)
-        (⟦<Statement<F12289> as StatementAnswers>⟧.found)
-        (IsShowing (⟦<F12289 as PrimeField64>⟧.number_of)) };
+impl<A: StatementAnswers> StatementFindings for A {
+    ghost finding = { IsFinding A.verdict
+        A.sound
+        A.found
+        A.proof_file
+        A.showing };
 
-    ghost shown = { IsShowing (⟦<F12289 as PrimeField64>⟧.number_of) };
+    ghost shown = { A.showing };
 
     ghost found = { λ verb. Found no_memory
-        (IsFinding (⟦<Statement<F12289> as StatementAnswers>⟧.verdict)
-        (⟦<Statement<F12289> as StatementAnswers>⟧.sound)
-        (⟦<Statement<F12289> as StatementAnswers>⟧.found)
-        (IsShowing (⟦<F12289 as PrimeField64>⟧.number_of)) verb) };
+        (IsFinding A.verdict
+        A.sound
+        A.found
+        A.proof_file
+        A.showing verb) };
 
     ghost said = { λ verb run end. (end ≡ RunEnd.InputFailed) ⊎ SaysFound no_memory
-        (IsFinding (⟦<Statement<F12289> as StatementAnswers>⟧.verdict)
-        (⟦<Statement<F12289> as StatementAnswers>⟧.sound)
-        (⟦<Statement<F12289> as StatementAnswers>⟧.found)
-        (IsShowing (⟦<F12289 as PrimeField64>⟧.number_of)) verb) run.input end run.old run.new };
+        (IsFinding A.verdict
+        A.sound
+        A.found
+        A.proof_file
+        A.showing verb) run.input end run.old run.new };
 
     ghost says = { λ verb run end. IfSome run.input (λ input. SaysOf no_memory
-        (IsFinding (⟦<Statement<F12289> as StatementAnswers>⟧.verdict)
-        (⟦<Statement<F12289> as StatementAnswers>⟧.sound)
-        (⟦<Statement<F12289> as StatementAnswers>⟧.found)
-        (IsShowing (⟦<F12289 as PrimeField64>⟧.number_of)) verb) input end run.old run.new) };
+        (IsFinding A.verdict
+        A.sound
+        A.found
+        A.proof_file
+        A.showing verb) input end run.old run.new) };
 
     ghost accepted = { λ verb run. WhereAccepted run.input run.old run.new
-        (Accepts (⟦<Statement<F12289> as StatementAnswers>⟧.verdict) verb) };
+        (Accepts A.verdict verb) };
 
     ghost sound = { λ run. WhereAccepted run.input run.old run.new (λ input.
-        ⟦<Statement<F12289> as StatementAnswers>⟧.sound input.0 input.1) };
+        A.sound input.0 input.1) };
 
-    ghost proved = { λ verb run. WhereObject run.input run.old run.new
-        (ProvesTrace (⟦<Statement<F12289> as StatementAnswers>⟧.proof_line) verb) };
+    ghost proved = { λ verb run. (form : ProofForm) → WhereForm form run.input run.old run.new
+        (ProvesTrace A.proof_file form verb) };
 
     ghost ends = { λ verb run end. end ≡ RunEnd.Accepted →
-        (AcceptsInput (⟦<Statement<F12289> as StatementAnswers>⟧.verdict) verb run.input
+        (AcceptsInput A.verdict verb run.input
         × Appends run.old run.new (line_of Verdict.Accepted))
-        ⊎ (WritesProof (⟦<Statement<F12289> as StatementAnswers>⟧.proof_line) verb run.input
+        ⊎ (WritesProof A.proof_file verb run.input
         run.old run.new
-        ⊎ (WritesText (IsShowing (⟦<F12289 as PrimeField64>⟧.number_of)) verb run.input run.old
+        ⊎ (WritesText A.showing verb run.input run.old
         run.new
-        ⊎ SaysSatisfied (⟦<Statement<F12289> as StatementAnswers>⟧.found) verb run.input run.old
+        ⊎ SaysSatisfied A.found verb run.input run.old
         run.new)) };
+}
+
+/// What is said of a run whose proof goes to an output of its own: of a proof by what it wrote to
+/// the output, of anything else by what it wrote to the writer. It has no code.
+pub trait DeliveryFindings {
+    /// It found a proof, and wrote its file or a front of it.
+    ghost said_proof: { Verb → Exchange (List ℕ × List ℕ) → Delivered → Type 0 };
+
+    /// It failed to read, or said what it found, which is no proof.
+    ghost said_answer: { Verb → Exchange (List ℕ × List ℕ) → Delivered → Type 0 };
+
+    /// It wrote the file of a proof of the trace: whole where it ended well, or a front of it where
+    /// a write failed.
+    ghost delivered: { Verb → Exchange (List ℕ × List ℕ) → Delivered → Type 0 };
+
+    /// It said what is found of inputs that are known, as `run` does.
+    ghost says: { Verb → Exchange (List ℕ × List ℕ) → Delivered → Type 0 };
+
+    /// It ended well only where it wrote `accepted` of inputs that are, the text that shows the
+    /// statement, or that a trace satisfies its AIR, as it does.
+    ghost ends: { Verb → Exchange (List ℕ × List ℕ) → Delivered → Type 0 };
+}
+
+impl<A: StatementAnswers> DeliveryFindings for A {
+    ghost said_proof = { λ verb run of. of.is_proof ≡ true → SaysProof no_memory
+        (⟦<A as StatementFindings>⟧.finding verb) run.input of.ended.end run.old run.new };
+
+    ghost said_answer = { λ verb run of. of.is_proof ≡ false
+        → (of.ended.end ≡ RunEnd.InputFailed) ⊎ SaysAnswer no_memory
+        (⟦<A as StatementFindings>⟧.finding verb) run.input of.ended.end run.old run.new };
+
+    ghost delivered = { λ verb run of. of.is_proof ≡ true
+        → DeliversProof A.proof_file verb run.input of.ended.end run.old run.new };
+
+    ghost says = { λ verb run of. of.is_proof ≡ false
+        → ⟦<A as StatementFindings>⟧.says verb run of.ended.end };
+
+    ghost ends = { λ verb run of. of.is_proof ≡ false → of.ended.end ≡ RunEnd.Accepted
+        → (AcceptsInput A.verdict verb run.input
+        × Appends run.old run.new (line_of Verdict.Accepted))
+        ⊎ (WritesText A.showing verb run.input run.old run.new
+        ⊎ SaysSatisfied A.found verb run.input run.old run.new) };
 }
 
 /// What is found of the bytes of both.
 #[tactic(auto, unfolding(crate::specs::StatementRun::IsFinding))]
-fn answer(alloc: Global, verb: Verb, statement: Vec<u8>, second: Vec<u8>) -> Report<Finding>
+fn answer<A: StatementAnswers>(
+    alloc: Global,
+    verb: Verb,
+    statement: Vec<u8>,
+    second: Vec<u8>,
+) -> Report<Finding>
     ensures { IsFoundOrLacksMemory no_memory
-        (⟦<Statement<F12289> as StatementFindings>⟧.finding verb)
+        (⟦<A as StatementFindings>⟧.finding verb)
         (statement.items, second.items) result.answer }
 {
     match verb {
-        Verb::Verify => verify_statement(alloc, &statement, &second).as_finding(),
-        Verb::Trace(asked) => answer_trace(alloc, asked, &statement, &second),
-        Verb::Show => show_statement(alloc, statement),
+        Verb::Verify => A::verify(alloc, &statement, &second).as_finding(),
+        Verb::Trace(asked) => A::answer(alloc, asked, &statement, &second),
+        Verb::Show => A::show(alloc, statement),
     }
 }
 
@@ -147,43 +204,48 @@ fn unread(fault: InputFault) -> Result<Report<Finding>, RunEnd>
 
 /// Finds something of what the readers have, or fails by one of them alone. The second is read
 /// behind the first.
-fn find<S: Source, R: Source>(
+fn find<A: StatementAnswers, S: Source, R: Source, P: Progress>(
     alloc: Global,
     verb: Verb,
     statement: &mut S,
     second: &mut R,
+    progress: &mut P,
 ) -> Result<Report<Finding>, RunEnd>
     requires first { S.has_failed statement.old ≡ false }
     requires behind { R.has_failed second.old ≡ false }
-    ensures found { IfOk result (λ r. ⟦<Statement<F12289> as StatementFindings>⟧.found verb
+    ensures found { IfOk result (λ r. ⟦<A as StatementFindings>⟧.found verb
         (both (S.remaining statement.old) (R.remaining second.old)) r.answer) }
     ensures kind { IfErr result (λ e. e ≡ RunEnd.InputFailed) }
     ensures failed { (is_err result ≡ true)
         ↔ ((S.has_failed statement.new ≡ true) ⊎ (R.has_failed second.new ≡ true)) }
 {
+    progress.stage(Stage::ReadingStatement);
     let first = match read_to_end(alloc, statement) {
         Ok(bytes) => bytes,
         Err(fault) => return unread(fault),
     };
+    tell_second(verb, progress);
     let other = match read_to_end(alloc, second) {
         Ok(bytes) => bytes,
         Err(fault) => return unread(fault),
     };
-    Ok(answer(alloc, verb, first, other))
+    progress.stage(Stage::of_answer(verb, first.len(), other.len()));
+    Ok(answer::<A>(alloc, verb, first, other))
 }
 
 /// A run, by its exact clauses alone.
-fn ran<S: Source, R: Source, W: Sink>(
+fn ran<A: StatementAnswers, S: Source, R: Source, W: Sink, P: Progress>(
     alloc: Global,
     verb: Verb,
     statement: &mut S,
     second: &mut R,
     writer: &mut W,
+    progress: &mut P,
 ) -> Ended
     requires first { S.has_failed statement.old ≡ false }
     requires behind { R.has_failed second.old ≡ false }
     requires fresh_writer { W.has_failed writer.old ≡ false }
-    ensures says { ⟦<Statement<F12289> as StatementFindings>⟧.said verb
+    ensures says { ⟦<A as StatementFindings>⟧.said verb
         (⟦<W as RunWithBoth<S, R>>⟧.run statement.old second.old writer.old writer.new)
         result.end }
     ensures silent { result.end ≡ RunEnd.InputFailed → writer.new ≡ writer.old }
@@ -191,33 +253,37 @@ fn ran<S: Source, R: Source, W: Sink>(
         ↔ ((S.has_failed statement.new ≡ true) ⊎ (R.has_failed second.new ≡ true)) }
     ensures output_failed { (result.end ≡ RunEnd.OutputFailed) ↔ (W.has_failed writer.new ≡ true) }
 {
-    match find(alloc, verb, statement, second) {
-        Ok(report) => Ended {
-            end: tell(&report.answer, writer),
-            reason: report.reason,
-        },
+    match find::<A, S, R, P>(alloc, verb, statement, second, progress) {
+        Ok(report) => {
+            tell_proof(&report.answer, progress);
+            Ended {
+                end: tell(&report.answer, writer),
+                reason: report.reason,
+            }
+        }
         Err(end) => Ended { end, reason: None },
     }
 }
 
-/// Runs the program on a statement and a second input: the proof that is verified, or the trace
-/// that is checked or proved; to show takes none.
+/// Runs the program, whose answers are those of `A`, on a statement and a second input: the proof
+/// that is verified, or the trace that is checked or proved; to show takes none.
 ///
 /// Both are read to their ends, and one line is written, or the text that shows, or the two lines
-/// of a row that breaks a constraint. The reason, in words, is for standard error; no clause speaks
-/// of it.
-pub fn run<S: Source, R: Source, W: Sink>(
+/// of a row that breaks a constraint. The reason, in words, is for standard error, and each stage
+/// is told before it begins; no clause speaks of either.
+pub fn run<A: StatementAnswers, S: Source, R: Source, W: Sink, P: Progress>(
     alloc: Global,
     verb: Verb,
     statement: &mut S,
     second: &mut R,
     writer: &mut W,
+    progress: &mut P,
 ) -> Ended
     requires first { S.has_failed statement.old ≡ false }
     requires behind { R.has_failed second.old ≡ false }
     requires fresh_writer { W.has_failed writer.old ≡ false }
     // What is written, and how the run ends.
-    ensures says { ⟦<Statement<F12289> as StatementFindings>⟧.says verb
+    ensures says { ⟦<A as StatementFindings>⟧.says verb
         (⟦<W as RunWithBoth<S, R>>⟧.run statement.old second.old writer.old writer.new)
         result.end }
     // These two ends come from a failed read and a failed write, and from nothing else.
@@ -231,22 +297,106 @@ pub fn run<S: Source, R: Source, W: Sink>(
     ensures silent { result.end ≡ RunEnd.InputFailed → writer.new ≡ writer.old }
     // In every run `accepted` is written only where a verifier is asked that accepts the proof for
     // the statement.
-    ensures accepted { ⟦<Statement<F12289> as StatementFindings>⟧.accepted verb
+    ensures accepted { ⟦<A as StatementFindings>⟧.accepted verb
         (⟦<W as RunWithBoth<S, R>>⟧.run statement.old second.old writer.old writer.new) }
     // Then the columns that the proof lists break no constraint of the statement's AIR, or alpha is
     // bad for them, or zeta is.
-    ensures sound { ⟦<Statement<F12289> as StatementFindings>⟧.sound
+    ensures sound { ⟦<A as StatementFindings>⟧.sound
         (⟦<W as RunWithBoth<S, R>>⟧.run statement.old second.old writer.old writer.new) }
-    // In every run what begins as an object does is the front of the line of a proof, for the
-    // statement, of the trace.
-    ensures proved { ⟦<Statement<F12289> as StatementFindings>⟧.proved verb
+    // In every run what begins as a proof in a form does, as an object or by the text that tells a
+    // proof's bytes, is the front of the file of one, for the statement, of the trace.
+    ensures proved { ⟦<A as StatementFindings>⟧.proved verb
         (⟦<W as RunWithBoth<S, R>>⟧.run statement.old second.old writer.old writer.new) }
-    // A run ends so only where it wrote `accepted` for inputs that are accepted, a proof's line, a
+    // A run ends so only where it wrote `accepted` for inputs that are accepted, a proof's file, a
     // text that shows a statement, or, of a trace that is checked and satisfies the statement's
     // AIR, that it does; whether or not the readers tell their bytes.
-    ensures accepted_end { ⟦<Statement<F12289> as StatementFindings>⟧.ends verb
+    ensures accepted_end { ⟦<A as StatementFindings>⟧.ends verb
         (⟦<W as RunWithBoth<S, R>>⟧.run statement.old second.old writer.old writer.new)
         result.end }
 {
-    ran(alloc, verb, statement, second, writer)
+    ran::<A, S, R, W, P>(alloc, verb, statement, second, writer, progress)
+}
+
+/// A run whose proof goes to an output of its own, by its exact clauses alone.
+fn ran_to<A: StatementAnswers, S: Source, R: Source, O: Sink, W: Sink, P: Progress>(
+    alloc: Global,
+    verb: Verb,
+    statement: &mut S,
+    second: &mut R,
+    output: &mut O,
+    writer: &mut W,
+    progress: &mut P,
+) -> Delivered
+    requires first { S.has_failed statement.old ≡ false }
+    requires behind { R.has_failed second.old ≡ false }
+    requires fresh_output { O.has_failed output.old ≡ false }
+    requires fresh_writer { W.has_failed writer.old ≡ false }
+    ensures proof { ⟦<A as DeliveryFindings>⟧.said_proof verb
+        (⟦<O as RunWithBoth<S, R>>⟧.run statement.old second.old output.old output.new) result }
+    ensures read { result.is_proof ≡ true → result.ended.end ≡ RunEnd.InputFailed → ⊥ }
+    ensures kept { result.is_proof ≡ true → writer.new ≡ writer.old }
+    ensures answer { ⟦<A as DeliveryFindings>⟧.said_answer verb
+        (⟦<W as RunWithBoth<S, R>>⟧.run statement.old second.old writer.old writer.new) result }
+    ensures untouched { result.is_proof ≡ false → output.new ≡ output.old }
+    ensures silent { result.ended.end ≡ RunEnd.InputFailed → writer.new ≡ writer.old }
+    ensures input_failed { (result.ended.end ≡ RunEnd.InputFailed)
+        ↔ ((S.has_failed statement.new ≡ true) ⊎ (R.has_failed second.new ≡ true)) }
+    ensures output_failed { (result.ended.end ≡ RunEnd.OutputFailed)
+        ↔ ((O.has_failed output.new ≡ true) ⊎ (W.has_failed writer.new ≡ true)) }
+{
+    match find::<A, S, R, P>(alloc, verb, statement, second, progress) {
+        Ok(report) => {
+            tell_proof(&report.answer, progress);
+            let told = tell_apart(&report.answer, output, writer);
+            Delivered {
+                ended: Ended {
+                    end: told.end,
+                    reason: report.reason,
+                },
+                is_proof: told.is_proof,
+            }
+        }
+        Err(end) => Delivered {
+            ended: Ended { end, reason: None },
+            is_proof: false,
+        },
+    }
+}
+
+/// Runs the program as `run` does, but for a proof, which goes to an output of its own: what isn't
+/// one, a refusal, a broken row, a bad input or want of memory, is written as `run` writes it.
+pub fn run_to<A: StatementAnswers, S: Source, R: Source, O: Sink, W: Sink, P: Progress>(
+    alloc: Global,
+    verb: Verb,
+    statement: &mut S,
+    second: &mut R,
+    output: &mut O,
+    writer: &mut W,
+    progress: &mut P,
+) -> Delivered
+    requires first { S.has_failed statement.old ≡ false }
+    requires behind { R.has_failed second.old ≡ false }
+    requires fresh_output { O.has_failed output.old ≡ false }
+    requires fresh_writer { W.has_failed writer.old ≡ false }
+    // Of a proof the output gets the file of one for the statement, of the trace: whole where the
+    // run ends well, and else, where a write failed, a front of it. The writer holds what it held.
+    ensures delivered { ⟦<A as DeliveryFindings>⟧.delivered verb
+        (⟦<O as RunWithBoth<S, R>>⟧.run statement.old second.old output.old output.new) result }
+    ensures kept { result.is_proof ≡ true → writer.new ≡ writer.old }
+    // Of anything else the output holds what it held, and the writer gets what `run` says.
+    ensures untouched { result.is_proof ≡ false → output.new ≡ output.old }
+    ensures says { ⟦<A as DeliveryFindings>⟧.says verb
+        (⟦<W as RunWithBoth<S, R>>⟧.run statement.old second.old writer.old writer.new) result }
+    // Without a proof no prover's run ends well, whether or not the readers tell their bytes.
+    ensures ends { ⟦<A as DeliveryFindings>⟧.ends verb
+        (⟦<W as RunWithBoth<S, R>>⟧.run statement.old second.old writer.old writer.new) result }
+    // After a failed read nothing is written.
+    ensures silent { result.ended.end ≡ RunEnd.InputFailed → writer.new ≡ writer.old }
+    // These two ends come from a failed read and a failed write, and from nothing else.
+    ensures input_failed { (result.ended.end ≡ RunEnd.InputFailed)
+        ↔ ((S.has_failed statement.new ≡ true) ⊎ (R.has_failed second.new ≡ true)) }
+    ensures output_failed { (result.ended.end ≡ RunEnd.OutputFailed)
+        ↔ ((O.has_failed output.new ≡ true) ⊎ (W.has_failed writer.new ≡ true)) }
+{
+    ran_to::<A, S, R, O, W, P>(alloc, verb, statement, second, output, writer, progress)
 }

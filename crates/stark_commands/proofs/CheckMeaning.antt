@@ -13,14 +13,15 @@ use Rattle.stark_fields.specs.SmallResidues.{small_ghosts, small_laws, small_two
 use Rattle.stark_fields.specs.PrimeField.{root}
 use Rattle.stark_fields.specs.declared.small.M12289.{M12289}
 use Rattle.stark_fields.specs.Ext4Field.{embedded_is_embedding}
-use Rattle.stark_commands.specs.Airs.{CheckedAir, IsCutInto, shape_of}
+use Rattle.stark_answers.specs.CheckedAir.{CheckedAir, shape_of}
+use Rattle.stark_commands.specs.Airs.{IsCutInto}
 use Rattle.stark_commands.specs.Check.{checked, CheckHolds, IsBalanced, IsPointOfH, element_of, found_at_point, folded, if_none, laws_of_elements, periodic_fault, quotient, vanishing}
-use Rattle.stark_commands.specs.Input.{CheckNumbers, elements, has_shape}
+use Rattle.stark_commands.specs.Input.{Base, CheckNumbers, elements, has_shape}
 use Rattle.stark_commands.specs.Check.{check_verdict}
-use Rattle.stark_commands.specs.declared.verdict.Verdict.{Verdict}
-use Rattle.stark_commands.specs.declared.verdict.Verdict.TheVariants.{Accepted, Refused, BadInput}
-use Rattle.stark_commands.specs.declared.verdict.Refusal.{Refusal}
-use Rattle.stark_commands.specs.declared.verdict.Refusal.TheVariants.{OodPointInDomain, OodEvaluationMismatch, PeriodicColumn, QuotientDomainTooLarge}
+use Rattle.stark_answers.specs.declared.verdict.Verdict.{Verdict}
+use Rattle.stark_answers.specs.declared.verdict.Verdict.TheVariants.{Accepted, Refused, BadInput}
+use Rattle.stark_answers.specs.declared.verdict.Refusal.{Refusal}
+use Rattle.stark_answers.specs.declared.verdict.Refusal.TheVariants.{OodPointInDomain, OodEvaluationMismatch, PeriodicColumn, QuotientDomainTooLarge}
 
 -- root n to the 2^n is one, also past the field's adicity
 root_reaches : {K : Type 0} (n : ℕ) → squarings (residue_ring {M = M12289} {K = K} {G = small_ghosts}) (root n) n ≡ residue 1
@@ -76,7 +77,7 @@ true_if_accepted : (b : Bool) (v w : Verdict) → (w ≡ Accepted → ⊥) → (
 true_if_accepted true v w other h = (refl, h)
 true_if_accepted false v w other h = absurd (other h)
 
-module _ (air : CheckedAir) (log_chunks : ℕ) (m : CheckNumbers) where
+module _ (air : CheckedAir Base) (log_chunks : ℕ) (m : CheckNumbers) where
   holds_at_point : found_at_point air log_chunks m ≡ Accepted → (IsPointOfH m → ⊥) × (periodic_fault air m ≡ None) × IsBalanced air log_chunks m
   unfolding found_at_point
   holds_at_point h =
@@ -100,7 +101,7 @@ module _ (air : CheckedAir) (log_chunks : ℕ) (m : CheckNumbers) where
       }
 
 -- What is accepted was read, in the AIR's shape, and the AIR's check holds of it.
-pub holds_of_read : (air : CheckedAir) (log_chunks : ℕ) → IsCutInto air log_chunks → (read : Option CheckNumbers) → check_verdict air log_chunks read ≡ Accepted
+pub holds_of_read : (air : CheckedAir Base) (log_chunks : ℕ) → IsCutInto air log_chunks → (read : Option CheckNumbers) → check_verdict air log_chunks read ≡ Accepted
     → (m : CheckNumbers) × (read ≡ Some m) × (has_shape (shape_of air) m ≡ true) × CheckHolds air log_chunks m
 holds_of_read air log_chunks cut None h = absurd (bad_input_clash h)
 holds_of_read air log_chunks cut (Some m) h =

@@ -5,7 +5,7 @@ use Rattle.stark_support.specs.Selectors.{Subgroup}
 use Rattle.stark_air.specs.Tree.{Constraint}
 use Rattle.stark_protocol.specs.Equation.{OpenedRows}
 use Rattle.stark_commands.specs.Point.{EquationVerdict}
-use Rattle.stark_commands.specs.declared.verdict.Verdict.{Verdict}
+use Rattle.stark_answers.specs.declared.verdict.Verdict.{Verdict}
 
 module _ {F E : Type 0} (base : RingOps F) (ring : RingOps E) (embed : F → E) (subgroup : Subgroup E) (constraints : List (Constraint F))
     (rows : List E → OpenedRows F E) (zeta alpha : E) (verdict : Verdict) where

@@ -23,17 +23,17 @@ use Rattle.stark_fields.specs.SmallResidues.{small_laws, small_two_adic}
 use Rattle.stark_fields.specs.PrimeField.{root}
 use Rattle.stark_fields.specs.Ext4Field.{basis_of, embedded_is_embedding}
 use Rattle.stark_protocol.specs.Equation.{OpenedRows, opened_layout}
-use Rattle.stark_commands.specs.Airs.{CheckedAir, shape_of}
+use Rattle.stark_answers.specs.CheckedAir.{CheckedAir, shape_of}
 use Rattle.stark_commands.specs.Check.{IsBalanced, checked, element_of, found_at_point, folded, inverse_of, if_none, check_verdict, laws_of_elements, opened_rows, periodic_fault, periodic_values, quotient, trace_coset, vanishing}
 use Rattle.stark_commands.specs.Input.{CheckNumbers, Base, Extension, elements, has_shape, numbers_in, zeros}
 use Rattle.stark_protocol.specs.Sizes.{chunk_shifts, quotient_coset}
 use Rattle.stark_protocol.specs.AcceptanceFacts.{next_at_most}
 use Rattle.stark_commands.specs.Point.{EquationVerdict, IsOutsideCoset, PointVerdict, TellsEquation}
-use Rattle.stark_commands.specs.declared.input.CheckShape.{CheckShape}
-use Rattle.stark_commands.specs.declared.verdict.Verdict.{Verdict}
-use Rattle.stark_commands.specs.declared.verdict.Verdict.TheVariants as verdict
-use Rattle.stark_commands.specs.declared.verdict.Verdict.TheVariants.{Accepted, Refused, BadInput}
-use Rattle.stark_commands.specs.declared.verdict.Refusal.TheVariants.{OodPointInDomain, OodEvaluationMismatch, PeriodicColumn, QuotientDomainTooLarge, Pcs, GrindExhausted, AirTooLarge, OutOfMemory, Proof}
+use Rattle.stark_answers.specs.declared.shape.CheckShape.{CheckShape}
+use Rattle.stark_answers.specs.declared.verdict.Verdict.{Verdict}
+use Rattle.stark_answers.specs.declared.verdict.Verdict.TheVariants as verdict
+use Rattle.stark_answers.specs.declared.verdict.Verdict.TheVariants.{Accepted, Refused, BadInput}
+use Rattle.stark_answers.specs.declared.verdict.Refusal.TheVariants.{OodPointInDomain, OodEvaluationMismatch, PeriodicColumn, QuotientDomainTooLarge, Pcs, GrindExhausted, AirTooLarge, OutOfMemory, Proof}
 
 -- A verdict that tells an equation is the function of its sides, or memory is wanting.
 module _ {K : Type 0} {ring : RingOps K} {inverse : K → K} (laws : FieldLaws ring inverse) (left right : K) where
@@ -52,7 +52,7 @@ module _ {K : Type 0} {ring : RingOps K} {inverse : K → K} (laws : FieldLaws r
   told_by verdict.OutOfMemory h = absurd h
 
 -- What is found at zeta, step by step.
-module _ (air : CheckedAir) (log_chunks : ℕ) (m : CheckNumbers) where
+module _ (air : CheckedAir Base) (log_chunks : ℕ) (m : CheckNumbers) where
   pub found_inside : vanishing m ≡ elements.zero → Refused OodPointInDomain ≡ found_at_point air log_chunks m
   unfolding found_at_point
   found_inside inside = sym (if_same-same laws_of_elements (vanishing m) elements.zero (Refused OodPointInDomain) _ inside)
@@ -158,7 +158,7 @@ module _ {V : Type 0} (items : V → List Extension) (count : V → ℕ) (counte
       ap (λ vs. count (get_or vs k d)) same ∙ counted (get_or chunks k d) ∙ ap length (sym (get_or-map items chunks k d (items d) inside)) ∙
       four k (items d) (omega (arith, inside, length-map chunks items))
 
-module _ (air : CheckedAir) (m : CheckNumbers) where
+module _ (air : CheckedAir Base) (m : CheckNumbers) where
   pub coset_vanishing_is : (coset : TwoAdicCoset Base) → coset ≡ trace_coset m.log_height → coset_vanishing elements (λ c. c) inverse_of (coset_size coset) (element_of coset.shift) m.zeta ≡ vanishing m
   coset_vanishing_is coset is =
       vanishing_of_subgroup laws_of_elements (embedded_is_embedding small_laws.of_ring (residue 11)) 12 root (residue 11) small_two_adic (coset_size coset) coset.shift m.zeta (ap (λ (c : TwoAdicCoset Base). c.shift) is) ∙
@@ -190,7 +190,7 @@ module _ (air : CheckedAir) (m : CheckNumbers) where
         ap (first_fault (2 ^ m.log_height) 0) (same_maps count (λ v. length (items v)) counted columns ∙ sym (map-map length items columns) ∙ ap (map length) listed)
 
 -- What the equation at zeta tells over the columns and the chunks in memory is told of the numbers.
-module _ (air : CheckedAir) (log_chunks : ℕ) (m : CheckNumbers) {V W : Type 0} (items : V → List Base) (columns : List V) (parts : W → List Extension) (chunks : List W) where
+module _ (air : CheckedAir Base) (log_chunks : ℕ) (m : CheckNumbers) {V W : Type 0} (items : V → List Base) (columns : List V) (parts : W → List Extension) (chunks : List W) where
   pub told_at_zeta : (coset whole : TwoAdicCoset Base) (local next fixed_local fixed_next : List Extension) (publics : List Base) (v : Verdict)
       → coset ≡ trace_coset m.log_height → whole ≡ quotient_coset residue_ring (residue 11) (trace_coset m.log_height) log_chunks
       → local ≡ m.local → next ≡ m.next → fixed_local ≡ m.preprocessed_local → fixed_next ≡ zeros air.layout.preprocessed → publics ≡ m.publics
@@ -220,7 +220,7 @@ within_adicity n none = elim (cases_lt 12 n) [
 ]
 
 -- What is found of what was read.
-module _ (air : CheckedAir) (log_chunks : ℕ) (shape : CheckShape) (bytes : List ℕ) (is : shape ≡ shape_of air) where
+module _ (air : CheckedAir Base) (log_chunks : ℕ) (shape : CheckShape) (bytes : List ℕ) (is : shape ≡ shape_of air) where
   pub unread_verdict : numbers_in shape bytes ≡ None → BadInput ≡ check_verdict air log_chunks (numbers_in (shape_of air) bytes)
   unread_verdict none = ap (check_verdict air log_chunks) (sym none ∙ ap (λ s. numbers_in s bytes) is)
 

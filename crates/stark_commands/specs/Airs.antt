@@ -1,55 +1,26 @@
--- The AIRs of which a check can be made, and what a check takes of each.
+-- The sample AIRs, and what each declares.
 use Rattle.std.specs.Prelude.{ℕ, List, [], ◌∷◌, Option, None, Some}
 use Rattle.stark_air.specs.Declaration.{Trace}
-use Rattle.stark_air.specs.Layout.{Layout}
 use Rattle.stark_air.specs.Tree.{Constraint}
 use Rattle.stark_support.specs.Logarithm.{IsCeilingOfLog}
-use Rattle.stark_transcript.specs.Shape.{opens_next_row}
 use Rattle.stark_parts.specs.Sizing.{constraint_degree, quotient_multiple}
 use Rattle.stark_samples.specs.Samples.{column_layout, counter_layout, counter_constraints, cubic_constraints, fibonacci_layout, fibonacci_constraints, periodic_layout, periodic_constraints, preprocessed_layout, preprocessed_constraints, pair_layout, pair_constraints}
 use Rattle.stark_fields.specs.Residues.{residue}
 use Rattle.stark_commands.specs.Input.{Base}
-use Rattle.stark_commands.specs.declared.input.CheckShape.{CheckShape}
+use Rattle.stark_answers.specs.CheckedAir.{CheckedAir, checked_air}
 use Rattle.stark_commands.specs.declared.sample.SampleAir.{SampleAir}
 use Rattle.stark_commands.specs.declared.sample.SampleAir.TheVariants.{Counter, Cubic, Fibonacci, Periodic, Preprocessed, Pair}
-
--- What an AIR declares of itself, and its constraints.
-pub record CheckedAir : Type 0 where
-  pub layout : Layout
-  -- the main columns whose next row is read
-  pub next_columns : List ℕ
-  pub periodic_columns : List (List Base)
-  pub degree_hint : Option ℕ
-  pub constraints : List (Constraint Base)
-  pub preprocessed_trace : Option (Trace Base)
-  -- the preprocessed columns whose next row is read
-  pub preprocessed_next_columns : List ℕ
-
-abbrev pub checked_air : Layout → List ℕ → List (List Base) → Option ℕ → List (Constraint Base) → Option (Trace Base) → List ℕ → CheckedAir
-checked_air layout next_columns periodic_columns degree_hint constraints preprocessed_trace preprocessed_next_columns = record {
-  layout = layout;
-  next_columns = next_columns;
-  periodic_columns = periodic_columns;
-  degree_hint = degree_hint;
-  constraints = constraints;
-  preprocessed_trace = preprocessed_trace;
-  preprocessed_next_columns = preprocessed_next_columns;
-}
 
 -- the preprocessed column 1, 2, 3, 4
 abbrev pub one_to_four : Trace Base
 one_to_four = record { width = 1; values = residue 1 ∷ residue 2 ∷ residue 3 ∷ residue 4 ∷ [] }
 
--- The widths and counts of the numbers of a check, and whether the next row is read.
-abbrev pub shape_of : CheckedAir → CheckShape
-shape_of air = record { width = air.layout.main; num_public_values = air.layout.publics; reads_next = opens_next_row air.next_columns; preprocessed_width = air.layout.preprocessed }
-
 -- The quotient of its constraints is cut into 2 ^ log_chunks chunks.
-abbrev pub IsCutInto : CheckedAir → ℕ → Type 0
+abbrev pub IsCutInto : CheckedAir Base → ℕ → Type 0
 IsCutInto air log_chunks = IsCeilingOfLog log_chunks (quotient_multiple (constraint_degree 0 air.constraints air.degree_hint) 0)
 
 -- the sample AIR of a name
-abbrev pub sample : SampleAir → CheckedAir
+abbrev pub sample : SampleAir → CheckedAir Base
 sample Counter = checked_air counter_layout (0 ∷ []) [] None (counter_constraints (residue 1)) None []
 sample Cubic = checked_air column_layout [] [] None cubic_constraints None []
 sample Fibonacci = checked_air fibonacci_layout (0 ∷ 1 ∷ []) [] None fibonacci_constraints None []

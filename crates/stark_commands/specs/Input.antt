@@ -11,7 +11,7 @@ use Rattle.stark_fields.specs.ElementJson.{base_at, element_at}
 use Rattle.stark_fields.specs.SmallResidues.{Residue12289}
 use Rattle.stark_fields.specs.declared.residue.Lockstep.{Lockstep}
 use Rattle.stark_fields.specs.declared.ext4.Ext4.{Ext4}
-use Rattle.stark_commands.specs.declared.input.CheckShape.{CheckShape}
+use Rattle.stark_answers.specs.declared.shape.CheckShape.{CheckShape}
 
 abbrev pub Base : Type 0
 Base = Residue12289 Lockstep

@@ -1,18 +1,18 @@
 //! The command `check`: the equation of a proof at one point, of numbers that are read.
 
 ghost use Rattle.std.specs.Prelude.{◌≡◌, ◌≢◌, ◌≤◌, ◌^◌, ◌⊎◌, true, length, map};
-ghost use Rattle.stark_commands.specs.Airs.{log_chunks_of, sample, shape_of};
-ghost use Rattle.stark_commands.specs.Check.{IsBalanced, IsOwed, checked, found_at_point, trace_coset, vanishing, verdict_on_bytes, whole_coset};
+ghost use Rattle.stark_commands.specs.Airs.{log_chunks_of, sample};
+ghost use Rattle.stark_answers.specs.CheckedAir.{shape_of};
+ghost use Rattle.stark_commands.specs.Check.{IsBalanced, IsOrLacksMemory, IsOwed, checked, found_at_point, trace_coset, vanishing, verdict_on_bytes, whole_coset};
 ghost use Rattle.stark_commands.specs.Input.{elements, has_shape};
 ghost use Rattle.stark_commands.specs.Numbers.{numbers};
 ghost use Rattle.stark_commands.specs.Point.{TellsEquation};
 
-use crate::airs::DeclaredAir;
-use crate::input::{CheckInput, CheckShape, Extension, numbers_from, zeros};
+use crate::input::{CheckInput, Extension, numbers_from, zeros};
 use crate::point::{equation_over, quotient_domain_of, vanishes_at};
 use crate::sample::{SampleAir, sample_air};
-use crate::verdict::{Refusal, Verdict};
 use stark_air::{Air, AirLayout};
+use stark_answers::{CheckShape, DeclaredAir, Refusal, Verdict};
 use stark_bench::{Coset, F12289, Sha256Challenger};
 use stark_parts::get_log_num_quotient_chunks;
 use stark_support::{DomainShape, JsonFault, PeriodicColumns, PolynomialSpace};
@@ -28,7 +28,7 @@ fn check_columns<A: Air<F12289>>(
     log_chunks: usize,
     columns: &PeriodicColumns<'_, F12289>,
 ) -> Verdict
-    requires shape { has_shape (shape_of (⟦<A as DeclaredAir>⟧.declared air.now))
+    requires shape { has_shape (shape_of (⟦<A as DeclaredAir<F12289>>⟧.declared air.now))
         (numbers input.now) ≡ true }
     requires trace { ⟦<Coset<F12289> as PolynomialSpace>⟧.coset_of trace_domain
         ≡ trace_coset input.now.log_height }
@@ -39,7 +39,7 @@ fn check_columns<A: Air<F12289>>(
     requires columns { map (λ column. column.items) columns.now.columns.now
         ≡ A.periodic_columns air.now }
     requires trace_len { columns.now.trace_len ≡ 2 ^ input.now.log_height }
-    ensures { TellsEquation (IsBalanced (⟦<A as DeclaredAir>⟧.declared air.now) log_chunks
+    ensures { TellsEquation (IsBalanced (⟦<A as DeclaredAir<F12289>>⟧.declared air.now) log_chunks
         (numbers input.now)) result }
 {
     let Ok(preprocessed_next) = zeros(alloc, air.preprocessed_width()) else {
@@ -73,15 +73,15 @@ fn check_point<A: Air<F12289>>(
     quotient_domain: Coset<F12289>,
     log_chunks: usize,
 ) -> Verdict
-    requires shape { has_shape (shape_of (⟦<A as DeclaredAir>⟧.declared air.now))
+    requires shape { has_shape (shape_of (⟦<A as DeclaredAir<F12289>>⟧.declared air.now))
         (numbers input.now) ≡ true }
     requires trace { ⟦<Coset<F12289> as PolynomialSpace>⟧.coset_of trace_domain
         ≡ trace_coset input.now.log_height }
     requires quotient { ⟦<Coset<F12289> as PolynomialSpace>⟧.coset_of quotient_domain
         ≡ whole_coset input.now.log_height log_chunks }
     requires chunks { length (numbers input.now).chunks ≡ 2 ^ log_chunks }
-    ensures { (result ≡ found_at_point (⟦<A as DeclaredAir>⟧.declared air.now) log_chunks
-        (numbers input.now)) ⊎ (result ≡ Verdict.Refused Refusal.OutOfMemory) }
+    ensures { IsOrLacksMemory (found_at_point (⟦<A as DeclaredAir<F12289>>⟧.declared air.now)
+        log_chunks (numbers input.now)) result }
 {
     if vanishes_at(&trace_domain, input.zeta) {
         return Verdict::Refused(Refusal::OodPointInDomain);
@@ -109,11 +109,11 @@ fn check_cut<A: Air<F12289>>(
     input: &CheckInput,
     log_chunks: usize,
 ) -> Verdict
-    requires shape { has_shape (shape_of (⟦<A as DeclaredAir>⟧.declared air.now))
+    requires shape { has_shape (shape_of (⟦<A as DeclaredAir<F12289>>⟧.declared air.now))
         (numbers input.now) ≡ true }
     requires height { input.now.log_height ≤ 12 }
-    ensures { (result ≡ checked (⟦<A as DeclaredAir>⟧.declared air.now) log_chunks
-        (numbers input.now)) ⊎ (result ≡ Verdict.Refused Refusal.OutOfMemory) }
+    ensures { IsOrLacksMemory (checked (⟦<A as DeclaredAir<F12289>>⟧.declared air.now) log_chunks
+        (numbers input.now)) result }
 {
     let log_height = input.log_height as usize;
     let trace_domain: Coset<F12289> = Coset::subgroup(log_height);
@@ -128,11 +128,11 @@ fn check_cut<A: Air<F12289>>(
 
 /// What is found of numbers in the AIR's widths and counts.
 fn check<A: Air<F12289>>(alloc: Global, air: &A, input: &CheckInput) -> Verdict
-    requires shape { has_shape (shape_of (⟦<A as DeclaredAir>⟧.declared air.now))
+    requires shape { has_shape (shape_of (⟦<A as DeclaredAir<F12289>>⟧.declared air.now))
         (numbers input.now) ≡ true }
     requires height { input.now.log_height ≤ 12 }
-    ensures { IsOwed (⟦<A as DeclaredAir>⟧.declared air.now) (λ log_chunks.
-        checked (⟦<A as DeclaredAir>⟧.declared air.now) log_chunks (numbers input.now)) result }
+    ensures { IsOwed (⟦<A as DeclaredAir<F12289>>⟧.declared air.now)
+        (λ declared log_chunks. checked declared log_chunks (numbers input.now)) result }
 {
     let layout = AirLayout::from_air(air);
     let trace_len = 1 << input.log_height;
@@ -144,10 +144,10 @@ fn check<A: Air<F12289>>(alloc: Global, air: &A, input: &CheckInput) -> Verdict
 
 /// What the check of an AIR finds of the bytes of an input.
 fn check_air<A: Air<F12289>>(alloc: Global, air: &A, bytes: &[u8]) -> Verdict
-    ensures { IsOwed (⟦<A as DeclaredAir>⟧.declared air.now) (λ log_chunks.
-        verdict_on_bytes (⟦<A as DeclaredAir>⟧.declared air.now) log_chunks bytes.now) result }
+    ensures { IsOwed (⟦<A as DeclaredAir<F12289>>⟧.declared air.now)
+        (λ declared log_chunks. verdict_on_bytes declared log_chunks bytes.now) result }
 {
-    let Ok(shape) = CheckShape::from_air(alloc, air) else {
+    let Ok(shape) = CheckShape::from_air::<F12289, A>(alloc, air) else {
         return Verdict::Refused(Refusal::OutOfMemory);
     };
     match numbers_from(alloc, shape, bytes) {

@@ -1,66 +1,32 @@
 //! The words of the clauses of prover and verifier, over the programs' configuration.
-ghost use Rattle.std.specs.Prelude.{◌≡◌, ◌⊎◌, ◌*◌, ◌^◌, ℕ, List, Option, Result, length, option_map, replicate};
+ghost use Rattle.std.specs.Prelude.{◌≡◌, ◌⊎◌, ◌*◌, ◌^◌, ℕ, List, Option, length, replicate};
 ghost use Rattle.stark_support.specs.declared.matrix.RowMajorMatrix.{RowMajorMatrix};
 ghost use Rattle.stark_completeness.specs.RowCheck.{trace_of};
-ghost use Rattle.stark_transcript.specs.declared.error.ProvingError.{ProvingError};
-ghost use Rattle.stark_transcript.specs.declared.error.VerificationError.{VerificationError};
-ghost use Rattle.stark_proof.specs.ProofView.{ProofView, proof_view};
-ghost use Rattle.stark_proof.specs.declared.values.Proof.{Proof};
-ghost use Rattle.stark_prover.specs.ProofOfTrace.{key_of};
+ghost use Rattle.stark_proof.specs.ProofView.{ProofView};
 ghost use Rattle.stark_clear.specs.ClearScheme.{clear_pcs};
 ghost use Rattle.stark_clear.specs.declared.clear.pcs.ClearProof.{ClearProof};
 ghost use Rattle.stark_commands.specs.Input.{Base, Extension};
 ghost use Rattle.stark_commands.specs.ProofInput.{NamedChallenger, proof_numbers_in};
-ghost use Rattle.stark_commands.specs.Prove.{AnswersWithHeld, IsProved, IsProvedBy, IsProvedRead};
-ghost use Rattle.stark_commands.specs.SoundRun.{Listed};
+ghost use Rattle.stark_answers.specs.Prove.{IsProved, json_line};
+ghost use Rattle.stark_commands.specs.Prove.{IsProvedBy, IsProvedRead, program_writing};
+ghost use Rattle.stark_answers.specs.SoundRun.{Listed};
 ghost use Rattle.stark_commands.specs.TraceInput.{TraceNumbers};
-ghost use Rattle.stark_commands.specs.Verify.{IsAnswerWithKey, IsVerdict, IsVerdictBy, IsVerified};
-ghost use Rattle.stark_commands.specs.declared.finding.Finding.{Finding};
-ghost use Rattle.stark_commands.specs.declared.verdict.Refusal.{Refusal};
-ghost use Rattle.stark_commands.specs.declared.verdict.Verdict.{Verdict};
+ghost use Rattle.stark_answers.specs.Verify.{IsVerdict};
+ghost use Rattle.stark_commands.specs.Verify.{IsVerdictBy, IsVerified};
+ghost use Rattle.stark_answers.specs.declared.finding.Finding.{Finding};
+ghost use Rattle.stark_answers.specs.declared.task.ProofForm.{ProofForm};
+ghost use Rattle.stark_answers.specs.declared.verdict.Refusal.{Refusal};
+ghost use Rattle.stark_answers.specs.declared.verdict.Verdict.{Verdict};
 
-use crate::airs::DeclaredAir;
 use crate::config::ProgramConfig;
 use crate::input::Extension;
-use p3_uni_stark::{StarkInstance, StarkOperations};
+use p3_uni_stark::StarkOperations;
 use stark_air::Air;
+use stark_answers::DeclaredAir;
 use stark_bench::{ClearCommitment, F12289, ScriptChallenger, Sha256Challenger};
 use stark_clear::ClearProof;
-use stark_parts::{StarkChallenger, StarkGenericConfig, Val};
-use stark_support::{ExtensionField, GrindingChallenger, JsonCodec};
-
-/// What is answered with an AIR's own preprocessed columns of `2^log_rows` rows, set up at once: by
-/// a prover of a trace, at each height that it has, and by a verifier of a proof.
-pub(crate) trait AnswersWithColumns<A>: StarkGenericConfig {
-    ghost Proof: { Type 0 };
-
-    ghost proves: { ℕ → Self → A → RowMajorMatrix Self.Pcs.Domain.Val → List Self.Pcs.Domain.Val
-        → Result Proof (ProvingError Self.Pcs.ProverError) → Type 0 };
-
-    ghost verifies: { ℕ → Self → A → Proof → List Self.Pcs.Domain.Val
-        → Result (Unit {0}) (VerificationError Self.Pcs.Error) → Type 0 };
-}
-
-impl<SC, A> AnswersWithColumns<A> for SC
-where
-    SC: StarkGenericConfig,
-    SC::Challenger: GrindingChallenger<Witness = Val<SC>>,
-    A: Air<Val<SC>>,
-{
-    ghost Proof = { Proof SC.Pcs.Commitment SC.Challenge SC.Pcs.Proof SC.Pcs.Domain.Val };
-
-    ghost proves = { λ log_rows config air trace public_values answer. (height : ℕ)
-        → length trace.values.items ≡ 2 ^ height * trace.width
-        → AnswersWithHeld ⟦<SC as StarkOperations>⟧.operations SC.Challenge.coordinates log_rows
-        (SC.config.scheme config) (A.preprocessed_trace air) (λ held.
-        ⟦<SC as StarkInstance<A>>⟧.instance config air public_values (option_map key_of held))
-        height (trace_of trace) answer };
-
-    ghost verifies = { λ log_rows config air proof public_values answer.
-        IsAnswerWithKey ⟦<SC as StarkOperations>⟧.operations log_rows (SC.config.scheme config)
-        (A.preprocessed_trace air) (⟦<SC as StarkInstance<A>>⟧.instance config air public_values)
-        (proof_view proof) answer };
-}
+use stark_parts::StarkChallenger;
+use stark_support::{ExtensionField, JsonCodec};
 
 /// What is found with a challenger in its first state, by the programs' prover of a trace and by
 /// their verifier of a proof.
@@ -80,14 +46,16 @@ where
         (height : ℕ) → length trace.values.items ≡ 2 ^ height * trace.width
         → (f ≡ Finding.Verdict (Verdict.Refused Refusal.OutOfMemory))
         ⊎ IsProved (⟦<ProgramConfig<C> as StarkOperations>⟧.operations)
-        (⟦<Extension as ExtensionField<F12289>>⟧.coordinates) log_rows clear_pcs challenger
-        (⟦<A as DeclaredAir>⟧.declared air) height (trace_of trace) public_values ood_bits
+        (⟦<Extension as ExtensionField<F12289>>⟧.coordinates) ProofForm.Json
+        (json_line program_writing) log_rows clear_pcs challenger
+        (⟦<A as DeclaredAir<F12289>>⟧.declared air) height (trace_of trace) public_values ood_bits
         alpha_bits f };
 
     ghost judges = { λ log_rows challenger air proof public_values ood_bits alpha_bits v.
         (v ≡ Verdict.Refused Refusal.OutOfMemory)
         ⊎ IsVerdict (⟦<ProgramConfig<C> as StarkOperations>⟧.operations) log_rows clear_pcs
-        challenger (⟦<A as DeclaredAir>⟧.declared air) proof public_values ood_bits alpha_bits v };
+        challenger (⟦<A as DeclaredAir<F12289>>⟧.declared air) proof public_values ood_bits
+        alpha_bits v };
 }
 
 /// What is found with the challenger that is named: by the programs' prover, whose challenger that
@@ -112,22 +80,22 @@ impl<A: Air<F12289>> ProgramAir for A {
         (⟦<ProgramConfig<Sha256Challenger<F12289>> as StarkOperations>⟧.operations)
         (⟦<ProgramConfig<ScriptChallenger<F12289>> as StarkOperations>⟧.operations)
         (⟦<Extension as ExtensionField<F12289>>⟧.coordinates) log_rows clear_pcs sha256 (λ numbers.
-        (numbers, 0)) (⟦<A as DeclaredAir>⟧.declared air) height (trace_of trace) public_values
-        ood_bits alpha_bits named f };
+        (numbers, 0)) (⟦<A as DeclaredAir<F12289>>⟧.declared air) height (trace_of trace)
+        public_values ood_bits alpha_bits named f };
 
     ghost finds_of_read = { λ log_rows sha256 air read f.
         (f ≡ Finding.Verdict (Verdict.Refused Refusal.OutOfMemory)) ⊎ IsProvedRead
         (⟦<ProgramConfig<Sha256Challenger<F12289>> as StarkOperations>⟧.operations)
         (⟦<ProgramConfig<ScriptChallenger<F12289>> as StarkOperations>⟧.operations)
         (⟦<Extension as ExtensionField<F12289>>⟧.coordinates) log_rows clear_pcs sha256 (λ numbers.
-        (numbers, 0)) (⟦<A as DeclaredAir>⟧.declared air) read f };
+        (numbers, 0)) (⟦<A as DeclaredAir<F12289>>⟧.declared air) read f };
 
     ghost judges = { λ log_rows air proof public_values named ood_bits alpha_bits v.
         (v ≡ Verdict.Refused Refusal.OutOfMemory) ⊎ IsVerdictBy
         (⟦<ProgramConfig<Sha256Challenger<F12289>> as StarkOperations>⟧.operations)
         (⟦<ProgramConfig<ScriptChallenger<F12289>> as StarkOperations>⟧.operations)
         log_rows clear_pcs (replicate 32 0) (λ numbers. (numbers, 0))
-        (⟦<A as DeclaredAir>⟧.declared air)
+        (⟦<A as DeclaredAir<F12289>>⟧.declared air)
         (record {
           proof = proof;
           publics = public_values;
@@ -141,7 +109,7 @@ impl<A: Air<F12289>> ProgramAir for A {
         ⊎ IsVerified (⟦<ProgramConfig<Sha256Challenger<F12289>> as StarkOperations>⟧.operations)
         (⟦<ProgramConfig<ScriptChallenger<F12289>> as StarkOperations>⟧.operations)
         log_rows clear_pcs (replicate 32 0) (λ numbers. (numbers, 0))
-        (⟦<A as DeclaredAir>⟧.declared air)
+        (⟦<A as DeclaredAir<F12289>>⟧.declared air)
         (proof_numbers_in (⟦<ClearCommitment<F12289> as JsonCodec>⟧.reading)
         (⟦<ClearProof as JsonCodec>⟧.reading) bytes) v };
 }

@@ -1,16 +1,13 @@
 //! The numbers of a check, read from JSON.
 
-ghost use Rattle.std.specs.Prelude.{◌≡◌, ◌≤◌, ◌==◌, IfOk, length, map};
-ghost use Rattle.std.specs.List.{list_all};
+ghost use Rattle.std.specs.Prelude.{◌≡◌, ◌≤◌, IfOk};
 ghost use Rattle.serde_json.specs.View.{view};
 ghost use Rattle.stark_support.specs.Json.{Gives};
-ghost use Rattle.stark_commands.specs.Airs.{shape_of};
 ghost use Rattle.stark_commands.specs.Input.{log_height_at, numbers_at, numbers_in, has_shape, row_or_zeros, zeros};
 ghost use Rattle.stark_commands.specs.Numbers.{numbers};
 
-use crate::airs::DeclaredAir;
 use serde_json::Value;
-use stark_air::Air;
+use stark_answers::{CheckShape, have_length};
 use stark_bench::{Ext4, F12289};
 use stark_support::{
     Field, JsonCodec, JsonFault, field_of, list_from_json, lists_from_json, value_from_bytes,
@@ -19,30 +16,6 @@ use std::alloc::{AllocError, Global};
 
 /// An element of the extension in which a check is made.
 pub type Extension = Ext4<F12289>;
-
-/// The widths and counts that the numbers of a check have, and whether the next row is read.
-#[derive(Clone, Copy, Debug)]
-pub struct CheckShape {
-    pub width: usize,
-    pub num_public_values: usize,
-    pub reads_next: bool,
-    pub preprocessed_width: usize,
-}
-
-impl CheckShape {
-    /// What a check of the AIR reads. Err only where memory was refused.
-    pub fn from_air<A: Air<F12289>>(alloc: Global, air: &A) -> Result<CheckShape, AllocError>
-        ensures { IfOk result (λ shape. shape ≡ shape_of (⟦<A as DeclaredAir>⟧.declared air.now)) }
-    {
-        let next_columns = air.main_next_row_columns(alloc)?;
-        Ok(CheckShape {
-            width: air.width(),
-            num_public_values: air.num_public_values(),
-            reads_next: !next_columns.is_empty(),
-            preprocessed_width: air.preprocessed_width(),
-        })
-    }
-}
 
 /// The numbers of a check.
 #[derive(Debug, Drop)]
@@ -76,19 +49,6 @@ impl CheckInput {
             && self.preprocessed_local.len() == shape.preprocessed_width
             && have_length(&self.chunks, 4)
     }
-}
-
-/// Whether each list has so many members.
-pub(crate) fn have_length<T>(lists: &[Vec<T>], count: usize) -> bool
-    ensures { result ≡ list_all (λ list.
-        length list == count) (map (λ list. list.items) lists.now) }
-{
-    for list in lists {
-        if list.len() != count {
-            return false;
-        }
-    }
-    true
 }
 
 #[tactic(auto, unfolding(crate::specs::Input::log_height_at))]

@@ -8,9 +8,9 @@ ghost use Rattle.stark_protocol.specs.Sizes.{quotient_coset};
 ghost use Rattle.stark_commands.specs.Point.{EquationVerdict, IsOutsideCoset, PointVerdict};
 
 use crate::config::ClearConfig;
-use crate::verdict::{Refusal, Verdict};
 use p3_uni_stark::verify_constraints;
 use stark_air::Air;
+use stark_answers::{Refusal, Verdict};
 use stark_bench::{ClearCommitment, Coset};
 use stark_parts::{Domain, StarkGenericConfig, Val};
 use stark_protocol::quotient_at;

@@ -1,41 +1,38 @@
 //! The command `prove`: a proof of a trace that is read.
 
-ghost use Rattle.std.specs.Prelude.{◌≡◌, ◌⊎◌, ◌+◌, ◌<◌, ◌≤◌, ℕ, List, IfOk, Some, length, replicate};
-ghost use Rattle.stark_support.specs.Scheme.{zk_bits};
+ghost use Rattle.std.specs.Prelude.{◌≡◌, ◌⊎◌, ◌<◌, ◌≤◌, ℕ, List, Some, length, replicate};
 ghost use Rattle.stark_completeness.specs.RowCheck.{trace_of};
-ghost use Rattle.stark_proof.specs.ProofJson.{proof_writing};
 ghost use Rattle.stark_protocol.specs.Preprocessing.{HasHeight};
 ghost use Rattle.stark_clear.specs.ClearScheme.{clear_pcs};
-ghost use Rattle.stark_commands.specs.Airs.{sample, shape_of};
+ghost use Rattle.stark_commands.specs.Airs.{sample};
+ghost use Rattle.stark_answers.specs.CheckedAir.{shape_of};
 ghost use Rattle.stark_commands.specs.ProofInput.{HasSomeNumber, named_challenger};
 ghost use Rattle.stark_commands.specs.TraceInput.{trace_numbers, trace_numbers_in};
-ghost use Rattle.stark_commands.specs.Finding.{BeginsAsItsKind, IsProof, IsText, finding_line};
-ghost use Rattle.stark_commands.specs.declared.finding.Finding.{Finding};
-ghost use Rattle.stark_commands.specs.declared.verdict.Verdict.{Verdict};
+ghost use Rattle.stark_answers.specs.Finding.{BeginsAsItsKind, IsText, WhereLine};
+ghost use Rattle.stark_answers.specs.declared.finding.Finding.{Finding};
+ghost use Rattle.stark_answers.specs.declared.verdict.Verdict.{Verdict};
 ghost use Rattle.stark_commands.specs.ProveFacts.{proved_accepts_none, proved_begins, proved_line, proved_no_text, proved_satisfies_none};
-ghost use Rattle.stark_commands.specs.Prove.{IsProofOfRead, IsProvedRead, IsTraceFor, IsTraceForScheme, IsWrittenLine, TellsAnswer, program_writing};
-ghost use Rattle.stark_commands.specs.Verify.{SetsUpAll};
+ghost use Rattle.stark_commands.specs.Prove.{IsProofOfRead, IsProvedRead};
+ghost use Rattle.stark_answers.specs.Prove.{IsTraceFor};
 
-use crate::airs::DeclaredAir;
 use crate::config::{ClearConfig, ProgramConfig, ProgramProof, clear_config};
-use crate::contracts::{AnswersWithColumns, ProgramAir, ProgramRun};
-use crate::finding::Finding;
-use crate::input::{CheckShape, Extension};
+use crate::contracts::{ProgramAir, ProgramRun};
+use crate::input::Extension;
 use crate::proof_input::ChosenChallenger;
-use crate::refusal::{refusal_of_prover, words_of_failure};
-use crate::report::Report;
 use crate::sample::{SampleAir, sample_air};
-use crate::trace_input::{TraceInput, trace_input_from, values_of};
-use crate::verdict::{Refusal, Verdict};
-use p3_uni_stark::{Proof, ProvingError, StarkOperations, StarkProof, setup_preprocessed};
+use crate::trace_input::{TraceInput, trace_input_from};
+use p3_uni_stark::{Proof, ProvingError, StarkOperations};
 use stark_air::Air;
+use stark_answers::{
+    AnswersWithColumns, CheckShape, DeclaredAir, Finding, ProofForm, Refusal, Report, Verdict,
+    finding_of_proof, prove_with_held, values_of, words_of_failure,
+};
 use stark_bench::{ClearCommitment, F12289, ScriptChallenger, Sha256Challenger};
 use stark_clear::{ClearProof, ClearProverError};
-use stark_parts::{PcsProverError, StarkChallenger, StarkGenericConfig, Val};
-use stark_prover::{prove, prove_with_preprocessed};
+use stark_parts::StarkChallenger;
 use stark_support::{
-    ExtensionField, Field, GrindingChallenger, JsonCodec, JsonFault, NeverNull,
-    PackedExtensionField, PackedField, PrimeField64, RowMajorMatrix, TwoAdicField,
+    ExtensionField, JsonFault, PackedExtensionField, PackedField, PrimeField64, RowMajorMatrix,
+    TwoAdicField,
 };
 use std::alloc::{AllocError, Global};
 
@@ -46,9 +43,9 @@ pub trait ProvedInput {
 
     ghost proof_line: { Self → List ℕ → List ℕ → Type 0 };
 
-    /// A proof that is found is one of the trace that was read.
+    /// A proof that is found is a line of JSON, and one of the trace that was read.
     ghost finds_proofs: { (air : Self) (input : List ℕ) (f : Finding) → proved air input f
-        → IsProof f → proof_line air input (finding_line f) };
+        → WhereLine (proof_line air input) f };
 
     /// A proof's line begins as an object does.
     ghost begins: { (air : Self) (input : List ℕ) (f : Finding) → proved air input f
@@ -80,11 +77,11 @@ impl ProvedInput for SampleAir {
         (⟦<Extension as ExtensionField<F12289>>⟧.coordinates) 2 clear_pcs (replicate 32 0)
         (λ numbers. (numbers, 0)) (sample air) (trace_numbers_in input) line };
 
-    ghost finds_proofs = { λ air input f found is. proved_line
+    ghost finds_proofs = { λ air input f found. proved_line
         (⟦<ProgramConfig<Sha256Challenger<F12289>> as StarkOperations>⟧.operations)
         (⟦<ProgramConfig<ScriptChallenger<F12289>> as StarkOperations>⟧.operations)
         (⟦<Extension as ExtensionField<F12289>>⟧.coordinates) 2 clear_pcs (replicate 32 0)
-        (λ numbers. (numbers, 0)) (sample air) (trace_numbers_in input) f found is };
+        (λ numbers. (numbers, 0)) (sample air) (trace_numbers_in input) f found };
 
     ghost begins = { λ air input f found. proved_begins
         (⟦<ProgramConfig<Sha256Challenger<F12289>> as StarkOperations>⟧.operations)
@@ -109,42 +106,6 @@ impl ProvedInput for SampleAir {
         (⟦<ProgramConfig<ScriptChallenger<F12289>> as StarkOperations>⟧.operations)
         (⟦<Extension as ExtensionField<F12289>>⟧.coordinates) 2 clear_pcs (replicate 32 0)
         (λ numbers. (numbers, 0)) (sample air) (trace_numbers_in input) f found is };
-}
-
-/// A prover's answer for a trace, with what is held of the AIR's preprocessed columns, which have
-/// `2^log_rows` rows. The scheme sets up all columns.
-fn prove_with_held<SC, A>(
-    alloc: Global,
-    config: &SC,
-    air: &A,
-    log_rows: usize,
-    trace: RowMajorMatrix<Val<SC>>,
-    publics: &[Val<SC>],
-) -> Result<StarkProof<SC>, ProvingError<PcsProverError<SC>>>
-where
-    SC: StarkGenericConfig,
-    SC::Challenge: PackedExtensionField<Val<SC>>,
-    SC::Challenger: GrindingChallenger<Witness = Val<SC>>,
-    Val<SC>: PackedField,
-    A: Air<Val<SC>>,
-    requires fitting { IsTraceForScheme SC.Pcs.scheme (SC.config.scheme config.now) SC.Pcs.ZK
-        (A.layout air.now) log_rows (trace_of trace) (length publics.now) }
-    requires height { HasHeight log_rows (A.preprocessed_trace air.now) }
-    requires within { log_rows + zk_bits SC.Pcs.ZK ≤ SC.Pcs.scheme.log_max_trace_height
-        (SC.config.scheme config.now) }
-    requires any_height { SC.Pcs.scheme.log_min_trace_height (SC.config.scheme config.now) ≡ 0 }
-    requires whole { SC.Pcs.scheme.IsComplete (SC.config.scheme config.now) }
-    requires sets_up { SetsUpAll SC.Pcs.scheme (SC.config.scheme config.now) }
-    ensures { ⟦<SC as AnswersWithColumns<A>>⟧.proves log_rows config.now air.now trace publics.now
-        result }
-{
-    match setup_preprocessed(alloc, config, air, log_rows) {
-        Ok(None) => prove(alloc, config, air, trace, publics),
-        Ok(Some((data, _key))) => {
-            prove_with_preprocessed(alloc, config, air, trace, publics, Some(&data))
-        }
-        Err(error) => Err(error),
-    }
 }
 
 /// The answer with the scheme in the clear that stops nowhere, over any field and extension: a call
@@ -173,39 +134,6 @@ where
     prove_with_held(alloc, config, air, log_rows, trace, publics)
 }
 
-/// The line of a proof, with its newline.
-fn line_of_proof<
-    Com: NeverNull + Drop,
-    Challenge: JsonCodec + Drop,
-    PcsProof: JsonCodec + Drop,
-    Val: Field + NeverNull,
->(alloc: Global, proof: &Proof<Com, Challenge, PcsProof, Val>) -> Result<String, AllocError>
-    ensures { IfOk result (IsWrittenLine (proof_writing Com.writing Challenge.writing
-        PcsProof.writing Val.writing Val.eq Val.ring.zero) proof.now) }
-{
-    let value = proof.to_json(alloc)?;
-    let mut line = value.to_string(alloc)?;
-    line.push('\n')?;
-    Ok(line)
-}
-
-/// What is written of a prover's answer.
-fn finding_of(
-    alloc: Global,
-    answer: &Result<ProgramProof, ProvingError<ClearProverError>>,
-) -> Finding
-    ensures { (result ≡ Finding.Verdict (Verdict.Refused Refusal.OutOfMemory))
-        ⊎ TellsAnswer program_writing answer.now result }
-{
-    match answer {
-        Ok(proof) => match line_of_proof(alloc, proof) {
-            Ok(line) => Finding::Proof(line),
-            Err(AllocError) => Finding::Verdict(Verdict::Refused(Refusal::OutOfMemory)),
-        },
-        Err(error) => Finding::Verdict(Verdict::Refused(refusal_of_prover(error))),
-    }
-}
-
 /// What is written of a trace's proof, with a challenger in its first state, and so many bits of
 /// work before the point out of the domain and before alpha.
 fn prove_trace<C, A>(
@@ -231,7 +159,7 @@ where
     let config: ProgramConfig<C> = clear_config(challenger, ood_bits, alpha_bits);
     let answer = prove_in_the_clear(alloc, &config, air, log_rows, trace, publics);
     Report {
-        answer: finding_of(alloc, &answer),
+        answer: finding_of_proof(alloc, ProofForm::Json, &answer),
         reason: words_of_failure(alloc, &answer),
     }
 }
@@ -272,7 +200,7 @@ fn prove_by<A: Air<F12289>>(
 
 /// What is written of the proof of a trace that was read: `bad input` where it isn't one of the
 /// AIR's widths and counts.
-pub(crate) fn prove_read<A: Air<F12289>>(
+fn prove_read<A: Air<F12289>>(
     alloc: Global,
     air: &A,
     log_rows: usize,
@@ -284,7 +212,7 @@ pub(crate) fn prove_read<A: Air<F12289>>(
     requires within { log_rows ≤ 12 }
     requires columns { 0 < (A.layout air.now).main }
     requires some { HasSomeNumber input.challenger }
-    requires shape { shape ≡ shape_of (⟦<A as DeclaredAir>⟧.declared air.now) }
+    requires shape { shape ≡ shape_of (⟦<A as DeclaredAir<F12289>>⟧.declared air.now) }
     ensures { ⟦<A as ProgramAir>⟧.finds_of_read log_rows sha256 air.now
         (Some (trace_numbers input)) result.answer }
 {
@@ -317,7 +245,7 @@ fn prove_input<A: Air<F12289>>(alloc: Global, air: &A, log_rows: usize, bytes: &
     ensures { ⟦<A as ProgramAir>⟧.finds_of_read log_rows (replicate 32 0) air.now
         (trace_numbers_in bytes.now) result }
 {
-    let Ok(shape) = CheckShape::from_air(alloc, air) else {
+    let Ok(shape) = CheckShape::from_air::<F12289, A>(alloc, air) else {
         return Finding::Verdict(Verdict::Refused(Refusal::OutOfMemory));
     };
     match trace_input_from(alloc, bytes) {

@@ -7,8 +7,8 @@ ghost use Rattle.stark_commands.specs.Spelled.{view_of_lists};
 ghost use Rattle.stark_commands.specs.declared.sample.SampleAir.TheVariants.{Counter, Cubic, Fibonacci, Periodic, Preprocessed, Pair};
 ghost use Rattle.stark_tree_air.specs.TreeJson.{air_view, columns_view};
 
-use crate::airs::DeclaredAir;
 use stark_air::BaseAir;
+use stark_answers::DeclaredAir;
 use stark_bench::F12289;
 use stark_support::{Element, Field, PrimeField64, RowMajorMatrix};
 use stark_tree_air::{TreeAir, TreeColumns, TreeConstraint, TreeDeclaration, TreeNode};
@@ -51,7 +51,7 @@ fn written_out<const N: usize, const M: usize, const K: usize>(
 }
 
 fn counter(alloc: Global) -> Result<TreeAir<F12289>, AllocError>
-    ensures { IfOk result (λ air. ⟦<TreeAir<F12289> as DeclaredAir>⟧.declared air
+    ensures { IfOk result (λ air. ⟦<TreeAir<F12289> as DeclaredAir<F12289>>⟧.declared air
         ≡ sample Counter) }
 {
     let nodes = [
@@ -73,7 +73,8 @@ fn counter(alloc: Global) -> Result<TreeAir<F12289>, AllocError>
 }
 
 fn cubic(alloc: Global) -> Result<TreeAir<F12289>, AllocError>
-    ensures { IfOk result (λ air. ⟦<TreeAir<F12289> as DeclaredAir>⟧.declared air ≡ sample Cubic) }
+    ensures { IfOk result (λ air. ⟦<TreeAir<F12289> as DeclaredAir<F12289>>⟧.declared air
+        ≡ sample Cubic) }
 {
     let nodes = [
         TreeNode::MainCurrent(0),
@@ -85,7 +86,7 @@ fn cubic(alloc: Global) -> Result<TreeAir<F12289>, AllocError>
 }
 
 fn fibonacci(alloc: Global) -> Result<TreeAir<F12289>, AllocError>
-    ensures { IfOk result (λ air. ⟦<TreeAir<F12289> as DeclaredAir>⟧.declared air
+    ensures { IfOk result (λ air. ⟦<TreeAir<F12289> as DeclaredAir<F12289>>⟧.declared air
         ≡ sample Fibonacci) }
 {
     let nodes = [
@@ -123,7 +124,7 @@ fn fibonacci(alloc: Global) -> Result<TreeAir<F12289>, AllocError>
 }
 
 fn periodic(alloc: Global) -> Result<TreeAir<F12289>, AllocError>
-    ensures { IfOk result (λ air. ⟦<TreeAir<F12289> as DeclaredAir>⟧.declared air
+    ensures { IfOk result (λ air. ⟦<TreeAir<F12289> as DeclaredAir<F12289>>⟧.declared air
         ≡ sample Periodic) }
 {
     let nodes = [
@@ -146,7 +147,7 @@ fn periodic(alloc: Global) -> Result<TreeAir<F12289>, AllocError>
 }
 
 fn preprocessed(alloc: Global) -> Result<TreeAir<F12289>, AllocError>
-    ensures { IfOk result (λ air. ⟦<TreeAir<F12289> as DeclaredAir>⟧.declared air
+    ensures { IfOk result (λ air. ⟦<TreeAir<F12289> as DeclaredAir<F12289>>⟧.declared air
         ≡ sample Preprocessed) }
 {
     let nodes = [
@@ -169,7 +170,8 @@ fn preprocessed(alloc: Global) -> Result<TreeAir<F12289>, AllocError>
 }
 
 fn pair(alloc: Global) -> Result<TreeAir<F12289>, AllocError>
-    ensures { IfOk result (λ air. ⟦<TreeAir<F12289> as DeclaredAir>⟧.declared air ≡ sample Pair) }
+    ensures { IfOk result (λ air. ⟦<TreeAir<F12289> as DeclaredAir<F12289>>⟧.declared air
+        ≡ sample Pair) }
 {
     let nodes = [
         TreeNode::FirstRow,
@@ -204,7 +206,7 @@ fn pair(alloc: Global) -> Result<TreeAir<F12289>, AllocError>
 /// The sample AIR of a name, which has main columns, and four rows of preprocessed ones if any. Err
 /// only where memory was refused.
 pub fn sample_air(alloc: Global, name: SampleAir) -> Result<TreeAir<F12289>, AllocError>
-    ensures declared { IfOk result (λ air. ⟦<TreeAir<F12289> as DeclaredAir>⟧.declared air
+    ensures declared { IfOk result (λ air. ⟦<TreeAir<F12289> as DeclaredAir<F12289>>⟧.declared air
         ≡ sample name) }
     ensures height { IfOk result (λ air.
         HasHeight 2 (⟦<TreeAir<F12289> as BaseAir<F12289>>⟧.preprocessed_trace air)) }

@@ -1,18 +1,17 @@
 //! The input of `prove`, read from JSON.
 
-ghost use Rattle.std.specs.Prelude.{◌≡◌, ◌≢◌, ◌≤◌, ◌^◌, ℕ, IfOk, IfSome, IsNone, map};
-ghost use Rattle.std.specs.List.{flat_map};
+ghost use Rattle.std.specs.Prelude.{ℕ, IfOk, IfSome, IsNone};
 ghost use Rattle.serde_json.specs.View.{view};
 ghost use Rattle.stark_support.specs.Json.{Gives};
 ghost use Rattle.stark_commands.specs.ProofInput.{HasSomeNumber};
-ghost use Rattle.stark_commands.specs.TraceInput.{FitsShape, HasTraceShape, rows_of, trace_numbers, trace_numbers_at, trace_numbers_in};
+ghost use Rattle.stark_commands.specs.TraceInput.{HasTraceShape, trace_numbers, trace_numbers_at, trace_numbers_in};
 
-use crate::input::{CheckShape, have_length};
 use crate::proof_input::{ChosenChallenger, bits_from_json, challenger_from_json};
 use serde_json::Value;
+use stark_answers::{CheckShape, log_height_of_rows};
 use stark_bench::F12289;
 use stark_support::{JsonFault, field_of, list_from_json, lists_from_json, value_from_bytes};
-use std::alloc::{AllocError, Global};
+use std::alloc::Global;
 
 /// What `prove` reads.
 #[derive(Debug, Drop)]
@@ -36,60 +35,8 @@ impl TraceInput {
         ensures none { IsNone result → (log_height : ℕ)
             → HasTraceShape shape log_rows (trace_numbers self.now) log_height → ⊥ }
     {
-        log_height_of_rows(&self.rows, &self.publics, shape, log_rows)
+        log_height_of_rows(&self.rows, &self.publics, shape, log_rows, 12)
     }
-}
-
-/// The logarithm of the height of a trace of these rows, where it is a power of two from 1 to 4096,
-/// and `2^log_rows` beside preprocessed columns, and the rows are as wide and the public values as
-/// many as those of the shape; else None.
-pub(crate) fn log_height_of_rows(
-    rows: &[Vec<F12289>],
-    publics: &[F12289],
-    shape: CheckShape,
-    log_rows: usize,
-) -> Option<usize>
-    ensures some { IfSome result (FitsShape shape log_rows (rows_of rows.now) publics.now) }
-    ensures none { IsNone result → (log_height : ℕ)
-        → FitsShape shape log_rows (rows_of rows.now) publics.now log_height → ⊥ }
-{
-    if publics.len() != shape.num_public_values {
-        return None;
-    }
-    if !have_length(rows, shape.width) {
-        return None;
-    }
-    let log_height = log_of_height(rows.len())?;
-    if shape.preprocessed_width > 0 && log_height != log_rows {
-        return None;
-    }
-    Some(log_height)
-}
-
-/// The logarithm of a power of two from 1 to 4096; None for another number.
-pub fn log_of_height(height: usize) -> Option<usize>
-    ensures some { IfSome result (λ n. height ≡ 2 ^ n) }
-    ensures within { IfSome result (λ n. n ≤ 12) }
-    ensures none { IsNone result → (n : ℕ) → n ≤ 12 → height ≢ 2 ^ n }
-{
-    for log_height in 0..13 {
-        if height == 1 << log_height {
-            return Some(log_height);
-        }
-    }
-    None
-}
-
-/// The values of rows, one row after the other.
-pub fn values_of(alloc: Global, rows: &[Vec<F12289>]) -> Result<Vec<F12289>, AllocError>
-    ensures { IfOk result (λ values. values.items
-        ≡ flat_map (λ row. row) (map (λ row. row.items) rows.now)) }
-{
-    let mut values = Vec::new(alloc);
-    for row in rows {
-        values.extend_from_slice(row)?;
-    }
-    Ok(values)
 }
 
 /// What a JSON value has under the names `trace`, `publics`, `challenger`, `ood_bits` and

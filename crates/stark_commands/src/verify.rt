@@ -1,35 +1,29 @@
 //! The command `verify`: a verifier's verdict on a proof that is read.
 
-ghost use Rattle.std.specs.Prelude.{◌≡◌, ◌⊎◌, ◌+◌, ◌≤◌, ℕ, List, replicate};
-ghost use Rattle.stark_support.specs.Scheme.{zk_bits};
+ghost use Rattle.std.specs.Prelude.{◌≡◌, ◌⊎◌, ◌≤◌, ℕ, List, replicate};
 ghost use Rattle.stark_protocol.specs.Preprocessing.{HasHeight};
 ghost use Rattle.stark_proof.specs.ProofView.{proof_view};
 ghost use Rattle.stark_clear.specs.ClearScheme.{clear_pcs};
 ghost use Rattle.stark_commands.specs.Airs.{sample};
 ghost use Rattle.stark_commands.specs.ProofInput.{HasSomeNumber, named_challenger, proof_numbers_in};
 ghost use Rattle.stark_commands.specs.SoundRun.{IsSoundlyRead};
-ghost use Rattle.stark_commands.specs.Verify.{IsVerified, SetsUpAll};
-ghost use Rattle.stark_commands.specs.declared.verdict.Verdict.{Verdict};
+ghost use Rattle.stark_commands.specs.Verify.{IsVerified};
+ghost use Rattle.stark_answers.specs.declared.verdict.Verdict.{Verdict};
 
 use crate::config::{ClearConfig, ProgramConfig, ProgramProof, clear_config};
-use crate::contracts::{AnswersWithColumns, ProgramAir, ProgramRun};
+use crate::contracts::{ProgramAir, ProgramRun};
 use crate::input::Extension;
 use crate::proof_input::{ChosenChallenger, ProofInput, proof_input_from};
-use crate::refusal::{verdict_of, words_of_refusal};
-use crate::report::Report;
 use crate::sample::{SampleAir, sample_air};
-use crate::verdict::{Refusal, Verdict};
-use p3_uni_stark::{
-    Proof, ProvingError, StarkOperations, StarkProof, setup_preprocessed, verify,
-    verify_with_preprocessed,
-};
+use p3_uni_stark::{Proof, StarkOperations};
 use stark_air::Air;
+use stark_answers::{
+    AnswersWithColumns, Refusal, Report, Verdict, verdict_of, verify_with_key, words_of_refusal,
+};
 use stark_bench::{ClearCommitment, F12289, ScriptChallenger, Sha256Challenger};
 use stark_clear::{ClearError, ClearProof};
-use stark_parts::{PcsError, StarkChallenger, StarkGenericConfig, Val};
-use stark_support::{
-    ExtensionField, GrindingChallenger, JsonCodec, JsonFault, PrimeField64, TwoAdicField,
-};
+use stark_parts::StarkChallenger;
+use stark_support::{ExtensionField, JsonCodec, JsonFault, PrimeField64, TwoAdicField};
 use stark_transcript::VerificationError;
 use std::alloc::{AllocError, Global};
 
@@ -56,39 +50,6 @@ impl VerifiedInput for SampleAir {
         2 clear_pcs (replicate 32 0) (λ numbers. (numbers, 0)) (sample air)
         (proof_numbers_in (⟦<ClearCommitment<F12289> as JsonCodec>⟧.reading)
         (⟦<ClearProof as JsonCodec>⟧.reading) input) };
-}
-
-/// The verifier's answer for a proof, with the key of the AIR's preprocessed columns, which have
-/// `2^log_rows` rows. The scheme sets up all columns.
-fn verify_with_key<SC, A>(
-    alloc: Global,
-    config: &SC,
-    air: &A,
-    log_rows: usize,
-    proof: &StarkProof<SC>,
-    publics: &[Val<SC>],
-) -> Result<(), VerificationError<PcsError<SC>>>
-where
-    SC: StarkGenericConfig,
-    SC::Challenger: GrindingChallenger<Witness = Val<SC>>,
-    A: Air<Val<SC>>,
-    requires height { HasHeight log_rows (A.preprocessed_trace air.now) }
-    requires within { log_rows + zk_bits SC.Pcs.ZK ≤ SC.Pcs.scheme.log_max_trace_height
-        (SC.config.scheme config.now) }
-    requires sets_up { SetsUpAll SC.Pcs.scheme (SC.config.scheme config.now) }
-    ensures { ⟦<SC as AnswersWithColumns<A>>⟧.verifies log_rows config.now air.now proof.now
-        publics.now result }
-{
-    match setup_preprocessed(alloc, config, air, log_rows) {
-        Ok(None) => verify(alloc, config, air, proof, publics),
-        // The set-up is the verifier's own, from the declared columns: the prover's half of it
-        // isn't wanted here.
-        Ok(Some((_data, key))) => {
-            verify_with_preprocessed(alloc, config, air, proof, publics, Some(&key))
-        }
-        Err(ProvingError::OutOfMemory) => Err(VerificationError::OutOfMemory),
-        Err(_) => unreachable!(),
-    }
 }
 
 /// The answer with the scheme in the clear that stops nowhere, over any field and extension: a call
@@ -118,7 +79,7 @@ where
 /// What the verifier answers for a proof, with a challenger in its first state, and so many bits of
 /// work before the point out of the domain and before alpha; and in words what a proof is refused
 /// for.
-pub(crate) fn verify_proof<C, A>(
+fn verify_proof<C, A>(
     alloc: Global,
     air: &A,
     log_rows: usize,

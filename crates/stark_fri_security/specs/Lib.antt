@@ -1,1 +1,2 @@
 pub mod ConjecturedBits
+pub mod FieldBits

@@ -1,11 +1,13 @@
-//! What FRI's parameters are worth: the numbers that a report on security is computed from, and
-//! conjectured bits of security.
+//! What FRI's parameters are worth: the numbers that a report on security is computed from, the
+//! bits of a field among them, and conjectured bits of security.
 #![tactic(auto)]
 
 mod bits;
+mod field;
 mod regime;
 #[cfg(test)]
 mod tests;
 
 pub use bits::conjectured_security_bits;
+pub use field::field_bits;
 pub use regime::fri_regime;

@@ -1,5 +1,5 @@
 //! Conjectured bits, worked by hand.
-use crate::{conjectured_security_bits, fri_regime};
+use crate::{conjectured_security_bits, field_bits, fri_regime};
 use stark_fri_proof::FriParameters;
 use stark_security::StarkSecurityParams;
 use std::test::Fail;
@@ -48,6 +48,26 @@ fn worked_by_hand(rt: HostRuntime) -> Result<(), Fail> {
             shape[3],
         );
         assert_eq!(rt; conjectured_security_bits(&params, log_height), bits);
+    }
+    Ok(())
+}
+
+// BabyBear, KoalaBear and 12289 with their extensions of degree four, by Python; a field alone; and
+// extensions of 2^127 elements and of 2^128.
+const FIELDS: [(u64, usize, usize); 7] = [
+    (2013265921, 4, 123),
+    (2130706433, 4, 123),
+    (12289, 4, 54),
+    (12289, 1, 13),
+    (2, 127, 127),
+    (2, 128, 127),
+    (18446744073709551557, 4, 127),
+];
+
+#[test]
+fn bits_of_fields(rt: HostRuntime) -> Result<(), Fail> {
+    for (order, degree, bits) in FIELDS {
+        assert_eq!(rt; field_bits(order, degree), bits);
     }
     Ok(())
 }

@@ -2,9 +2,9 @@
 //! bytes.
 #![tactic(auto)]
 
+use stark_answers::Finding;
 use stark_cli::samples::run;
 use stark_cli::{WatchedReader, WatchedWriter, exit_code, tell, words_of};
-use stark_commands::Finding;
 use std::process::ExitCode;
 
 fn main(rt: HostRuntime) -> ExitCode {

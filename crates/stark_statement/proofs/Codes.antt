@@ -1,5 +1,5 @@
 -- Writings by words that can be read back, whatever follows them.
-use Rattle.std.proofs.Common.{◌≡◌, ℕ, suc, ◌<◌, ◌^◌, List, [], ◌∷◌, ◌++◌, length, length-append, take, drop, refl, sym, ap, ◌∙◌, append_assoc, arith}
+use Rattle.std.proofs.Common.{◌≡◌, ℕ, suc, ◌<◌, ◌^◌, List, [], ◌∷◌, ◌++◌, length, length-append, refl, sym, ap, ◌∙◌, append_assoc, arith}
 use Rattle.std.specs.Prelude.{◌≢◌, Option, None, Some, flat_map}
 use Rattle.std.proofs.lemmas.List.{append_cancel_left}
 use Rattle.stark_support.specs.Seed.{number}

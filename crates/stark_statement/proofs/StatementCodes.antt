@@ -7,10 +7,43 @@ use Rattle.stark_tree_air.specs.declared.node.TreeNode.{TreeNode}
 use Rattle.stark_tree_air.specs.declared.node.TreeNode.TheVariants.{Constant, MainCurrent, MainNext, PreprocessedCurrent, PreprocessedNext, PublicValue, PeriodicValue, FirstRow, LastRow, Transition, Sum, Difference, Product, Negation}
 use Rattle.stark_tree_air.specs.declared.node.TreeConstraint.{TreeConstraint}
 use Rattle.stark_tree_air.specs.declared.node.TreeConstraint.TheVariants.{Base, Extension}
-use Rattle.stark_statement.specs.StatementBytes.{node_words, constraint_words, element_words, elements_words, trace_words, columns_words, list_words, air_words, statement_words, statement_bytes, IsBounded}
+use Rattle.stark_statement.specs.Configuration.{ConfigurationView, FriNumbers}
+use Rattle.stark_statement.specs.declared.configuration.FieldName.{FieldName}
+use Rattle.stark_statement.specs.declared.configuration.FieldName.TheVariants.{BabyBear, KoalaBear, F12289}
+use Rattle.stark_statement.specs.StatementBytes.{configuration_words, field_tag, fri_words, node_words, constraint_words, element_words, elements_words, trace_words, columns_words, list_words, air_words, statement_words, statement_bytes, IsBounded}
 use Rattle.stark_statement.specs.StatementView.{StatementView}
 use Rattle.stark_statement.specs.Words.{word, optional, counted}
 use Rattle.stark_statement.proofs.Codes.{IsCode, word_code, code_of_inverse, turned_code, pair_code, optional_code, counted_code, same_written, words_of_bytes}
+
+-- ---- the configuration
+
+tagged_field : ℕ → FieldName
+tagged_field tag = cond (eqb tag 0) BabyBear (cond (eqb tag 1) KoalaBear F12289)
+
+tagged_back : (f : FieldName) → tagged_field (field_tag f) ≡ f
+unfolding tagged_field
+tagged_back BabyBear = refl
+tagged_back KoalaBear = refl
+tagged_back F12289 = refl
+
+field_code : IsCode (λ f. word (field_tag f))
+field_code = turned_code word field_tag tagged_field tagged_back word_code
+
+fri_code : IsCode fri_words
+unfolding fri_words
+fri_code = turned_code (λ p. word p.0 ++ (word p.1.0 ++ (word p.1.1.0 ++ (word p.1.1.1.0 ++ word p.1.1.1.1))))
+    (λ (n : FriNumbers). (n.log_blowup, (n.log_final_poly_len, (n.num_queries, (n.commit_bits, n.query_bits)))))
+    (λ p. record { log_blowup = p.0; log_final_poly_len = p.1.0; num_queries = p.1.1.0; commit_bits = p.1.1.1.0; query_bits = p.1.1.1.1 })
+    (λ n. refl)
+    (pair_code word _ word_code (pair_code word _ word_code (pair_code word _ word_code (pair_code word word word_code word_code))))
+
+configuration_code : IsCode configuration_words
+unfolding configuration_words
+configuration_code = turned_code (λ p. word (field_tag p.0) ++ optional fri_words p.1)
+    (λ (c : ConfigurationView). (c.field, c.fri))
+    (λ p. record { field = p.0; fri = p.1 })
+    (λ c. refl)
+    (pair_code (λ f. word (field_tag f)) (optional fri_words) field_code (optional_code fri_words fri_code))
 
 -- ---- nodes and constraints
 
@@ -118,11 +151,11 @@ module _ {F : Type 0} (number_of : F → ℕ) (of_number : ℕ → F) (same_numb
 
   statement_code : IsCode (statement_words number_of)
   unfolding statement_words
-  statement_code = turned_code (λ p. air_words number_of p.0 ++ (elements_words number_of p.1.0 ++ (word p.1.1.0 ++ word p.1.1.1)))
-      (λ (s : StatementView F). (s.air, (s.public_values, (s.alpha_bits, s.ood_bits))))
-      (λ p. record { air = p.0; public_values = p.1.0; alpha_bits = p.1.1.0; ood_bits = p.1.1.1 })
+  statement_code = turned_code (λ p. configuration_words p.0 ++ (air_words number_of p.1.0 ++ (elements_words number_of p.1.1.0 ++ (word p.1.1.1.0 ++ word p.1.1.1.1))))
+      (λ (s : StatementView F). (s.config, (s.air, (s.public_values, (s.alpha_bits, s.ood_bits)))))
+      (λ p. record { config = p.0; air = p.1.0; public_values = p.1.1.0; alpha_bits = p.1.1.1.0; ood_bits = p.1.1.1.1 })
       (λ s. refl)
-      (pair_code _ _ air_code (pair_code _ _ elements_code (pair_code word word word_code word_code)))
+      (pair_code _ _ configuration_code (pair_code _ _ air_code (pair_code _ _ elements_code (pair_code word word word_code word_code))))
 
   -- No other statement has a statement's bytes.
   pub no_other_statement : (statement : StatementView F) (bytes : List ℕ) → IsBounded number_of statement → bytes ≡ statement_bytes number_of statement →

@@ -1,3 +1,5 @@
+pub mod Configuration
+pub mod ConfigurationJson
 pub mod StatementView
 pub mod StatementJson
 pub mod Words

@@ -1,17 +1,27 @@
 -- How large an AIR may be.
-use Rattle.std.specs.Prelude.{◌≡◌, ℕ, ◌+◌, ◌≤◌, Bool, true, false, nat_lt, List, length, map, Option, None, Some, Result, Ok, Err}
+use Rattle.std.specs.Prelude.{◌≡◌, ℕ, ◌+◌, ◌-◌, ◌^◌, ◌≤◌, min, Bool, true, false, if◌then◌else◌, nat_lt, List, length, map, Option, None, Some, Result, Ok, Err}
 use Rattle.std.specs.List.{sum_by}
 use Rattle.std.specs.Option.{option_or}
 use Rattle.std.specs.declared.vec.Vec.{Vec}
 use Rattle.stark_air.specs.Declaration.{Trace, trace_width}
 use Rattle.stark_tree_air.specs.TreeJson.{AirView, ColumnsView, ListView, air_view}
 use Rattle.stark_tree_air.specs.declared.air.TreeAir.{TreeAir}
+use Rattle.stark_statement.specs.Configuration.{FriNumbers}
 use Rattle.stark_statement.specs.declared.limits.AirLimits.{AirLimits}
 use Rattle.stark_statement.specs.declared.limits.AirTooLarge.{AirTooLarge}
 use Rattle.stark_statement.specs.declared.limits.AirTooLarge.TheVariants.{Cells, Columns, Constants, Constraints, Nodes, PublicValues}
 
 abbrev pub default_limits : AirLimits
 default_limits = record { columns = 65536; public_values = 65536; cells = 1048576; constants = 131072; nodes = 131072; constraints = 32768 }
+
+-- As many values of fixed columns as are 2 ^ 24 where each is extended to 2 ^ log_blowup, and no more than by default.
+abbrev pub cells_extended : ℕ → ℕ
+cells_extended log_blowup = if nat_lt 24 log_blowup then 0 else min (2 ^ (24 - log_blowup)) default_limits.cells
+
+-- the limits under a scheme, by FRI's numbers or in the clear
+abbrev pub limits_under : Option FriNumbers → AirLimits
+limits_under (Some numbers) = record default_limits { cells = cells_extended numbers.log_blowup }
+limits_under None = default_limits
 
 -- ---- how much an AIR has
 

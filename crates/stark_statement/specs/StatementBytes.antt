@@ -8,8 +8,27 @@ use Rattle.stark_tree_air.specs.declared.node.TreeNode.{TreeNode}
 use Rattle.stark_tree_air.specs.declared.node.TreeNode.TheVariants.{Constant, MainCurrent, MainNext, PreprocessedCurrent, PreprocessedNext, PublicValue, PeriodicValue, FirstRow, LastRow, Transition, Sum, Difference, Product, Negation}
 use Rattle.stark_tree_air.specs.declared.node.TreeConstraint.{TreeConstraint}
 use Rattle.stark_tree_air.specs.declared.node.TreeConstraint.TheVariants.{Base, Extension}
+use Rattle.stark_statement.specs.Configuration.{ConfigurationView, FriNumbers}
 use Rattle.stark_statement.specs.StatementView.{StatementView}
 use Rattle.stark_statement.specs.Words.{AreWords, word, optional, counted, labelled, framed}
+use Rattle.stark_statement.specs.declared.configuration.FieldName.{FieldName}
+use Rattle.stark_statement.specs.declared.configuration.FieldName.TheVariants.{BabyBear, KoalaBear, F12289}
+
+-- ---- words of a configuration
+
+-- the number by which a field is told
+abbrev pub field_tag : FieldName → ℕ
+field_tag BabyBear = 0
+field_tag KoalaBear = 1
+field_tag F12289 = 2
+
+-- the five numbers
+unfoldable pub fri_words : FriNumbers → List ℕ
+fri_words n = word n.log_blowup ++ (word n.log_final_poly_len ++ (word n.num_queries ++ (word n.commit_bits ++ word n.query_bits)))
+
+-- the field, and 0 in the clear or 1 and the numbers of FRI
+unfoldable pub configuration_words : ConfigurationView → List ℕ
+configuration_words c = word (field_tag c.field) ++ optional fri_words c.fri
 
 -- ---- words of nodes
 
@@ -63,7 +82,8 @@ module _ {F : Type 0} (number_of : F → ℕ) where
 
   unfoldable pub statement_words : StatementView F → List ℕ
   statement_words s =
-      air_words s.air ++ (elements_words s.public_values ++ (word s.alpha_bits ++ word s.ood_bits))
+      configuration_words s.config ++
+      (air_words s.air ++ (elements_words s.public_values ++ (word s.alpha_bits ++ word s.ood_bits)))
 
   -- Each word is one of 64 bits.
   abbrev pub IsBounded : StatementView F → Type 0

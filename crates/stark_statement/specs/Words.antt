@@ -20,7 +20,7 @@ counted words xs = length xs ∷ flat_map words xs
 
 -- What tells the bytes of a statement from those of other kinds, with the version of the writing.
 abbrev pub label : List ℕ
-label = codes "voskligan statement 1"
+label = codes "voskligan statement 2"
 
 -- the label, and each word as 8 bytes, the high one first
 unfoldable pub labelled : List ℕ → List ℕ

@@ -1,4 +1,5 @@
 //! Why a JSON value is not read as a statement.
+use crate::configuration_error::ConfigurationError;
 use stark_tree_air::TreeJsonError;
 use thiserror::Error;
 
@@ -12,8 +13,12 @@ pub enum StatementError {
     #[error("the statement is no object")]
     NotAnObject,
     /// The object has a member that no statement has.
-    #[error("the statement has a field that is none of air, public_values, alpha_bits, ood_bits")]
+    #[error("the statement has a field that is none of config, air, public_values, alpha_bits, \
+         ood_bits")]
     UnknownField,
+    /// The configuration is refused.
+    #[error("the field config: {0}")]
+    Config(ConfigurationError),
     /// A required field isn't there.
     #[error("the field {field} is missing")]
     MissingField { field: &'static str },

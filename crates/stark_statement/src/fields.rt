@@ -20,6 +20,7 @@ fn is_known(name: &str) -> bool
     ensures { result ≡ is_known name.now }
 {
     match name {
+        "config" => true,
         "air" => true,
         "public_values" => true,
         "alpha_bits" => true,

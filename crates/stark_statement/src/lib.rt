@@ -3,14 +3,21 @@
 #![tactic(auto)]
 
 mod binding;
+mod configuration;
+mod configuration_error;
+mod configuration_json;
 mod error;
 mod fields;
 mod limits;
 mod statement;
+#[cfg(test)]
+mod tests;
 mod words;
 mod writing;
 
 pub use binding::bind_statement;
+pub use configuration::{Configuration, FieldName, SchemeChoice};
+pub use configuration_error::{ConfigurationError, ConfigurationMember};
 pub use error::StatementError;
 pub use limits::{AirLimits, AirTooLarge};
 pub use statement::Statement;

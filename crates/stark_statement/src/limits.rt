@@ -1,8 +1,10 @@
 //! How large an AIR may be.
 ghost use Rattle.std.specs.Prelude.{◌≡◌, ◌+◌, ◌<◌, IfErr, IfOk, IfSome, IsNone, nat_lt};
-ghost use Rattle.stark_statement.specs.Limits.{IsWithin, Tells, cells_of, columns_passed, first_passed, items_of, lengths_of, list_passed, passed_if, view_of};
+ghost use Rattle.stark_statement.specs.Limits.{IsWithin, Tells, cells_extended, cells_of, columns_passed, first_passed, items_of, lengths_of, limits_under, list_passed, passed_if, view_of};
+ghost use Rattle.stark_statement.specs.Configuration.{scheme_numbers};
 ghost use Rattle.stark_tree_air.specs.TreeJson.{columns_view, list_view};
 
+use crate::configuration::SchemeChoice;
 use stark_tree_air::{TreeAir, TreeColumns, TreeList};
 use thiserror::Error;
 
@@ -129,7 +131,34 @@ impl Default for AirLimits {
     }
 }
 
+/// How many values fixed columns may have that are extended to `2^log_blowup` times as many.
+fn cells_extended(log_blowup: usize) -> usize
+    ensures { result ≡ cells_extended log_blowup }
+{
+    if log_blowup > 24 {
+        return 0;
+    }
+    let cells: usize = 1 << (24 - log_blowup);
+    cells.min(AirLimits::default().cells)
+}
+
 impl AirLimits {
+    /// The limits of an AIR under a scheme. In the clear, and by FRI with a `log_blowup` up to 4,
+    /// they are the default ones; beyond, the values of periodic and preprocessed columns are so
+    /// few that 2^24 stand in their extensions, for which a tree takes a gigabyte at most. A
+    /// verifier makes that tree itself.
+    pub fn under(scheme: SchemeChoice) -> AirLimits
+        ensures { result ≡ limits_under (scheme_numbers scheme) }
+    {
+        match scheme {
+            SchemeChoice::Fri(parameters) => AirLimits {
+                cells: cells_extended(parameters.log_blowup()),
+                ..AirLimits::default()
+            },
+            SchemeChoice::Clear => AirLimits::default(),
+        }
+    }
+
     fn check_columns<F>(self, columns: &TreeColumns<F>) -> Result<(), AirTooLarge>
         ensures { Tells (columns_passed self (columns_view columns.now)) result }
     {

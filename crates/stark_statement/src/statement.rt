@@ -1,11 +1,13 @@
 //! Statements.
-ghost use Rattle.std.specs.Prelude.{◌≡◌};
+ghost use Rattle.std.specs.Prelude.{◌≡◌, IfOk};
 ghost use Rattle.serde_json.specs.View.{view};
+ghost use Rattle.stark_statement.specs.Configuration.{IsWithinField};
 ghost use Rattle.stark_statement.specs.StatementJson.{Decodes, statement_in, statement_reading};
 ghost use Rattle.stark_statement.specs.StatementView.{statement_view};
 
+use crate::configuration::Configuration;
 use crate::error::StatementError;
-use crate::fields::{bits_at, check_members, required_air, required_list};
+use crate::fields::{bits_at, required_air, required_list};
 use serde_json::Value;
 use stark_support::{Field, JsonCodec, JsonFault, value_from_bytes};
 use stark_tree_air::TreeAir;
@@ -14,6 +16,8 @@ use std::alloc::Global;
 /// What a verifier's owner fixes before he looks at a proof.
 #[derive(Debug, Drop)]
 pub struct Statement<F> {
+    /// The field and the scheme that it is proved with.
+    pub config: Configuration,
     /// The AIR that the trace is to satisfy.
     pub air: TreeAir<F>,
     /// The public values, as many as the AIR declares where the statement was read.
@@ -25,12 +29,15 @@ pub struct Statement<F> {
 }
 
 impl<F: Field + JsonCodec> Statement<F> {
-    /// The statement that an object spells, or its first fault. The fields are `air`,
-    /// `public_values`, `alpha_bits` and `ood_bits`, read in this order; the bits are 0 where they
-    /// are missing or null, and the rest is required.
+    /// The statement that an object spells, or its first fault. The fields are `config`,
+    /// `air`, `public_values`, `alpha_bits` and `ood_bits`, read in this order; the configuration
+    /// is that of `Configuration::from_statement`, the bits are 0 where they are missing or null,
+    /// and the rest is required. Whether `F` is the field that the configuration names is for the
+    /// caller to see to.
     ///
     /// - `NotAnObject` where the value isn't an object.
     /// - `UnknownField` where it has a member of another name.
+    /// - `Config` where the configuration is refused.
     /// - `MissingField` where `air` or `public_values` isn't there.
     /// - `Air` with the fault of `TreeAir::from_json`.
     /// - `WrongKind` where `public_values` isn't an array, or bits aren't a whole number below
@@ -43,8 +50,9 @@ impl<F: Field + JsonCodec> Statement<F> {
     pub fn from_json(alloc: Global, value: &Value) -> Result<Statement<F>, StatementError>
         ensures decoded { Decodes statement_view result
             (statement_reading F.reading (view value.now)) }
+        ensures fits { IfOk result (λ statement. IsWithinField statement.config) }
     {
-        check_members(value)?;
+        let config = Configuration::from_statement(value)?;
         let air = required_air::<F>(alloc, value, "air")?;
         let public_values = required_list(alloc, value, "public_values")?;
         let alpha_bits = bits_at(value, "alpha_bits")?;
@@ -55,6 +63,7 @@ impl<F: Field + JsonCodec> Statement<F> {
             return Err(StatementError::PublicValuesCount { expected, got });
         }
         Ok(Statement {
+            config,
             air,
             public_values,
             alpha_bits,

@@ -2,11 +2,14 @@
 ghost use Rattle.std.specs.Prelude.{◌≡◌, ◌++◌, IfOk, OnOk, map};
 ghost use Rattle.stark_tree_air.specs.TreeJson.{air_view, columns_view, list_view};
 ghost use Rattle.stark_tree_air.specs.Traces.{declared_trace};
-ghost use Rattle.stark_statement.specs.StatementBytes.{air_words, columns_words, constraint_words, elements_words, list_words, node_words, statement_words, trace_words};
+ghost use Rattle.stark_statement.specs.Configuration.{configuration_view, fri_numbers};
+ghost use Rattle.stark_statement.specs.StatementBytes.{air_words, columns_words, configuration_words, constraint_words, elements_words, field_tag, fri_words, list_words, node_words, statement_words, trace_words};
 ghost use Rattle.stark_statement.specs.Words.{counted, optional, word};
 ghost use Rattle.stark_statement.specs.StatementView.{statement_view};
 
+use crate::configuration::{Configuration, FieldName, SchemeChoice};
 use crate::statement::Statement;
+use stark_fri_proof::FriParameters;
 use stark_support::{PrimeField64, RowMajorMatrix};
 use stark_tree_air::{TreeAir, TreeColumns, TreeConstraint, TreeList, TreeNode};
 use std::alloc::{AllocError, Global};
@@ -176,6 +179,44 @@ fn push_air<F: PrimeField64>(words: &mut Vec<u64>, air: &TreeAir<F>) -> Result<(
     push_list(words, &air.list)
 }
 
+/// The number by which a field is told.
+fn field_tag(field: FieldName) -> usize
+    ensures { result ≡ field_tag field }
+{
+    match field {
+        FieldName::BabyBear => 0,
+        FieldName::KoalaBear => 1,
+        FieldName::F12289 => 2,
+    }
+}
+
+#[tactic(auto, unfolding(crate::specs::StatementBytes::fri_words))]
+fn push_fri(words: &mut Vec<u64>, parameters: &FriParameters) -> Result<(), AllocError>
+    ensures { OnOk result (words.new.items
+        ≡ words.old.items ++ fri_words (fri_numbers parameters.now)) }
+{
+    push_word(&mut *words, parameters.log_blowup())?;
+    push_word(&mut *words, parameters.log_final_poly_len())?;
+    push_word(&mut *words, parameters.num_queries())?;
+    push_word(&mut *words, parameters.commit_proof_of_work_bits())?;
+    push_word(words, parameters.query_proof_of_work_bits())
+}
+
+#[tactic(auto, unfolding(crate::specs::StatementBytes::configuration_words))]
+fn push_configuration(words: &mut Vec<u64>, config: Configuration) -> Result<(), AllocError>
+    ensures { OnOk result (words.new.items
+        ≡ words.old.items ++ configuration_words (configuration_view config)) }
+{
+    push_word(&mut *words, field_tag(config.field))?;
+    match config.scheme {
+        SchemeChoice::Fri(parameters) => {
+            push_word(&mut *words, 1)?;
+            push_fri(words, &parameters)
+        }
+        SchemeChoice::Clear => push_word(words, 0),
+    }
+}
+
 /// The words of a statement, in order.
 #[tactic(auto, unfolding(crate::specs::StatementBytes::statement_words))]
 pub(crate) fn statement_words<F: PrimeField64>(
@@ -186,6 +227,7 @@ pub(crate) fn statement_words<F: PrimeField64>(
         ≡ statement_words F.number_of (statement_view statement.now)) }
 {
     let mut words = Vec::new(alloc);
+    push_configuration(&mut words, statement.config)?;
     push_air(&mut words, &statement.air)?;
     push_elements(&mut words, &statement.public_values)?;
     push_word(&mut words, statement.alpha_bits)?;

@@ -1,40 +1,117 @@
 //! Verifies a proof for a statement, proves a trace, or shows the statement's AIR.
 #![tactic(auto)]
 
-use stark_cli::statements::{Ended, run};
+use stark_answers::RunEnd;
+use stark_cli::statements::{Delivered, Ended, Verb, run, run_to};
 use stark_cli::{
-    InputFile, Request, Task, USAGE, WatchedReader, WatchedWriter, exit_code, request_of, words_of,
+    InputFile, PartialFile, Request, StageLines, Task, USAGE, WatchedReader, WatchedWriter,
+    exit_code, request_of, words_of,
 };
-use stark_commands::RunEnd;
+use stark_service::NamedFields;
+use std::fmt::Display;
 use std::io;
+use std::io::{IsTerminal, Stderr};
 use std::process::ExitCode;
 
 /// The program's name and version.
 const VERSION: &str = "voskligan 0.1.0\n";
 
+/// The lines that tell the stages of a task, where there is a terminal for them and they are
+/// wanted. To show takes no option that silences them, and is told no stages.
+fn stages_of(rt: &HostRuntime, task: Task<'_>) -> Option<StageLines<Stderr>> {
+    let errors = rt.stderr();
+    if task.quiet || task.verb == Verb::Show || !errors.is_terminal() {
+        None
+    } else {
+        Some(StageLines::new(errors))
+    }
+}
+
+/// Tells something on standard error. It doesn't matter whether that fails.
+fn tell_error<E: Display>(rt: &HostRuntime, what: &E) {
+    let _ = eprintln!(rt; "{what}");
+}
+
+/// The status of a process whose run ended so, after the reason is told.
+fn ended_code(rt: &HostRuntime, ended: &Ended) -> ExitCode {
+    if let Some(reason) = &ended.reason {
+        tell_error(rt, reason);
+    }
+    exit_code(rt, ended.end)
+}
+
+/// Runs a task on its two inputs, and writes what is found to standard output.
+fn perform(rt: &HostRuntime, task: Task<'_>, statement: InputFile, second: InputFile) -> ExitCode {
+    let ended = run::<NamedFields, _, _, _, _>(
+        rt.alloc(),
+        task.verb,
+        &mut WatchedReader::new(statement),
+        &mut WatchedReader::new(second),
+        &mut WatchedWriter::new(rt.stdout()),
+        &mut stages_of(rt, task),
+    );
+    ended_code(rt, &ended)
+}
+
+/// Gives the file of a proof its path, where the run wrote it whole, and else removes it; how the
+/// run ends.
+fn settled(rt: &HostRuntime, file: PartialFile<'_>, delivered: &Delivered) -> RunEnd {
+    let end = delivered.ended.end;
+    if !(delivered.is_proof && end == RunEnd::Accepted) {
+        file.discard(rt);
+        return end;
+    }
+    match file.keep(rt) {
+        Ok(()) => end,
+        Err(fault) => {
+            tell_error(rt, &fault);
+            RunEnd::OutputFailed
+        }
+    }
+}
+
+/// The same, but for a proof, which is written to a file. Whether that can be made is seen before
+/// anything is read.
+fn perform_to(
+    rt: &HostRuntime,
+    task: Task<'_>,
+    path: &str,
+    statement: InputFile,
+    second: InputFile,
+) -> ExitCode {
+    let file = match PartialFile::create(rt, path) {
+        Ok(file) => file,
+        Err(fault) => {
+            tell_error(rt, &fault);
+            return exit_code(rt, RunEnd::OutputFailed);
+        }
+    };
+    let mut output = WatchedWriter::new(file);
+    let mut delivered = run_to::<NamedFields, _, _, _, _, _>(
+        rt.alloc(),
+        task.verb,
+        &mut WatchedReader::new(statement),
+        &mut WatchedReader::new(second),
+        &mut output,
+        &mut WatchedWriter::new(rt.stdout()),
+        &mut stages_of(rt, task),
+    );
+    delivered.ended.end = settled(rt, output.into_inner(), &delivered);
+    ended_code(rt, &delivered.ended)
+}
+
 /// Runs a task on the files that it names. A file that can't be opened is a failed input.
-fn perform(rt: &HostRuntime, task: Task<'_>) -> ExitCode {
+fn open_and_perform(rt: &HostRuntime, task: Task<'_>) -> ExitCode {
     let Ok(statement) = InputFile::open(rt, task.statement) else {
         return exit_code(rt, RunEnd::InputFailed);
     };
     let Ok(second) = InputFile::open(rt, task.second) else {
         return exit_code(rt, RunEnd::InputFailed);
     };
-    let mut statement = WatchedReader::new(statement);
-    let mut second = WatchedReader::new(second);
-    let mut writer = WatchedWriter::new(rt.stdout());
-    let ended = run(
-        rt.alloc(),
-        task.verb,
-        &mut statement,
-        &mut second,
-        &mut writer,
-    );
-    if let Some(reason) = &ended.reason {
-        // It doesn't matter whether this fails too.
-        let _ = eprintln!(rt; "{reason}");
+    match task.output {
+        None => perform(rt, task, statement, second),
+        Some(path) => perform_to(rt, task, path, statement, second),
     }
-    exit_code(rt, ended.end)
 }
 
 /// Prints a text that was asked for.
@@ -54,7 +131,7 @@ fn main(rt: HostRuntime) -> ExitCode {
         }
     };
     match request_of(&words) {
-        Request::Run(task) => perform(&rt, task),
+        Request::Run(task) => open_and_perform(&rt, task),
         Request::Help => print(&rt, USAGE),
         Request::Version => print(&rt, VERSION),
         Request::Unknown => {

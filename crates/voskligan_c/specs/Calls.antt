@@ -1,12 +1,12 @@
 -- What the calls answer, and what they leave in the buffers that they are given.
 use Rattle.std.specs.Prelude.{◌≡◌, ◌⊎◌, ℕ, ℤ, pos, if◌then◌else◌, nat_le, List, [], ◌++◌, Option, length, drop, codes, string_bytes}
-use Rattle.stark_commands.specs.Finding.{finding_end, finding_line}
-use Rattle.stark_commands.specs.TraceChecks.{OrLacksMemory}
-use Rattle.stark_commands.specs.Verdict.{end_of, line_of, status_of}
-use Rattle.stark_commands.specs.declared.finding.Finding.{Finding}
-use Rattle.stark_commands.specs.declared.finding.Finding.TheVariants as finding
-use Rattle.stark_commands.specs.declared.verdict.Verdict.{Verdict}
-use Rattle.stark_commands.specs.declared.verdict.Verdict.TheVariants as verdict
+use Rattle.stark_answers.specs.Finding.{finding_end, finding_bytes}
+use Rattle.stark_service.specs.TraceChecks.{OrLacksMemory}
+use Rattle.stark_answers.specs.Verdict.{end_of, line_of, status_of}
+use Rattle.stark_answers.specs.declared.finding.Finding.{Finding}
+use Rattle.stark_answers.specs.declared.finding.Finding.TheVariants as finding
+use Rattle.stark_answers.specs.declared.verdict.Verdict.{Verdict}
+use Rattle.stark_answers.specs.declared.verdict.Verdict.TheVariants as verdict
 use Rattle.voskligan_c.specs.Message.{line_behind, told}
 use Rattle.voskligan_c.specs.declared.proof.Handed.{Handed}
 use Rattle.voskligan_c.specs.declared.proof.Handed.TheVariants.{NoProof, NoRoom, Placed}
@@ -20,12 +20,13 @@ IsVerdictTold IsVerdict status old new =
 -- The same of what is found of a trace.
 abbrev pub IsFindingTold : (Finding → Type 0) → ℤ → List ℕ → List ℕ → Type 0
 IsFindingTold IsFound status old new =
-    (f : Finding) × ((reason : Option (List ℕ)) × (OrLacksMemory IsFound f × (status ≡ pos (status_of (finding_end f))) × (new ≡ told (finding_line f ++ line_behind reason) old)))
+    (f : Finding) × ((reason : Option (List ℕ)) × (OrLacksMemory IsFound f × (status ≡ pos (status_of (finding_end f))) × (new ≡ told (finding_bytes f ++ line_behind reason) old)))
 
 -- the bytes of a proof that was found; none where none was
 abbrev pub proof_of : Finding → List ℕ
 proof_of (finding.Verdict v) = []
 proof_of (finding.Proof line) = string_bytes line
+proof_of (finding.ProofBytes bytes) = bytes.items
 proof_of (finding.Text text) = []
 proof_of finding.Satisfied = []
 proof_of (finding.Broken row) = []
@@ -42,6 +43,7 @@ handed_where count room = if nat_le count room then Placed else NoRoom
 abbrev pub handed_of : Finding → ℕ → Handed
 handed_of (finding.Verdict v) room = NoProof
 handed_of (finding.Proof line) room = handed_where (length (string_bytes line)) room
+handed_of (finding.ProofBytes bytes) room = handed_where (length bytes.items) room
 handed_of (finding.Text text) room = NoProof
 handed_of finding.Satisfied room = NoProof
 handed_of (finding.Broken row) room = NoProof
@@ -56,7 +58,7 @@ status_told NoProof f = status_of (finding_end f)
 abbrev pub lines_told : Handed → Finding → Option (List ℕ) → List ℕ
 lines_told Placed f reason = codes "proved\n"
 lines_told NoRoom f reason = codes "no room\n"
-lines_told NoProof f reason = finding_line f ++ line_behind reason
+lines_told NoProof f reason = finding_bytes f ++ line_behind reason
 
 -- A finding of a trace that was to be proved: its proof's length is told, and the proof is placed where there is room for it.
 abbrev pub IsProofTold : (Finding → Type 0) → ℤ → ℕ → List ℕ → List ℕ → List ℕ → List ℕ → Type 0

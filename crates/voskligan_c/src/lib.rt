@@ -5,7 +5,7 @@
 #![tactic(auto)]
 
 ghost use Rattle.std.specs.Prelude.{◌≡◌, ◌≢◌, pos, take};
-ghost use Rattle.stark_commands.specs.declared.finding.Finding.{Finding};
+ghost use Rattle.stark_answers.specs.declared.finding.Finding.{Finding};
 ghost use Rattle.voskligan_c.specs.Calls.{IsFindingTold, IsProofTold, IsVerdictTold};
 ghost use Rattle.voskligan_c.specs.Message.{told};
 ghost use Rattle.voskligan_c.specs.declared.TheConstants.{VERSION};
@@ -19,7 +19,7 @@ mod tests;
 pub use answers::{Program, ProgramAnswers};
 use message::{tell, tell_report};
 use proof::hand_over;
-use stark_commands::{check_statement, prove_statement, verify_statement};
+use stark_service::{check_statement, prove_statement, verify_statement};
 use std::alloc::Global;
 
 /// The library's version.
@@ -49,7 +49,7 @@ pub extern "C" fn voskligan_verify(
         → ⟦<Program as ProgramAnswers>⟧.sound statement.now proof.now }
 {
     let said = verify_statement(alloc, statement, proof);
-    tell_report(said.answer.line(), &said.reason, message);
+    tell_report(said.answer.line().as_bytes(), &said.reason, message);
     i32::from(said.answer.end().status())
 }
 
@@ -69,7 +69,7 @@ pub extern "C" fn voskligan_check(
         → ⟦<Program as ProgramAnswers>⟧.checked statement.now trace.now Finding.Satisfied }
 {
     let found = check_statement(alloc, statement, trace);
-    tell_report(found.answer.line(), &found.reason, message);
+    tell_report(found.answer.written(), &found.reason, message);
     i32::from(found.answer.end().status())
 }
 

@@ -47,12 +47,12 @@ fn tell_three(first: &[u8], second: &[u8], third: &[u8], message: &mut [u8])
 }
 
 /// Tells a line and, where there is a reason, the reason as a second line.
-pub(crate) fn tell_report(line: &str, reason: &Option<String>, message: &mut [u8])
+pub(crate) fn tell_report(line: &[u8], reason: &Option<String>, message: &mut [u8])
     ensures { message.new
         ≡ told (line.now ++ line_behind (words_of reason.now)) message.old }
 {
     match reason {
-        Some(words) => tell_three(line.as_bytes(), words.as_bytes(), b"\n", message),
-        None => tell(line.as_bytes(), message),
+        Some(words) => tell_three(line, words.as_bytes(), b"\n", message),
+        None => tell(line, message),
     }
 }

@@ -5,7 +5,7 @@ ghost use Rattle.voskligan_c.specs.Calls.{handed_of, handed_where, lines_told, p
 ghost use Rattle.voskligan_c.specs.Message.{told, words_of};
 
 use crate::message::{tell, tell_report};
-use stark_commands::{Finding, Report};
+use stark_answers::{Finding, Report};
 
 /// What became of a proof.
 #[derive(Clone, Copy, Debug, PartialEq, Eq)]
@@ -39,7 +39,7 @@ impl Handed {
         match self {
             Handed::Placed => tell(b"proved\n", message),
             Handed::NoRoom => tell(b"no room\n", message),
-            Handed::NoProof => tell_report(report.answer.line(), &report.reason, message),
+            Handed::NoProof => tell_report(report.answer.written(), &report.reason, message),
         }
     }
 }
@@ -66,9 +66,10 @@ pub(crate) fn hand_over(found: &Finding, proof: &mut [u8], needed: &mut usize) -
     ensures placed { proof.new ≡ placed (proof_of found.now) proof.old }
 {
     match found {
-        Finding::Proof(line) => {
-            *needed = line.len();
-            place(line.as_bytes(), proof)
+        Finding::Proof(_) | Finding::ProofBytes(_) => {
+            let bytes = found.written();
+            *needed = bytes.len();
+            place(bytes, proof)
         }
         _ => {
             *needed = 0;

@@ -1,7 +1,10 @@
 //! Each call on a statement written by hand: a column that begins at 5 and goes up by one.
 
 use crate::{voskligan_check, voskligan_prove, voskligan_verify, voskligan_version};
+use stark_answers::{ProofForm, TraceTask};
+use stark_service::answer_trace;
 use std::alloc::AllocError;
+use std::test::Fail;
 
 const STATEMENT: &[u8] =
     br#"{"air":{"width":1,"publics":1,"periodic":[],"constants":[1],"nodes":[["main",0],["first"],["public",0],["sub",0,2],["mul",1,3],["transition"],["next",0],["sub",6,0],["constant",0],["sub",7,8],["mul",5,9]],"constraints":[{"base":4},{"base":10}]},"public_values":[5]}"#;
@@ -10,9 +13,18 @@ const TRACE: &[u8] = b"[[5],[6],[7],[8]]";
 
 const FALSE_TRACE: &[u8] = b"[[5],[6],[7],[9]]";
 
+/// The same over the field of 12289 and in the clear, where a proof is short.
+const IN_THE_CLEAR: &[u8] =
+    br#"{"config":{"field":"f12289","scheme":"clear"},"air":{"width":1,"publics":1,"periodic":[],"constants":[1],"nodes":[["main",0],["first"],["public",0],["sub",0,2],["mul",1,3],["transition"],["next",0],["sub",6,0],["constant",0],["sub",7,8],["mul",5,9]],"constraints":[{"base":4},{"base":10}]},"public_values":[5]}"#;
+
+// The proof of `[[5],[6]]` for it as bytes, which a script outside this repository wrote from the
+// proof's JSON.
+const PROOF_BYTES: &[u8] =
+    b"voskligan proof 1\0\0\0\0\0\0\0\x01\0\0\0\0\0\0\0\x01\0\0\0\0\0\0\0\x02\0\0\x18\x06\0\0\x18\0\0\0\0\0\0\0\0\x01\0\0\0\0\0\0\0\x04\0\0\0\0\0\0\0\x02\0\0\x04K\0\0\0\0\0\0\0\0\0\0\0\x02\0\0\x15o\0\0\0\0\0\0\0\0\0\0\0\x02\0\0\x04|\0\0\0\0\0\0\0\0\0\0\0\x02\0\0\x0c\xa1\0\0\0\0\0\0\0\0\0\0\0\0\x01\0\0\x13y\0\0!\x92\0\0 \xd1\0\0#\x0c\x01\0\0\0\0\0\0\0\x01\0\0\x1c\x93\0\0\x0eo\0\0\x0f0\0\0\x0c\xf5\0\0\0\0\0\0\0\0\x01\0\0\0\0\0\0\0\x04\0\0\x04K\0\0\0\0\0\0\0\0\0\0\0\0\0\0\x15o\0\0\0\0\0\0\0\0\0\0\0\0\0\0\x04|\0\0\0\0\0\0\0\0\0\0\0\0\0\0\x0c\xa1\0\0\0\0\0\0\0\0\0\0\0\0\0\0\0\0\0\0\0\0\0\x01\0\0\0\0\0\0\0\0";
+
 #[test]
 fn a_proof_is_made_and_accepted(rt: HostRuntime) -> Result<(), AllocError> {
-    let mut proof = Vec::from_elem(rt.alloc(), 0u8, 8192)?;
+    let mut proof = Vec::from_elem(rt.alloc(), 0u8, 131072)?;
     let mut message = [7u8; 32];
     let mut needed = 0;
     let made = voskligan_prove(
@@ -71,4 +83,34 @@ fn the_version_is_told(rt: HostRuntime) {
     let mut text = [7u8; 8];
     assert_eq!(rt; voskligan_version(&mut text), 5);
     assert_eq!(rt; text, *b"0.1.0\0\x07\x07");
+}
+
+#[test]
+fn a_proof_as_bytes_is_accepted(rt: HostRuntime) {
+    let asked = TraceTask::Prove(ProofForm::Bytes);
+    let found = answer_trace(rt.alloc(), asked, IN_THE_CLEAR, b"[[5],[6]]");
+    assert!(rt; found.answer.written() == PROOF_BYTES);
+    let mut message = [7u8; 32];
+    let verified = voskligan_verify(rt.alloc(), IN_THE_CLEAR, PROOF_BYTES, &mut message);
+    assert_eq!(rt; verified, 0);
+    assert!(rt; message.starts_with(b"accepted\n\0"));
+}
+
+#[test]
+fn a_proof_as_bytes_is_whole(rt: HostRuntime) -> Result<(), Fail> {
+    let mut message = [7u8; 64];
+    let (_, cut) = PROOF_BYTES.split_last().ok_or("no bytes")?;
+    let unread = voskligan_verify(rt.alloc(), IN_THE_CLEAR, cut, &mut message);
+    assert_eq!(rt; unread, 2);
+    assert!(rt; message.starts_with(b"bad input\nthe proof: the bytes end too early\n\0"));
+    let mut longer = Vec::from_slice(rt.alloc(), PROOF_BYTES)?;
+    longer.push(0)?;
+    let unread = voskligan_verify(rt.alloc(), IN_THE_CLEAR, &longer, &mut message);
+    assert_eq!(rt; unread, 2);
+    assert!(rt; message.starts_with(b"bad input\nthe proof: there are bytes behind the proof\n\0"));
+    // Another version is neither bytes nor JSON.
+    let unread = voskligan_verify(rt.alloc(), IN_THE_CLEAR, b"voskligan proof 2", &mut message);
+    assert_eq!(rt; unread, 2);
+    assert!(rt; message.starts_with(b"bad input\nthe proof: "));
+    Ok(())
 }

@@ -1,7 +1,7 @@
 use Rattle.std.proofs.Common.{◌≡◌, pos, w32, to_z, of_z, rules}
-use Rattle.stark_commands.specs.Finding.{finding_end}
-use Rattle.stark_commands.specs.Verdict.{status_of}
-use Rattle.stark_commands.specs.declared.task.TraceTask.TheVariants.{Check}
+use Rattle.stark_answers.specs.Finding.{finding_end}
+use Rattle.stark_answers.specs.Verdict.{status_of}
+use Rattle.stark_answers.specs.declared.task.TraceTask.TheVariants.{Check}
 use Rattle.voskligan_c.specs.Message.{words_of}
 use Rattle.voskligan_c.proofs.Statuses.{pos_zero, satisfied_from}
 use Rattle.voskligan_c.specs.contracts.answers.ProgramProgramAnswers.TheImpl as program
@@ -13,8 +13,7 @@ returns-clause-satisfied c = λ e.
     let status : to_z w32 (of_z w32 c.from.result) ≡ pos (status_of (finding_end f)) = search rules in
     let s = c.args.statement.now in
     let t = c.args.trace.now in
-    satisfied_from (program.found-value.it Check s t) (program.accepts_none-value.it Check s t) (program.shows_none-value.it Check s t)
-    (program.checks_alone-value.it s t) f c.check_statement-found.ensures.found (pos_zero _ _ status e)
+    satisfied_from (program.found-value.it Check s t) f c.check_statement-found.ensures.found c.check_statement-found.ensures.kind (pos_zero _ _ status e)
 
 pub returns-clause-told : goal.returns-clause-told
 returns-clause-told c =

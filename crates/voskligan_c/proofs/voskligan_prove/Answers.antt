@@ -1,8 +1,8 @@
 use Rattle.std.proofs.Common.{◌≡◌, pos, w32, to_z, of_z, rules, length}
-use Rattle.stark_commands.specs.declared.task.TraceTask.TheVariants.{Prove}
+use Rattle.stark_answers.specs.declared.task.ProofForm.TheVariants.{Json}
 use Rattle.voskligan_c.specs.Calls.{handed_of, status_told}
 use Rattle.voskligan_c.specs.Message.{words_of}
-use Rattle.voskligan_c.proofs.Statuses.{line_placed, not_check, pos_zero}
+use Rattle.voskligan_c.proofs.Statuses.{line_placed, pos_zero}
 use Rattle.voskligan_c.specs.contracts.answers.ProgramProgramAnswers.TheImpl as program
 use Rattle.voskligan_c.proofs.voskligan_prove.Goals as goal
 
@@ -13,9 +13,7 @@ returns-clause-proved c = λ e.
     let s = c.args.statement.now in
     let t = c.args.trace.now in
     rw (c.hand_over-handed.ensures.needed, c.hand_over-handed.ensures.placed)
-    (line_placed (program.found-value.it Prove s t) (program.accepts_none-value.it Prove s t) (program.shows_none-value.it Prove s t)
-    (program.proof_line-value.it s t) (program.finds_proofs-value.it Prove s t) (λ found. not_check (program.satisfied_checks-value.it Prove s t found))
-    f c.args.proof.now c.prove_statement-report.ensures.found (pos_zero _ _ status e))
+    (line_placed (program.proof_line-value.it s t) f c.args.proof.now c.prove_statement-report.ensures.kind (c.prove_statement-report.ensures.proof Json) (pos_zero _ _ status e))
 
 pub returns-clause-told : goal.returns-clause-told
 returns-clause-told c =

@@ -1,5 +1,5 @@
 use Rattle.std.proofs.Common.{◌≡◌, pos, w32, to_z, of_z, rules}
-use Rattle.stark_commands.specs.Verdict.{end_of, status_of}
+use Rattle.stark_answers.specs.Verdict.{end_of, status_of}
 use Rattle.voskligan_c.specs.Message.{words_of}
 use Rattle.voskligan_c.proofs.Statuses.{accepted_from, pos_zero}
 use Rattle.voskligan_c.proofs.voskligan_verify.Goals as goal

@@ -2,6 +2,7 @@ use Rattle.std.proofs.Common.{sym, subst}
 use Rattle.std.specs.Io.KnownBytes.{Keeps}
 use Rattle.std.proofs.KnownBytes.{Keeps-refl}
 use Rattle.stark_commands.specs.ProveFacts.{proved_accepts_none, proved_begins, proved_line, proved_no_text, proved_satisfies_none}
+use Rattle.stark_answers.specs.declared.task.ProofForm.TheVariants.{Json}
 use Rattle.stark_cli.specs.SampleRun.{found_proofs_open, lacks_memory}
 use Rattle.stark_cli.proofs.Findings.{accepts_or_tells, refused_memory, says_known}
 use Rattle.stark_cli.proofs.Lines.{accepted_only_known, proved_only_known}
@@ -30,11 +31,11 @@ returns-clause-sound g c =
 
 pub returns-clause-proved : goal.returns-clause-proved
 returns-clause-proved g c =
-    told_traces _ _ _ _ (λ air i f proved is. proved_line _ _ _ _ _ _ _ _ _ f proved is) (λ air i f proved is. proved_no_text _ _ _ _ _ _ _ _ _ f proved is) (λ air i proved. proved_satisfies_none _ _ _ _ _ _ _ _ _ proved) _ _ _ _
-    (proved_only_known lacks_memory refused_memory _ (λ input f found. found_proofs_open _ _ _ (λ air i h proved. proved_begins _ _ _ _ _ _ _ _ _ h proved) _ input f found) _
+    told_traces _ _ _ _ (λ air i f proved. proved_line _ _ _ _ _ _ _ _ _ f proved) (λ air i f proved is. proved_no_text _ _ _ _ _ _ _ _ _ f proved is) (λ air i proved. proved_satisfies_none _ _ _ _ _ _ _ _ _ proved) _ _ _ _
+    (proved_only_known lacks_memory refused_memory _ (λ input f found. found_proofs_open _ _ _ (λ air i h proved. proved_begins _ _ _ _ _ _ _ _ _ h proved) _ input f found) Json _
     (λ input bytes front. front) _ _ _ _ (returns-clause-says g c))
 
 pub returns-clause-accepted_end : goal.returns-clause-accepted_end
 returns-clause-accepted_end g c = λ end.
-    ends_accepted _ _ _ _ (λ air i f proved is. proved_line _ _ _ _ _ _ _ _ _ f proved is) (λ air i f proved is. proved_no_text _ _ _ _ _ _ _ _ _ f proved is) (λ air i proved. proved_satisfies_none _ _ _ _ _ _ _ _ _ proved) _ _ _ _
+    ends_accepted _ _ _ _ (λ air i f proved. proved_line _ _ _ _ _ _ _ _ _ f proved) (λ air i f proved is. proved_no_text _ _ _ _ _ _ _ _ _ f proved is) (λ air i proved. proved_satisfies_none _ _ _ _ _ _ _ _ _ proved) _ _ _ _
     (accepts_or_tells lacks_memory refused_memory _ _ _ _ _ c.ran.ensures.says end)

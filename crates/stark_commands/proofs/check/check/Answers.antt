@@ -1,10 +1,10 @@
 use Rattle.std.proofs.Common.{◌≡◌, ◌⊎◌, subst, ℕ}
 use Rattle.stark_commands.specs.Check.{checked}
 use Rattle.stark_commands.specs.Numbers.{numbers}
-use Rattle.stark_commands.specs.Airs.{checked_air}
+use Rattle.stark_answers.specs.CheckedAir.{checked_air}
 use Rattle.stark_security.proofs.ErrorBoundSteps.{same_ceiling}
-use Rattle.stark_commands.specs.declared.verdict.Verdict.TheVariants.{Refused}
-use Rattle.stark_commands.specs.declared.verdict.Refusal.TheVariants.{OutOfMemory}
+use Rattle.stark_answers.specs.declared.verdict.Verdict.TheVariants.{Refused}
+use Rattle.stark_answers.specs.declared.verdict.Refusal.TheVariants.{OutOfMemory}
 use Rattle.stark_commands.proofs.check.check.Goals as goal
 
 pub returns-in-Ok : goal.returns-in-Ok

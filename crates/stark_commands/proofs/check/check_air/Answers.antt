@@ -1,6 +1,6 @@
 use Rattle.std.proofs.Common.{◌∙◌, ap, inl, subst, sym, Err}
 use Rattle.stark_support.specs.Json.{Gives}
-use Rattle.stark_commands.specs.Airs.{checked_air}
+use Rattle.stark_answers.specs.CheckedAir.{checked_air}
 use Rattle.stark_commands.specs.Input.{has_shape, numbers_in}
 use Rattle.stark_commands.specs.Numbers.{numbers}
 use Rattle.stark_commands.proofs.PointSteps.{unread_verdict}

@@ -3,7 +3,7 @@ use Rattle.std.proofs.lemmas.List.{length-map, length-replicate}
 use Rattle.stark_support.specs.Coset.{TwoAdicCoset}
 use Rattle.stark_commands.specs.Input.{Base, elements, zeros}
 use Rattle.stark_commands.specs.Numbers.{numbers}
-use Rattle.stark_commands.specs.Airs.{checked_air, shape_of}
+use Rattle.stark_answers.specs.CheckedAir.{checked_air, shape_of}
 use Rattle.stark_commands.proofs.PointSteps.{chunks_of_four, outside_coset, rows_cover, told_at_zeta, widths_of}
 use Rattle.stark_commands.proofs.check.check_columns.Goals as goal
 

@@ -2,7 +2,7 @@ use Rattle.std.proofs.Common.{◌≤◌, ◌∙◌, ◌+◌, ap, arith, inl, inr
 use Rattle.std.proofs.lemmas.List.{length-map}
 use Rattle.stark_fields.specs.Residues.{residue, residue_ring}
 use Rattle.stark_commands.specs.Numbers.{numbers}
-use Rattle.stark_commands.specs.Airs.{checked_air}
+use Rattle.stark_answers.specs.CheckedAir.{checked_air}
 use Rattle.stark_protocol.specs.Sizes.{quotient_coset}
 use Rattle.stark_commands.proofs.Parts.{trace_coset_is}
 use Rattle.stark_commands.proofs.PointSteps.{found_counted, found_too_large, found_uncounted, shifted_one, within_adicity}

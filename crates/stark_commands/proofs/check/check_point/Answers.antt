@@ -4,7 +4,7 @@ use Rattle.stark_support.specs.Coset.{TwoAdicCoset}
 use Rattle.stark_commands.specs.Input.{Base, elements}
 use Rattle.stark_commands.specs.Check.{vanishing}
 use Rattle.stark_commands.specs.Numbers.{numbers}
-use Rattle.stark_commands.specs.Airs.{checked_air}
+use Rattle.stark_answers.specs.CheckedAir.{checked_air}
 use Rattle.stark_commands.proofs.PointSteps.{coset_vanishing_is, fault_of_columns, found_equation, found_fault, found_inside}
 use Rattle.stark_commands.proofs.check.check_point.Goals as goal
 

@@ -1,5 +1,5 @@
-use Rattle.stark_commands.specs.Airs.{checked_air}
-use Rattle.stark_commands.proofs.VerdictSteps.{is_verdict}
+use Rattle.stark_answers.specs.CheckedAir.{checked_air}
+use Rattle.stark_answers.proofs.VerdictSteps.{is_verdict}
 use Rattle.stark_commands.proofs.verify.verify_proof.Goals as goal
 
 pub verify_in_the_clear-answer-requires-clause-stops_nowhere : goal.verify_in_the_clear-answer-requires-clause-stops_nowhere

@@ -1,0 +1,10 @@
+pub mod Heights
+pub mod NoFloats
+pub mod Proved
+pub mod SameColumns
+pub mod SoundSteps
+pub mod Soundly
+pub mod TakenColumns
+pub mod TraceShapes
+pub mod TraceSteps
+pub mod VerdictSteps

@@ -1,0 +1,42 @@
+use Rattle.std.proofs.Common.{None, Some, [], ap, is_some, refl, sym, ◌∙◌}
+use Rattle.stark_prover.specs.SetUpFacts.{held_of_set_up, no_columns, same_columns, some_columns, stands_for_set_up, width_of}
+use Rattle.stark_answers.proofs.VerdictSteps.{of_some}
+use Rattle.stark_answers.proofs.TraceSteps.{answers, at_columns, lacks_memory, only_memory, same_degree}
+use Rattle.stark_answers.proofs.held.prove_with_held.Goals as goal
+
+pub setup_preprocessed-requires-clause-within : goal.setup_preprocessed-requires-clause-within
+setup_preprocessed-requires-clause-within g c = λ trace declared some. c.requires.within
+
+pub prove-requires-clause-none : goal.prove-requires-clause-none
+prove-requires-clause-none g c =
+    no_columns (g.A.BaseAir.preprocessed_trace c.args.air.now) _ (g.met.A.BaseAir.as_declared c.args.air.now).preprocessed_width (sym c.in-Ok-None.ensures.there ∙ ap is_some c.in-Ok-None.field-0-is)
+
+pub prove_with_preprocessed-requires-clause-there : goal.prove_with_preprocessed-requires-clause-there
+prove_with_preprocessed-requires-clause-there g c =
+    sym (ap is_some c.in-Ok-Some.field-0-is) ∙ c.in-Ok-Some.ensures.there ∙ same_columns (g.A.BaseAir.preprocessed_trace c.args.air.now) _ (g.met.A.BaseAir.as_declared c.args.air.now).preprocessed_width
+
+pub prove_with_preprocessed-requires-clause-height : goal.prove_with_preprocessed-requires-clause-height
+prove_with_preprocessed-requires-clause-height g c =
+    let made = of_some _ c.in-Ok-Some.field-0 (c.in-Ok-Some.data, c.in-Ok-Some._key) c.in-Ok-Some.field-0-is c.in-Ok-Some.ensures.set_up in
+    let there = sym (ap is_some c.in-Ok-Some.field-0-is) ∙ c.in-Ok-Some.ensures.there ∙ same_columns (g.A.BaseAir.preprocessed_trace c.args.air.now) _ (g.met.A.BaseAir.as_declared c.args.air.now).preprocessed_width in
+    (c.requires.fits.height, c.requires.fits.rows, c.requires.fits.within, same_degree _ _ _ _ made.2.prover_degree (c.requires.fits.fixed_rows (some_columns _ there)))
+
+pub prove_with_preprocessed-requires-clause-stands : goal.prove_with_preprocessed-requires-clause-stands
+prove_with_preprocessed-requires-clause-stands g c =
+    let made = of_some _ c.in-Ok-Some.field-0 (c.in-Ok-Some.data, c.in-Ok-Some._key) c.in-Ok-Some.field-0-is c.in-Ok-Some.ensures.set_up in
+    let held = held_of_set_up made.2 in
+    (held.0, held.1, held.2 ∙ sym (width_of (g.A.BaseAir.preprocessed_trace c.args.air.now) made.0 _ (g.met.A.BaseAir.as_declared c.args.air.now).preprocessed_width made.1))
+
+pub returns-in-Ok-None : goal.returns-in-Ok-None
+returns-in-Ok-None g c = λ height rows.
+    answers _ _ c.args.log_rows (g.SC.StarkGenericConfig.config.scheme c.args.config.now) (g.A.BaseAir.preprocessed_trace c.args.air.now) _ height _ None [] (sym c.in-Ok-None.ensures.there ∙ ap is_some c.in-Ok-None.field-0-is)
+    c.requires.any_height c.requires.complete rows _ c.prove.ensures.made c.prove.ensures.acceptable c.prove.ensures.fault
+
+pub returns-in-Ok-Some : goal.returns-in-Ok-Some
+returns-in-Ok-Some g c = λ height rows.
+    let made = of_some _ c.in-Ok-Some.field-0 (c.in-Ok-Some.data, c.in-Ok-Some._key) c.in-Ok-Some.field-0-is c.in-Ok-Some.ensures.set_up in
+    answers _ _ c.args.log_rows (g.SC.StarkGenericConfig.config.scheme c.args.config.now) (g.A.BaseAir.preprocessed_trace c.args.air.now) _ height _ (Some c.in-Ok-Some.data) made.2.columns (made.0, made.1, c.in-Ok-Some._key, made.2)
+    c.requires.any_height c.requires.complete rows _ (at_columns _ _ _ made.2.columns (stands_for_set_up made.2) _ c.prove_with_preprocessed.ensures.made) c.prove_with_preprocessed.ensures.acceptable c.prove_with_preprocessed.ensures.fault
+
+pub returns-in-Err : goal.returns-in-Err
+returns-in-Err g c = λ height rows. lacks_memory _ _ _ _ _ _ height _ _ _ refl (only_memory _ _ _ _ _ _ _ _ c.requires.sets_up c.in-Err.ensures.fault)

@@ -1,0 +1,9 @@
+pub mod CheckedAir
+pub mod Finding
+pub mod Prove
+pub mod ProveFacts
+pub mod Refusals
+pub mod SoundRun
+pub mod TraceShape
+pub mod Verdict
+pub mod Verify

@@ -1,0 +1,103 @@
+//! What the program says of an input, and the line that says so.
+
+ghost use Rattle.std.specs.Prelude.{◌≡◌};
+ghost use Rattle.stark_answers.specs.Verdict.{line_of, end_of, status_of};
+
+use crate::refusal::ProofRefusal;
+
+/// How a run ends.
+#[derive(Clone, Copy, Debug, PartialEq, Eq)]
+pub enum RunEnd {
+    /// The line `accepted` or `satisfied`, a proof's line or a text that shows an AIR is written.
+    Accepted,
+    /// A line that begins with `refused`, or the two of a row that breaks a constraint, is written.
+    Refused,
+    /// The line `bad input` or `out of memory` is written: nothing was judged.
+    NotJudged,
+    /// A read failed.
+    InputFailed,
+    /// A write failed.
+    OutputFailed,
+}
+
+impl RunEnd {
+    /// The exit status.
+    pub fn status(self) -> u8
+        ensures { result ≡ status_of self }
+    {
+        match self {
+            RunEnd::Accepted => 0,
+            RunEnd::Refused => 1,
+            RunEnd::NotJudged | RunEnd::InputFailed | RunEnd::OutputFailed => 2,
+        }
+    }
+}
+
+/// Why what was read is refused, or not proved.
+#[derive(Clone, Copy, Debug, PartialEq, Eq)]
+pub enum Refusal {
+    /// The folded constraints differ from the vanishing value times the quotient.
+    OodEvaluationMismatch,
+    /// The point lies in the domain of the trace.
+    OodPointInDomain,
+    /// A periodic column doesn't fit the height.
+    PeriodicColumn,
+    /// The field has no group as large as the quotient's domain.
+    QuotientDomainTooLarge,
+    /// The commitment scheme refuses to commit or to open.
+    Pcs,
+    /// No element is a witness of the work that is asked for.
+    GrindExhausted,
+    /// A statement's AIR passes a limit.
+    AirTooLarge,
+    /// A growth of memory was refused.
+    OutOfMemory,
+    /// A proof is refused for a reason that no check of numbers finds.
+    Proof(ProofRefusal),
+}
+
+/// What is said of an input.
+#[derive(Clone, Copy, Debug, PartialEq, Eq)]
+pub enum Verdict {
+    /// The checks hold, or the verifier accepts.
+    Accepted,
+    /// What was read is refused or not proved, or memory was wanting.
+    Refused(Refusal),
+    /// The words name no command, or the input isn't one for it.
+    BadInput,
+    /// A growth of memory was refused before the input was judged.
+    OutOfMemory,
+}
+
+impl Verdict {
+    /// The line that says it, with its newline.
+    pub fn line(self) -> &'static str
+        ensures { result.now ≡ line_of self }
+    {
+        match self {
+            Verdict::Accepted => "accepted\n",
+            Verdict::Refused(Refusal::OodEvaluationMismatch) => "refused OodEvaluationMismatch\n",
+            Verdict::Refused(Refusal::OodPointInDomain) => "refused OodPointInDomain\n",
+            Verdict::Refused(Refusal::PeriodicColumn) => "refused PeriodicColumn\n",
+            Verdict::Refused(Refusal::QuotientDomainTooLarge) => "refused QuotientDomainTooLarge\n",
+            Verdict::Refused(Refusal::Pcs) => "refused Pcs\n",
+            Verdict::Refused(Refusal::GrindExhausted) => "refused GrindExhausted\n",
+            Verdict::Refused(Refusal::AirTooLarge) => "refused AirTooLarge\n",
+            Verdict::Refused(Refusal::OutOfMemory) => "refused OutOfMemory\n",
+            Verdict::Refused(Refusal::Proof(why)) => why.line(),
+            Verdict::BadInput => "bad input\n",
+            Verdict::OutOfMemory => "out of memory\n",
+        }
+    }
+
+    /// How a run ends that has written the line.
+    pub fn end(self) -> RunEnd
+        ensures { result ≡ end_of self }
+    {
+        match self {
+            Verdict::Accepted => RunEnd::Accepted,
+            Verdict::Refused(_) => RunEnd::Refused,
+            Verdict::BadInput | Verdict::OutOfMemory => RunEnd::NotJudged,
+        }
+    }
+}

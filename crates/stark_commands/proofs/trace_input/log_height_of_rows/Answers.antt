@@ -1,7 +1,0 @@
-use Rattle.std.proofs.Common.{length, refl, rules}
-use Rattle.stark_commands.proofs.TraceShapes.{other_height}
-use Rattle.stark_commands.proofs.trace_input.log_height_of_rows.Goals as goal
-
-pub returns-then-log_height-log_rows-clause-none : goal.returns-then-log_height-log_rows-clause-none
-returns-then-log_height-log_rows-clause-none c = λ none.
-    other_height c.args.shape c.args.log_rows c.args.rows.now c.args.publics.now (length c.args.rows.now) c.in_ok-log_height.log_height refl c.in_ok-log_height.ensures.some (search rules) (search rules)

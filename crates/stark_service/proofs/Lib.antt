@@ -1,0 +1,11 @@
+pub mod Configured
+pub mod FoundRows
+pub mod ReadSteps
+pub mod SchemeFloats
+pub mod SchemeSteps
+pub mod SecuritySteps
+pub mod ShowSteps
+pub mod StatementSteps
+pub mod StatementsSound
+pub mod TraceTasks
+pub mod UnreadFindings

@@ -1,0 +1,121 @@
+-- From what a check and a prover find of rows to what is told under a task.
+use Rattle.std.proofs.Common.{◌≡◌, ◌⊎◌, ◌∙◌, inl, inr, ap, refl, subst, sym, ℕ, ◌*◌, ◌^◌, ◌<◌, List, Option, None, Some, length}
+use Rattle.std.specs.List.{flat_map}
+use Rattle.stark_support.specs.FieldPair.{FieldsOps}
+use Rattle.stark_air.specs.Declaration.{Trace, trace_width}
+use Rattle.stark_completeness.specs.RowCheck.{IsRefusedOr}
+use Rattle.stark_completeness.specs.declared.violation.ConstraintCheckError.{ConstraintCheckError}
+use Rattle.stark_completeness.specs.declared.violation.ConstraintCheckError.TheVariants.{Violation}
+use Rattle.stark_completeness.specs.declared.violation.ConstraintViolation.{ConstraintViolation}
+use Rattle.stark_protocol.specs.Preprocessing.{HasHeight}
+use Rattle.stark_statement.specs.StatementView.{StatementView}
+use Rattle.stark_answers.specs.CheckedAir.{CheckedAir, shape_of}
+use Rattle.stark_answers.specs.Prove.{IsTraceFor}
+use Rattle.stark_answers.specs.TraceShape.{FitsShape, trace_of}
+use Rattle.stark_answers.specs.declared.finding.Finding.{Finding}
+use Rattle.stark_answers.specs.declared.finding.Finding.TheVariants as finding
+use Rattle.stark_answers.specs.declared.shape.CheckShape.{CheckShape}
+use Rattle.stark_answers.specs.declared.task.ProofForm.{ProofForm}
+use Rattle.stark_answers.specs.declared.task.TraceTask.{TraceTask}
+use Rattle.stark_answers.specs.declared.task.TraceTask.TheVariants as task
+use Rattle.stark_answers.specs.declared.verdict.Verdict.{Verdict}
+use Rattle.stark_answers.specs.declared.verdict.Verdict.TheVariants as verdict
+use Rattle.stark_answers.proofs.TraceSteps.{trace_fits}
+use Rattle.stark_service.specs.StatementAir.{declared_of}
+use Rattle.stark_service.specs.Service.{ServiceOps}
+use Rattle.stark_service.specs.Statements.{IsFoundWithRows, IsToldWithRows}
+use Rattle.stark_service.specs.TraceChecks.{IsCheckedTrace, IsCheckedWithRows}
+
+abbrev no_memory : Finding
+no_memory = finding.Verdict verdict.OutOfMemory
+
+-- What is said of an error holds of the violation that it is.
+pub violation_found : {F : Type 0} (Holds : ConstraintViolation F → Type 0) (error : ConstraintCheckError F) (violation : ConstraintViolation F) → error ≡ Violation violation → IsRefusedOr Holds error → Holds violation
+violation_found Holds error violation is holds = subst (IsRefusedOr Holds) is holds
+
+-- ---- what a check finds of rows
+
+module _ {F E : Type 0} (fields : FieldsOps F E) (number : F → ℕ) (greatest : ℕ) (s : StatementView F) (log_rows : ℕ) (rows : List (List F)) (air : CheckedAir F) (shape : CheckShape) (f : Finding) (same : shape ≡ shape_of air) (declares : air ≡ declared_of s.air) where
+  -- of rows in the AIR's widths and counts
+  pub checked_shaped : (height : ℕ) (trace : Trace F) (listed : List F) → FitsShape shape log_rows greatest rows s.public_values height → trace ≡ trace_of air.layout.main rows → listed ≡ s.public_values
+      → (f ≡ no_memory) ⊎ IsCheckedTrace fields number air s.air.list trace listed f → (f ≡ no_memory) ⊎ IsCheckedWithRows fields number greatest s log_rows (Some rows) f
+  unfolding IsCheckedWithRows
+  checked_shaped height trace listed fits is lists (inl memory) = inl memory
+  checked_shaped height trace listed fits is lists (inr checked) = inr (inl (
+    height,
+    subst (λ a. FitsShape (shape_of a) log_rows greatest rows s.public_values height) declares (subst (λ k. FitsShape k log_rows greatest rows s.public_values height) same fits),
+    subst (λ (a : CheckedAir F). IsCheckedTrace fields number a s.air.list (trace_of a.layout.main rows) s.public_values f) declares
+        (subst (λ ps. IsCheckedTrace fields number air s.air.list (trace_of air.layout.main rows) ps f) lists
+        (subst (λ t. IsCheckedTrace fields number air s.air.list t listed f) is checked)),
+  ))
+
+  -- of others
+  pub unchecked_unshaped : ((height : ℕ) → FitsShape shape log_rows greatest rows s.public_values height → ⊥) → f ≡ finding.Verdict verdict.BadInput → (f ≡ no_memory) ⊎ IsCheckedWithRows fields number greatest s log_rows (Some rows) f
+  unfolding IsCheckedWithRows
+  unchecked_unshaped none is = inr (inr (λ height fits. none height (subst (λ k. FitsShape k log_rows greatest rows s.public_values height) (sym same) (subst (λ a. FitsShape (shape_of a) log_rows greatest rows s.public_values height) (sym declares) fits)), is))
+
+-- At another name of the greatest height.
+pub checked_within : {F E : Type 0} (fields : FieldsOps F E) (number : F → ℕ) (greatest most : ℕ) → greatest ≡ most → (s : StatementView F) (log_rows : ℕ) (read : Option (List (List F))) (f : Finding)
+    → (f ≡ no_memory) ⊎ IsCheckedWithRows fields number greatest s log_rows read f → (f ≡ no_memory) ⊎ IsCheckedWithRows fields number most s log_rows read f
+checked_within fields number greatest most same s log_rows read f = subst (λ n. (f ≡ no_memory) ⊎ IsCheckedWithRows fields number n s log_rows read f) same
+
+-- Preprocessed columns stand at the trace's height, where there are some.
+pub columns_height : {F : Type 0} (declared : Option (Trace F)) (log_rows height : ℕ) → HasHeight log_rows declared → (0 < trace_width declared → height ≡ log_rows) → HasHeight height declared
+columns_height declared log_rows height has same = λ t some wide.
+    subst (λ n. length t.values ≡ 2 ^ n * t.width) (sym (same (subst (λ n. 0 < n) (sym (ap trace_width some)) wide))) (has t some wide)
+
+-- Rows in an AIR's widths and counts are a trace for it.
+pub rows_fit : {F : Type 0} (greatest : ℕ) (publics : List F) (log_rows : ℕ) (rows : List (List F)) (air : CheckedAir F) (shape : CheckShape) (height width num : ℕ) (values : List F) → shape ≡ shape_of air → FitsShape shape log_rows greatest rows publics height
+    → 0 < air.layout.main → width ≡ shape.width → values ≡ flat_map (λ row. row) rows → num ≡ length publics → IsTraceFor air.layout log_rows (record { width = width; values = values }) num 0 greatest
+rows_fit greatest publics log_rows rows air shape height width num values same fits main wide is count =
+    trace_fits shape log_rows greatest rows publics height fits air.layout width num values main (ap (λ k. k.width) same) (ap (λ k. k.num_public_values) same) (ap (λ k. k.preprocessed_width) same) wide is count
+
+-- ---- what is told
+
+module _ {S F E C K T P X Y : Type 0} (ops : ServiceOps S F E C K T P X Y) (scheme : S) (first_state : C) (s : StatementView F) (log_rows : ℕ) (asked : TraceTask) where
+  abbrev most : ℕ
+  most = ops.protocol.opening.scheme.log_max_trace_height scheme
+
+  module _ (read : Option (List (List F))) (f : Finding) where
+    pub told_check : asked ≡ task.Check → (f ≡ no_memory) ⊎ IsCheckedWithRows ops.protocol.opening.fields ops.number most s log_rows read f → (f ≡ no_memory) ⊎ IsToldWithRows ops scheme first_state s asked log_rows read f
+    unfolding IsToldWithRows
+    told_check is checked = subst (λ k. (f ≡ no_memory) ⊎ IsToldWithRows ops scheme first_state s k log_rows read f) (sym is) checked
+
+    pub told_unchecked : (form : ProofForm) → asked ≡ task.ProveUnchecked form → (f ≡ no_memory) ⊎ IsFoundWithRows ops scheme first_state s form log_rows read f → (f ≡ no_memory) ⊎ IsToldWithRows ops scheme first_state s asked log_rows read f
+    unfolding IsToldWithRows
+    told_unchecked form is found = subst (λ k. (f ≡ no_memory) ⊎ IsToldWithRows ops scheme first_state s k log_rows read f) (sym is) found
+
+    -- behind a check that finds the trace satisfying
+    pub told_satisfied : (form : ProofForm) → asked ≡ task.Prove form → (g : Finding) → g ≡ finding.Satisfied → (g ≡ no_memory) ⊎ IsCheckedWithRows ops.protocol.opening.fields ops.number most s log_rows read g → (f ≡ no_memory) ⊎ IsFoundWithRows ops scheme first_state s form log_rows read f
+        → (f ≡ no_memory) ⊎ IsToldWithRows ops scheme first_state s asked log_rows read f
+    unfolding IsToldWithRows
+    told_satisfied form is g satisfied (inl memory) found = absurd (let clash : finding.Satisfied ≡ no_memory = sym satisfied ∙ memory in cc)
+    told_satisfied form is g satisfied (inr checked) (inl memory) = inl memory
+    told_satisfied form is g satisfied (inr checked) (inr found) =
+        inr (subst (λ k. IsToldWithRows ops scheme first_state s k log_rows read f) (sym is) (inl (subst (IsCheckedWithRows ops.protocol.opening.fields ops.number most s log_rows read) satisfied checked, found)))
+
+    -- where a check finds anything else
+    pub told_otherwise : (form : ProofForm) → asked ≡ task.Prove form → (f ≡ finding.Satisfied → ⊥) → (f ≡ no_memory) ⊎ IsCheckedWithRows ops.protocol.opening.fields ops.number most s log_rows read f → (f ≡ no_memory) ⊎ IsToldWithRows ops scheme first_state s asked log_rows read f
+    unfolding IsToldWithRows
+    told_otherwise form is other (inl memory) = inl memory
+    told_otherwise form is other (inr checked) = inr (subst (λ k. IsToldWithRows ops scheme first_state s k log_rows read f) (sym is) (inr (other, checked)))
+
+    -- What is told of the rows that were read is told of the file.
+    pub told_of_read : (rows given : List (List F)) → read ≡ Some rows → given ≡ rows → (f ≡ no_memory) ⊎ IsToldWithRows ops scheme first_state s asked log_rows (Some given) f
+        → (f ≡ no_memory) ⊎ IsToldWithRows ops scheme first_state s asked log_rows read f
+    told_of_read rows given is same told =
+        subst (λ r. (f ≡ no_memory) ⊎ IsToldWithRows ops scheme first_state s asked log_rows r f) (sym is) (subst (λ rs. (f ≡ no_memory) ⊎ IsToldWithRows ops scheme first_state s asked log_rows (Some rs) f) same told)
+
+  bad_rows : (k : TraceTask) → IsToldWithRows ops scheme first_state s k log_rows None (finding.Verdict verdict.BadInput)
+  unfolding IsToldWithRows IsCheckedWithRows IsFoundWithRows
+  bad_rows task.Check = refl
+  bad_rows (task.Prove form) = inr (λ is. cc, refl)
+  bad_rows (task.ProveUnchecked form) = refl
+
+  -- A file that spells no rows is bad input.
+  pub told_without_rows : (read : Option (List (List F))) (v : Verdict) (f : Finding) → f ≡ finding.Verdict v → (v ≡ verdict.OutOfMemory) ⊎ ((read ≡ None) × (v ≡ verdict.BadInput))
+      → (f ≡ no_memory) ⊎ IsToldWithRows ops scheme first_state s asked log_rows read f
+  told_without_rows read v f is (inl memory) = inl (is ∙ ap (λ w. finding.Verdict w) memory)
+  told_without_rows read v f is (inr bad) =
+      inr (subst (λ r. IsToldWithRows ops scheme first_state s asked log_rows r f) (sym bad.0)
+      (subst (λ g. IsToldWithRows ops scheme first_state s asked log_rows None g) (sym (is ∙ ap (λ w. finding.Verdict w) bad.1)) (bad_rows asked)))

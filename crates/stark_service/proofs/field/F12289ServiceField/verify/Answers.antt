@@ -1,0 +1,7 @@
+use Rattle.stark_service.proofs.field.F12289ServiceField.verify.Goals as goal
+
+pub returns-clause-verdict : goal.returns-clause-verdict
+returns-clause-verdict c = rw c.new-challenger.ensures at c.verify_over.ensures.verdict
+
+pub returns-clause-sound : goal.returns-clause-sound
+returns-clause-sound c = rw c.new-challenger.ensures at c.verify_over.ensures.sound

@@ -1,0 +1,50 @@
+use Rattle.std.proofs.Common.{◌≡◌, ◌<◌, ◌∙◌, ap, arith, subst}
+use Rattle.stark_statement.specs.StatementView.{statement_view}
+use Rattle.stark_answers.specs.CheckedAir.{CheckedAir}
+use Rattle.stark_answers.specs.declared.finding.Finding.TheVariants as finding
+use Rattle.stark_service.proofs.FoundRows.{found_with_rows, found_without_columns, found_without_rows, has_no_rows_found, has_rows_found, told_is_file, told_is_of_trace}
+use Rattle.stark_answers.specs.ProveFacts.{line_begins}
+use Rattle.stark_service.proofs.StatementSteps.{same_declared, tree_checked}
+use Rattle.stark_service.proofs.proving.answer_with.Goals as goal
+
+pub returns-then-width-eq0-clause-found : goal.returns-then-width-eq0-clause-found
+returns-then-width-eq0-clause-found g c =
+    let d = c.args.statement.now.air.declaration in
+    let l = c.args.statement.now.air.list in
+    found_without_columns _ _ _ (statement_view c.args.statement.now) c.args.asked _ _ (subst (λ (a : CheckedAir _). a.layout.main ≡ 0) (same_declared d l) (omega (arith, c.width.ensures, c.if-width-eq0.true)))
+    (c.as_finding.ensures ∙ ap (λ v. finding.Verdict v) c.bad_input.ensures)
+
+pub returns-then-width-eq0-clause-kind : goal.returns-then-width-eq0-clause-kind
+returns-then-width-eq0-clause-kind g c = told_is_of_trace _ (line_begins _ _ _ _ _ _) _ _ (statement_view c.args.statement.now) c.args.asked _ _ (returns-then-width-eq0-clause-found g c)
+
+pub returns-then-width-eq0-clause-proof : goal.returns-then-width-eq0-clause-proof
+returns-then-width-eq0-clause-proof g c = told_is_file _ (line_begins _ _ _ _ _ _) _ _ (statement_view c.args.statement.now) c.args.asked _ _ (returns-then-width-eq0-clause-found g c)
+
+pub returns-in-Ok-Some-clause-found : goal.returns-in-Ok-Some-clause-found
+returns-in-Ok-Some-clause-found g c =
+    let most = c.log_max_trace_height-greatest.ensures ∙ ap (λ p. g.SC.Pcs.Pcs.scheme.log_max_trace_height p) c.pcs.ensures in
+    let d = c.args.statement.now.air.declaration in
+    let l = c.args.statement.now.air.list in
+    found_with_rows _ _ _ (statement_view c.args.statement.now) c.args.asked _ _ c.in-Ok-Some.log_rows (subst (λ (a : CheckedAir _). 0 < a.layout.main) (same_declared d l) (omega (arith, c.width.ensures, c.if-width-eq0.false)))
+    (has_rows_found _ _ most (tree_checked d l) _ (same_declared d l) c.in-Ok-Some.field-0 c.in-Ok-Some.log_rows c.in-Ok-Some.field-0-is c.in-Ok-Some.ensures.height c.in-Ok-Some.ensures.within) c.answer_with_rows.ensures
+
+pub returns-in-Ok-Some-clause-kind : goal.returns-in-Ok-Some-clause-kind
+returns-in-Ok-Some-clause-kind g c = told_is_of_trace _ (line_begins _ _ _ _ _ _) _ _ (statement_view c.args.statement.now) c.args.asked _ _ (returns-in-Ok-Some-clause-found g c)
+
+pub returns-in-Ok-Some-clause-proof : goal.returns-in-Ok-Some-clause-proof
+returns-in-Ok-Some-clause-proof g c = told_is_file _ (line_begins _ _ _ _ _ _) _ _ (statement_view c.args.statement.now) c.args.asked _ _ (returns-in-Ok-Some-clause-found g c)
+
+pub returns-in-Ok-None-clause-found : goal.returns-in-Ok-None-clause-found
+returns-in-Ok-None-clause-found g c =
+    let most = c.log_max_trace_height-greatest.ensures ∙ ap (λ p. g.SC.Pcs.Pcs.scheme.log_max_trace_height p) c.pcs.ensures in
+    let d = c.args.statement.now.air.declaration in
+    let l = c.args.statement.now.air.list in
+    found_without_rows _ _ _ (statement_view c.args.statement.now) c.args.asked _ _
+    (has_no_rows_found _ _ most (tree_checked d l) _ (same_declared d l) c.in-Ok-None.field-0 c.in-Ok-None.field-0-is c.in-Ok-None.ensures.none)
+    (c.as_finding-in-Ok-None.ensures ∙ ap (λ v. finding.Verdict v) c.unfit_rows.ensures)
+
+pub returns-in-Ok-None-clause-kind : goal.returns-in-Ok-None-clause-kind
+returns-in-Ok-None-clause-kind g c = told_is_of_trace _ (line_begins _ _ _ _ _ _) _ _ (statement_view c.args.statement.now) c.args.asked _ _ (returns-in-Ok-None-clause-found g c)
+
+pub returns-in-Ok-None-clause-proof : goal.returns-in-Ok-None-clause-proof
+returns-in-Ok-None-clause-proof g c = told_is_file _ (line_begins _ _ _ _ _ _) _ _ (statement_view c.args.statement.now) c.args.asked _ _ (returns-in-Ok-None-clause-found g c)

@@ -1,0 +1,9 @@
+pub mod NoFloats
+pub mod Schemes
+pub mod Security
+pub mod Service
+pub mod Showing
+pub mod StatementAir
+pub mod StatementFacts
+pub mod Statements
+pub mod TraceChecks

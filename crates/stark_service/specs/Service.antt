@@ -1,0 +1,38 @@
+-- What is computed over a configuration by a service that reads statements and proofs.
+use Rattle.std.specs.Prelude.{◌≡◌, ℕ, false, List, Option}
+use Rattle.serde_json.specs.Data.{Data}
+use Rattle.stark_proof.specs.ProofView.{ProofView}
+use Rattle.stark_proof_bytes.specs.ProofBytes.{ProofCodecs}
+use Rattle.stark_protocol.specs.Instance.{ProtocolOps}
+use Rattle.stark_statement.specs.StatementView.{StatementView}
+use Rattle.stark_answers.specs.Prove.{HasNoFloat, file_of}
+use Rattle.stark_answers.specs.Verify.{SetsUpAll}
+use Rattle.stark_answers.specs.declared.task.ProofForm.{ProofForm}
+
+-- All that a configuration's types compute; an element's coordinates and its number; what a JSON value is read as; the proof that the
+-- bytes of a file spell; how a proof is written as JSON, and its parts as bytes.
+pub record ServiceOps (S F E C K T P X Y : Type 0) : Type 1 where
+  pub protocol : ProtocolOps S F E C K T P X Y
+  pub coordinates : E → List F
+  pub number : F → ℕ
+  pub element : Data → Option F
+  pub reading : List ℕ → Option (ProofView K E P F)
+  pub writing : ProofView K E P F → Data
+  pub codecs : ProofCodecs K E P F
+
+-- a proof's file in a form
+abbrev pub proof_file : {S F E C K T P X Y : Type 0} → ServiceOps S F E C K T P X Y → ProofForm → ProofView K E P F → List ℕ
+proof_file ops form p = file_of ops.writing ops.codecs form p
+
+-- A scheme masks nothing and sets up all columns, and the work that is asked for is the statement's.
+pub record IsReady {S F E C K T P X Y : Type 0} (ops : ServiceOps S F E C K T P X Y) (scheme : S) (ood_bits alpha_bits : ℕ) (s : StatementView F) : Type 0 where
+  pub plain : ops.protocol.opening.is_zk ≡ false
+  pub sets_up : SetsUpAll ops.protocol.opening.scheme scheme
+  pub ood_work : ood_bits ≡ s.ood_bits
+  pub alpha_work : alpha_bits ≡ s.alpha_bits
+
+-- It commits to traces of any height and refuses no true opening, and a proof's JSON has no float, so that its line is exact.
+pub record CanProve {S F E C K T P X Y : Type 0} (ops : ServiceOps S F E C K T P X Y) (scheme : S) : Type 0 where
+  pub any_height : ops.protocol.opening.scheme.log_min_trace_height scheme ≡ 0
+  pub complete : ops.protocol.opening.scheme.IsComplete scheme
+  pub no_float : HasNoFloat ops.writing

@@ -1,0 +1,156 @@
+-- What is said where a statement's prover or check finds something.
+use Rattle.std.specs.Prelude.{◌≡◌, ◌⊎◌, ℕ, List, Option, None, Some, take}
+use Rattle.std.proofs.Common.{ap, inl, inr, refl, subst, sym}
+use Rattle.stark_support.specs.FieldPair.{FieldsOps}
+use Rattle.stark_air.specs.Declaration.{Trace}
+use Rattle.stark_tree_air.specs.TreeJson.{ListView}
+use Rattle.stark_statement.specs.StatementView.{StatementView}
+use Rattle.stark_answers.specs.CheckedAir.{CheckedAir}
+use Rattle.stark_answers.specs.Finding.{AsksFor, BeginsAsItsKind, IsProof, IsText, WhereProof, finding_bytes}
+use Rattle.stark_answers.specs.Prove.{BeginsInForm, IsProofFile, IsProved}
+use Rattle.stark_answers.specs.ProveFacts.{accepted_alone, begins_alone, file_alone, no_text_alone, satisfied_alone}
+use Rattle.stark_answers.specs.TraceShape.{trace_of}
+use Rattle.stark_answers.specs.declared.finding.Finding.{Finding}
+use Rattle.stark_answers.specs.declared.finding.Finding.TheVariants as finding
+use Rattle.stark_answers.specs.declared.task.ProofForm.{ProofForm}
+use Rattle.stark_answers.specs.declared.task.TraceTask.{TraceTask}
+use Rattle.stark_answers.specs.declared.task.TraceTask.TheVariants as task
+use Rattle.stark_answers.specs.declared.verdict.Verdict.{Verdict}
+use Rattle.stark_answers.specs.declared.verdict.Verdict.TheVariants as verdict
+use Rattle.stark_service.specs.StatementAir.{declared_of}
+use Rattle.stark_service.specs.Service.{ServiceOps, proof_file}
+use Rattle.stark_service.specs.Statements.{IsFileOn, IsFileWithRows, IsFoundWithRows, IsToldOn, IsToldWithRows}
+use Rattle.stark_service.specs.TraceChecks.{IsCheckedTrace, IsCheckedWithRows}
+
+-- ---- what no finding of a trace is
+
+-- The facts about a finding of a trace under a task: it begins as its kind does, accepts nothing and shows nothing; it is a proof only
+-- in the form that is asked for, a check's none, and only a check finds a trace satisfying.
+pub record IsOfTrace (asked : TraceTask) (f : Finding) : Type 0 where
+  pub begins : BeginsAsItsKind f
+  pub accepts_none : f ≡ finding.Verdict verdict.Accepted → ⊥
+  pub shows_none : IsText f → ⊥
+  pub proves_as_asked : (form : ProofForm) → IsProof form f → AsksFor form asked
+  pub satisfied_checks : f ≡ finding.Satisfied → asked ≡ task.Check
+
+-- A verdict that doesn't accept is such a finding.
+verdict_alone : (asked : TraceTask) (v : Verdict) → (v ≡ verdict.Accepted → ⊥) → IsOfTrace asked (finding.Verdict v)
+verdict_alone asked v other = record {
+  begins = tt;
+  accepts_none = λ is. other (let same : v ≡ verdict.Accepted = cc in same);
+  shows_none = λ no. no;
+  proves_as_asked = λ form no. absurd no;
+  satisfied_checks = λ is. absurd (let clash : finding.Verdict v ≡ finding.Satisfied = is in cc);
+}
+
+bad_alone : (asked : TraceTask) → IsOfTrace asked (finding.Verdict verdict.BadInput)
+bad_alone asked = verdict_alone asked verdict.BadInput (λ is. cc)
+
+-- Nor is what is said for want of memory another.
+pub lacks_alone : (asked : TraceTask) (f : Finding) → f ≡ finding.Verdict verdict.OutOfMemory → IsOfTrace asked f
+lacks_alone asked f memory = subst (IsOfTrace asked) (sym memory) (verdict_alone asked verdict.OutOfMemory (λ is. cc))
+
+bad_no_proof : (f : Finding) → f ≡ finding.Verdict verdict.BadInput → (form : ProofForm) → IsProof form f → ⊥
+bad_no_proof f is form proof = subst (IsProof form) is proof
+
+-- ---- what a check finds
+
+module _ {F E : Type 0} (fields : FieldsOps F E) (number : F → ℕ) where
+  checked_alone : (asked : TraceTask) (air : CheckedAir F) (list : ListView F) (trace : Trace F) (publics : List F) (f : Finding) → IsCheckedTrace fields number air list trace publics f
+      → (f ≡ finding.Satisfied → asked ≡ task.Check) → IsOfTrace asked f
+  checked_alone asked air list trace publics finding.Satisfied checked satisfied = record { begins = tt; accepts_none = λ is. cc; shows_none = λ no. no; proves_as_asked = λ form no. absurd no; satisfied_checks = satisfied }
+  checked_alone asked air list trace publics (finding.Broken row) checked satisfied =
+      record { begins = ap (take 1) checked.2.lines_are; accepts_none = λ is. cc; shows_none = λ no. no; proves_as_asked = λ form no. absurd no; satisfied_checks = satisfied }
+  checked_alone asked air list trace publics (finding.Verdict v) checked satisfied = absurd checked
+  checked_alone asked air list trace publics (finding.Proof line) checked satisfied = absurd checked
+  checked_alone asked air list trace publics (finding.ProofBytes bytes) checked satisfied = absurd checked
+  checked_alone asked air list trace publics (finding.Text text) checked satisfied = absurd checked
+
+  checked_no_proof : (air : CheckedAir F) (list : ListView F) (trace : Trace F) (publics : List F) (f : Finding) → IsCheckedTrace fields number air list trace publics f → (form : ProofForm) → IsProof form f → ⊥
+  checked_no_proof air list trace publics finding.Satisfied checked form is = is
+  checked_no_proof air list trace publics (finding.Broken row) checked form is = is
+  checked_no_proof air list trace publics (finding.Verdict v) checked form is = is
+  checked_no_proof air list trace publics (finding.Proof line) checked form is = checked
+  checked_no_proof air list trace publics (finding.ProofBytes bytes) checked form is = checked
+  checked_no_proof air list trace publics (finding.Text text) checked form is = is
+
+  module _ (greatest : ℕ) (s : StatementView F) (log_rows : ℕ) where
+    rows_checked : (asked : TraceTask) (read : Option (List (List F))) (f : Finding) → IsCheckedWithRows fields number greatest s log_rows read f → (f ≡ finding.Satisfied → asked ≡ task.Check) → IsOfTrace asked f
+    unfolding IsCheckedWithRows
+    rows_checked asked None f is satisfied = subst (IsOfTrace asked) (sym is) (bad_alone asked)
+    rows_checked asked (Some rows) f (inl found) satisfied = checked_alone asked (declared_of s.air) s.air.list (trace_of (declared_of s.air).layout.main rows) s.public_values f found.2 satisfied
+    rows_checked asked (Some rows) f (inr other) satisfied = subst (IsOfTrace asked) (sym other.1) (bad_alone asked)
+
+    rows_prove_none : (read : Option (List (List F))) (f : Finding) → IsCheckedWithRows fields number greatest s log_rows read f → (form : ProofForm) → IsProof form f → ⊥
+    unfolding IsCheckedWithRows
+    rows_prove_none None f is form proof = bad_no_proof f is form proof
+    rows_prove_none (Some rows) f (inl found) form proof = checked_no_proof (declared_of s.air) s.air.list (trace_of (declared_of s.air).layout.main rows) s.public_values f found.2 form proof
+    rows_prove_none (Some rows) f (inr other) form proof = bad_no_proof f other.1 form proof
+
+-- ---- what is told under a task
+
+-- By a service whose files of proofs begin as their forms do.
+abbrev pub BeginsInForms : {S F E C K T P X Y : Type 0} → ServiceOps S F E C K T P X Y → Type 0
+BeginsInForms ops = (form : ProofForm) → BeginsInForm form (proof_file ops form)
+
+module _ {S F E C K T P X Y : Type 0} (ops : ServiceOps S F E C K T P X Y) (begins : BeginsInForms ops) (scheme : S) (first_state : C) (s : StatementView F) (log_rows : ℕ) where
+  module _ (form : ProofForm) (height : ℕ) (rows : List (List F)) where
+    abbrev proved : Finding → Type 0
+    proved f = IsProved ops.protocol ops.coordinates form (proof_file ops form) log_rows scheme first_state (declared_of s.air) height (trace_of (declared_of s.air).layout.main rows) s.public_values s.ood_bits s.alpha_bits f
+
+    abbrev proofs : List ℕ → Type 0
+    proofs file = IsProofFile ops.protocol ops.coordinates (proof_file ops form) log_rows scheme first_state (declared_of s.air) height (trace_of (declared_of s.air).layout.main rows) s.public_values s.ood_bits s.alpha_bits file
+
+    proved_file : (f : Finding) → proved f → WhereProof (λ other file. (other ≡ form) × proofs file) f
+    proved_file f found =
+        file_alone ops.protocol ops.coordinates form (proof_file ops form) (begins form) log_rows scheme first_state (declared_of s.air) height (trace_of (declared_of s.air).layout.main rows) s.public_values s.ood_bits s.alpha_bits f found
+
+    proved_of_trace : (asked : TraceTask) → AsksFor form asked → (f : Finding) → proved f → IsOfTrace asked f
+    proved_of_trace asked asks f found = record {
+      begins = begins_alone ops.protocol ops.coordinates form (proof_file ops form) (begins form) log_rows scheme first_state (declared_of s.air) height (trace_of (declared_of s.air).layout.main rows) s.public_values s.ood_bits s.alpha_bits f found;
+      accepts_none = λ is. accepted_alone ops.protocol ops.coordinates form (proof_file ops form) (begins form) log_rows scheme first_state (declared_of s.air) height (trace_of (declared_of s.air).layout.main rows) s.public_values s.ood_bits s.alpha_bits (subst proved is found);
+      shows_none = no_text_alone ops.protocol ops.coordinates form (proof_file ops form) (begins form) log_rows scheme first_state (declared_of s.air) height (trace_of (declared_of s.air).layout.main rows) s.public_values s.ood_bits s.alpha_bits f found;
+      proves_as_asked = λ other is. subst (λ k. AsksFor k asked) (sym (proved_file f found other is).0) asks;
+      satisfied_checks = λ is. absurd (satisfied_alone ops.protocol ops.coordinates form (proof_file ops form) (begins form) log_rows scheme first_state (declared_of s.air) height (trace_of (declared_of s.air).layout.main rows) s.public_values s.ood_bits s.alpha_bits (subst proved is found));
+    }
+
+  found_alone : (form : ProofForm) (asked : TraceTask) → AsksFor form asked → (read : Option (List (List F))) (f : Finding) → IsFoundWithRows ops scheme first_state s form log_rows read f → IsOfTrace asked f
+  unfolding IsFoundWithRows
+  found_alone form asked asks None f is = subst (IsOfTrace asked) (sym is) (bad_alone asked)
+  found_alone form asked asks (Some rows) f (inl found) = proved_of_trace form found.0 rows asked asks f found.2
+  found_alone form asked asks (Some rows) f (inr unfit) = subst (IsOfTrace asked) (sym unfit.1) (bad_alone asked)
+
+  found_file : (form : ProofForm) (read : Option (List (List F))) (f : Finding) → IsFoundWithRows ops scheme first_state s form log_rows read f → WhereProof (λ other file. IsFileWithRows ops scheme first_state s other log_rows read file) f
+  unfolding IsFoundWithRows IsFileWithRows
+  found_file form None f is = λ other proof. absurd (bad_no_proof f is other proof)
+  found_file form (Some rows) f (inl found) = λ other proof. let made = proved_file form found.0 rows f found.2 other proof in
+      subst (λ k. IsFileWithRows ops scheme first_state s k log_rows (Some rows) (finding_bytes f)) (sym made.0) (found.0, found.1, made.1)
+  found_file form (Some rows) f (inr unfit) = λ other proof. absurd (bad_no_proof f unfit.1 other proof)
+
+  abbrev most : ℕ
+  most = ops.protocol.opening.scheme.log_max_trace_height scheme
+
+  told_alone : (asked : TraceTask) (read : Option (List (List F))) (f : Finding) → IsToldWithRows ops scheme first_state s asked log_rows read f → IsOfTrace asked f
+  unfolding IsToldWithRows
+  told_alone task.Check read f told = rows_checked ops.protocol.opening.fields ops.number most s log_rows task.Check read f told (λ is. refl)
+  told_alone (task.Prove form) read f (inl told) = found_alone form (task.Prove form) refl read f told.1
+  told_alone (task.Prove form) read f (inr told) = rows_checked ops.protocol.opening.fields ops.number most s log_rows (task.Prove form) read f told.1 (λ is. absurd (told.0 is))
+  told_alone (task.ProveUnchecked form) read f told = found_alone form (task.ProveUnchecked form) refl read f told
+
+  told_file : (asked : TraceTask) (read : Option (List (List F))) (f : Finding) → IsToldWithRows ops scheme first_state s asked log_rows read f → WhereProof (λ form file. IsFileWithRows ops scheme first_state s form log_rows read file) f
+  unfolding IsToldWithRows
+  told_file task.Check read f told = λ form proof. absurd (rows_prove_none ops.protocol.opening.fields ops.number most s log_rows read f told form proof)
+  told_file (task.Prove form) read f (inl told) = found_file form read f told.1
+  told_file (task.Prove form) read f (inr told) = λ other proof. absurd (rows_prove_none ops.protocol.opening.fields ops.number most s log_rows read f told.1 other proof)
+  told_file (task.ProveUnchecked form) read f told = found_file form read f told
+
+module _ {S F E C K T P X Y : Type 0} (ops : ServiceOps S F E C K T P X Y) (begins : BeginsInForms ops) (scheme : S) (first_state : C) (s : StatementView F) (asked : TraceTask) (read : Option (List (List F))) (f : Finding) where
+  pub told_on_alone : IsToldOn ops scheme first_state s asked read f → IsOfTrace asked f
+  unfolding IsToldOn
+  told_on_alone (inl told) = told_alone ops begins scheme first_state s told.0 asked read f told.3
+  told_on_alone (inr other) = subst (IsOfTrace asked) (sym other.1) (bad_alone asked)
+
+  pub told_on_file : IsToldOn ops scheme first_state s asked read f → WhereProof (λ form file. IsFileOn ops scheme first_state s form read file) f
+  unfolding IsToldOn IsFileOn
+  told_on_file (inl told) = λ form proof. (told.0, told.1, told.2, told_file ops begins scheme first_state s told.0 asked read f told.3 form proof)
+  told_on_file (inr other) = λ form proof. absurd (bad_no_proof f other.1 form proof)

@@ -1,0 +1,112 @@
+//! The check of a trace: whether it satisfies a statement's AIR.
+
+ghost use Rattle.std.specs.Prelude.{◌≡◌, ◌<◌, ◌≤◌, IfOk, Some, length};
+ghost use Rattle.stark_completeness.specs.RowCheck.{trace_of};
+ghost use Rattle.stark_protocol.specs.Preprocessing.{HasHeight};
+ghost use Rattle.stark_statement.specs.StatementView.{statement_view};
+ghost use Rattle.stark_support.specs.FieldPair.{FieldsOps};
+ghost use Rattle.stark_tree_air.specs.TreeJson.{list_view};
+ghost use Rattle.stark_answers.specs.TraceShape.{rows_of};
+ghost use Rattle.stark_service.specs.TraceChecks.{IsAsHighAs, IsCheckedTrace, IsCheckedWithRows, OrLacksMemory, TellsBroken};
+
+use stark_air::BaseAir;
+use stark_answers::{
+    BrokenRow, CheckShape, DeclaredAir, Finding, Report, log_height_of_rows, values_of,
+};
+use stark_completeness::{ConstraintCheckError, ConstraintViolation, check_declared};
+use stark_show::equation;
+use stark_statement::Statement;
+use stark_support::{ExtensionField, FieldPair, PrimeField64, RowMajorMatrix, TwoAdicField};
+use stark_tree_air::TreeAir;
+use std::alloc::{AllocError, Global};
+
+/// A row that breaks a constraint, with the lines that say so.
+fn broken_row<F: PrimeField64>(
+    alloc: Global,
+    air: &TreeAir<F>,
+    violation: ConstraintViolation<F>,
+) -> Result<BrokenRow, AllocError>
+    ensures { IfOk result (TellsBroken F.number_of (list_view air.now.list) violation) }
+{
+    let equation = equation(alloc, air, violation.constraint)?;
+    let row = violation.row;
+    let constraint = violation.constraint;
+    let value = violation.value.as_canonical_u64();
+    let lines = format!(in alloc; "row {row}: constraint {constraint} is {value}\n{equation}")?;
+    Ok(BrokenRow {
+        row,
+        constraint,
+        value,
+        lines,
+    })
+}
+
+/// What a check finds of a trace: that it satisfies the AIR; or the first row that breaks a
+/// constraint and in it the first constraint; or `out of memory`, also where the equation's line
+/// can't be had. `EF` is the extension over which the AIR is proved; a check has none of it.
+#[tactic(auto, unfolding(crate::specs::TraceChecks::IsFirstBroken, crate::specs::TraceChecks::IsSatisfying))]
+fn check_trace<F: PrimeField64 + TwoAdicField, EF: ExtensionField<F>>(
+    alloc: Global,
+    air: &TreeAir<F>,
+    trace: &RowMajorMatrix<F>,
+    public_values: &[F],
+) -> Report<Finding>
+    requires columns { 0 < trace.now.width }
+    requires width { trace.now.width ≡ (⟦<TreeAir<F> as BaseAir<F>>⟧.layout air.now).main }
+    requires height { IsAsHighAs (⟦<TreeAir<F> as BaseAir<F>>⟧.preprocessed_trace air.now)
+        trace.now }
+    requires public_values { length public_values.now
+        ≡ (⟦<TreeAir<F> as BaseAir<F>>⟧.layout air.now).publics }
+    ensures { OrLacksMemory (IsCheckedTrace ⟦<EF as FieldPair<F>>⟧.fields F.number_of
+        (⟦<TreeAir<F> as DeclaredAir<F>>⟧.declared air.now)
+        (list_view air.now.list) (trace_of trace.now) public_values.now) result.answer }
+{
+    match check_declared(alloc, air, trace, public_values) {
+        Ok(()) => Report {
+            answer: Finding::Satisfied,
+            reason: None,
+        },
+        Err(ConstraintCheckError::Violation(violation)) => {
+            match broken_row(alloc, air, violation) {
+                Ok(row) => Report {
+                    answer: Finding::Broken(row),
+                    reason: None,
+                },
+                Err(AllocError) => Report::out_of_memory().as_finding(),
+            }
+        }
+        Err(ConstraintCheckError::OutOfMemory) => Report::out_of_memory().as_finding(),
+    }
+}
+
+/// What a check finds of rows: `bad input` where they are no trace of the AIR's widths and counts
+/// with a power of two of rows, at most `2^greatest`, or don't have as many rows as its
+/// preprocessed columns, which have `2^log_rows`.
+pub(crate) fn check_rows<F: PrimeField64 + TwoAdicField, EF: ExtensionField<F>>(
+    alloc: Global,
+    greatest: usize,
+    statement: &Statement<F>,
+    log_rows: usize,
+    rows: &[Vec<F>],
+) -> Report<Finding>
+    requires greatest { greatest ≤ 63 }
+    requires height { HasHeight log_rows
+        (⟦<TreeAir<F> as BaseAir<F>>⟧.preprocessed_trace statement.now.air) }
+    requires columns { 0 < (⟦<TreeAir<F> as BaseAir<F>>⟧.layout statement.now.air).main }
+    ensures { OrLacksMemory (IsCheckedWithRows ⟦<EF as FieldPair<F>>⟧.fields F.number_of greatest
+        (statement_view statement.now) log_rows (Some (rows_of rows.now))) result.answer }
+{
+    let Ok(shape) = CheckShape::from_air::<F, TreeAir<F>>(alloc, &statement.air) else {
+        return Report::out_of_memory().as_finding();
+    };
+    let public_values = statement.public_values.as_slice();
+    let Some(_log_height) = log_height_of_rows(rows, public_values, shape, log_rows, greatest)
+    else {
+        return Report::unfit_trace(alloc).as_finding();
+    };
+    let Ok(values) = values_of(alloc, rows) else {
+        return Report::out_of_memory().as_finding();
+    };
+    let trace = RowMajorMatrix::new(values, shape.width);
+    check_trace::<F, EF>(alloc, &statement.air, &trace, public_values)
+}

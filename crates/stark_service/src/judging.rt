@@ -1,0 +1,107 @@
+//! The verdict on a proof for a statement that was read.
+
+ghost use Rattle.std.specs.Prelude.{◌≡◌, ◌≤◌};
+ghost use Rattle.stark_protocol.specs.Preprocessing.{HasHeight};
+ghost use Rattle.stark_statement.specs.StatementView.{statement_view};
+ghost use Rattle.stark_answers.specs.declared.verdict.Verdict.{Verdict};
+ghost use Rattle.stark_service.specs.Statements.{OrUnjudged};
+
+use crate::reading::read_proof;
+use crate::service::ServiceAnswers;
+use stark_air::BaseAir;
+use stark_answers::{Report, Verdict, log_rows_of, verdict_of, verify_with_key, words_of_refusal};
+use stark_parts::{Com, PcsError, StarkGenericConfig, Val};
+use stark_proof_bytes::BytesCodec;
+use stark_protocol::{PcsProof, StarkProof};
+use stark_statement::Statement;
+use stark_support::{GrindingChallenger, JsonCodec, NeverNull, UnivariateStarkPcs};
+use stark_tree_air::TreeAir;
+use std::alloc::{AllocError, Global};
+use std::fmt::Display;
+
+/// The preprocessed columns have no number of rows that a key can have.
+pub(crate) fn unfit_rows(alloc: Global) -> Report<Verdict>
+    ensures { result.answer ≡ Verdict.BadInput }
+{
+    let wanted =
+        "its preprocessed columns want a power of two of rows, within the scheme's heights";
+    Report::bad_input(alloc, "the statement", &wanted)
+}
+
+/// The verdict on a proof, with the key for `2^log_rows` rows of preprocessed columns. The
+/// configuration asks for the statement's work, masks nothing and sets up all columns.
+fn verify_with_rows<SC>(
+    alloc: Global,
+    config: &SC,
+    statement: &Statement<Val<SC>>,
+    log_rows: usize,
+    bytes: &[u8],
+) -> Report<Verdict>
+where
+    SC: StarkGenericConfig,
+    SC::Challenge: JsonCodec + BytesCodec,
+    SC::Challenger: GrindingChallenger<Witness = Val<SC>>,
+    Val<SC>: NeverNull + BytesCodec,
+    Com<SC>: NeverNull + BytesCodec,
+    PcsProof<SC>: JsonCodec + BytesCodec,
+    PcsError<SC>: Display,
+    requires ready { ⟦<SC as ServiceAnswers>⟧.is_ready config.now
+        (statement_view statement.now) }
+    requires height { HasHeight log_rows
+        (⟦<TreeAir<Val<SC>> as BaseAir<Val<SC>>>⟧.preprocessed_trace statement.now.air) }
+    requires within { log_rows ≤ SC.Pcs.scheme.log_max_trace_height (SC.config.scheme config.now) }
+    ensures { OrUnjudged (⟦<SC as ServiceAnswers>⟧.judges config.now
+        (statement_view statement.now) log_rows bytes.now) result.answer }
+{
+    let proof: StarkProof<SC> = match read_proof(alloc, bytes) {
+        Ok(proof) => proof,
+        Err(report) => return report,
+    };
+    let answer = verify_with_key(
+        alloc,
+        config,
+        &statement.air,
+        log_rows,
+        &proof,
+        &statement.public_values,
+    );
+    let report = Report {
+        answer: verdict_of(&answer),
+        reason: words_of_refusal(alloc, &answer),
+    };
+    report.unless_unjudged()
+}
+
+/// The verdict on a proof for a statement that was read, with a configuration whose challenger has
+/// observed the statement, which asks for the statement's work, masks nothing and sets up all
+/// columns: `accepted`; `refused` and the first fault; `bad input` where the proof can't be read,
+/// or the AIR's preprocessed columns have no power of two of rows within the scheme's heights;
+/// `out of memory`.
+pub fn verify_with<SC>(
+    alloc: Global,
+    config: &SC,
+    statement: &Statement<Val<SC>>,
+    bytes: &[u8],
+) -> Report<Verdict>
+where
+    SC: StarkGenericConfig,
+    SC::Challenge: JsonCodec + BytesCodec,
+    SC::Challenger: GrindingChallenger<Witness = Val<SC>>,
+    Val<SC>: NeverNull + BytesCodec,
+    Com<SC>: NeverNull + BytesCodec,
+    PcsProof<SC>: JsonCodec + BytesCodec,
+    PcsError<SC>: Display,
+    requires ready { ⟦<SC as ServiceAnswers>⟧.is_ready config.now
+        (statement_view statement.now) }
+    ensures verdict { OrUnjudged (⟦<SC as ServiceAnswers>⟧.verdict config.now
+        (statement_view statement.now) bytes.now) result.answer }
+    ensures sound { result.answer ≡ Verdict.Accepted → ⟦<SC as ServiceAnswers>⟧.sound config.now
+        (statement_view statement.now) bytes.now }
+{
+    let greatest = config.pcs().log_max_trace_height();
+    match log_rows_of(alloc, &statement.air, greatest) {
+        Ok(Some(log_rows)) => verify_with_rows(alloc, config, statement, log_rows, bytes),
+        Ok(None) => unfit_rows(alloc),
+        Err(AllocError) => Report::out_of_memory(),
+    }
+}

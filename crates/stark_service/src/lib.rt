@@ -1,0 +1,29 @@
+//! Statements, from bytes to an answer: a proof verified, a trace checked or proved, an AIR shown,
+//! over the configuration that the statement names.
+#![tactic(auto)]
+
+mod checking;
+mod counted;
+mod field;
+mod judging;
+mod over;
+mod proving;
+mod reading;
+mod schemes;
+mod security;
+mod service;
+mod showing;
+mod statement;
+
+pub use counted::{CountedField, Numbered};
+pub use field::ServiceField;
+pub use judging::verify_with;
+pub use over::ValueAnswers;
+pub use proving::answer_with;
+pub use reading::read_statement;
+pub use schemes::{ClearConfig, FieldAnswers, FriConfig};
+pub use service::{ServiceAnswers, StarkService};
+pub use statement::{
+    NamedFields, StatementAnswers, answer_trace, check_statement, prove_statement, show_statement,
+    verify_statement,
+};

@@ -1,0 +1,141 @@
+//! A statement over one field, read from its JSON, and what is said of it.
+
+ghost use Rattle.std.specs.Prelude.{◌≡◌, ℕ, List, Option};
+ghost use Rattle.serde_json.specs.Data.{Data};
+ghost use Rattle.serde_json.specs.View.{view};
+ghost use Rattle.stark_statement.specs.Configuration.{FriNumbers, scheme_numbers};
+ghost use Rattle.stark_statement.specs.StatementJson.{statement_reading};
+ghost use Rattle.stark_answers.specs.Finding.{WhereProof};
+ghost use Rattle.stark_answers.specs.declared.finding.Finding.{Finding};
+ghost use Rattle.stark_answers.specs.declared.task.ProofForm.{ProofForm};
+ghost use Rattle.stark_answers.specs.declared.task.TraceTask.{TraceTask};
+ghost use Rattle.stark_answers.specs.declared.verdict.Verdict.{Verdict};
+ghost use Rattle.stark_service.specs.NoFloats.{WritesNoFloat};
+ghost use Rattle.stark_service.specs.Schemes.{HasRoomFor};
+ghost use Rattle.stark_service.specs.Showing.{IsShownOfRead};
+ghost use Rattle.stark_service.specs.StatementFacts.{IsOfTrace};
+ghost use Rattle.stark_service.specs.Statements.{HoldsOfRead, IsSaidOfRead, OrUnjudged};
+ghost use Rattle.stark_service.specs.TraceChecks.{OrLacksMemory};
+
+use crate::counted::Numbered;
+use crate::reading::read_statement;
+use crate::schemes::{FieldAnswers, answer_by, verify_by};
+use serde_json::Value;
+use stark_answers::{Finding, Report, TraceTask, Verdict};
+use stark_bench::ClearCommitment;
+use stark_merkle::Root;
+use stark_proof_bytes::BytesCodec;
+use stark_statement::SchemeChoice;
+use stark_support::{
+    CanObserve, ExtensionChallenger, ExtensionField, FieldChallenger, GrindingChallenger,
+    JsonCodec, NeverNull, PackedExtensionField, PackedField, PrimeField64, TwoAdicField,
+};
+use std::alloc::Global;
+
+/// What is said of a JSON value as a statement over a field. It has no code.
+pub trait ValueAnswers<EF, C>: Sized {
+    ghost verdict: { C → Option FriNumbers → Data → List ℕ → Verdict → Type 0 };
+
+    ghost sound: { C → Option FriNumbers → Data → List ℕ → Type 0 };
+
+    ghost found: { C → Option FriNumbers → TraceTask → Data → List ℕ → Finding → Type 0 };
+
+    ghost proof_file: { C → Option FriNumbers → Data → List ℕ → ProofForm → List ℕ → Type 0 };
+
+    ghost showing: { Option FriNumbers → Data → Finding → Type 0 };
+}
+
+impl<F, EF, C> ValueAnswers<EF, C> for F
+where
+    F: PrimeField64 + TwoAdicField + NeverNull + BytesCodec,
+    EF: ExtensionField<F> + JsonCodec + BytesCodec + Drop,
+    C: FieldChallenger<F>
+        + CanObserve<Root>
+        + CanObserve<ClearCommitment<F>>
+        + ExtensionChallenger<F, EF>
+        + GrindingChallenger<Witness = F>
+        + Clone,
+{
+    ghost verdict = { λ fresh scheme d proof. IsSaidOfRead (λ v. v)
+        (λ s. ⟦<F as FieldAnswers<EF, C>>⟧.verdict fresh scheme s proof)
+        (statement_reading F.reading d) };
+
+    ghost sound = { λ fresh scheme d proof. HoldsOfRead
+        (λ s. ⟦<F as FieldAnswers<EF, C>>⟧.sound fresh scheme s proof)
+        (statement_reading F.reading d) };
+
+    ghost found = { λ fresh scheme asked d trace. IsSaidOfRead (λ v. Finding.Verdict v)
+        (λ s. ⟦<F as FieldAnswers<EF, C>>⟧.found fresh scheme asked s trace)
+        (statement_reading F.reading d) };
+
+    ghost proof_file = { λ fresh scheme d trace form file. HoldsOfRead
+        (λ s. ⟦<F as FieldAnswers<EF, C>>⟧.proof_file fresh scheme s trace form file)
+        (statement_reading F.reading d) };
+
+    ghost showing = { λ scheme d. IsShownOfRead ⟦<EF as Numbered<F>>⟧.fields scheme
+        (statement_reading F.reading d) };
+}
+
+/// The verdict on a proof for a statement over a field.
+pub(crate) fn verify_over<F, EF, C>(
+    alloc: Global,
+    scheme: SchemeChoice,
+    challenger: C,
+    value: &Value,
+    proof: &[u8],
+) -> Report<Verdict>
+where
+    F: PrimeField64 + TwoAdicField + NeverNull + BytesCodec,
+    EF: ExtensionField<F> + JsonCodec + BytesCodec + Drop,
+    C: FieldChallenger<F>
+        + CanObserve<Root>
+        + CanObserve<ClearCommitment<F>>
+        + ExtensionChallenger<F, EF>
+        + GrindingChallenger<Witness = F>
+        + Clone,
+    requires { HasRoomFor F.TWO_ADICITY scheme }
+    ensures verdict { OrUnjudged (⟦<F as ValueAnswers<EF, C>>⟧.verdict challenger
+        (scheme_numbers scheme) (view value.now) proof.now) result.answer }
+    ensures sound { result.answer ≡ Verdict.Accepted → ⟦<F as ValueAnswers<EF, C>>⟧.sound
+        challenger (scheme_numbers scheme) (view value.now) proof.now }
+{
+    match read_statement::<F>(alloc, value) {
+        Ok(statement) => verify_by::<F, EF, C>(alloc, scheme, challenger, &statement, proof),
+        Err(report) => report,
+    }
+}
+
+/// What is found of a trace for a statement over a field.
+pub(crate) fn answer_over<F, EF, C>(
+    alloc: Global,
+    scheme: SchemeChoice,
+    challenger: C,
+    asked: TraceTask,
+    value: &Value,
+    trace: &[u8],
+) -> Report<Finding>
+where
+    F: PrimeField64 + TwoAdicField + PackedField + NeverNull + BytesCodec,
+    EF: PackedExtensionField<F> + JsonCodec + BytesCodec + Drop,
+    C: FieldChallenger<F>
+        + CanObserve<Root>
+        + CanObserve<ClearCommitment<F>>
+        + ExtensionChallenger<F, EF>
+        + GrindingChallenger<Witness = F>
+        + Clone,
+    requires room { HasRoomFor F.TWO_ADICITY scheme }
+    requires base { WritesNoFloat F.writing }
+    requires extension { WritesNoFloat EF.writing }
+    ensures found { OrLacksMemory (⟦<F as ValueAnswers<EF, C>>⟧.found challenger
+        (scheme_numbers scheme) asked (view value.now) trace.now) result.answer }
+    ensures kind { IsOfTrace asked result.answer }
+    ensures proof { WhereProof (⟦<F as ValueAnswers<EF, C>>⟧.proof_file challenger
+        (scheme_numbers scheme) (view value.now) trace.now) result.answer }
+{
+    match read_statement::<F>(alloc, value) {
+        Ok(statement) => {
+            answer_by::<F, EF, C>(alloc, scheme, challenger, asked, &statement, trace)
+        }
+        Err(report) => report.as_finding(),
+    }
+}

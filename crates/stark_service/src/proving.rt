@@ -1,0 +1,209 @@
+//! What is found of a trace for a statement that was read: whether it satisfies the AIR, or a proof
+//! of it.
+
+ghost use Rattle.std.specs.Prelude.{◌≡◌, ◌<◌, ◌≤◌, Some};
+ghost use Rattle.stark_protocol.specs.Preprocessing.{HasHeight};
+ghost use Rattle.stark_statement.specs.StatementView.{statement_view};
+ghost use Rattle.stark_answers.specs.TraceShape.{rows_of};
+ghost use Rattle.stark_answers.specs.Finding.{WhereProof};
+ghost use Rattle.stark_service.specs.StatementFacts.{IsOfTrace};
+ghost use Rattle.stark_service.specs.Statements.{rows_in};
+ghost use Rattle.stark_service.specs.TraceChecks.{OrLacksMemory};
+
+use crate::checking::check_rows;
+use crate::judging::unfit_rows;
+use crate::reading::read_rows;
+use crate::service::{ServiceAnswers, StarkService};
+use stark_air::BaseAir;
+use stark_answers::{
+    CheckShape, Finding, ProofForm, Report, TraceTask, finding_of_proof, log_height_of_rows,
+    log_rows_of, prove_with_held, values_of, words_of_failure,
+};
+use stark_parts::{Com, StarkGenericConfig, Val};
+use stark_proof_bytes::BytesCodec;
+use stark_protocol::PcsProof;
+use stark_statement::Statement;
+use stark_support::{
+    GrindingChallenger, JsonCodec, NeverNull, PackedExtensionField, PackedField, RowMajorMatrix,
+    TwoAdicField, UnivariateStarkPcs,
+};
+use stark_tree_air::TreeAir;
+use std::alloc::{AllocError, Global};
+
+/// What a prover finds of rows, with preprocessed columns of `2^log_rows` rows: their proof in a
+/// form, or why there is none.
+fn prove_rows<SC>(
+    alloc: Global,
+    config: &SC,
+    form: ProofForm,
+    statement: &Statement<Val<SC>>,
+    log_rows: usize,
+    rows: &[Vec<Val<SC>>],
+) -> Report<Finding>
+where
+    SC: StarkGenericConfig,
+    SC::Challenge: PackedExtensionField<Val<SC>> + JsonCodec + BytesCodec,
+    SC::Challenger: GrindingChallenger<Witness = Val<SC>>,
+    Val<SC>: PackedField + NeverNull + BytesCodec,
+    Com<SC>: NeverNull + BytesCodec,
+    PcsProof<SC>: JsonCodec + BytesCodec,
+    requires ready { ⟦<SC as ServiceAnswers>⟧.is_ready config.now
+        (statement_view statement.now) }
+    requires able { ⟦<SC as ServiceAnswers>⟧.can_prove config.now }
+    requires height { HasHeight log_rows
+        (⟦<TreeAir<Val<SC>> as BaseAir<Val<SC>>>⟧.preprocessed_trace statement.now.air) }
+    requires within { log_rows ≤ SC.Pcs.scheme.log_max_trace_height (SC.config.scheme config.now) }
+    requires columns { 0 < (⟦<TreeAir<Val<SC>> as BaseAir<Val<SC>>>⟧.layout
+        statement.now.air).main }
+    ensures { OrLacksMemory (⟦<SC as ServiceAnswers>⟧.proves config.now form
+        (statement_view statement.now) log_rows (Some (rows_of rows.now))) result.answer }
+{
+    let greatest = config.pcs().log_max_trace_height();
+    let Ok(shape) = CheckShape::from_air::<Val<SC>, TreeAir<Val<SC>>>(alloc, &statement.air) else {
+        return Report::out_of_memory().as_finding();
+    };
+    let public_values = statement.public_values.as_slice();
+    let Some(_log_height) = log_height_of_rows(rows, public_values, shape, log_rows, greatest)
+    else {
+        return Report::unfit_trace(alloc).as_finding();
+    };
+    let Ok(values) = values_of(alloc, rows) else {
+        return Report::out_of_memory().as_finding();
+    };
+    let trace = RowMajorMatrix::new(values, shape.width);
+    let answer = prove_with_held(
+        alloc,
+        config,
+        &statement.air,
+        log_rows,
+        trace,
+        public_values,
+    );
+    let report = Report {
+        answer: finding_of_proof(alloc, form, &answer),
+        reason: words_of_failure(alloc, &answer),
+    };
+    report.unless_unjudged()
+}
+
+/// What is found of rows, by what is asked for them.
+fn answer_rows<SC>(
+    alloc: Global,
+    config: &SC,
+    asked: TraceTask,
+    statement: &Statement<Val<SC>>,
+    log_rows: usize,
+    rows: &[Vec<Val<SC>>],
+) -> Report<Finding>
+where
+    SC: StarkGenericConfig,
+    SC::Challenge: PackedExtensionField<Val<SC>> + JsonCodec + BytesCodec,
+    SC::Challenger: GrindingChallenger<Witness = Val<SC>>,
+    Val<SC>: PackedField + NeverNull + BytesCodec,
+    Com<SC>: NeverNull + BytesCodec,
+    PcsProof<SC>: JsonCodec + BytesCodec,
+    requires ready { ⟦<SC as ServiceAnswers>⟧.is_ready config.now
+        (statement_view statement.now) }
+    requires able { ⟦<SC as ServiceAnswers>⟧.can_prove config.now }
+    requires height { HasHeight log_rows
+        (⟦<TreeAir<Val<SC>> as BaseAir<Val<SC>>>⟧.preprocessed_trace statement.now.air) }
+    requires within { log_rows ≤ SC.Pcs.scheme.log_max_trace_height (SC.config.scheme config.now) }
+    requires columns { 0 < (⟦<TreeAir<Val<SC>> as BaseAir<Val<SC>>>⟧.layout
+        statement.now.air).main }
+    ensures { OrLacksMemory (⟦<SC as ServiceAnswers>⟧.tells config.now asked
+        (statement_view statement.now) log_rows (Some (rows_of rows.now))) result.answer }
+{
+    let greatest = config.pcs().log_max_trace_height();
+    match asked {
+        TraceTask::Check => {
+            check_rows::<Val<SC>, SC::Challenge>(alloc, greatest, statement, log_rows, rows)
+        }
+        TraceTask::ProveUnchecked(form) => {
+            prove_rows(alloc, config, form, statement, log_rows, rows)
+        }
+        TraceTask::Prove(form) => {
+            // Before anything is committed: no proof is made of a trace that breaks its AIR.
+            let report = check_rows::<Val<SC>, SC::Challenge>(
+                alloc, greatest, statement, log_rows, rows,
+            );
+            match report.answer {
+                Finding::Satisfied => prove_rows(alloc, config, form, statement, log_rows, rows),
+                _ => report,
+            }
+        }
+    }
+}
+
+/// What is found of the rows that the bytes of a file spell.
+fn answer_with_rows<SC>(
+    alloc: Global,
+    config: &SC,
+    asked: TraceTask,
+    statement: &Statement<Val<SC>>,
+    log_rows: usize,
+    bytes: &[u8],
+) -> Report<Finding>
+where
+    SC: StarkGenericConfig,
+    SC::Challenge: PackedExtensionField<Val<SC>> + JsonCodec + BytesCodec,
+    SC::Challenger: GrindingChallenger<Witness = Val<SC>>,
+    Val<SC>: PackedField + NeverNull + BytesCodec,
+    Com<SC>: NeverNull + BytesCodec,
+    PcsProof<SC>: JsonCodec + BytesCodec,
+    requires ready { ⟦<SC as ServiceAnswers>⟧.is_ready config.now
+        (statement_view statement.now) }
+    requires able { ⟦<SC as ServiceAnswers>⟧.can_prove config.now }
+    requires height { HasHeight log_rows
+        (⟦<TreeAir<Val<SC>> as BaseAir<Val<SC>>>⟧.preprocessed_trace statement.now.air) }
+    requires within { log_rows ≤ SC.Pcs.scheme.log_max_trace_height (SC.config.scheme config.now) }
+    requires columns { 0 < (⟦<TreeAir<Val<SC>> as BaseAir<Val<SC>>>⟧.layout
+        statement.now.air).main }
+    ensures { OrLacksMemory (⟦<SC as ServiceAnswers>⟧.tells config.now asked
+        (statement_view statement.now) log_rows
+        (rows_in ⟦<SC as StarkService>⟧.service.element bytes.now)) result.answer }
+{
+    match read_rows::<Val<SC>>(alloc, bytes) {
+        Ok(rows) => answer_rows(alloc, config, asked, statement, log_rows, &rows),
+        Err(report) => report.as_finding(),
+    }
+}
+
+/// What is found of a trace for a statement that was read, with a configuration whose challenger
+/// has observed the statement, which asks for the statement's work, masks nothing, sets up all
+/// columns, proves traces of any height and refuses no true opening; by what is asked for the
+/// trace. It is `bad input` where the trace can't be read, the AIR has no main columns, or the
+/// trace isn't one of its widths and counts; or `out of memory`.
+pub fn answer_with<SC>(
+    alloc: Global,
+    config: &SC,
+    asked: TraceTask,
+    statement: &Statement<Val<SC>>,
+    bytes: &[u8],
+) -> Report<Finding>
+where
+    SC: StarkGenericConfig,
+    SC::Challenge: PackedExtensionField<Val<SC>> + JsonCodec + BytesCodec,
+    SC::Challenger: GrindingChallenger<Witness = Val<SC>>,
+    Val<SC>: PackedField + NeverNull + BytesCodec,
+    Com<SC>: NeverNull + BytesCodec,
+    PcsProof<SC>: JsonCodec + BytesCodec,
+    requires ready { ⟦<SC as ServiceAnswers>⟧.is_ready config.now
+        (statement_view statement.now) }
+    requires able { ⟦<SC as ServiceAnswers>⟧.can_prove config.now }
+    ensures found { OrLacksMemory (⟦<SC as ServiceAnswers>⟧.found config.now asked
+        (statement_view statement.now) bytes.now) result.answer }
+    ensures kind { IsOfTrace asked result.answer }
+    ensures proof { WhereProof (⟦<SC as ServiceAnswers>⟧.proof_file config.now
+        (statement_view statement.now) bytes.now) result.answer }
+{
+    if statement.air.width() == 0 {
+        let wanted = "the AIR has no main columns, so that there is no trace";
+        return Report::bad_input(alloc, "the statement", &wanted).as_finding();
+    }
+    let greatest = config.pcs().log_max_trace_height();
+    match log_rows_of(alloc, &statement.air, greatest) {
+        Ok(Some(log_rows)) => answer_with_rows(alloc, config, asked, statement, log_rows, bytes),
+        Ok(None) => unfit_rows(alloc).as_finding(),
+        Err(AllocError) => Report::out_of_memory().as_finding(),
+    }
+}

@@ -1,0 +1,206 @@
+//! Statements, proofs and traces, read; and what is said where one wasn't.
+
+ghost use Rattle.std.specs.Prelude.{◌≡◌, ℕ, List, None, Result, map, nat_eq, true};
+ghost use Rattle.std.specs.List.{starts_with};
+ghost use Rattle.serde_json.specs.View.{view};
+ghost use Rattle.stark_support.specs.Json.{json_of};
+ghost use Rattle.stark_proof.specs.ProofJson.{proof_fault, proof_reading};
+ghost use Rattle.stark_proof.specs.ProofView.{proof_view};
+ghost use Rattle.stark_proof_bytes.specs.Bytes.{named};
+ghost use Rattle.stark_proof_bytes.specs.ProofBytes.{codecs, magic};
+ghost use Rattle.stark_statement.specs.StatementJson.{statement_fault, statement_reading};
+ghost use Rattle.stark_answers.specs.declared.report.Report.{Report};
+ghost use Rattle.stark_answers.specs.declared.verdict.Verdict.{Verdict};
+ghost use Rattle.stark_service.specs.Statements.{ReadsPart, ReadsStatement, proof_in, proof_in_bytes, proof_in_json, rows_in, verdict_of_fault, verdict_without};
+
+use serde_json::Value;
+use stark_answers::{Report, Verdict};
+use stark_proof::{Proof, ProofDecodeError};
+use stark_proof_bytes::{BytesCodec, BytesFault, proof_from_bytes};
+use stark_statement::{AirLimits, Statement, StatementError};
+use stark_support::{Field, JsonCodec, JsonFault, NeverNull, lists_from_json, value_from_bytes};
+use stark_tree_air::TreeJsonError;
+use std::alloc::Global;
+
+/// The statement that a JSON value spells, whose AIR is within the limits (`AirLimits::under` its
+/// scheme); or what is said where there is none: `bad input`, with the field, node or constraint at
+/// fault in words; `refused AirTooLarge`, with the limit that is passed in words; or `out of
+/// memory`. Of a statement whose AIR passes a limit nothing is built.
+pub fn read_statement<F: Field + JsonCodec>(
+    alloc: Global,
+    value: &Value,
+) -> Result<Statement<F>, Report<Verdict>>
+    ensures { ReadsStatement result (statement_reading F.reading (view value.now)) }
+{
+    let statement = match Statement::<F>::from_json(alloc, value) {
+        Ok(statement) => statement,
+        Err(error) => return Err(unread_statement(alloc, &error)),
+    };
+    match AirLimits::under(statement.config.scheme).check(&statement.air) {
+        Ok(()) => Ok(statement),
+        Err(passed) => Err(Report::air_too_large(alloc, &passed)),
+    }
+}
+
+/// What is said of a statement that wasn't read.
+pub(crate) fn unread_statement(alloc: Global, error: &StatementError) -> Report<Verdict>
+    ensures { result.answer ≡ verdict_without (statement_fault error.now) }
+{
+    match error {
+        StatementError::OutOfMemory | StatementError::Air(TreeJsonError::OutOfMemory) => {
+            Report::out_of_memory()
+        }
+        _ => Report::bad_input(alloc, "the statement", error),
+    }
+}
+
+/// What the bytes of a file are read as. It has no code.
+pub(crate) trait ReadProof: Sized {
+    /// The proof that they spell was read, or the report says why not.
+    ghost read: { List ℕ → Result Self (Report Verdict) → Type 0 };
+
+    /// The same of a JSON text;
+    ghost read_json: { List ℕ → Result Self (Report Verdict) → Type 0 };
+
+    /// and of bytes that begin as a proof's do.
+    ghost read_bytes: { List ℕ → Result Self (Report Verdict) → Type 0 };
+}
+
+impl<Com, Challenge, PcsProof, Val> ReadProof for Proof<Com, Challenge, PcsProof, Val>
+where
+    Com: NeverNull + BytesCodec + Drop,
+    Challenge: JsonCodec + BytesCodec + Drop,
+    PcsProof: JsonCodec + BytesCodec + Drop,
+    Val: Field + NeverNull + BytesCodec,
+{
+    ghost read = { λ bytes answer. ReadsPart proof_view answer (proof_in
+        (proof_reading Com.reading Challenge.reading PcsProof.reading Val.reading Val.ring.zero)
+        (codecs Com.bytes Challenge.bytes PcsProof.bytes Val.bytes) bytes) };
+
+    ghost read_json = { λ bytes answer. ReadsPart proof_view answer (proof_in_json
+        (proof_reading Com.reading Challenge.reading PcsProof.reading Val.reading Val.ring.zero)
+        bytes) };
+
+    ghost read_bytes = { λ bytes answer. ReadsPart proof_view answer (proof_in_bytes
+        (codecs Com.bytes Challenge.bytes PcsProof.bytes Val.bytes) bytes) };
+}
+
+/// The proof that the bytes of a file spell, in either form: as bytes where they begin so, and else
+/// as JSON.
+#[tactic(auto, unfolding(crate::specs::Statements::proof_in))]
+pub(crate) fn read_proof<Com, Challenge, PcsProof, Val>(
+    alloc: Global,
+    bytes: &[u8],
+) -> Result<Proof<Com, Challenge, PcsProof, Val>, Report<Verdict>>
+where
+    Com: NeverNull + BytesCodec + Drop,
+    Challenge: JsonCodec + BytesCodec + Drop,
+    PcsProof: JsonCodec + BytesCodec + Drop,
+    Val: Field + NeverNull + BytesCodec,
+    ensures { ⟦<Proof<Com, Challenge, PcsProof, Val> as ReadProof>⟧.read bytes.now result }
+{
+    if begin_as_proof(bytes) {
+        read_proof_bytes(alloc, bytes)
+    } else {
+        read_proof_json(alloc, bytes)
+    }
+}
+
+/// Whether bytes begin as those of a proof, which no JSON text does.
+fn begin_as_proof(bytes: &[u8]) -> bool
+    ensures begins { result ≡ starts_with nat_eq bytes.now magic }
+    ensures no_json { result ≡ true → json_of bytes.now ≡ None }
+{
+    bytes.starts_with("voskligan proof 1".as_bytes())
+}
+
+/// The proof that the bytes of a JSON text spell.
+#[tactic(auto, unfolding(crate::specs::Statements::proof_in_json))]
+fn read_proof_json<Com, Challenge, PcsProof, Val>(
+    alloc: Global,
+    bytes: &[u8],
+) -> Result<Proof<Com, Challenge, PcsProof, Val>, Report<Verdict>>
+where
+    Com: NeverNull + BytesCodec + Drop,
+    Challenge: JsonCodec + BytesCodec + Drop,
+    PcsProof: JsonCodec + BytesCodec + Drop,
+    Val: Field + NeverNull + BytesCodec,
+    ensures { ⟦<Proof<Com, Challenge, PcsProof, Val> as ReadProof>⟧.read_json bytes.now result }
+{
+    let value = match value_from_bytes(alloc, bytes) {
+        Ok(value) => value,
+        Err(error) => return Err(unread_text(alloc, "the proof", &error)),
+    };
+    match Proof::from_json(alloc, &value) {
+        Ok(proof) => Ok(proof),
+        Err(error) => Err(unread_proof(alloc, &error)),
+    }
+}
+
+/// What is said of a proof that wasn't read of its JSON.
+fn unread_proof(alloc: Global, error: &ProofDecodeError) -> Report<Verdict>
+    ensures { result.answer ≡ verdict_without (proof_fault error.now) }
+{
+    match error {
+        ProofDecodeError::OutOfMemory => Report::out_of_memory(),
+        _ => Report::bad_input(alloc, "the proof", error),
+    }
+}
+
+/// The proof that these bytes name.
+#[tactic(auto, unfolding(crate::specs::Statements::proof_in_bytes))]
+fn read_proof_bytes<Com, Challenge, PcsProof, Val>(
+    alloc: Global,
+    bytes: &[u8],
+) -> Result<Proof<Com, Challenge, PcsProof, Val>, Report<Verdict>>
+where
+    Com: NeverNull + BytesCodec + Drop,
+    Challenge: JsonCodec + BytesCodec + Drop,
+    PcsProof: JsonCodec + BytesCodec + Drop,
+    Val: Field + NeverNull + BytesCodec,
+    ensures { ⟦<Proof<Com, Challenge, PcsProof, Val> as ReadProof>⟧.read_bytes bytes.now result }
+{
+    match proof_from_bytes(alloc, bytes) {
+        Ok(proof) => Ok(proof),
+        Err(fault) => Err(unread_bytes(alloc, &fault)),
+    }
+}
+
+/// What is said of a proof that wasn't read of its bytes, whose first fault this is.
+fn unread_bytes(alloc: Global, fault: &BytesFault) -> Report<Verdict>
+    ensures { result.answer ≡ verdict_without (named fault.now) }
+{
+    match fault {
+        BytesFault::OutOfMemory => Report::out_of_memory(),
+        _ => Report::bad_input(alloc, "the proof", fault),
+    }
+}
+
+/// The rows of a trace that the bytes of a JSON text spell: an array of arrays of numbers.
+#[tactic(auto, unfolding(crate::specs::Statements::rows_in))]
+pub(crate) fn read_rows<F: JsonCodec + Copy>(
+    alloc: Global,
+    bytes: &[u8],
+) -> Result<Vec<Vec<F>>, Report<Verdict>>
+    ensures { ReadsPart (λ rows. map (λ row. row.items) rows.items) result
+        (rows_in F.reading bytes.now) }
+{
+    let value = match value_from_bytes(alloc, bytes) {
+        Ok(value) => value,
+        Err(error) => return Err(unread_text(alloc, "the trace", &error)),
+    };
+    match lists_from_json::<F>(alloc, &value) {
+        Ok(rows) => Ok(rows),
+        Err(error) => Err(unread_text(alloc, "the trace", &error)),
+    }
+}
+
+/// What is said of a text that wasn't read.
+pub(crate) fn unread_text(alloc: Global, subject: &str, error: &JsonFault) -> Report<Verdict>
+    ensures { result.answer ≡ verdict_of_fault error.now }
+{
+    match error {
+        JsonFault::OutOfMemory => Report::out_of_memory(),
+        JsonFault::Invalid => Report::bad_input(alloc, subject, error),
+    }
+}

@@ -1,0 +1,335 @@
+//! Configurations by FRI and in the clear, over any field, and what is said with them.
+
+ghost use Rattle.std.specs.Prelude.{◌≡◌, ◌≤◌, ℕ, List, Option, None, IfOk};
+ghost use Rattle.stark_clear.specs.ClearScheme.{clear_pcs};
+ghost use Rattle.stark_statement.specs.StatementBytes.{after_statement};
+ghost use Rattle.stark_statement.specs.StatementView.{StatementView, statement_view};
+ghost use Rattle.stark_statement.specs.Configuration.{FriNumbers, scheme_numbers as numbers_of};
+ghost use Rattle.stark_answers.specs.Finding.{WhereProof};
+ghost use Rattle.stark_answers.specs.declared.finding.Finding.{Finding};
+ghost use Rattle.stark_answers.specs.declared.task.ProofForm.{ProofForm};
+ghost use Rattle.stark_answers.specs.declared.task.TraceTask.{TraceTask};
+ghost use Rattle.stark_answers.specs.declared.verdict.Verdict.{Verdict};
+ghost use Rattle.stark_service.specs.NoFloats.{WritesNoFloat};
+ghost use Rattle.stark_service.specs.Schemes.{ByScheme, HasRoomFor, WithNumbers, by_fri};
+ghost use Rattle.stark_service.specs.StatementFacts.{IsOfTrace};
+ghost use Rattle.stark_service.specs.Statements.{IsFileOn, IsSoundOfTakenOn, IsSoundOn, IsToldOn, IsVerdictOn, OrUnjudged, rows_in};
+ghost use Rattle.stark_service.specs.TraceChecks.{OrLacksMemory};
+
+use crate::judging::verify_with;
+use crate::proving::answer_with;
+use crate::service::StarkService;
+use stark_answers::{Finding, Report, TraceTask, Verdict};
+use stark_bench::ClearCommitment;
+use stark_clear::ClearPcs;
+use stark_fri_proof::FriParameters;
+use stark_fri_prover::FriPcs;
+use stark_merkle::{Root, Sha256Tree};
+use stark_parts::StarkConfig;
+use stark_proof_bytes::BytesCodec;
+use stark_statement::{SchemeChoice, Statement};
+use stark_support::{
+    CanObserve, ExtensionChallenger, ExtensionField, FieldChallenger, GrindingChallenger,
+    JsonCodec, NeverNull, PackedExtensionField, PackedField, PrimeField64, TwoAdicField,
+};
+use std::alloc::{AllocError, Global};
+
+/// A configuration with trees of SHA-256 and FRI.
+pub type FriConfig<F, EF, C> = StarkConfig<FriPcs<F, Sha256Tree>, EF, C>;
+
+/// A configuration with the scheme in the clear.
+pub type ClearConfig<F, EF, C> = StarkConfig<ClearPcs<F>, EF, C>;
+
+/// What is said over a field, with its extension and a challenger that begins in a state and
+/// observes the statement first, by the scheme that is chosen. It has no code.
+pub trait FieldAnswers<EF, C>: Sized {
+    /// Of the bytes of a proof.
+    ghost verdict: { C → Option FriNumbers → StatementView Self → List ℕ → Verdict → Type 0 };
+
+    /// In the clear the columns that the proof lists break no constraint of the statement's AIR,
+    /// by FRI whatever columns take the opened values, unless a challenge is bad.
+    ghost sound: { C → Option FriNumbers → StatementView Self → List ℕ → Type 0 };
+
+    /// Of the bytes of a trace, by what is asked for it.
+    ghost found: { C → Option FriNumbers → TraceTask → StatementView Self → List ℕ
+        → Finding → Type 0 };
+
+    /// This is the file of a proof, in a form, of the trace that the bytes spell.
+    ghost proof_file: { C → Option FriNumbers → StatementView Self → List ℕ → ProofForm → List ℕ
+        → Type 0 };
+}
+
+impl<F, EF, C> FieldAnswers<EF, C> for F
+where
+    F: PrimeField64 + TwoAdicField + NeverNull + BytesCodec,
+    EF: ExtensionField<F> + JsonCodec + BytesCodec + Drop,
+    C: FieldChallenger<F>
+        + CanObserve<Root>
+        + CanObserve<ClearCommitment<F>>
+        + ExtensionChallenger<F, EF>
+        + GrindingChallenger<Witness = F>
+        + Clone,
+{
+    ghost verdict = { λ fresh scheme s proof v. ByScheme scheme
+        (λ numbers. WithNumbers (λ pcs. pcs.parameters) numbers (λ pcs.
+        IsVerdictOn ⟦<FriConfig<F, EF, C> as StarkService>⟧.service pcs
+        (after_statement ⟦<C as CanObserve<F>>⟧.after_observe F.of_number F.number_of s fresh) s
+        (⟦<FriConfig<F, EF, C> as StarkService>⟧.service.reading proof) v))
+        (IsVerdictOn ⟦<ClearConfig<F, EF, C> as StarkService>⟧.service clear_pcs
+        (after_statement ⟦<C as CanObserve<F>>⟧.after_observe F.of_number F.number_of s fresh) s
+        (⟦<ClearConfig<F, EF, C> as StarkService>⟧.service.reading proof) v) };
+
+    ghost sound = { λ fresh scheme s proof. ByScheme scheme
+        (λ numbers. WithNumbers (λ pcs. pcs.parameters) numbers (λ pcs.
+        IsSoundOfTakenOn ⟦<FriConfig<F, EF, C> as StarkService>⟧.service pcs
+        (after_statement ⟦<C as CanObserve<F>>⟧.after_observe F.of_number F.number_of s fresh) s
+        (⟦<FriConfig<F, EF, C> as StarkService>⟧.service.reading proof)))
+        (IsSoundOn ⟦<ClearConfig<F, EF, C> as StarkService>⟧.service clear_pcs
+        (after_statement ⟦<C as CanObserve<F>>⟧.after_observe F.of_number F.number_of s fresh) s
+        (⟦<ClearConfig<F, EF, C> as StarkService>⟧.service.reading proof)) };
+
+    ghost found = { λ fresh scheme asked s trace f. ByScheme scheme
+        (λ numbers. WithNumbers (λ pcs. pcs.parameters) numbers (λ pcs.
+        IsToldOn ⟦<FriConfig<F, EF, C> as StarkService>⟧.service pcs
+        (after_statement ⟦<C as CanObserve<F>>⟧.after_observe F.of_number F.number_of s fresh) s
+        asked (rows_in F.reading trace) f))
+        (IsToldOn ⟦<ClearConfig<F, EF, C> as StarkService>⟧.service clear_pcs
+        (after_statement ⟦<C as CanObserve<F>>⟧.after_observe F.of_number F.number_of s fresh) s
+        asked (rows_in F.reading trace) f) };
+
+    ghost proof_file = { λ fresh scheme s trace form file. ByScheme scheme
+        (λ numbers. WithNumbers (λ pcs. pcs.parameters) numbers (λ pcs.
+        IsFileOn ⟦<FriConfig<F, EF, C> as StarkService>⟧.service pcs
+        (after_statement ⟦<C as CanObserve<F>>⟧.after_observe F.of_number F.number_of s fresh) s
+        form (rows_in F.reading trace) file))
+        (IsFileOn ⟦<ClearConfig<F, EF, C> as StarkService>⟧.service clear_pcs
+        (after_statement ⟦<C as CanObserve<F>>⟧.after_observe F.of_number F.number_of s fresh) s
+        form (rows_in F.reading trace) file) };
+}
+
+/// A scheme and a challenger in its first state, with the work that a statement asks for.
+fn configured<F, P, EF, C>(pcs: P, challenger: C, statement: &Statement<F>) -> StarkConfig<P, EF, C>
+    ensures pcs { result.pcs ≡ pcs }
+    ensures challenger { result.challenger ≡ challenger }
+    ensures ood_bits { result.ood_proof_of_work_bits ≡ statement.now.ood_bits }
+    ensures alpha_bits { result.constraint_proof_of_work_bits ≡ statement.now.alpha_bits }
+{
+    StarkConfig::new(pcs, challenger)
+        .with_ood_proof_of_work_bits(statement.ood_bits)
+        .with_constraint_proof_of_work_bits(statement.alpha_bits)
+}
+
+/// The challenger, once it has observed the statement. Err only where memory was refused.
+fn bound<F: PrimeField64, C: CanObserve<F> + Drop>(
+    alloc: Global,
+    challenger: C,
+    statement: &Statement<F>,
+) -> Result<C, AllocError>
+    ensures { IfOk result (λ c. c ≡ after_statement C.after_observe F.of_number F.number_of
+        (statement_view statement.now) challenger) }
+{
+    let mut challenger = challenger;
+    // Bound before the seed, and so before every draw: who writes a proof can't choose the AIR, the
+    // configuration or the work behind alpha or zeta.
+    statement.bind(alloc, &mut challenger)?;
+    Ok(challenger)
+}
+
+/// The verdict on a proof by FRI with these parameters.
+fn verify_by_fri<F, EF, C>(
+    alloc: Global,
+    parameters: FriParameters,
+    challenger: C,
+    statement: &Statement<F>,
+    proof: &[u8],
+) -> Report<Verdict>
+where
+    F: PrimeField64 + TwoAdicField + NeverNull + BytesCodec,
+    EF: ExtensionField<F> + JsonCodec + BytesCodec + Drop,
+    C: FieldChallenger<F>
+        + CanObserve<Root>
+        + CanObserve<ClearCommitment<F>>
+        + ExtensionChallenger<F, EF>
+        + GrindingChallenger<Witness = F>
+        + Clone,
+    requires { parameters.log_blowup ≤ F.TWO_ADICITY }
+    ensures verdict { OrUnjudged (⟦<F as FieldAnswers<EF, C>>⟧.verdict challenger
+        (by_fri parameters) (statement_view statement.now) proof.now) result.answer }
+    ensures sound { result.answer ≡ Verdict.Accepted → ⟦<F as FieldAnswers<EF, C>>⟧.sound
+        challenger (by_fri parameters) (statement_view statement.now) proof.now }
+{
+    let Ok(bound) = bound(alloc, challenger, statement) else {
+        return Report::out_of_memory();
+    };
+    let pcs: FriPcs<F, Sha256Tree> = FriPcs::new(parameters);
+    let config: FriConfig<F, EF, C> = configured(pcs, bound, statement);
+    verify_with(alloc, &config, statement, proof)
+}
+
+/// The verdict on a proof in the clear.
+fn verify_in_the_clear<F, EF, C>(
+    alloc: Global,
+    challenger: C,
+    statement: &Statement<F>,
+    proof: &[u8],
+) -> Report<Verdict>
+where
+    F: PrimeField64 + TwoAdicField + NeverNull + BytesCodec,
+    EF: ExtensionField<F> + JsonCodec + BytesCodec + Drop,
+    C: FieldChallenger<F>
+        + CanObserve<Root>
+        + CanObserve<ClearCommitment<F>>
+        + ExtensionChallenger<F, EF>
+        + GrindingChallenger<Witness = F>
+        + Clone,
+    ensures verdict { OrUnjudged (⟦<F as FieldAnswers<EF, C>>⟧.verdict challenger
+        None (statement_view statement.now) proof.now) result.answer }
+    ensures sound { result.answer ≡ Verdict.Accepted → ⟦<F as FieldAnswers<EF, C>>⟧.sound
+        challenger None (statement_view statement.now) proof.now }
+{
+    let Ok(bound) = bound(alloc, challenger, statement) else {
+        return Report::out_of_memory();
+    };
+    let pcs: ClearPcs<F> = ClearPcs::new();
+    let config: ClearConfig<F, EF, C> = configured(pcs, bound, statement);
+    verify_with(alloc, &config, statement, proof)
+}
+
+/// The verdict on a proof, by the scheme that is chosen.
+pub(crate) fn verify_by<F, EF, C>(
+    alloc: Global,
+    scheme: SchemeChoice,
+    challenger: C,
+    statement: &Statement<F>,
+    proof: &[u8],
+) -> Report<Verdict>
+where
+    F: PrimeField64 + TwoAdicField + NeverNull + BytesCodec,
+    EF: ExtensionField<F> + JsonCodec + BytesCodec + Drop,
+    C: FieldChallenger<F>
+        + CanObserve<Root>
+        + CanObserve<ClearCommitment<F>>
+        + ExtensionChallenger<F, EF>
+        + GrindingChallenger<Witness = F>
+        + Clone,
+    requires { HasRoomFor F.TWO_ADICITY scheme }
+    ensures verdict { OrUnjudged (⟦<F as FieldAnswers<EF, C>>⟧.verdict challenger
+        (numbers_of scheme) (statement_view statement.now) proof.now) result.answer }
+    ensures sound { result.answer ≡ Verdict.Accepted → ⟦<F as FieldAnswers<EF, C>>⟧.sound
+        challenger (numbers_of scheme) (statement_view statement.now) proof.now }
+{
+    match scheme {
+        SchemeChoice::Fri(parameters) => {
+            verify_by_fri::<F, EF, C>(alloc, parameters, challenger, statement, proof)
+        }
+        SchemeChoice::Clear => {
+            verify_in_the_clear::<F, EF, C>(alloc, challenger, statement, proof)
+        }
+    }
+}
+
+/// What is found of a trace by FRI with these parameters.
+fn answer_by_fri<F, EF, C>(
+    alloc: Global,
+    parameters: FriParameters,
+    challenger: C,
+    asked: TraceTask,
+    statement: &Statement<F>,
+    trace: &[u8],
+) -> Report<Finding>
+where
+    F: PrimeField64 + TwoAdicField + PackedField + NeverNull + BytesCodec,
+    EF: PackedExtensionField<F> + JsonCodec + BytesCodec + Drop,
+    C: FieldChallenger<F>
+        + CanObserve<Root>
+        + CanObserve<ClearCommitment<F>>
+        + ExtensionChallenger<F, EF>
+        + GrindingChallenger<Witness = F>
+        + Clone,
+    requires room { parameters.log_blowup ≤ F.TWO_ADICITY }
+    requires base { WritesNoFloat F.writing }
+    requires extension { WritesNoFloat EF.writing }
+    ensures found { OrLacksMemory (⟦<F as FieldAnswers<EF, C>>⟧.found challenger
+        (by_fri parameters) asked (statement_view statement.now) trace.now)
+        result.answer }
+    ensures kind { IsOfTrace asked result.answer }
+    ensures proof { WhereProof (⟦<F as FieldAnswers<EF, C>>⟧.proof_file challenger
+        (by_fri parameters) (statement_view statement.now) trace.now) result.answer }
+{
+    let Ok(bound) = bound(alloc, challenger, statement) else {
+        return Report::out_of_memory().as_finding();
+    };
+    let pcs: FriPcs<F, Sha256Tree> = FriPcs::new(parameters);
+    let config: FriConfig<F, EF, C> = configured(pcs, bound, statement);
+    answer_with(alloc, &config, asked, statement, trace)
+}
+
+/// What is found of a trace in the clear.
+fn answer_in_the_clear<F, EF, C>(
+    alloc: Global,
+    challenger: C,
+    asked: TraceTask,
+    statement: &Statement<F>,
+    trace: &[u8],
+) -> Report<Finding>
+where
+    F: PrimeField64 + TwoAdicField + PackedField + NeverNull + BytesCodec,
+    EF: PackedExtensionField<F> + JsonCodec + BytesCodec + Drop,
+    C: FieldChallenger<F>
+        + CanObserve<Root>
+        + CanObserve<ClearCommitment<F>>
+        + ExtensionChallenger<F, EF>
+        + GrindingChallenger<Witness = F>
+        + Clone,
+    requires base { WritesNoFloat F.writing }
+    requires extension { WritesNoFloat EF.writing }
+    ensures found { OrLacksMemory (⟦<F as FieldAnswers<EF, C>>⟧.found challenger
+        None asked (statement_view statement.now) trace.now) result.answer }
+    ensures kind { IsOfTrace asked result.answer }
+    ensures proof { WhereProof (⟦<F as FieldAnswers<EF, C>>⟧.proof_file challenger
+        None (statement_view statement.now) trace.now) result.answer }
+{
+    let Ok(bound) = bound(alloc, challenger, statement) else {
+        return Report::out_of_memory().as_finding();
+    };
+    let pcs: ClearPcs<F> = ClearPcs::new();
+    let config: ClearConfig<F, EF, C> = configured(pcs, bound, statement);
+    answer_with(alloc, &config, asked, statement, trace)
+}
+
+/// What is found of a trace, by the scheme that is chosen.
+pub(crate) fn answer_by<F, EF, C>(
+    alloc: Global,
+    scheme: SchemeChoice,
+    challenger: C,
+    asked: TraceTask,
+    statement: &Statement<F>,
+    trace: &[u8],
+) -> Report<Finding>
+where
+    F: PrimeField64 + TwoAdicField + PackedField + NeverNull + BytesCodec,
+    EF: PackedExtensionField<F> + JsonCodec + BytesCodec + Drop,
+    C: FieldChallenger<F>
+        + CanObserve<Root>
+        + CanObserve<ClearCommitment<F>>
+        + ExtensionChallenger<F, EF>
+        + GrindingChallenger<Witness = F>
+        + Clone,
+    requires room { HasRoomFor F.TWO_ADICITY scheme }
+    requires base { WritesNoFloat F.writing }
+    requires extension { WritesNoFloat EF.writing }
+    ensures found { OrLacksMemory (⟦<F as FieldAnswers<EF, C>>⟧.found challenger
+        (numbers_of scheme) asked (statement_view statement.now) trace.now) result.answer }
+    ensures kind { IsOfTrace asked result.answer }
+    ensures proof { WhereProof (⟦<F as FieldAnswers<EF, C>>⟧.proof_file challenger
+        (numbers_of scheme) (statement_view statement.now) trace.now) result.answer }
+{
+    match scheme {
+        SchemeChoice::Fri(parameters) => answer_by_fri::<F, EF, C>(
+            alloc, parameters, challenger, asked, statement, trace,
+        ),
+        SchemeChoice::Clear => {
+            answer_in_the_clear::<F, EF, C>(alloc, challenger, asked, statement, trace)
+        }
+    }
+}

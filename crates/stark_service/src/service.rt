@@ -1,0 +1,139 @@
+//! What a service says over a configuration, in words. It has no code.
+
+ghost use Rattle.std.specs.Prelude.{ℕ, List, Option};
+ghost use Rattle.stark_proof.specs.ProofJson.{proof_reading, proof_writing};
+ghost use Rattle.stark_proof.specs.ProofView.{ProofView};
+ghost use Rattle.stark_proof_bytes.specs.ProofBytes.{codecs};
+ghost use Rattle.stark_statement.specs.StatementView.{StatementView};
+ghost use Rattle.stark_answers.specs.declared.finding.Finding.{Finding};
+ghost use Rattle.stark_answers.specs.declared.task.ProofForm.{ProofForm};
+ghost use Rattle.stark_answers.specs.declared.task.TraceTask.{TraceTask};
+ghost use Rattle.stark_answers.specs.declared.verdict.Verdict.{Verdict};
+ghost use Rattle.stark_service.specs.Service.{CanProve, IsReady, ServiceOps};
+ghost use Rattle.stark_service.specs.Statements.{IsFileOn, IsFoundWithRows, IsSoundOfTakenOn, IsToldOn, IsToldWithRows, IsVerdictOn, IsVerdictWithRows, proof_in, rows_in};
+ghost use Rattle.stark_service.specs.TraceChecks.{IsCheckedWithRows};
+
+use p3_uni_stark::StarkOperations;
+use stark_parts::{Com, StarkGenericConfig, Val};
+use stark_proof_bytes::BytesCodec;
+use stark_protocol::PcsProof;
+use stark_support::{ExtensionField, GrindingChallenger, JsonCodec, NeverNull, PrimeField64};
+
+/// All that is computed over a configuration, and how its parts are read and written, in one
+/// record.
+pub trait StarkService: StarkGenericConfig {
+    ghost service: { ServiceOps Self.Pcs Self.Pcs.Domain.Val Self.Challenge Self.Challenger
+        Self.Pcs.Commitment Self.Pcs.ProverData Self.Pcs.Proof Self.Pcs.Error
+        Self.Pcs.ProverError };
+}
+
+impl<SC> StarkService for SC
+where
+    SC: StarkGenericConfig,
+    SC::Challenge: JsonCodec + BytesCodec,
+    SC::Challenger: GrindingChallenger<Witness = Val<SC>>,
+    Val<SC>: NeverNull + BytesCodec,
+    Com<SC>: NeverNull + BytesCodec,
+    PcsProof<SC>: JsonCodec + BytesCodec,
+{
+    ghost service = { record {
+      protocol = ⟦<SC as StarkOperations>⟧.operations;
+      coordinates = SC.Challenge.coordinates;
+      number = SC.Pcs.Domain.Val.number_of;
+      element = SC.Pcs.Domain.Val.reading;
+      reading = proof_in (proof_reading SC.Pcs.Commitment.reading SC.Challenge.reading
+          SC.Pcs.Proof.reading SC.Pcs.Domain.Val.reading SC.Pcs.Domain.Val.ring.zero)
+          (codecs SC.Pcs.Commitment.bytes SC.Challenge.bytes SC.Pcs.Proof.bytes
+          SC.Pcs.Domain.Val.bytes);
+      writing = proof_writing SC.Pcs.Commitment.writing SC.Challenge.writing SC.Pcs.Proof.writing
+          SC.Pcs.Domain.Val.writing SC.Pcs.Domain.Val.eq SC.Pcs.Domain.Val.ring.zero;
+      codecs = codecs SC.Pcs.Commitment.bytes SC.Challenge.bytes SC.Pcs.Proof.bytes
+          SC.Pcs.Domain.Val.bytes;
+    } };
+}
+
+/// What is said with a configuration, whose challenger has observed the statement, of a proof and
+/// of the rows of a trace.
+pub trait ServiceAnswers: StarkGenericConfig {
+    /// The scheme masks nothing and sets up all columns, and the work that is asked for is the
+    /// statement's.
+    ghost is_ready: { Self → StatementView Self.Pcs.Domain.Val → Type 0 };
+
+    /// It commits to traces of any height and refuses no true opening, and proofs have exact lines.
+    ghost can_prove: { Self → Type 0 };
+
+    /// Of a proof, with a key for `2^log_rows` rows, and with the AIR's own number of rows.
+    ghost judges: { Self → StatementView Self.Pcs.Domain.Val → ℕ → List ℕ → Verdict → Type 0 };
+
+    ghost verdict: { Self → StatementView Self.Pcs.Domain.Val → List ℕ → Verdict → Type 0 };
+
+    /// Whatever columns take the proof's opened values break no constraint, unless a challenge is
+    /// bad.
+    ghost sound: { Self → StatementView Self.Pcs.Domain.Val → List ℕ → Type 0 };
+
+    /// Of rows, by a check.
+    ghost checks: { Self → StatementView Self.Pcs.Domain.Val → ℕ
+        → Option (List (List Self.Pcs.Domain.Val)) → Finding → Type 0 };
+
+    /// By a prover, in the form that is asked for.
+    ghost proves: { Self → ProofForm → StatementView Self.Pcs.Domain.Val → ℕ
+        → Option (List (List Self.Pcs.Domain.Val)) → Finding → Type 0 };
+
+    /// By what is asked for the trace.
+    ghost tells: { Self → TraceTask → StatementView Self.Pcs.Domain.Val → ℕ
+        → Option (List (List Self.Pcs.Domain.Val)) → Finding → Type 0 };
+
+    /// Of the bytes of a trace.
+    ghost found: { Self → TraceTask → StatementView Self.Pcs.Domain.Val → List ℕ
+        → Finding → Type 0 };
+
+    /// This is the file of a proof, in a form, of the trace that the bytes spell.
+    ghost proof_file: { Self → StatementView Self.Pcs.Domain.Val → List ℕ → ProofForm → List ℕ
+        → Type 0 };
+}
+
+impl<SC> ServiceAnswers for SC
+where
+    SC: StarkGenericConfig,
+    SC::Challenge: JsonCodec + BytesCodec,
+    SC::Challenger: GrindingChallenger<Witness = Val<SC>>,
+    Val<SC>: NeverNull + BytesCodec,
+    Com<SC>: NeverNull + BytesCodec,
+    PcsProof<SC>: JsonCodec + BytesCodec,
+{
+    ghost is_ready = { λ config. IsReady ⟦<SC as StarkService>⟧.service (SC.config.scheme config)
+        (SC.config.ood_bits config) (SC.config.constraint_bits config) };
+
+    ghost can_prove = { λ config. CanProve ⟦<SC as StarkService>⟧.service
+        (SC.config.scheme config) };
+
+    ghost judges = { λ config s log_rows proof. IsVerdictWithRows ⟦<SC as StarkService>⟧.service
+        (SC.config.scheme config) (SC.config.first_state config) s log_rows
+        (⟦<SC as StarkService>⟧.service.reading proof) };
+
+    ghost verdict = { λ config s proof. IsVerdictOn ⟦<SC as StarkService>⟧.service
+        (SC.config.scheme config) (SC.config.first_state config) s
+        (⟦<SC as StarkService>⟧.service.reading proof) };
+
+    ghost sound = { λ config s proof. IsSoundOfTakenOn ⟦<SC as StarkService>⟧.service
+        (SC.config.scheme config) (SC.config.first_state config) s
+        (⟦<SC as StarkService>⟧.service.reading proof) };
+
+    ghost checks = { λ config. IsCheckedWithRows
+        ⟦<SC as StarkService>⟧.service.protocol.opening.fields ⟦<SC as StarkService>⟧.service.number
+        (SC.Pcs.scheme.log_max_trace_height (SC.config.scheme config)) };
+
+    ghost proves = { λ config form s. IsFoundWithRows ⟦<SC as StarkService>⟧.service
+        (SC.config.scheme config) (SC.config.first_state config) s form };
+
+    ghost tells = { λ config asked s. IsToldWithRows ⟦<SC as StarkService>⟧.service
+        (SC.config.scheme config) (SC.config.first_state config) s asked };
+
+    ghost found = { λ config asked s trace. IsToldOn ⟦<SC as StarkService>⟧.service
+        (SC.config.scheme config) (SC.config.first_state config) s asked
+        (rows_in ⟦<SC as StarkService>⟧.service.element trace) };
+
+    ghost proof_file = { λ config s trace form. IsFileOn ⟦<SC as StarkService>⟧.service
+        (SC.config.scheme config) (SC.config.first_state config) s form
+        (rows_in ⟦<SC as StarkService>⟧.service.element trace) };
+}

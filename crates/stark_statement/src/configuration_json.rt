@@ -1,0 +1,248 @@
+//! The JSON of a configuration.
+ghost use Rattle.std.specs.Prelude.{◌≡◌, ◌≤◌, IfOk, option_map};
+ghost use Rattle.serde_json.specs.View.{members_view, view};
+ghost use Rattle.stark_statement.specs.Configuration.{IsWithinField, configuration_view, fri_numbers, two_adicity};
+ghost use Rattle.stark_statement.specs.ConfigurationJson.{Reads, all_are_members, configuration_at, configuration_members, field_at, field_named, fri_at, given_at, is_member, no_numbers, not_given, number_at, numbers_at, scheme_at, scheme_named};
+ghost use Rattle.stark_statement.specs.StatementJson.{Decodes, configuration_reading};
+
+use crate::configuration::{Configuration, FieldName, SchemeChoice};
+use crate::configuration_error::{ConfigurationError, ConfigurationMember};
+use crate::error::StatementError;
+use crate::fields::check_members;
+use serde_json::{Map, Value};
+use stark_fri_proof::FriParameters;
+
+/// The schemes by name.
+#[derive(Clone, Copy)]
+enum SchemeName {
+    OfFri,
+    OfClear,
+}
+
+/// Whether a configuration has a member of this name, compared whole.
+#[tactic(auto, unfolding(crate::specs::ConfigurationJson::is_member))]
+fn is_member(name: &str) -> bool
+    ensures { result ≡ is_member name.now }
+{
+    match name {
+        "field" => true,
+        "scheme" => true,
+        "log_blowup" => true,
+        "log_final_poly_len" => true,
+        "num_queries" => true,
+        "commit_proof_of_work_bits" => true,
+        "query_proof_of_work_bits" => true,
+        _ => false,
+    }
+}
+
+/// Whether a configuration has members of all these names.
+fn all_are_members(members: &Map<String, Value>) -> bool
+    ensures { result ≡ all_are_members (members_view members.now.entries) }
+{
+    for (name, _member) in members.iter() {
+        if !is_member(name.as_str()) {
+            return false;
+        }
+    }
+    true
+}
+
+fn check_configuration(config: &Value) -> Result<(), ConfigurationError>
+    ensures { result ≡ configuration_members (view config.now) }
+{
+    let Some(members) = config.as_object() else {
+        return Err(ConfigurationError::NotAnObject);
+    };
+    if !all_are_members(members) {
+        return Err(ConfigurationError::UnknownMember);
+    }
+    Ok(())
+}
+
+/// What an object has under a name, unless it is null.
+fn given_at<'a>(value: &'a Value, name: &str) -> Option<&'a Value>
+    ensures { option_map (λ v. view v.now) result ≡ given_at name.now (view value.now) }
+{
+    let found = value.get(name)?;
+    if found.is_null() { None } else { Some(found) }
+}
+
+#[tactic(auto, unfolding(crate::specs::ConfigurationJson::field_named))]
+fn field_named(name: &str) -> Option<FieldName>
+    ensures { result ≡ field_named name.now }
+{
+    match name {
+        "baby_bear" => Some(FieldName::BabyBear),
+        "koala_bear" => Some(FieldName::KoalaBear),
+        "f12289" => Some(FieldName::F12289),
+        _ => None,
+    }
+}
+
+#[tactic(auto, unfolding(crate::specs::ConfigurationJson::scheme_named))]
+fn scheme_named(name: &str) -> Option<SchemeName>
+    ensures { result ≡ scheme_named name.now }
+{
+    match name {
+        "fri" => Some(SchemeName::OfFri),
+        "clear" => Some(SchemeName::OfClear),
+        _ => None,
+    }
+}
+
+/// The field, BabyBear where it is not given.
+fn field_at(config: &Value) -> Result<FieldName, ConfigurationError>
+    ensures { result ≡ field_at (view config.now) }
+{
+    let Some(found) = given_at(config, "field") else {
+        return Ok(FieldName::BabyBear);
+    };
+    let Some(name) = found.as_str() else {
+        return Err(ConfigurationError::WrongKind(ConfigurationMember::Field));
+    };
+    field_named(name).ok_or(ConfigurationError::UnknownField)
+}
+
+/// The scheme's name, FRI's where it is not given.
+fn scheme_at(config: &Value) -> Result<SchemeName, ConfigurationError>
+    ensures { result ≡ scheme_at (view config.now) }
+{
+    let Some(found) = given_at(config, "scheme") else {
+        return Ok(SchemeName::OfFri);
+    };
+    let Some(name) = found.as_str() else {
+        return Err(ConfigurationError::WrongKind(ConfigurationMember::Scheme));
+    };
+    scheme_named(name).ok_or(ConfigurationError::UnknownScheme)
+}
+
+/// A number, the default where it is not given.
+fn number_at(
+    config: &Value,
+    member: ConfigurationMember,
+    default: usize,
+) -> Result<usize, ConfigurationError>
+    ensures { result ≡ number_at member default (view config.now) }
+{
+    let Some(found) = given_at(config, member.name()) else {
+        return Ok(default);
+    };
+    match found.as_u64() {
+        Some(number) => Ok(number as usize),
+        None => Err(ConfigurationError::WrongKind(member)),
+    }
+}
+
+/// FRI's parameters.
+#[tactic(auto, unfolding(crate::specs::ConfigurationJson::numbers_at))]
+fn parameters_at(config: &Value) -> Result<FriParameters, ConfigurationError>
+    ensures { Reads fri_numbers result (numbers_at (view config.now)) }
+{
+    let log_blowup = number_at(config, ConfigurationMember::LogBlowup, 1)?;
+    let log_final_poly_len = number_at(config, ConfigurationMember::LogFinalPolyLen, 0)?;
+    let num_queries = number_at(config, ConfigurationMember::NumQueries, 85)?;
+    let commit_bits = number_at(config, ConfigurationMember::CommitProofOfWorkBits, 0)?;
+    let query_bits = number_at(config, ConfigurationMember::QueryProofOfWorkBits, 16)?;
+    match FriParameters::new(
+        log_blowup,
+        log_final_poly_len,
+        num_queries,
+        commit_bits,
+        query_bits,
+    ) {
+        Ok(parameters) => Ok(parameters),
+        Err(fault) => Err(ConfigurationError::Parameters(fault)),
+    }
+}
+
+/// FRI's parameters, where the blow-up fits the field.
+fn fri_at(config: &Value, field: FieldName) -> Result<FriParameters, ConfigurationError>
+    ensures read { Reads fri_numbers result (fri_at field (view config.now)) }
+    ensures fits { IfOk result (λ p. p.log_blowup ≤ two_adicity field) }
+{
+    let parameters = parameters_at(config)?;
+    let (two_adicity, got) = (field.two_adicity(), parameters.log_blowup());
+    if got > two_adicity {
+        return Err(ConfigurationError::BlowupPastTwoAdicity { two_adicity, got });
+    }
+    Ok(parameters)
+}
+
+fn refuse_given(config: &Value, member: ConfigurationMember) -> Result<(), ConfigurationError>
+    ensures { result ≡ not_given member (view config.now) }
+{
+    match given_at(config, member.name()) {
+        Some(_) => Err(ConfigurationError::NotInTheClear(member)),
+        None => Ok(()),
+    }
+}
+
+/// Refuses the first of FRI's numbers that is given.
+#[tactic(auto, unfolding(crate::specs::ConfigurationJson::no_numbers))]
+fn refuse_numbers(config: &Value) -> Result<(), ConfigurationError>
+    ensures { result ≡ no_numbers (view config.now) }
+{
+    refuse_given(config, ConfigurationMember::LogBlowup)?;
+    refuse_given(config, ConfigurationMember::LogFinalPolyLen)?;
+    refuse_given(config, ConfigurationMember::NumQueries)?;
+    refuse_given(config, ConfigurationMember::CommitProofOfWorkBits)?;
+    refuse_given(config, ConfigurationMember::QueryProofOfWorkBits)
+}
+
+#[tactic(auto, unfolding(crate::specs::ConfigurationJson::configuration_at))]
+fn configuration_at(config: &Value) -> Result<Configuration, ConfigurationError>
+    ensures read { Reads configuration_view result (configuration_at (view config.now)) }
+    ensures fits { IfOk result IsWithinField }
+{
+    check_configuration(config)?;
+    let field = field_at(config)?;
+    match scheme_at(config)? {
+        SchemeName::OfFri => {
+            let parameters = fri_at(config, field)?;
+            let scheme = SchemeChoice::Fri(parameters);
+            Ok(Configuration { field, scheme })
+        }
+        SchemeName::OfClear => {
+            refuse_numbers(config)?;
+            let scheme = SchemeChoice::Clear;
+            Ok(Configuration { field, scheme })
+        }
+    }
+}
+
+impl Configuration {
+    /// What the JSON value of a statement says of its configuration, by which a program knows over
+    /// which field to read the rest: its member `config`, whose members are `field` ("baby_bear",
+    /// "koala_bear" or "f12289"), `scheme` ("fri" or "clear") and, for FRI, `log_blowup`,
+    /// `log_final_poly_len`, `num_queries`, `commit_proof_of_work_bits` and
+    /// `query_proof_of_work_bits`. Each of them, and `config` itself, may be missing or null, and
+    /// then the default is meant. Otherwise the first fault, in this order:
+    ///
+    /// - `NotAnObject` and `UnknownField` of the statement, as `Statement::from_json` says.
+    /// - `Config` with `NotAnObject` where `config` isn't an object, and with `UnknownMember` where
+    ///   it has a member of another name.
+    /// - `Config` with `WrongKind`, and `UnknownField` or `UnknownScheme`, of the field and then of
+    ///   the scheme.
+    /// - `Config` with `NotInTheClear` where a number is given beside "clear".
+    /// - `Config` with `WrongKind` of the first number that is no whole number below 2^64.
+    /// - `Config` with `Parameters`, the fault of `FriParameters::new`.
+    /// - `Config` with `BlowupPastTwoAdicity` where `log_blowup` is past the field's two-adicity.
+    ///
+    /// It takes no memory.
+    #[tactic(auto, unfolding(crate::specs::StatementJson::configuration_reading))]
+    pub fn from_statement(value: &Value) -> Result<Configuration, StatementError>
+        ensures decoded { Decodes configuration_view result
+            (configuration_reading (view value.now)) }
+        ensures fits { IfOk result IsWithinField }
+    {
+        check_members(value)?;
+        let Some(config) = given_at(value, "config") else {
+            return Ok(Configuration::default());
+        };
+        match configuration_at(config) {
+            Ok(configuration) => Ok(configuration),
+            Err(error) => Err(StatementError::Config(error)),
+        }
+    }
+}

@@ -1,0 +1,133 @@
+//! Worked rows of configurations in JSON, the limits under a scheme, and the digest of a statement.
+use crate::{AirLimits, Configuration, FieldName, SchemeChoice, Statement};
+use sha2::{Digest, Sha256};
+use stark_fields::F12289;
+use stark_fri_proof::FriParameters;
+use stark_support::value_from_bytes;
+use std::alloc::Global;
+use std::test::Fail;
+
+// A statement's text => its configuration, or what is at fault.
+const ROWS: &str = r#"
+{} => BabyBear 1 0 85 0 16
+{"config":null} => BabyBear 1 0 85 0 16
+{"config":{}} => BabyBear 1 0 85 0 16
+{"config":{"field":null,"scheme":null,"log_blowup":null,"log_final_poly_len":null,"num_queries":null,"commit_proof_of_work_bits":null,"query_proof_of_work_bits":null}} => BabyBear 1 0 85 0 16
+{"config":{"field":"koala_bear","scheme":"fri","log_blowup":24,"log_final_poly_len":2,"num_queries":3,"commit_proof_of_work_bits":4,"query_proof_of_work_bits":5}} => KoalaBear 24 2 3 4 5
+{"air":7,"config":{"field":"baby_bear","log_blowup":27}} => BabyBear 27 0 85 0 16
+{"config":{"field":"f12289","log_blowup":12},"public_values":7,"alpha_bits":7,"ood_bits":7} => F12289 12 0 85 0 16
+{"config":{"field":"f12289","scheme":"clear"}} => F12289 clear
+{"config":{"scheme":"clear","num_queries":null}} => BabyBear clear
+
+[] => the statement is no object
+{"config":7,"other":1} => the statement has a field that is none of config, air, public_values, alpha_bits, ood_bits
+{"config":7} => the field config: it is no object
+{"config":{"field":7,"blowup":1}} => the field config: it has a member that is neither field, scheme nor a number of FRI
+{"config":{"field":7,"scheme":7}} => the field config: field is of the wrong kind
+{"config":{"field":"BabyBear"}} => the field config: field is none of baby_bear, koala_bear, f12289
+{"config":{"scheme":7,"log_blowup":0}} => the field config: scheme is of the wrong kind
+{"config":{"scheme":"stir"}} => the field config: scheme is none of fri, clear
+{"config":{"scheme":"clear","log_blowup":"1"}} => the field config: the scheme clear has no log_blowup
+{"config":{"scheme":"clear","log_final_poly_len":0}} => the field config: the scheme clear has no log_final_poly_len
+{"config":{"scheme":"clear","num_queries":85}} => the field config: the scheme clear has no num_queries
+{"config":{"scheme":"clear","commit_proof_of_work_bits":0}} => the field config: the scheme clear has no commit_proof_of_work_bits
+{"config":{"scheme":"clear","query_proof_of_work_bits":16}} => the field config: the scheme clear has no query_proof_of_work_bits
+{"config":{"log_blowup":-1,"num_queries":-1}} => the field config: log_blowup is of the wrong kind
+{"config":{"log_final_poly_len":1.5}} => the field config: log_final_poly_len is of the wrong kind
+{"config":{"num_queries":"85"}} => the field config: num_queries is of the wrong kind
+{"config":{"commit_proof_of_work_bits":[]}} => the field config: commit_proof_of_work_bits is of the wrong kind
+{"config":{"log_blowup":0,"query_proof_of_work_bits":18446744073709551616}} => the field config: query_proof_of_work_bits is of the wrong kind
+{"config":{"log_blowup":0}} => the field config: without a blow-up every word is a codeword
+{"config":{"log_blowup":64}} => the field config: the logarithm of the blow-up is past 63
+{"config":{"log_blowup":63,"num_queries":0}} => the field config: without a query nothing is tested
+{"config":{"log_blowup":28}} => the field config: log_blowup is 28, and the field's two-adicity 27
+{"config":{"field":"koala_bear","log_blowup":25}} => the field config: log_blowup is 25, and the field's two-adicity 24
+{"config":{"field":"f12289","log_blowup":13}} => the field config: log_blowup is 13, and the field's two-adicity 12
+"#;
+
+/// A configuration in words.
+fn spelled(alloc: Global, config: Configuration) -> Result<String, Fail> {
+    let field = config.field;
+    match config.scheme {
+        SchemeChoice::Fri(p) => {
+            let (blowup, length, queries) = (
+                p.log_blowup(),
+                p.log_final_poly_len(),
+                p.num_queries(),
+            );
+            let (commit, query) = (p.commit_proof_of_work_bits(), p.query_proof_of_work_bits());
+            Ok(format!(in alloc; "{field:?} {blowup} {length} {queries} {commit} {query}")?)
+        }
+        SchemeChoice::Clear => Ok(format!(in alloc; "{field:?} clear")?),
+    }
+}
+
+#[test]
+fn configurations_are_read(rt: HostRuntime) -> Result<(), Fail> {
+    let alloc = rt.alloc();
+    let mut count = 0usize;
+    for row in ROWS.lines() {
+        if !row.is_empty() {
+            let (text, expected) = row.split_once(" => ").ok_or("a row without an answer")?;
+            let value = value_from_bytes(alloc, text.as_bytes())
+                .ok()
+                .ok_or("no JSON")?;
+            let found = match Configuration::from_statement(&value) {
+                Ok(config) => spelled(alloc, config)?,
+                Err(error) => format!(in alloc; "{error}")?,
+            };
+            assert_eq!(rt; found.as_str(), expected, "{text}");
+            count = count.saturating_add(1);
+        }
+    }
+    assert_eq!(rt; count, 33);
+    Ok(())
+}
+
+// The logarithm of a blow-up, and how many values fixed columns may have.
+const CELLS: [(usize, usize); 6] = [
+    (1, 1_048_576),
+    (4, 1_048_576),
+    (5, 524_288),
+    (24, 1),
+    (25, 0),
+    (63, 0),
+];
+
+#[test]
+fn fixed_columns_are_fewer_under_a_blowup(rt: HostRuntime) -> Result<(), Fail> {
+    for row in &CELLS {
+        let (log_blowup, cells) = *row;
+        let parameters = FriParameters::new(log_blowup, 0, 1, 0, 0);
+        let parameters = parameters.ok().ok_or("no parameters")?;
+        let wanted = AirLimits {
+            cells,
+            ..AirLimits::default()
+        };
+        let found = AirLimits::under(SchemeChoice::Fri(parameters));
+        assert_eq!(rt; found, wanted, "{log_blowup}");
+    }
+    let found = AirLimits::under(SchemeChoice::Clear);
+    assert_eq!(rt; found, AirLimits::default());
+    Ok(())
+}
+
+const STATEMENT: &str =
+    r#"{"config":{"field":"f12289","log_blowup":3,"num_queries":7,"commit_proof_of_work_bits":1,"query_proof_of_work_bits":5},"air":{"width":1,"publics":1,"periodic":[[6,7]],"preprocessed":{"width":1,"rows":[[8],[9]]},"max_constraint_degree":2,"constants":[5],"nodes":[["main",0],["public",0],["sub",0,1]],"constraints":[{"base":2},{"ext":2}]},"public_values":[4],"alpha_bits":3}"#;
+
+// The words that `canonical_bytes` tells of, written and hashed by Python's hashlib.
+const DIGEST: &str = "fcd12d6c03e3707deedd63cb082e5d3bcf2f9cec99f6facd165398ec16ffdfab";
+
+#[test]
+fn bytes_name_the_configuration(rt: HostRuntime) -> Result<(), Fail> {
+    let alloc = rt.alloc();
+    let statement = Statement::<F12289>::from_slice(alloc, STATEMENT.as_bytes())
+        .ok()
+        .ok_or("no statement")?;
+    assert_eq!(rt; statement.config.field, FieldName::F12289);
+    let bytes = statement.canonical_bytes(alloc)?;
+    assert_eq!(rt; bytes.len(), 349);
+    let digest = hex::encode(alloc, &Sha256::digest(&bytes))?;
+    assert_eq!(rt; digest.as_str(), DIGEST);
+    Ok(())
+}

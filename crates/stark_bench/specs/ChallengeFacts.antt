@@ -1,14 +1,15 @@
 -- The bench's sponges keep the laws of challengers.
-use Rattle.std.specs.Prelude.{◌≡◌, ◌≢◌, ◌⊎◌, ℕ, suc, zero, ◌+◌, ◌<◌, ◌≤◌, Bool, true, false, cond, Option, None, Some, option_map, refl}
+use Rattle.std.specs.Prelude.{◌≡◌, ◌≢◌, ◌⊎◌, ℕ, suc, zero, ◌+◌, ◌-◌, ◌<◌, List, eqb, ◌≤◌, Bool, true, false, cond, Option, None, Some, option_map, refl}
 use Rattle.std.proofs.Common.{◌∙◌, sym, ap, subst, inl, inr, arith}
 use Rattle.std.proofs.lemmas.Bool.Decides.{eqb_tells}
 use Rattle.std.specs.Option.{option_or}
+use Rattle.std.proofs.Math.Nat.{mod-one}
 use Rattle.stark_support.specs.Sponge.{GrindingLaws, drawn_in_turn, after_draws}
 use Rattle.stark_fields.specs.declared.modulus.Modulus.{Ghosts}
 use Rattle.stark_fields.specs.declared.residue.Residue.{Residue}
-use Rattle.stark_fields.specs.Residues.{residue, residue_of_value}
+use Rattle.stark_fields.specs.Residues.{residue, residue_of_value, value_of_residue}
 use Rattle.stark_fields.specs.Ext4Field.{coordinate_list}
-use Rattle.stark_bench.specs.Challenges.{least, found_by, four_drawn, after_four, script_passes, sha_passes, sha_after_check}
+use Rattle.stark_bench.specs.Challenges.{IsFirstOfFour, after_trial, leading, passes_behind, least, found_by, four_drawn, after_four, script_passes, sha_passes, sha_after_check}
 
 -- ---- searches
 
@@ -85,6 +86,26 @@ script_laws = search_laws script_passes (λ s bits w. s) (λ s w. refl) (λ s w.
 pub sha_laws : {M K : Type 0} {G : Ghosts M} → GrindingLaws (sha_passes {M = M} {K = K} {G = G}) sha_after_check (found_by sha_passes)
 sha_laws = search_laws sha_passes sha_after_check (λ s w. refl) (λ s w. refl)
 
+-- Where none of the numbers from n on passes before m, none below m does.
+pub none_between : (p : ℕ → Bool) (n m : ℕ) → least p n ≡ None → n ≤ m → ((k : ℕ) → n ≤ k → k < m → p k ≡ false) → least p m ≡ None
+none_between p n zero e le none = let z : n ≡ 0 = omega arith in subst (λ j. least p j ≡ None) z e
+none_between p n (suc m) e le none = elim (eqb_tells n (suc m)) [
+  | inl w ↦ subst (λ j. least p j ≡ None) w.1 e
+  | inr w ↦ let ne : n ≢ suc m = w.1 in let lt : n ≤ m = omega arith in none_yet p m (none_between p n m e lt (λ k from to. none k from (omega arith))) (none m lt (omega arith))
+]
+
+-- Whether the element of a number passes shows in the state behind its trial.
+trial_by_bits : {M K : Type 0} {G : Ghosts M} (s : List ℕ) (bits : ℕ) (w : Residue M K G) (n : ℕ) → w.value ≡ n → sha_passes s bits w ≡ passes_behind (after_trial s n) bits
+trial_by_bits s bits w n same =
+    let behind = passes_behind (after_trial s w.value) bits in
+    elim (eqb_tells bits 0) [
+      | inl e ↦ ap (λ b. cond b true behind) e.0 ∙ sym (ap (passes_behind (after_trial s n)) e.1 ∙ ap (λ m. eqb m 0) (mod-one (leading (after_trial s n))))
+      | inr e ↦ ap (λ b. cond b true behind) e.0 ∙ ap (λ m. passes_behind (after_trial s m) bits) same
+    ]
+
+pub trial_passes : {M : Type 0} (K : Type 0) (G : Ghosts M) (s : List ℕ) (bits n : ℕ) → n < G.MODULUS → sha_passes s bits (residue {M = M} {K = K} {G = G} n) ≡ passes_behind (after_trial s n) bits
+trial_passes {M} K G s bits n below = trial_by_bits s bits (residue {M = M} {K = K} {G = G} n) n (value_of_residue G.MODULUS n below)
+
 -- ---- the turns of a search
 
 module _ {C M K : Type 0} {G : Ghosts M} (passes : C → ℕ → Residue M K G → Bool) (s : C) (bits n : ℕ) where
@@ -106,6 +127,31 @@ module _ {C M K : Type 0} {G : Ghosts M} (passes : C → ℕ → Residue M K G �
 
   pub search_ends : NonePassedBelow passes s bits n → n ≤ G.MODULUS → G.MODULUS ≤ n → None ≡ found_by passes s bits
   search_ends e l h = let all : n ≡ G.MODULUS = omega arith in ap (option_map residue) (sym (subst (λ j. NonePassedBelow passes s bits j) all e))
+
+-- ---- four trials at once
+
+module _ {M : Type 0} (K : Type 0) (G : Ghosts M) (s state : List ℕ) (bits first : ℕ) (same : state ≡ s) (within : first + 4 ≤ G.MODULUS) where
+  trial : (j : ℕ) → j < 4 → sha_passes s bits (residue {M = M} {K = K} {G = G} (first + j)) ≡ passes_behind (after_trial state (first + j)) bits
+  trial j low = trial_passes K G s bits (first + j) (omega arith) ∙ ap (λ t. passes_behind (after_trial t (first + j)) bits) (sym same)
+
+  -- Where no number before passed, and of four those before the j-th don't, none before it does.
+  none_to : (j : ℕ) → j ≤ 4 → NonePassedBelow (sha_passes {M = M} {K = K} {G = G}) s bits first → ((k : ℕ) → k < j → passes_behind (after_trial state (first + k)) bits ≡ false)
+      → NonePassedBelow (sha_passes {M = M} {K = K} {G = G}) s bits (first + j)
+  none_to j most before none = none_between (λ k. sha_passes s bits (residue {M = M} {K = K} {G = G} k)) first (first + j) before (omega arith)
+      (λ k from to. let place : first + (k - first) ≡ k = omega arith in
+      subst (λ m. sha_passes s bits (residue {M = M} {K = K} {G = G} m) ≡ false) place (trial (k - first) (omega arith) ∙ none (k - first) (omega arith)))
+
+  pub four_skipped : NonePassedBelow (sha_passes {M = M} {K = K} {G = G}) s bits first → IsFirstOfFour (λ n. passes_behind (after_trial state n) bits) first None
+      → NonePassedBelow (sha_passes {M = M} {K = K} {G = G}) s bits (first + 4)
+  four_skipped before none = none_to 4 (omega arith) before none
+
+  pub one_of_four_found : (n : ℕ) → NonePassedBelow (sha_passes {M = M} {K = K} {G = G}) s bits first → IsFirstOfFour (λ n. passes_behind (after_trial state n) bits) first (Some n)
+      → Some (residue n) ≡ found_by (sha_passes {M = M} {K = K} {G = G}) s bits
+  one_of_four_found n before found =
+      let j = found.0 in
+      let passes = ap (λ m. passes_behind (after_trial state m) bits) (sym found.2) ∙ found.3 in
+      rw found.2 (search_finds (sha_passes {M = M} {K = K} {G = G}) s bits (first + j) (none_to j (omega (arith, found.1)) before found.4) refl refl
+      (trial j found.1 ∙ passes) (omega (arith, found.1)))
 
 -- ---- elements of the extension
 

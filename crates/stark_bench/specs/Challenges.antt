@@ -1,5 +1,5 @@
 -- The bench's two sponges.
-use Rattle.std.specs.Prelude.{ℕ, suc, zero, ◌+◌, ◌%◌, ◌^◌, Bool, true, cond, eqb, ltb, ◌&&◌, List, [], ◌∷◌, ◌++◌, length, get_or, take, map, flat_map, Option, None, Some, option_map}
+use Rattle.std.specs.Prelude.{◌≡◌, ℕ, suc, zero, ◌+◌, ◌<◌, ◌%◌, ◌^◌, Bool, true, false, cond, eqb, ltb, ◌&&◌, List, [], ◌∷◌, ◌++◌, length, get_or, take, map, flat_map, Option, None, Some, option_map}
 use Rattle.std.specs.Int.{w64, from_be_bytes}
 use Rattle.std.specs.Option.{option_or}
 use Rattle.sha2.specs.Sha256.{sha256}
@@ -16,6 +16,11 @@ use Rattle.stark_fields.specs.Ext4Field.{ext4}
 unfoldable pub least : (ℕ → Bool) → ℕ → Option ℕ
 least p zero = None
 least p (suc n) = option_or (least p n) (cond (p n) (Some n) None)
+
+-- The first of four numbers, from this one on, that passes; None where none does.
+abbrev pub IsFirstOfFour : (ℕ → Bool) → ℕ → Option ℕ → Type 0
+IsFirstOfFour p first None = (j : ℕ) → j < 4 → p (first + j) ≡ false
+IsFirstOfFour p first (Some n) = (j : ℕ) × (j < 4) × (n ≡ first + j) × (p n ≡ true) × ((k : ℕ) → k < j → p (first + k) ≡ false)
 
 -- The element of the least number that passes.
 abbrev pub found_by : {C M K : Type 0} {G : Ghosts M} → (C → ℕ → Residue M K G → Bool) → C → ℕ → Option (Residue M K G)
@@ -69,6 +74,14 @@ drawn_element s = residue (leading (after_draw s))
 
 abbrev pub drawn_bits : List ℕ → ℕ → ℕ
 drawn_bits s bits = leading (after_bits s) % 2 ^ bits
+
+-- The state after the element of a number, and a draw of bits behind it.
+abbrev pub after_trial : List ℕ → ℕ → List ℕ
+after_trial s n = after_bits (absorbed s 0 (number n))
+
+-- The number that a state hands out is a multiple of 2 ^ bits, which a word holds.
+abbrev pub passes_behind : List ℕ → ℕ → Bool
+passes_behind s bits = ltb bits 64 && eqb (leading s % 2 ^ bits) 0
 
 abbrev pub sha_passes : {M K : Type 0} {G : Ghosts M} → List ℕ → ℕ → Residue M K G → Bool
 sha_passes s bits w = cond (eqb bits 0) true (ltb bits 64 && eqb (drawn_bits (after_element s w) bits) 0)

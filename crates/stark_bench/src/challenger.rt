@@ -2,6 +2,7 @@
 mod commitment;
 mod script;
 mod sha256;
+mod trials;
 
 pub use commitment::ClearCommitment;
 pub use script::ScriptChallenger;

@@ -5,6 +5,7 @@ use Rattle.std.proofs.lemmas.Option.{slice_get_read}
 use Rattle.std.specs.List.{AllByRecursion, slice_get}
 use Rattle.stark_support.specs.Ring.{RingOps, FieldLaws, difference}
 use Rattle.stark_support.specs.RingFacts.{same_if_no_difference}
+use Rattle.stark_support.specs.RingSolver.{solve, unit, ◌⊕◌, ◌⊖◌, ◌⊗◌, v0, v1, v2, v3, v4}
 use Rattle.stark_support.specs.Polynomial.{value}
 use Rattle.stark_support.specs.Powers.{power}
 use Rattle.stark_support.specs.TwoAdic.{TwoAdicLaws}
@@ -12,7 +13,7 @@ use Rattle.stark_support.specs.Coset.{TwoAdicCoset, IsTwoAdicCoset, AreValuesOn,
 use Rattle.stark_support.specs.CosetValueFacts.{all_values, no_values, one_more_value}
 use Rattle.stark_support.specs.Embedding.{IsEmbedding}
 use Rattle.stark_support.specs.KeepsRing.{kept_power}
-use Rattle.stark_folding.specs.Fold.{folded, folded_pair, squared_coset}
+use Rattle.stark_folding.specs.Fold.{folded, folded_pair, half_of, squared_coset}
 use Rattle.stark_folding.specs.FoldFacts.{points_fold}
 use Rattle.stark_folding.specs.Reduce.{Seen, reduced_at}
 
@@ -93,6 +94,40 @@ module _ {K : Type 0} {ring : RingOps K} {inverse : K → K} (laws : FieldLaws r
 pub embedded_point : {F E : Type 0} {base : RingOps F} {extension : RingOps E} {embed : F → E} (embeds : IsEmbedding base extension embed) (shift g : F) (i : ℕ)
     → embed (base.mul shift (power base g i)) ≡ extension.mul (embed shift) (power extension (embed g) i)
 embedded_point {extension = extension} {embed = embed} embeds shift g i = embeds.keeps.mul shift (power _ g i) ∙ ap (extension.mul (embed shift)) (kept_power embeds.keeps g (embed g) i refl)
+
+-- ---- pairs by weights
+
+module _ {K : Type 0} {ring : RingOps K} {inverse : K → K} (laws : FieldLaws ring inverse) (beta : K) where
+  -- Half of beta over a point.
+  abbrev pub IsWeight : K → K → Type 0
+  IsWeight x w = ring.mul w x ≡ ring.mul (half_of ring inverse) beta
+
+  pub first_weight : (shift g w : K) → shift ≢ ring.zero → w ≡ ring.mul (ring.mul (half_of ring inverse) beta) (inverse shift) → IsWeight (ring.mul shift (power ring g 0)) w
+  unfolding power
+  first_weight shift g w nonzero is =
+      let h = half_of ring inverse in
+      ap (λ t. ring.mul t (ring.mul shift ring.one)) is
+      ∙ solve laws.of_ring (h ∷ beta ∷ shift ∷ inverse shift ∷ []) (v0 ⊗ v1 ⊗ v3 ⊗ (v2 ⊗ unit)) (v2 ⊗ v3 ⊗ (v0 ⊗ v1)) refl
+      ∙ ap (λ t. ring.mul t (ring.mul h beta)) (laws.mul_inverse shift nonzero) ∙ solve laws.of_ring (ring.mul h beta ∷ []) (unit ⊗ v0) v0 refl
+
+  pub next_weight : (shift g s w v : K) (i : ℕ) → ring.mul g s ≡ ring.one → v ≡ ring.mul w s → IsWeight (ring.mul shift (power ring g i)) w → IsWeight (ring.mul shift (power ring g (i + 1))) v
+  next_weight shift g s w v i undone is here =
+      let p = power ring g i in
+      ap (λ t. ring.mul t (ring.mul shift (power ring g (i + 1)))) is ∙ ap (λ t. ring.mul (ring.mul w s) (ring.mul shift t)) (sym (next_power ring g i p refl))
+      ∙ solve laws.of_ring (w ∷ s ∷ shift ∷ g ∷ p ∷ []) (v0 ⊗ v1 ⊗ (v2 ⊗ (v3 ⊗ v4))) (v3 ⊗ v1 ⊗ (v0 ⊗ (v2 ⊗ v4))) refl
+      ∙ ap (λ t. ring.mul t (ring.mul w (ring.mul shift p))) undone ∙ solve laws.of_ring (ring.mul w (ring.mul shift p) ∷ []) (unit ⊗ v0) v0 refl ∙ here
+
+  pub weighted_pair : (x w a b v : K) → ring.add ring.one ring.one ≢ ring.zero → x ≢ ring.zero → IsWeight x w → v ≡ ring.add b (ring.mul (ring.add (half_of ring inverse) w) (difference ring a b))
+      → v ≡ folded_pair ring inverse beta x a b
+  weighted_pair x w a b v two nonzero weight is =
+      let h = half_of ring inverse in
+      let i = inverse x in
+      let whole : w ≡ ring.mul (ring.mul h beta) i
+      = solve laws.of_ring (w ∷ []) v0 (v0 ⊗ unit) refl ∙ ap (ring.mul w) (sym (laws.mul_inverse x nonzero))
+      ∙ solve laws.of_ring (w ∷ x ∷ i ∷ []) (v0 ⊗ (v1 ⊗ v2)) (v0 ⊗ v1 ⊗ v2) refl ∙ ap (λ t. ring.mul t i) weight in
+      is ∙ ap (λ t. ring.add b (ring.mul (ring.add h t) (difference ring a b))) whole
+      ∙ ap (λ t. ring.add t (ring.mul (ring.add h (ring.mul (ring.mul h beta) i)) (difference ring a b))) (solve laws.of_ring (b ∷ []) v0 (unit ⊗ v0) refl ∙ ap (λ t. ring.mul t b) (sym (laws.mul_inverse (ring.add ring.one ring.one) two)))
+      ∙ solve laws.of_ring (h ∷ beta ∷ i ∷ a ∷ b ∷ []) ((unit ⊕ unit) ⊗ v0 ⊗ v4 ⊕ (v0 ⊕ v0 ⊗ v1 ⊗ v2) ⊗ (v3 ⊖ v4)) (v0 ⊗ (v3 ⊕ v4 ⊕ v1 ⊗ v2 ⊗ (v3 ⊖ v4))) refl
 
 -- ---- claims
 

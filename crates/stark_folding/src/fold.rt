@@ -108,13 +108,17 @@ pub fn fold_codeword_in<F: TwoAdicField, EF: ExtensionField<F>>(
     ensures { IfOk result (λ half. FoldsOn EF.ring (λ k. EF.embed (F.root k)) (EF.embed shift)
         log_size beta codeword.now half.items) }
 {
-    let generator = F::two_adic_generator(log_size);
+    let one_half = (EF::ONE + EF::ONE).inverse();
+    let generator: EF = EF::from_base(F::two_adic_generator(log_size));
+    let step = generator.inverse();
     let count = codeword.len() / 2;
-    let mut half = Vec::new(alloc);
-    let mut power = F::ONE;
+    let mut half = Vec::with_capacity(alloc, count)?;
+    // Half of beta over the pair's point.
+    let mut weight = one_half * beta * EF::from_base(shift).inverse();
     for i in 0..count {
-        half.push(fold_pair_in::<F, EF>(beta, shift * power, codeword[i], codeword[i + count]))?;
-        power = generator * power;
+        let opposite = codeword[i + count];
+        half.push(opposite + (one_half + weight) * (codeword[i] - opposite))?;
+        weight = weight * step;
     }
     Ok(half)
 }

@@ -15,12 +15,12 @@ use Rattle.stark_merkle.specs.declared.root.Root.{Root}
 use Rattle.stark_fri_proof.specs.declared.parameters.FriParameters.{FriParameters}
 use Rattle.stark_fri_proof.specs.Parts.{FriProofView}
 use Rattle.stark_fri.specs.Accept.{Accepted, Refused}
-use Rattle.stark_fri.specs.Claims.{RoundRead, own_claim, round_read, rounds_in}
+use Rattle.stark_fri.specs.Claims.{ClaimsFault, ClaimsFit, RoundRead, height_of, own_claim, round_read, rounds_in}
 use Rattle.stark_fri.specs.Parts.{FriDataView, FriOps}
 use Rattle.stark_fri.specs.Transcript.{Instance}
 use Rattle.stark_fri.specs.declared.error.FriError.{FriError}
 use Rattle.stark_fri.specs.declared.error.FriProverError.{FriProverError}
-use Rattle.stark_fri.specs.declared.error.FriProverError.TheVariants.{Points, NoWork, OwnProof}
+use Rattle.stark_fri.specs.declared.error.FriProverError.TheVariants.{Points, Claims, Heights, NoWork}
 
 abbrev pub columns_of : {F : Type 0} → List (CommittedMatrix F) → List (List (List F))
 columns_of matrices = map (λ m. m.columns) matrices
@@ -77,15 +77,17 @@ module _ {C F E : Type 0} (ops : FriOps C F E) where
   abbrev pub own_rounds : List (RoundPoints E (FriDataView F)) → List (RoundRead E)
   own_rounds rounds = map (own_claim ops.fields.ring ops.fields.embed) rounds
 
-  -- A proof that the verifier would refuse with this error.
-  abbrev pub OwnProofFails : FriParameters → List (RoundPoints E (FriDataView F)) → C → FriError → Type 0
-  OwnProofFails s rounds state error = (proof : FriProofView F E) × Refused ops (instance_of s (own_rounds rounds) proof state) error
+  -- All rounds are of the claims' height.
+  abbrev pub HaveClaimedHeight : List (RoundPoints E (FriDataView F)) → Type 0
+  HaveClaimedHeight rounds = AllByRecursion (λ (round : RoundPoints E (FriDataView F)). round.0.log_height ≡ height_of (own_rounds rounds)) rounds
 
-  -- A round with another number of lists of points than matrices; a search that found nothing, of which nothing is said; a refusal of the prover's own proof.
-  abbrev pub OpeningRefused : FriParameters → List (RoundPoints E (FriDataView F)) → C → FriProverError → Type 0
-  OpeningRefused s rounds state Points = AllByRecursion (λ (round : RoundPoints E (FriDataView F)). length round.1 ≡ length round.0.matrices) rounds → ⊥
-  OpeningRefused s rounds state NoWork = ⊤
-  OpeningRefused s rounds state (OwnProof error) = OwnProofFails s rounds state error
+  -- A round with another number of lists of points than matrices; claims that don't fit, by their first fault; a round of another height;
+  -- a search that found nothing, of which nothing is said.
+  abbrev pub OpeningRefused : FriParameters → List (RoundPoints E (FriDataView F)) → FriProverError → Type 0
+  OpeningRefused s rounds Points = AllByRecursion (λ (round : RoundPoints E (FriDataView F)). length round.1 ≡ length round.0.matrices) rounds → ⊥
+  OpeningRefused s rounds (Claims error) = ClaimsFault ops.fields s (own_rounds rounds) error
+  OpeningRefused s rounds Heights = ClaimsFit ops.fields s (own_rounds rounds) × (HaveClaimedHeight rounds → ⊥)
+  OpeningRefused s rounds NoWork = ⊤
 
   -- S, T and P are the scheme, the prover's data and the proof as they lie in memory.
   module _ {S T P : Type 0} (parameters_of : S → FriParameters) (data_view : T → FriDataView F) (proof_view : P → FriProofView F E) where
@@ -108,7 +110,7 @@ module _ {C F E : Type 0} (ops : FriOps C F E) where
       RefusesPreprocessing = λ s domain values width error. ⊥;
       RefusesQuotient = λ s domain values width chunks error. ⊥;
       RefusesRandomization = λ s domain error. ⊥;
-      RefusesOpening = λ s rounds state index error. OpeningRefused (parameters_of s) (map points_view rounds) state error;
+      RefusesOpening = λ s rounds state index error. OpeningRefused (parameters_of s) (map points_view rounds) error;
     }
 
 -- ---- by which call a commitment was made
@@ -138,10 +140,10 @@ fri_calls field root data_view = record {
 abbrev pub plain_scheme : {C F E : Type 0} → FriOps C F E → SchemeOps FriParameters F E C Root (FriDataView F) (FriProofView F E) FriError FriProverError
 plain_scheme ops = fri_scheme ops (λ s. s) (λ t. t) (λ p. p) (fri_calls ops.fields.base ops.fields.root (λ t. t))
 
--- What the prover's own check accepts of the data and the points that it is handed is accepted of the true claims of any matrices
--- that the data stand for.
-abbrev pub OwnCheckIsEnough : {C F E : Type 0} → FriOps C F E → Type 0
-OwnCheckIsEnough {C} {F} {E} ops = (s : FriParameters) (made : List (OpenedRound F E Root (FriDataView F))) (proof : FriProofView F E) (state : C) (index : Option ℕ)
+-- What is accepted of the claims that the prover's data and its points give is accepted of the true claims of any matrices that the data
+-- stand for.
+abbrev pub OwnClaimsAreEnough : {C F E : Type 0} → FriOps C F E → Type 0
+OwnClaimsAreEnough {C} {F} {E} ops = (s : FriParameters) (made : List (OpenedRound F E Root (FriDataView F))) (proof : FriProofView F E) (state : C) (index : Option ℕ)
     → AllByRecursion (RoundStands (plain_scheme ops) s) made
     → Accepted ops (instance_of s (own_rounds ops (map handed made)) proof state)
     → (plain_scheme ops).Accepts s (map (true_claim ops.fields.ring ops.fields.embed) made) proof state index

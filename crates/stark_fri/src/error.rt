@@ -60,10 +60,14 @@ pub enum FriProverError {
     /// A round has another number of lists of points than matrices.
     #[error("a round has another number of lists of points")]
     Points,
+    /// What is claimed of the columns doesn't fit, so that each proof of it is refused with this
+    /// fault: nothing is opened, columns differ in length, or a point lies on the larger coset.
+    #[error("the claims don't fit")]
+    Claims(FriError),
+    /// A round without a matrix was made for columns of another length.
+    #[error("a round has another height")]
+    Heights,
     /// No witness passes.
     #[error("no witness was found")]
     NoWork,
-    /// The verifier refuses the proof that was made.
-    #[error("the proof would be refused")]
-    OwnProof(FriError),
 }

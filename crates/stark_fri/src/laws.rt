@@ -2,7 +2,7 @@
 ghost use Rattle.std.specs.Prelude.{◌<◌};
 ghost use Rattle.stark_support.specs.Scheme.{SchemeLaws};
 ghost use Rattle.stark_fri.specs.Parts.{FriOps};
-ghost use Rattle.stark_fri.specs.Scheme.{OwnCheckIsEnough, plain_scheme};
+ghost use Rattle.stark_fri.specs.Scheme.{OwnClaimsAreEnough, plain_scheme};
 
 /// A law, with no code: whatever fields, challenger and hash it is made of, the scheme keeps the
 /// laws of schemes. So no claims are both accepted and refused.
@@ -10,8 +10,8 @@ pub fn no_claim_is_both<C, F, EF>(_some: &C, _base: &F, _extension: &EF)
     ensures { (ops : FriOps C F EF) → ops.fields.adicity < 64 → SchemeLaws (plain_scheme ops) }
 {}
 
-/// A law, with no code: what the prover's own check accepts of the data and the points that it is
-/// handed, the verifier accepts of the true claims of any matrices that the data stand for.
-pub fn own_check_is_enough<C, F, EF>(_some: &C, _base: &F, _extension: &EF)
-    ensures { (ops : FriOps C F EF) → OwnCheckIsEnough ops }
+/// A law, with no code: what is accepted of the claims that the prover's data and points give, the
+/// verifier accepts of the true claims of any matrices that the data stand for.
+pub fn own_claims_are_enough<C, F, EF>(_some: &C, _base: &F, _extension: &EF)
+    ensures { (ops : FriOps C F EF) → OwnClaimsAreEnough ops }
 {}

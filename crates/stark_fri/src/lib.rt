@@ -18,7 +18,7 @@ mod verify;
 pub use claims::check_claims;
 pub use error::{FriError, FriProverError, QueryFault};
 pub use fields::FoldingFields;
-pub use laws::{no_claim_is_both, own_check_is_enough};
+pub use laws::{no_claim_is_both, own_claims_are_enough};
 pub use replay::draw_places;
 pub use sponge::{FriCalls, FriObserving, FriSponge};
 pub use transcript::{observe_claims, observe_parameters, observe_values};

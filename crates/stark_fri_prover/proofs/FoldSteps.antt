@@ -1,14 +1,17 @@
 -- One fold more.
-use Rattle.std.proofs.Common.{◌≡◌, ◌∙◌, ℕ, suc, ◌+◌, ◌-◌, List, [], ◌∷◌, ◌++◌, ap, arith, length, refl, subst, sym}
-use Rattle.std.proofs.lemmas.List.{length-append}
+use Rattle.std.proofs.Common.{◌≡◌, ◌∙◌, ℕ, suc, ◌+◌, ◌-◌, List, [], ◌∷◌, ◌++◌, ap, append_assoc, arith, length, refl, subst, sym}
+use Rattle.std.proofs.lemmas.List.{append-nil, length-append}
 use Rattle.std.specs.List.{AllByRecursion}
+use Rattle.stark_support.specs.Coset.{TwoAdicCoset, coset_from}
+use Rattle.stark_support.specs.KeepsRing.{KeepsRing}
 use Rattle.stark_support.specs.Ring.{RingOps}
-use Rattle.stark_folding.specs.Fold.{folded}
+use Rattle.stark_folding.specs.Fold.{folded, squared_coset}
 use Rattle.stark_folding.specs.Walk.{folded_all}
 use Rattle.stark_fri.specs.Parts.{SpongeCalls}
 use Rattle.stark_fri.specs.Transcript.{Passes, after_phases, asked, betas_of, checks_of, worked}
 use Rattle.stark_fri_proof.specs.declared.proof.Phase.{Phase}
 use Rattle.stark_fri_prover.specs.Folds.{AreFolds, IsFold}
+use Rattle.stark_fri_prover.specs.Honest.{AreWordsOf, IsWordOf}
 use Rattle.stark_fri_prover.specs.Layers.{AreLayersOf, IsLayerOf}
 use Rattle.stark_fri_prover.specs.declared.layers.Layer.{Layer}
 
@@ -37,6 +40,17 @@ module _ {C F E : Type 0} (sponge : SpongeCalls C F E) (bits : ℕ) where
   passing_one_more state (p ∷ phases) phase all here = (all.0, passing_one_more (sponge.after_draw (worked sponge bits state p)) phases phase all.1 here)
 
   module _ (ring : RingOps E) (before : C) (polynomial : List E) where
+    -- One more beta is drawn.
+    pub one_more_beta : (n : ℕ) (state : C) (phases later : List (Phase F)) (last : List E) (phase : Phase F) → later ≡ phases ++ phase ∷ [] → AreFolds sponge ring bits n before state polynomial phases last
+        → betas_of sponge bits before later ≡ betas_of sponge bits before phases ++ sponge.draw (worked sponge bits state phase) ∷ []
+    one_more_beta n state phases later last phase pushed folds =
+        ap (betas_of sponge bits before) pushed ∙ betas_of_one_more before phases phase
+        ∙ ap (λ s. betas_of sponge bits before phases ++ sponge.draw (worked sponge bits s phase) ∷ []) (sym folds.state)
+
+    pub no_betas : (phases : List (Phase F)) → phases ≡ [] → betas_of sponge bits before phases ≡ []
+    unfolding betas_of
+    no_betas phases none = ap (betas_of sponge bits before) none
+
     pub no_folds : (phases : List (Phase F)) → phases ≡ [] → AreFolds sponge ring bits 0 before before polynomial phases polynomial
     unfolding betas_of after_phases checks_of folded_all
     no_folds phases none = subst (λ t. AreFolds sponge ring bits 0 before before polynomial t polynomial) (sym none) (record { number = refl; passing = tt; folded = refl; state = refl })
@@ -89,3 +103,44 @@ module _ {F E : Type 0} (number_of : F → ℕ) (coordinates : E → List F) (ze
         one_layer_more log_size phases layers phase layer so_far.0 (subst (λ n. IsLayerOf number_of coordinates zero hash n phase.root layer) so_far.1 here),
         omega (arith, number, half, so_far.1),
       ))
+
+-- ---- words
+
+module _ {E : Type 0} (ring : RingOps E) (root : ℕ → E) (start : TwoAdicCoset E) (polynomial : List E) where
+  -- From here on whatever has the words of what is left, behind the layers so far has those of the polynomial.
+  abbrev pub WordsTo : List E → List (Layer E) → TwoAdicCoset E → List E → List E → Type 0
+  WordsTo betas layers here last word =
+      IsWordOf ring root here last word
+      × ((rest : List E) (left : List (Layer E)) → AreWordsOf ring root here rest last left → AreWordsOf ring root start (betas ++ rest) polynomial (layers ++ left))
+
+  pub no_words : (betas : List E) (layers : List (Layer E)) (word : List E) → betas ≡ [] → layers ≡ [] → IsWordOf ring root start polynomial word → WordsTo betas layers start polynomial word
+  no_words betas layers word none none_either is = (
+    is,
+    λ rest left words. subst (λ t. AreWordsOf ring root start (t ++ rest) polynomial (layers ++ left)) (sym none) (subst (λ t. AreWordsOf ring root start rest polynomial (t ++ left)) (sym none_either) words),
+  )
+
+  pub words_more : (betas later : List E) (layers more : List (Layer E)) (here next : TwoAdicCoset E) (last half word halved : List E) (beta : E) (layer : Layer E) → later ≡ betas ++ beta ∷ [] → more ≡ layers ++ layer ∷ []
+      → next ≡ squared_coset ring here → half ≡ folded ring beta last → IsWordOf ring root here last layer.values.items × IsWordOf ring root (squared_coset ring here) half halved
+      → WordsTo betas layers here last word → WordsTo later more next half halved
+  unfolding AreWordsOf
+  words_more betas later layers more here next last half word halved beta layer pushed pushed_too squares by_beta both so_far = (
+    subst (λ c. IsWordOf ring root c half halved) (sym squares) both.1,
+    λ rest left words.
+        let folded_on : AreWordsOf ring root (squared_coset ring here) rest (folded ring beta last) left
+        = subst (λ p. AreWordsOf ring root (squared_coset ring here) rest p left) by_beta (subst (λ c. AreWordsOf ring root c rest half left) squares words) in
+        let all : AreWordsOf ring root here (beta ∷ rest) last (layer ∷ left) = (both.0, folded_on) in
+        subst (λ t. AreWordsOf ring root start t polynomial (more ++ left)) (sym (ap (λ t. t ++ rest) pushed ∙ append_assoc betas (beta ∷ []) rest))
+        (subst (λ t. AreWordsOf ring root start (betas ++ beta ∷ rest) polynomial t) (sym (ap (λ t. t ++ left) pushed_too ∙ append_assoc layers (layer ∷ []) left))
+        (so_far.1 (beta ∷ rest) (layer ∷ left) all)),
+  )
+
+  pub words_all : (betas : List E) (layers : List (Layer E)) (here : TwoAdicCoset E) (last word : List E) → WordsTo betas layers here last word → AreWordsOf ring root start betas polynomial layers
+  unfolding AreWordsOf
+  words_all betas layers here last word so_far =
+      subst (λ t. AreWordsOf ring root start t polynomial layers) (append-nil betas) (subst (λ t. AreWordsOf ring root start (betas ++ []) polynomial t) (append-nil layers) (so_far.1 [] [] tt))
+
+-- The coset of the squares, of a coset of the base field in the extension.
+pub squares_embedded : {F E : Type 0} {base : RingOps F} {ring : RingOps E} {embed : F → E} (keeps : KeepsRing base ring embed) (shift square : F) (log_size less : ℕ) → square ≡ base.mul shift shift → less ≡ log_size - 1
+    → coset_from (embed square) less ≡ squared_coset ring (coset_from (embed shift) log_size)
+squares_embedded {embed = embed} keeps shift square log_size less is half =
+    ap (λ s. coset_from (embed s) less) is ∙ ap (λ s. coset_from s less) (keeps.mul shift shift) ∙ ap (coset_from _) half

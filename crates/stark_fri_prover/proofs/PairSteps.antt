@@ -4,23 +4,19 @@ use Rattle.std.proofs.lemmas.List.{append-nil, drop_all}
 use Rattle.std.specs.Prelude.{min}
 use Rattle.stark_support.proofs.Places.{from_place}
 use Rattle.std.specs.List.{AllByRecursion}
-use Rattle.stark_support.specs.Claims.{IfRefused, RoundPoints}
+use Rattle.stark_support.specs.Claims.{RoundPoints}
 use Rattle.stark_support.specs.Ring.{RingOps}
 use Rattle.stark_support.specs.declared.matrix.RowMajorMatrix.{RowMajorMatrix}
 use Rattle.stark_support.specs.Scheme.{CommittingCalls, OpenedRound, RoundStands, handed, row_at, true_values}
-use Rattle.stark_support.specs.declared.scheme.SchemeFault.{SchemeFault}
-use Rattle.stark_support.specs.declared.scheme.SchemeFault.TheVariants.{OutOfMemory, Refused}
 use Rattle.stark_columns.specs.Opened.{matrices_at}
 use Rattle.stark_columns.specs.OpenedFacts.{one_is_done, opened_are_true}
 use Rattle.stark_merkle.specs.declared.root.Root.{Root}
 use Rattle.stark_fri.specs.Claims.{own_claim, own_matrices}
 use Rattle.stark_fri.specs.Parts.{FriDataView, FriOps}
-use Rattle.stark_fri.specs.Scheme.{OpeningRefused, fri_scheme, own_rounds}
-use Rattle.stark_fri.specs.declared.error.FriProverError.{FriProverError}
-use Rattle.stark_fri.specs.declared.error.FriProverError.TheVariants.{NoWork, OwnProof, Points}
+use Rattle.stark_fri.specs.Scheme.{fri_scheme}
 use Rattle.stark_fri_proof.specs.declared.parameters.FriParameters.{FriParameters}
 use Rattle.stark_fri_proof.specs.Parts.{FriProofView}
-use Rattle.stark_fri_prover.specs.OwnClaims.{ProvingRefused, matrix_claims, opened_rounds, paired_with, round_claims}
+use Rattle.stark_fri_prover.specs.OwnClaims.{matrix_claims, opened_rounds, paired_with, round_claims}
 
 module _ {A B D X Y : Type 0} (h : X → Y → D) (f : A → X) (g : B → Y) (xs : List A) (ys : List B) where
   abbrev from : ℕ → List D
@@ -87,15 +83,7 @@ module _ {F E T : Type 0} (root_of : T → Root) (height_of : T → ℕ) (matric
   points_counted count_of counted [] all = tt
   points_counted count_of counted (round ∷ rounds) all = (all.0 ∙ counted round.0, points_counted count_of counted rounds all.1)
 
--- ---- refusals, and true values
-
-module _ {C F E : Type 0} (ops : FriOps C F E) (s : FriParameters) (rounds : List (RoundPoints E (FriDataView F))) (state : C) where
-  -- What is answered of the prover's own claims is answered of the opening.
-  pub opening_refused : (fault : SchemeFault FriProverError) → IfRefused fault (ProvingRefused ops s (own_rounds ops rounds) state) → IfRefused fault (OpeningRefused ops s rounds state)
-  opening_refused OutOfMemory refused = tt
-  opening_refused (Refused Points) refused = absurd refused
-  opening_refused (Refused NoWork) refused = tt
-  opening_refused (Refused (OwnProof error)) refused = refused
+-- ---- true values
 
 module _ {C F E S T P : Type 0} (ops : FriOps C F E) (parameters_of : S → FriParameters) (data_view : T → FriDataView F) (proof_view : P → FriProofView F E) (calls : CommittingCalls S F Root T) (s : S) where
   -- What is opened of rounds that stand are the true values.

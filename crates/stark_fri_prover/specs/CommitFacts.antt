@@ -13,7 +13,7 @@ use Rattle.stark_merkle.specs.Tree.{leaf_of}
 use Rattle.stark_fri_prover.specs.Commit.{AreExtended, HaveRows, extended_row, leaf_at, leaves_of, row_of}
 
 module _ {F : Type 0} (ring : RingOps F) (root : ℕ → F) (coset : TwoAdicCoset F) where
-  rows_are : (matrices : List (List (List F))) (extended : List (RowMajorMatrix F)) → AreExtended ring root coset matrices extended → (i : ℕ) → i < coset_size coset
+  pub rows_are : (matrices : List (List (List F))) (extended : List (RowMajorMatrix F)) → AreExtended ring root coset matrices extended → (i : ℕ) → i < coset_size coset
       → map (row_of i) extended ≡ extended_row ring root coset matrices i
   unfolding PlaceByPlace
   rows_are [] [] all i below = refl

@@ -1,5 +1,16 @@
+pub mod Batch
 pub mod Commit
 pub mod CommitFacts
 pub mod Folds
+pub mod Honest
+pub mod HonestFacts
+pub mod HonestFactsLengths
+pub mod HonestFactsLists
+pub mod HonestFactsOpened
+pub mod HonestFactsScheme
+pub mod HonestFactsTrees
+pub mod HonestFactsWay
+pub mod HonestOpening
 pub mod Layers
 pub mod OwnClaims
+pub mod Words

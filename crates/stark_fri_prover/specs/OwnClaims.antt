@@ -1,14 +1,12 @@
 -- What the prover opens, claims and answers.
-use Rattle.std.specs.Prelude.{ℕ, ⊤, List, [], ◌∷◌, map, ◌≡◌}
+use Rattle.std.specs.Prelude.{ℕ, List, [], ◌∷◌, map, ◌≡◌}
 use Rattle.stark_columns.specs.Opened.{opened_round}
-use Rattle.stark_fri.specs.Accept.{Refused}
-use Rattle.stark_fri.specs.Claims.{MatrixRead, RoundRead, matrix_seen, rounds_in}
-use Rattle.stark_fri.specs.Parts.{FriOps}
-use Rattle.stark_fri.specs.Scheme.{instance_of}
+use Rattle.stark_fri.specs.Claims.{ClaimsFit, MatrixRead, RoundRead, height_of, matrix_seen, rounds_in}
+use Rattle.stark_fri.specs.Parts.{FriDataView, FriOps}
+use Rattle.stark_fri.specs.Scheme.{OpeningRefused, own_rounds}
 use Rattle.stark_fri.specs.declared.error.FriProverError.{FriProverError}
-use Rattle.stark_fri.specs.declared.error.FriProverError.TheVariants.{Points, NoWork, OwnProof}
 use Rattle.stark_fri_proof.specs.declared.parameters.FriParameters.{FriParameters}
-use Rattle.stark_fri_proof.specs.Parts.{FriProofView}
+use Rattle.stark_fri_prover.specs.HonestOpening.{AreOfHeight, seen_rounds}
 use Rattle.stark_merkle.specs.declared.root.Root.{Root}
 use Rattle.stark_support.specs.Claims.{RoundPoints, round_view}
 use Rattle.stark_support.specs.Ring.{RingOps}
@@ -37,13 +35,6 @@ matrix_claims log_height points opened = paired_with (λ xs rows. (log_height, p
 abbrev pub round_claims : {E T : Type 0} → (T → Root) → (T → ℕ) → List (RoundPoints E T) → List (List (List (List E))) → List (RoundRead E)
 round_claims root_of height_of rounds opened = paired_with (λ r matrices. (root_of r.0, matrix_claims (height_of r.0) r.1 matrices)) rounds opened
 
--- What may be answered of claims in place of a proof: that the search found no witness, of which nothing is said, and that the
--- verifier would refuse the proof.
-abbrev pub ProvingRefused : {C F E : Type 0} → FriOps C F E → FriParameters → List (RoundRead E) → C → FriProverError → Type 0
-ProvingRefused ops s rounds state Points = ⊥
-ProvingRefused ops s rounds state NoWork = ⊤
-ProvingRefused {F = F} {E = E} ops s rounds state (OwnProof error) = (proof : FriProofView F E) × Refused ops (instance_of s rounds proof state) error
-
 -- The claims in memory are those of these points and of what was opened of them: of one matrix, and of rounds.
 abbrev pub AreMatrixClaims : {F E D A B G J : Type 0} → (D → TwoAdicCoset F) → ℕ → List (Vec E A) → List (Vec (Vec E B) G) → List (D × Vec (E × Bor (List E)) J) → Type 0
 AreMatrixClaims coset_of log_height points opened claims =
@@ -54,6 +45,24 @@ abbrev pub AreOwnClaims : {F E T D A B G J L M N : Type 0} → (D → TwoAdicCos
 AreOwnClaims coset_of root_of height_of rounds opened claims =
     rounds_in coset_of claims ≡ round_claims root_of height_of (map round_view rounds) (map (λ round. map columns_list round.items) opened)
 
--- What may be answered in place of a proof of claims in memory.
-abbrev pub RefusesOwn : {C F E D A B : Type 0} → FriOps C F E → (D → TwoAdicCoset F) → FriParameters → List (Bor Root × Vec (D × Vec (E × Bor (List E)) A) B) → C → FriProverError → Type 0
-RefusesOwn ops coset_of s claims state = ProvingRefused ops s (rounds_in coset_of claims) state
+-- ---- claims that fit
+
+-- The points of a round in memory.
+abbrev pub points_in : {E A B : Type 0} → Vec (Vec E A) B → List (List E)
+points_in points = map column_list points.items
+
+module _ {C F E D T A B G J : Type 0} (ops : FriOps C F E) (coset_of : D → TwoAdicCoset F) (data_of : T → FriDataView F) where
+  -- What is claimed in memory is what the rounds' data and points give.
+  abbrev pub AreOwn : List (Bor T × Vec (Vec E A) B) → List (Bor Root × Vec (D × Vec (E × Bor (List E)) G) J) → Type 0
+  AreOwn rounds claims = rounds_in coset_of claims ≡ own_rounds ops (seen_rounds data_of points_in rounds)
+
+  -- It is, it fits, and all rounds are of its height.
+  pub record AreFitting (s : FriParameters) (rounds : List (Bor T × Vec (Vec E A) B)) (claims : List (Bor Root × Vec (D × Vec (E × Bor (List E)) G) J)) (log_height : ℕ) : Type 0 where
+    pub own : AreOwn rounds claims
+    pub fit : ClaimsFit ops.fields s (own_rounds ops (seen_rounds data_of points_in rounds))
+    pub height : log_height ≡ height_of (own_rounds ops (seen_rounds data_of points_in rounds))
+    pub heights : AreOfHeight log_height (seen_rounds data_of points_in rounds)
+
+-- What may be answered in place of an opening of rounds in memory.
+abbrev pub RefusesRounds : {C F E T A B : Type 0} → FriOps C F E → (T → FriDataView F) → FriParameters → List (Bor T × Vec (Vec E A) B) → FriProverError → Type 0
+RefusesRounds ops data_of s rounds error = OpeningRefused ops s (seen_rounds data_of points_in rounds) error

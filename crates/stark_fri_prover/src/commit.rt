@@ -12,7 +12,9 @@ ghost use Rattle.stark_fri_prover.specs.Commit.{AreExtended, AreKept, AreLayersO
 use stark_bench::Coset;
 use stark_columns::rows_on;
 use stark_fri_proof::{InputOpening, MerklePath};
-use stark_merkle::{Root, TreeHash, four_leaves, leaf, path_in, root_in, row_bytes, tree_layers};
+use stark_merkle::{
+    Root, TreeHash, begin_rows, four_leaves, leaf, path_in, push_row, root_in, tree_layers,
+};
 use stark_support::{DomainShape, PrimeField64, RowMajorMatrix, TwoAdicField};
 use std::alloc::{AllocError, Global};
 
@@ -175,35 +177,52 @@ fn rows_at<F: Copy>(
     Ok(rows)
 }
 
-/// The bytes of row `place` of each matrix, which its leaf commits to.
+/// How many bytes the rows of the matrices take: a word for each element, for each row's length
+/// and for the number of rows.
+fn room_of_rows<F>(extended: &[RowMajorMatrix<F>]) -> usize {
+    let mut words: usize = 1;
+    for matrix in extended {
+        words = words.saturating_add(1).saturating_add(matrix.width);
+    }
+    words.saturating_mul(8)
+}
+
+/// The bytes of row `place` of each matrix, which its leaf commits to; `room` as `room_of_rows`
+/// tells it, so that memory is asked for once.
 fn bytes_at<F: PrimeField64>(
     alloc: Global,
     extended: &[RowMajorMatrix<F>],
+    room: usize,
     place: usize,
 ) -> Result<Vec<u8>, AllocError>
     requires { AllByRecursion (HasRow place) extended.now }
     ensures { IfOk result (λ bytes.
         bytes.items ≡ row_bytes_of F.number_of (map (row_of place) extended.now)) }
 {
-    let rows = rows_at(alloc, extended, place)?;
-    row_bytes(alloc, &rows)
+    let mut bytes = begin_rows(alloc, extended.len(), room)?;
+    for matrix in extended {
+        let start = place * matrix.width;
+        push_row(&mut bytes, &matrix.values[start..start + matrix.width])?;
+    }
+    Ok(bytes)
 }
 
 /// The leaves over four rows, from row `place` on.
 fn four_leaves_of<F: PrimeField64, H: TreeHash>(
     alloc: Global,
     extended: &[RowMajorMatrix<F>],
+    room: usize,
     place: usize,
 ) -> Result<[[u8; 32]; 4], AllocError>
-    requires room { place + 4 < 2 ^ 64 }
+    requires word { place + 4 < 2 ^ 64 }
     requires rows { HaveRows (place + 4) extended.now }
     ensures { IfOk result (λ leaves. (j : ℕ) → j < 4 → slice_index_or leaves j []
         ≡ leaf_at H.digest_of F.number_of extended.now (place + j)) }
 {
-    let one = bytes_at(alloc, extended, place)?;
-    let two = bytes_at(alloc, extended, place + 1)?;
-    let three = bytes_at(alloc, extended, place + 2)?;
-    let four = bytes_at(alloc, extended, place + 3)?;
+    let one = bytes_at(alloc, extended, room, place)?;
+    let two = bytes_at(alloc, extended, room, place + 1)?;
+    let three = bytes_at(alloc, extended, room, place + 2)?;
+    let four = bytes_at(alloc, extended, room, place + 3)?;
     Ok(four_leaves::<H>([&one, &two, &three, &four]))
 }
 
@@ -217,16 +236,17 @@ fn leaves<F: PrimeField64, H: TreeHash>(
     ensures { IfOk result (λ leaves.
         leaves.items ≡ leaves_of H.digest_of F.number_of extended.now count) }
 {
-    let mut leaves = Vec::new(alloc);
+    let room = room_of_rows(extended);
+    let mut leaves = Vec::with_capacity(alloc, count)?;
     let groups = count / 4;
     for group in 0..groups {
-        let four = four_leaves_of::<F, H>(alloc, extended, 4 * group)?;
+        let four = four_leaves_of::<F, H>(alloc, extended, room, 4 * group)?;
         for j in 0..4 {
             leaves.push(four[j])?;
         }
     }
     for place in 4 * groups..count {
-        let bytes = bytes_at(alloc, extended, place)?;
+        let bytes = bytes_at(alloc, extended, room, place)?;
         leaves.push(leaf::<H>(&bytes))?;
     }
     Ok(leaves)

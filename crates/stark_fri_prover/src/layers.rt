@@ -1,6 +1,8 @@
 //! The layers of a folding: the words that are folded, and the trees over their pairs.
-ghost use Rattle.std.specs.Prelude.{◌≡◌, ◌+◌, ◌*◌, ◌/◌, ◌<◌, ◌≤◌, IfOk, IfSome, IsSome, length};
+ghost use Rattle.std.specs.Prelude.{◌≡◌, ◌+◌, ◌*◌, ◌/◌, ◌<◌, ◌≤◌, IfOk, IfSome, IsSome, length, map};
+ghost use Rattle.stark_columns.specs.Columns.{columns_list};
 ghost use Rattle.stark_merkle.specs.Tree.{digests_in};
+ghost use Rattle.stark_fri_prover.specs.Words.{IsWordIn, coordinate_at, coordinate_columns, element_of, elements_of};
 ghost use Rattle.stark_fri_prover.specs.Layers.{AreFourLeaves, IsLayerOf, OpensPlace, OpensWay, pair_leaves_of, pair_of, pair_place};
 
 use crate::commit::path_or_none;
@@ -19,55 +21,92 @@ pub(crate) struct Layer<EF> {
     tree: Vec<Vec<[u8; 32]>>,
 }
 
+impl<EF> Layer<EF> {
+    /// The word.
+    pub(crate) fn values(&self) -> &[EF]
+        ensures { result.now ≡ self.now.values.items }
+    {
+        &self.values
+    }
+}
+
+/// The coordinates of elements at one place of the basis.
+fn coordinate_column<F: TwoAdicField, EF: ExtensionField<F>>(
+    alloc: Global,
+    elements: &[EF],
+    place: usize,
+) -> Result<Vec<F>, AllocError>
+    requires { place < EF.DIMENSION }
+    ensures { IfOk result (λ column. column.items
+        ≡ map (coordinate_at EF.coordinates F.ring.zero place) elements.now) }
+{
+    let mut column = Vec::with_capacity(alloc, elements.len())?;
+    for element in elements {
+        column.push(element.coordinate(place))?;
+    }
+    Ok(column)
+}
+
 /// The coordinates of a polynomial's coefficients: a polynomial of the base field for each element
 /// of the basis.
-fn coordinate_columns<F: TwoAdicField, EF: ExtensionField<F>>(
+pub(crate) fn coordinate_columns<F: TwoAdicField, EF: ExtensionField<F>>(
     alloc: Global,
     polynomial: &[EF],
-) -> Result<Vec<Vec<F>>, AllocError> {
+) -> Result<Vec<Vec<F>>, AllocError>
+    ensures { IfOk result (λ columns. columns_list columns
+        ≡ coordinate_columns EF.DIMENSION EF.coordinates F.ring.zero polynomial.now) }
+{
     let mut columns = Vec::new(alloc);
     for place in 0..EF::DIMENSION {
-        let mut column = Vec::with_capacity(alloc, polynomial.len())?;
-        for coefficient in polynomial {
-            column.push(coefficient.coordinate(place))?;
-        }
+        let column = coordinate_column::<F, EF>(alloc, polynomial, place)?;
         columns.push(column)?;
     }
     Ok(columns)
 }
 
-/// The first elements whose coordinates stand one after the other, `count` where there are so many.
+/// The element that has these coordinates.
+pub(crate) fn element_of<F: TwoAdicField, EF: ExtensionField<F>>(row: &[F]) -> EF
+    requires { length row.now ≡ EF.DIMENSION }
+    ensures { result ≡ element_of EF.ring EF.embed EF.basis row.now }
+{
+    EF::from_basis_coefficients_slice(row).unwrap()
+}
+
+/// The elements whose coordinates stand one after the other.
 fn elements_of<F: TwoAdicField, EF: ExtensionField<F>>(
     alloc: Global,
     coordinates: &[F],
     count: usize,
-) -> Result<Vec<EF>, AllocError> {
+) -> Result<Vec<EF>, AllocError>
+    requires { length coordinates.now ≡ count * EF.DIMENSION }
+    ensures { IfOk result (λ elements. elements.items
+        ≡ elements_of EF.ring EF.embed EF.DIMENSION EF.basis coordinates.now count) }
+{
     let mut elements = Vec::with_capacity(alloc, count)?;
-    let mut left = coordinates;
-    for _place in 0..count {
-        let Some((row, rest)) = left.split_at_checked(EF::DIMENSION) else {
-            return Ok(elements);
-        };
-        if let Some(element) = EF::from_basis_coefficients_slice(row) {
-            elements.push(element)?;
-        }
-        left = rest;
+    for place in 0..count {
+        let start = place * EF::DIMENSION;
+        let row = &coordinates[start..start + EF::DIMENSION];
+        elements.push(element_of::<F, EF>(row))?;
     }
     Ok(elements)
 }
 
-/// The values of a polynomial at the points of a coset: those of its coordinates, by transforms
-/// over the base field.
-fn values_of<F: TwoAdicField, EF: ExtensionField<F>>(
+/// The word of a polynomial on a coset: its values at all of the points. They are those of its
+/// coordinates, by transforms over the base field.
+pub(crate) fn values_of<F: TwoAdicField, EF: ExtensionField<F>>(
     alloc: Global,
     polynomial: &[EF],
     domain: &Coset<F>,
-) -> Result<Vec<EF>, AllocError> {
+) -> Result<Vec<EF>, AllocError>
+    ensures { IfOk result (λ word. IsWordIn EF.ring EF.embed F.root domain.now.shift
+        domain.now.log_size polynomial.now word.items) }
+{
     let columns = coordinate_columns::<F, EF>(alloc, polynomial)?;
     let mut matrices = Vec::new(alloc);
     matrices.push(columns)?;
     let rows = rows_on(alloc, &matrices, 0, domain)?;
-    elements_of(alloc, &rows.values, domain.size())
+    let word = elements_of(alloc, &rows.values, domain.size())?;
+    Ok(word)
 }
 
 /// The bytes of the pair at a place: of the value there and the one half the word further.
@@ -126,18 +165,18 @@ fn pair_leaves<F: PrimeField64, EF: ExtensionField<F>, H: TreeHash>(
     Ok(leaves)
 }
 
-/// The layer of a polynomial on a coset, and its root; None where the coset has one point.
+/// The layer of a word of `2^log_size` values, and its root; None where that is one value.
 pub(crate) fn layer_of<F: TwoAdicField + PrimeField64, EF: ExtensionField<F>, H: TreeHash>(
     alloc: Global,
-    polynomial: &[EF],
-    domain: &Coset<F>,
+    values: Vec<EF>,
+    log_size: usize,
 ) -> Result<Option<(Root, Layer<EF>)>, AllocError>
-    ensures { IfOk result (λ made. IfSome made (λ m. IsLayerOf F.number_of EF.coordinates
-        EF.ring.zero H.digest_of domain.now.log_size m.0 m.1)) }
+    ensures tree { IfOk result (λ made. IfSome made (λ m. IsLayerOf F.number_of EF.coordinates
+        EF.ring.zero H.digest_of log_size m.0 m.1)) }
+    ensures word { IfOk result (λ made. IfSome made (λ m. m.1.values.items ≡ values.items)) }
 {
-    let values = values_of(alloc, polynomial, domain)?;
     let leaves = pair_leaves::<F, EF, H>(alloc, &values)?;
-    let tree = tree_layers::<H>(alloc, leaves, domain.log_size.saturating_sub(1))?;
+    let tree = tree_layers::<H>(alloc, leaves, log_size.saturating_sub(1))?;
     match root_in(&tree) {
         Some(root) => Ok(Some((Root::new(root), Layer { values, tree }))),
         None => Ok(None),

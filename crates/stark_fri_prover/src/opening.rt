@@ -1,15 +1,14 @@
-//! Openings: a proof that claims hold, and the prover's own check of it.
-ghost use Rattle.std.specs.Prelude.{◌≡◌, ◌+◌, ◌≤◌, ◌↔◌, IfErr, IfOk, IsTrue, length, map};
+//! Openings: the columns' values at points, and a proof of them.
+ghost use Rattle.std.specs.Prelude.{◌≡◌, ◌↔◌, IfOk, IsTrue, length, map};
 ghost use Rattle.std.specs.List.{AllByRecursion};
-ghost use Rattle.stark_support.specs.Claims.{IfRefused, opened_view, round_view, IfRefusal};
+ghost use Rattle.stark_support.specs.Claims.{IfRefusal, opened_view, round_view};
 ghost use Rattle.stark_columns.specs.Columns.{columns_list};
-ghost use Rattle.stark_fri.specs.Accept.{Accepted};
-ghost use Rattle.stark_fri.specs.Scheme.{OpeningRefused, instance_of, own_rounds};
 ghost use Rattle.stark_merkle.specs.Tree.{digests_in};
 ghost use Rattle.stark_fri_prover.specs.Commit.{data_seen};
+ghost use Rattle.stark_fri_prover.specs.Folds.{IfMade};
+ghost use Rattle.stark_fri_prover.specs.HonestOpening.{IsMade};
 ghost use Rattle.stark_fri_prover.specs.Layers.{OpensEach, OpensRows, OpensWay};
-ghost use Rattle.stark_fri_prover.specs.OwnClaims.{opened_rounds, RefusesOwn};
-ghost use Rattle.stark_fri.specs.Found.{AcceptsRounds};
+ghost use Rattle.stark_fri_prover.specs.OwnClaims.{AreFitting, RefusesRounds, opened_rounds, points_in};
 
 use crate::batch::batched;
 use crate::claims::{open_rounds, own_claims};
@@ -19,7 +18,7 @@ use crate::phases::{find_witness, fold_all};
 use stark_bench::Coset;
 use stark_fri::{
     FriCalls, FriProverError, check_claims, draw_places, observe_claims, observe_parameters,
-    observe_values, verify_openings,
+    observe_values,
 };
 use stark_fri_proof::{FriParameters, FriProof, QueryProof};
 use stark_merkle::{Root, TreeHash};
@@ -89,7 +88,7 @@ fn open_queries<F: TwoAdicField, EF: ExtensionField<F>>(
 }
 
 /// The proof of claims that fit, of columns of `2^log_height` coefficients, from the challenger's
-/// state. It isn't checked yet. None where no witness passes.
+/// state. None where no witness passes.
 fn proof_of<C, F, EF, H>(
     alloc: Global,
     parameters: &FriParameters,
@@ -103,7 +102,13 @@ where
     EF: ExtensionField<F>,
     H: TreeHash,
     C: FieldChallenger<F> + CanObserve<Root> + CanSample<EF> + GrindingChallenger<Witness = F>,
-    requires { log_height + parameters.now.log_blowup ≤ F.TWO_ADICITY }
+    requires { AreFitting ⟦<C as FriCalls<F, EF, H>>⟧.fri_ops
+        ⟦<Coset<F> as PolynomialSpace>⟧.coset_of
+        (λ d. data_seen d.root d.domain.log_size d.matrices d.extended) parameters.now rounds.now
+        claims.now log_height }
+    ensures { IfMade result (IsMade ⟦<C as FriCalls<F, EF, H>>⟧.fri_ops F.number_of EF.coordinates
+        (λ d. data_seen d.root d.domain.log_size d.matrices d.extended)
+        (λ d. digests_in d.layers.items) points_in parameters.now rounds.now challenger.old) }
 {
     let bits = log_height + parameters.log_blowup();
     observe_parameters::<C, F, EF>(&mut *challenger, parameters);
@@ -133,48 +138,28 @@ where
     Ok(Some(FriProof::new(folds.phases, folds.last, query_witness, queries)))
 }
 
-/// A proof of the claims, which the verifier accepts from the second challenger's state.
-fn checked_proof<C, F, EF, H>(
-    alloc: Global,
-    parameters: &FriParameters,
+/// Whether each round was made for columns of `2^log_height` coefficients.
+fn have_height<F: TwoAdicField, EF>(
     rounds: &[OpeningRound<'_, EF, FriData<F>>],
-    claims: &[OpeningClaim<'_, EF, Root, Coset<F>>],
-    challenger: &mut C,
-    verifier: &mut C,
-) -> Result<FriProof<F, EF>, SchemeFault<FriProverError>>
-where
-    F: TwoAdicField + PrimeField64,
-    EF: ExtensionField<F>,
-    H: TreeHash,
-    C: FieldChallenger<F> + CanObserve<Root> + CanSample<EF> + GrindingChallenger<Witness = F>,
-    ensures accepted { IfOk result (AcceptsRounds ⟦<C as FriCalls<F, EF, H>>⟧.fri_ops
-        ⟦<Coset<F> as PolynomialSpace>⟧.coset_of parameters.now claims.now verifier.old) }
-    ensures refused { IfRefusal result
-        (RefusesOwn ⟦<C as FriCalls<F, EF, H>>⟧.fri_ops ⟦<Coset<F> as PolynomialSpace>⟧.coset_of
-        parameters.now claims.now verifier.old) }
+    log_height: usize,
+) -> bool
+    ensures { IsTrue result ↔ AllByRecursion (λ r. r.0.domain.log_size ≡ log_height)
+        (map round_view rounds.now) }
 {
-    let log_height = match check_claims::<EF, Coset<F>>(parameters, claims) {
-        Ok(log_height) => log_height,
-        Err(error) => return Err(SchemeFault::Refused(FriProverError::OwnProof(error))),
-    };
-    let made = proof_of::<C, F, EF, H>(alloc, parameters, rounds, claims, log_height, challenger)?;
-    let Some(proof) = made else {
-        return Err(SchemeFault::Refused(FriProverError::NoWork));
-    };
-    match verify_openings::<C, EF, Coset<F>, H>(alloc, parameters, claims, &proof, verifier) {
-        Ok(()) => Ok(proof),
-        Err(SchemeFault::Refused(error)) => {
-            Err(SchemeFault::Refused(FriProverError::OwnProof(error)))
+    for round in rounds {
+        let domain = round.0.domain();
+        if domain.log_size != log_height {
+            return false;
         }
-        Err(SchemeFault::OutOfMemory) => Err(SchemeFault::OutOfMemory),
     }
+    true
 }
 
 /// The values of the rounds' columns at the points, and a proof of them, which the verifier accepts
 /// from the challenger's state. Otherwise it is `Refused` with `Points` where a round has another
-/// number of lists of points than matrices, with `NoWork` where no witness passes, and with
-/// `OwnProof` where the verifier would refuse: where a point lies on the larger coset, or the
-/// rounds have columns of different lengths.
+/// number of lists of points than matrices, with `Claims` and the verifier's fault where the claims
+/// don't fit, as where a point lies on the larger coset, with `Heights` where a round was made for
+/// columns of another length, and with `NoWork` where no witness passes.
 pub(crate) fn open<C, F, EF, H>(
     alloc: Global,
     parameters: &FriParameters,
@@ -189,35 +174,30 @@ where
     ensures values { IfOk result (λ m. opened_view m.0
         ≡ opened_rounds EF.ring EF.embed (λ d. map columns_list d.matrices.items)
         (map round_view rounds.now)) }
-    ensures accepted { IfOk result (λ made. Accepted ⟦<C as FriCalls<F, EF, H>>⟧.fri_ops
-        (instance_of parameters.now (own_rounds ⟦<C as FriCalls<F, EF, H>>⟧.fri_ops
-        (map (λ r. (data_seen r.0.root r.0.domain.log_size r.0.matrices r.0.extended, r.1))
-        (map round_view rounds.now)))
-        made.1 challenger.old)) }
-    ensures refused { IfErr result (λ fault. IfRefused fault
-        (OpeningRefused ⟦<C as FriCalls<F, EF, H>>⟧.fri_ops parameters.now
-        (map (λ r. (data_seen r.0.root r.0.domain.log_size r.0.matrices r.0.extended, r.1))
-        (map round_view rounds.now))
-        challenger.old)) }
+    ensures made { IfOk result (λ made. IsMade ⟦<C as FriCalls<F, EF, H>>⟧.fri_ops F.number_of
+        EF.coordinates (λ d. data_seen d.root d.domain.log_size d.matrices d.extended)
+        (λ d. digests_in d.layers.items) points_in parameters.now rounds.now challenger.old
+        made.1) }
+    ensures refused { IfRefusal result (RefusesRounds ⟦<C as FriCalls<F, EF, H>>⟧.fri_ops
+        (λ d. data_seen d.root d.domain.log_size d.matrices d.extended) parameters.now rounds.now) }
 {
     if !have_points(rounds) {
         return Err(SchemeFault::Refused(FriProverError::Points));
     }
-    // The state that a verifier begins with.
-    let mut verifier = challenger.duplicate(alloc)?;
     let opened = open_rounds::<F, EF>(alloc, rounds)?;
     let claims = own_claims(alloc, rounds, &opened)?;
-    let made = checked_proof::<C, F, EF, H>(
-        alloc,
-        parameters,
-        rounds,
-        &claims,
-        challenger,
-        &mut verifier,
-    );
+    let log_height = match check_claims::<EF, Coset<F>>(parameters, &claims) {
+        Ok(log_height) => log_height,
+        Err(error) => return Err(SchemeFault::Refused(FriProverError::Claims(error))),
+    };
+    // Of a round without a matrix nothing is claimed, but its tree has a depth.
+    if !have_height(rounds, log_height) {
+        return Err(SchemeFault::Refused(FriProverError::Heights));
+    }
+    let made = proof_of::<C, F, EF, H>(alloc, parameters, rounds, &claims, log_height, challenger);
     drop(claims);
-    match made {
-        Ok(proof) => Ok((opened, proof)),
-        Err(fault) => Err(fault),
+    match made? {
+        Some(proof) => Ok((opened, proof)),
+        None => Err(SchemeFault::Refused(FriProverError::NoWork)),
     }
 }

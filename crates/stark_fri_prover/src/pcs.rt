@@ -8,9 +8,11 @@ ghost use Rattle.stark_columns.specs.ColumnPoints.{height_of};
 ghost use Rattle.stark_columns.specs.Columns.{columns_list};
 ghost use Rattle.stark_fri.specs.Accept.{Accepted};
 ghost use Rattle.stark_fri.specs.Found.{IsRefused};
-ghost use Rattle.stark_fri.specs.Scheme.{ArePlain, claimed_of, claims_in, fri_calls, fri_scheme};
-ghost use Rattle.stark_fri.specs.SchemeFacts.{fri_laws};
-ghost use Rattle.stark_fri_prover.specs.Commit.{data_seen, extension_of, IsKept, IsTopOf};
+ghost use Rattle.stark_fri.specs.Scheme.{ArePlain, claimed_of, claims_in, fri_calls};
+ghost use Rattle.stark_merkle.specs.Tree.{digests_in};
+ghost use Rattle.stark_fri_prover.specs.Commit.{AreLayersOver, data_seen, extension_of, IsKept, IsTopOf};
+ghost use Rattle.stark_fri_prover.specs.HonestFactsScheme.{kept_laws};
+ghost use Rattle.stark_fri_prover.specs.HonestOpening.{kept_scheme};
 ghost use Rattle.stark_support.specs.SchemeClauses.{CommitsChunks, CommitsRows, OpensTrueValues, ProvesTrueClaims, IsTableOver};
 
 use crate::commit::{FriData, commit_columns};
@@ -90,6 +92,8 @@ fn commit_alone<F: TwoAdicField + PrimeField64, H: TreeHash>(
         made.1.extended) }
     ensures root { IfOk result (λ m. IsTopOf F.ring F.root H.digest_of F.number_of
         (extension_of F.GENERATOR (log_height + log_blowup)) columns m.0) }
+    ensures tree { IfOk result (λ m. AreLayersOver H.digest_of F.number_of (log_height + log_blowup)
+        m.1.extended.items (digests_in m.1.layers.items)) }
 {
     let mut matrices = Vec::new(alloc);
     matrices.push(columns)?;
@@ -129,8 +133,9 @@ where
 
     ghost ZK = { false };
 
-    ghost scheme = { fri_scheme ⟦<C as FriCalls<F, EF, H>>⟧.fri_ops (λ s. s.parameters)
-        (λ d. data_seen d.root d.domain.log_size d.matrices d.extended) (λ p. p)
+    ghost scheme = { kept_scheme ⟦<C as FriCalls<F, EF, H>>⟧.fri_ops F.number_of (λ s. s.parameters)
+        (λ d. data_seen d.root d.domain.log_size d.matrices d.extended)
+        (λ d. digests_in d.layers.items) (λ p. p)
         (fri_calls F.ring F.root (λ d. data_seen d.root d.domain.log_size d.matrices d.extended)) };
 
     const ZK: bool = false;
@@ -302,8 +307,9 @@ where
         verify_openings::<C, EF, Coset<F>, H>(alloc, &self.parameters, &claims, proof, challenger)
     }
 
-    ghost scheme_laws = { fri_laws ⟦<C as FriCalls<F, EF, H>>⟧.fri_ops (λ s. s.parameters)
-        (λ d. data_seen d.root d.domain.log_size d.matrices d.extended) (λ p. p)
+    ghost scheme_laws = { kept_laws ⟦<C as FriCalls<F, EF, H>>⟧.fri_ops F.number_of
+        (λ s. s.parameters) (λ d. data_seen d.root d.domain.log_size d.matrices d.extended)
+        (λ d. digests_in d.layers.items) (λ p. p)
         (fri_calls F.ring F.root (λ d. data_seen d.root d.domain.log_size d.matrices d.extended))
         F.two_adic.bounded };
 }

@@ -1,10 +1,11 @@
 //! The folds' part of the transcript, as the prover plays it.
-ghost use Rattle.std.specs.Prelude.{◌≡◌, ◌-◌, IfSome};
-ghost use Rattle.stark_fri_prover.specs.Folds.{CommitsLayer, CommitsLayers, IfMade, IsWitness, MakesFold, MakesFolds};
+ghost use Rattle.std.specs.Prelude.{◌≡◌, ◌-◌, ◌≤◌, IfSome};
+ghost use Rattle.stark_fri_prover.specs.Folds.{CommitsLayer, CommitsLayers, FoldsWord, IfMade, IsWitness, MakesFold, MakesFolds, WordsOf};
+ghost use Rattle.stark_fri_prover.specs.Words.{IsWordIn};
 
-use crate::layers::{Layer, layer_of};
+use crate::layers::{Layer, layer_of, values_of};
 use stark_bench::Coset;
-use stark_folding::fold_coefficients;
+use stark_folding::{fold_codeword_in, fold_coefficients};
 use stark_fri::FriSponge;
 use stark_fri_proof::Phase;
 use stark_merkle::{Root, TreeHash};
@@ -13,6 +14,16 @@ use stark_support::{
     TwoAdicField,
 };
 use std::alloc::{AllocError, Global};
+
+/// What a fold leaves: its layer and its phase, and the polynomial that is folded to, with its word
+/// on the coset of the squares.
+#[derive(Drop)]
+struct Halved<F, EF> {
+    layer: Layer<EF>,
+    phase: Phase<F>,
+    polynomial: Vec<EF>,
+    word: Vec<EF>,
+}
 
 /// What the folds leave: a layer and a phase for each of them, and the polynomial that is left.
 #[derive(Drop)]
@@ -38,20 +49,22 @@ where
 
 /// The coset of the squares of a coset's points.
 fn squares<F: TwoAdicField>(coset: &Coset<F>) -> Coset<F>
-    ensures { result.log_size ≡ coset.now.log_size - 1 }
+    ensures size { result.log_size ≡ coset.now.log_size - 1 }
+    ensures shift { result.shift ≡ F.ring.mul coset.now.shift coset.now.shift }
 {
     Coset::new(coset.shift * coset.shift, coset.log_size.saturating_sub(1))
 }
 
-/// A fold: the layer of a polynomial is committed to, and the polynomial is folded by the challenge
-/// that is drawn behind the work on its root. None where no witness passes.
+/// A fold: the layer of a polynomial's word is committed to, and the polynomial and the word are
+/// folded by the challenge that is drawn behind the work on its root. None where no witness passes.
 fn fold<C, F, EF, H>(
     alloc: Global,
     bits: usize,
     polynomial: &[EF],
+    word: Vec<EF>,
     domain: &Coset<F>,
     challenger: &mut C,
-) -> Result<Option<(Layer<EF>, Phase<F>, Vec<EF>)>, AllocError>
+) -> Result<Option<Halved<F, EF>>, AllocError>
 where
     F: TwoAdicField + PrimeField64,
     EF: ExtensionField<F>,
@@ -61,12 +74,17 @@ where
         + CanSample<EF>
         + CanSampleBits<usize>
         + GrindingChallenger<Witness = F>,
+    requires some { 1 ≤ domain.now.log_size }
+    requires word { IsWordIn EF.ring EF.embed F.root domain.now.shift domain.now.log_size
+        polynomial.now word.items }
     ensures folded { IfMade result (MakesFold ⟦<C as FriSponge<F, EF>>⟧.sponge_calls EF.ring bits
         challenger.old challenger.new polynomial.now) }
     ensures layer { IfMade result (CommitsLayer F.number_of EF.coordinates EF.ring.zero H.digest_of
         domain.now.log_size) }
+    ensures words { IfMade result (FoldsWord EF.ring EF.embed F.root domain.now.shift
+        domain.now.log_size polynomial.now) }
 {
-    let Some((root, layer)) = layer_of::<F, EF, H>(alloc, polynomial, domain)? else {
+    let Some((root, layer)) = layer_of::<F, EF, H>(alloc, word, domain.log_size)? else {
         return Ok(None);
     };
     <C as CanObserve<Root>>::observe(&mut *challenger, &root);
@@ -76,7 +94,13 @@ where
     };
     let beta = <C as CanSample<EF>>::sample(challenger);
     let folded = fold_coefficients(alloc, beta, polynomial)?;
-    Ok(Some((layer, Phase { root, witness }, folded)))
+    let word = fold_codeword_in(alloc, domain.shift, domain.log_size, beta, layer.values())?;
+    Ok(Some(Halved {
+        layer,
+        phase: Phase { root, witness },
+        polynomial: folded,
+        word,
+    }))
 }
 
 /// Folds a polynomial `count` times, from its word on a coset on. None where no witness passes.
@@ -97,23 +121,29 @@ where
         + CanSample<EF>
         + CanSampleBits<usize>
         + GrindingChallenger<Witness = F>,
+    requires { count ≤ domain.log_size }
     ensures folded { IfMade result (MakesFolds ⟦<C as FriSponge<F, EF>>⟧.sponge_calls EF.ring bits
         count challenger.old challenger.new polynomial.items) }
     ensures layers { IfMade result (CommitsLayers F.number_of EF.coordinates EF.ring.zero
         H.digest_of domain.log_size) }
+    ensures word { WordsOf ⟦<C as FriSponge<F, EF>>⟧.sponge_calls EF.ring EF.embed F.root bits
+        domain.shift domain.log_size challenger.old polynomial.items result }
 {
+    // The one transform: each next word is folded of the one before.
+    let mut word = values_of(alloc, &polynomial, &domain)?;
     let mut layers = Vec::new(alloc);
     let mut phases = Vec::new(alloc);
     let mut last = polynomial;
     let mut coset = domain;
     for _fold in 0..count {
-        let folded = fold::<C, F, EF, H>(alloc, bits, &last, &coset, &mut *challenger)?;
-        let Some((layer, phase, half)) = folded else {
+        let folded = fold::<C, F, EF, H>(alloc, bits, &last, word, &coset, &mut *challenger)?;
+        let Some(halved) = folded else {
             return Ok(None);
         };
-        layers.push(layer)?;
-        phases.push(phase)?;
-        last = half;
+        layers.push(halved.layer)?;
+        phases.push(halved.phase)?;
+        last = halved.polynomial;
+        word = halved.word;
         coset = squares(&coset);
     }
     Ok(Some(Folds {

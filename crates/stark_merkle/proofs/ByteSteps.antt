@@ -1,10 +1,8 @@
 -- Bytes that are pushed in turn.
 use Rattle.std.proofs.Common.{◌≡◌, ◌∙◌, ℕ, ◌+◌, ◌<◌, ◌≤◌, List, ◌++◌, length, get_or, drop, map, sym, ap, refl, append_assoc}
 use Rattle.std.proofs.lemmas.List.{append-nil, at_drop_all, at_drop_more, drop_all}
-use Rattle.std.specs.declared.vec.Vec.{Vec}
 use Rattle.stark_support.proofs.Places.{from_place}
 use Rattle.stark_support.specs.Seed.{number}
-use Rattle.stark_merkle.specs.Tree.{items_of}
 use Rattle.stark_merkle.specs.Bytes.{elements_bytes, rows_bytes}
 
 module _ {F : Type 0} (number_of : F → ℕ) where
@@ -22,19 +20,21 @@ module _ {F : Type 0} (number_of : F → ℕ) where
   unfolding elements_bytes
   all_elements xs i before whole ended so_far = sym (append-nil before) ∙ ap (λ t. before ++ t) (sym (at_drop_all (elements_bytes number_of) xs i ended)) ∙ so_far
 
-  -- one more row was pushed: its length, then its elements
-  pub one_more_row : {A : Type 0} (rows : List (Vec F A)) (i : ℕ) (row : Vec F A) (n : ℕ) (elements : List F) (before middle after whole : List ℕ) → i < length rows → row ≡ get_or rows i row
-      → n ≡ length row.items → elements ≡ row.items → middle ≡ before ++ number n → after ≡ middle ++ elements_bytes number_of elements
-      → before ++ rows_bytes number_of (map items_of (drop i rows)) ≡ whole → after ++ rows_bytes number_of (map items_of (drop (i + 1) rows)) ≡ whole
-  unfolding rows_bytes
-  one_more_row rows i row n elements before middle after whole below is is_n is_elements first second so_far =
-      let rest = rows_bytes number_of (map items_of (drop (i + 1) rows)) in
-      let opened : rows_bytes number_of (map items_of (drop i rows)) ≡ number n ++ (elements_bytes number_of elements ++ rest)
-      = ap (λ t. rows_bytes number_of (map items_of t)) (from_place rows i (i + 1) row refl below is) ∙ ap (λ m. number m ++ (elements_bytes number_of row.items ++ rest)) (sym is_n)
-      ∙ ap (λ t. number n ++ (elements_bytes number_of t ++ rest)) (sym is_elements) in
-      ap (λ t. t ++ rest) (second ∙ ap (λ t. t ++ elements_bytes number_of elements) first) ∙ append_assoc (before ++ number n) (elements_bytes number_of elements) rest
-      ∙ append_assoc before (number n) (elements_bytes number_of elements ++ rest) ∙ ap (λ t. before ++ t) (sym opened) ∙ so_far
+  module _ {X : Type 0} (row_of : X → List F) where
+    -- one more row was pushed
+    pub one_more_row : (rows : List X) (i : ℕ) (row : X) (elements : List F) (before after whole : List ℕ) → i < length rows → row ≡ get_or rows i row
+        → elements ≡ row_of row → after ≡ before ++ (number (length elements) ++ elements_bytes number_of elements)
+        → before ++ rows_bytes number_of (map row_of (drop i rows)) ≡ whole → after ++ rows_bytes number_of (map row_of (drop (i + 1) rows)) ≡ whole
+    unfolding rows_bytes
+    one_more_row rows i row elements before after whole below is is_elements pushed so_far =
+        let rest = rows_bytes number_of (map row_of (drop (i + 1) rows)) in
+        let count = number (length elements) in
+        let opened : rows_bytes number_of (map row_of (drop i rows)) ≡ count ++ (elements_bytes number_of elements ++ rest)
+        = ap (λ t. rows_bytes number_of (map row_of t)) (from_place rows i (i + 1) row refl below is)
+        ∙ ap (λ t. number (length t) ++ (elements_bytes number_of t ++ rest)) (sym is_elements) in
+        ap (λ t. t ++ rest) pushed ∙ append_assoc before (count ++ elements_bytes number_of elements) rest
+        ∙ ap (λ t. before ++ t) (append_assoc count (elements_bytes number_of elements) rest ∙ sym opened) ∙ so_far
 
-  pub all_rows : {A : Type 0} (rows : List (Vec F A)) (i : ℕ) (before whole : List ℕ) → length rows ≤ i → before ++ rows_bytes number_of (map items_of (drop i rows)) ≡ whole → before ≡ whole
-  unfolding rows_bytes
-  all_rows rows i before whole ended so_far = sym (append-nil before) ∙ ap (λ t. before ++ rows_bytes number_of (map items_of t)) (sym (drop_all i rows ended)) ∙ so_far
+    pub all_rows : (rows : List X) (i : ℕ) (before whole : List ℕ) → length rows ≤ i → before ++ rows_bytes number_of (map row_of (drop i rows)) ≡ whole → before ≡ whole
+    unfolding rows_bytes
+    all_rows rows i before whole ended so_far = sym (append-nil before) ∙ ap (λ t. before ++ rows_bytes number_of (map row_of t)) (sym (drop_all i rows ended)) ∙ so_far

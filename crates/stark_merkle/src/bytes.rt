@@ -1,5 +1,5 @@
 //! The bytes of rows and of pairs, which the leaves of trees are the digests of.
-ghost use Rattle.std.specs.Prelude.{◌≡◌, ◌++◌, IfOk, OnOk, map};
+ghost use Rattle.std.specs.Prelude.{◌≡◌, ◌++◌, IfOk, OnOk, length, map};
 ghost use Rattle.stark_support.specs.Seed.{number};
 ghost use Rattle.stark_merkle.specs.Bytes.{OpenedRowsBind, PairBytesTell, RowBytesTell, elements_bytes, pair_bytes_of, row_bytes_of, rows_bytes};
 ghost use Rattle.stark_merkle.specs.Tree.{items_of};
@@ -38,6 +38,27 @@ fn push_coordinates<F: PrimeField64, EF: ExtensionField<F>>(
     Ok(())
 }
 
+/// How the bytes of so many rows begin, for `push_row` to go on: with their number. Memory is asked
+/// for `room` bytes at once, so that rows which fit need no more. It is Err only where memory was
+/// refused.
+pub fn begin_rows(alloc: Global, count: usize, room: usize) -> Result<Vec<u8>, AllocError>
+    ensures { IfOk result (λ bytes. bytes.items ≡ number count) }
+{
+    let mut bytes = Vec::with_capacity(alloc, room)?;
+    push_number(&mut bytes, count as u64)?;
+    Ok(bytes)
+}
+
+/// Puts a row behind the bytes: how many elements it has, and the elements' numbers. It is Err only
+/// where memory was refused.
+pub fn push_row<F: PrimeField64>(bytes: &mut Vec<u8>, row: &[F]) -> Result<(), AllocError>
+    ensures { OnOk result (bytes.new.items
+        ≡ bytes.old.items ++ (number (length row.now) ++ elements_bytes F.number_of row.now)) }
+{
+    push_number(&mut *bytes, row.len() as u64)?;
+    push_elements(bytes, row)
+}
+
 /// The bytes of the rows that one leaf commits to, a matrix each: how many there are, and for each
 /// how many elements it has and the elements' numbers; every number in 8 bytes, the high one first.
 /// It is Err only where memory was refused.
@@ -45,11 +66,9 @@ pub fn row_bytes<F: PrimeField64>(alloc: Global, rows: &[Vec<F>]) -> Result<Vec<
     ensures { IfOk result (λ bytes. bytes.items
         ≡ row_bytes_of F.number_of (map items_of rows.now)) }
 {
-    let mut bytes = Vec::new(alloc);
-    push_number(&mut bytes, rows.len() as u64)?;
+    let mut bytes = begin_rows(alloc, rows.len(), 8)?;
     for row in rows {
-        push_number(&mut bytes, row.len() as u64)?;
-        push_elements(&mut bytes, row)?;
+        push_row(&mut bytes, row)?;
     }
     Ok(bytes)
 }
@@ -65,7 +84,7 @@ pub fn pair_bytes<F: PrimeField64, EF: ExtensionField<F>>(
     ensures { IfOk result (λ bytes. bytes.items
         ≡ pair_bytes_of F.number_of EF.coordinates first second) }
 {
-    let mut bytes = Vec::new(alloc);
+    let mut bytes = Vec::with_capacity(alloc, EF::DIMENSION.saturating_mul(16))?;
     push_coordinates::<F, EF>(&mut bytes, first)?;
     push_coordinates::<F, EF>(&mut bytes, second)?;
     Ok(bytes)

@@ -80,7 +80,7 @@ impl TreeHash for Sha256Tree {
     }
 
     fn digests(tag: u8, first: [&[u8]; 4], second: [&[u8]; 4]) -> [[u8; 32]; 4] {
-        sha256_lanes(tag, first, second)
+        sha256_lanes([tag; 4], first, second)
     }
 
     ghost digest_size = { digests_are_32 };

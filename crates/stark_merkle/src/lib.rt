@@ -12,7 +12,8 @@ mod tests;
 mod tree;
 
 pub use bytes::{
-    opened_rows_bind, pair_bytes, pair_bytes_tell_pairs, row_bytes, row_bytes_tell_rows,
+    begin_rows, opened_rows_bind, pair_bytes, pair_bytes_tell_pairs, push_row, row_bytes,
+    row_bytes_tell_rows,
 };
 pub use hash::{Sha256Tree, TreeHash, four_leaves, leaf, node};
 pub use path::{

@@ -11,7 +11,7 @@ pub fn leaves<H: TreeHash>(alloc: Global, rows: &[Vec<u8>]) -> Result<Vec<[u8; 3
     ensures { IfOk result (λ leaves.
         leaves.items ≡ map (leaf_of H.digest_of) (map items_of rows.now)) }
 {
-    let mut leaves = Vec::new(alloc);
+    let mut leaves = Vec::with_capacity(alloc, rows.len())?;
     let groups = rows.len() / 4;
     for group in 0..groups {
         let at = 4 * group;
@@ -34,7 +34,7 @@ pub fn next_layer<H: TreeHash>(
 ) -> Result<Vec<[u8; 32]>, AllocError>
     ensures { IfOk result (λ above. above.items ≡ paired (node_of H.digest_of) layer.now) }
 {
-    let mut above = Vec::new(alloc);
+    let mut above = Vec::with_capacity(alloc, layer.len() / 2)?;
     let groups = layer.len() / 8;
     for group in 0..groups {
         let nodes = four_nodes::<H>(layer, group);

@@ -298,9 +298,10 @@ pub fn prove_statement(alloc: Global, statement: &[u8], trace: &[u8]) -> Report<
 }
 
 /// What is shown of the statement that the bytes of a JSON text spell: its AIR's columns,
-/// constraints and nodes, how many chunks its quotient is cut into, and how many challenges can be
-/// bad at the greatest height that its configuration has; `bad input` where they spell none, and
-/// `refused AirTooLarge` where the AIR passes a limit.
+/// constraints and nodes, how many chunks its quotient is cut into, how many challenges can be bad
+/// at the greatest height that its configuration has and of how many values, and what its proofs
+/// are conjectured to be worth; `bad input` where they spell none, and `refused AirTooLarge` where
+/// the AIR passes a limit.
 ///
 /// The bytes are let go of once they are read, before the text is made.
 pub fn show_statement(alloc: Global, bytes: Vec<u8>) -> Report<Finding>

@@ -93,7 +93,7 @@ length_in_lane texts j low =
       arith,
       texts.first_alike j low,
       texts.second_alike j low,
-      length_of_text texts.tag (piece texts.first j) (piece texts.second j),
+      length_of_text (slice_index texts.tags j) (piece texts.first j) (piece texts.second j),
     )
 
 pub length_of_padded : (text : List ℕ) → length (padded_message text) ≡ padded_len (length text)
@@ -111,7 +111,7 @@ block_count n = omega arith
 
 -- ---- a byte in a lane
 
-pub first_byte : (texts : Texts) (j : ℕ) → slice_index (padded_in texts j) 0 ≡ texts.tag
+pub first_byte : (texts : Texts) (j : ℕ) → slice_index (padded_in texts j) 0 ≡ slice_index texts.tags j
 unfolding padded_in
 first_byte texts j = refl
 
@@ -121,7 +121,7 @@ unfolding padded_in
 byte_in_first texts j at low from to =
     let first : List ℕ = piece texts.first j in
     let el : length first ≡ texts.first_len = texts.first_alike j low in
-    byte_of_first texts.tag first (piece texts.second j) at (at - 1) (omega arith) (omega arith)
+    byte_of_first (slice_index texts.tags j) first (piece texts.second j) at (at - 1) (omega arith) (omega arith)
 
 pub byte_in_second : (texts : Texts) (j at : ℕ) → j < 4 → 1 + texts.first_len ≤ at
     → at < len_of texts
@@ -134,7 +134,7 @@ byte_in_second texts j at low from to =
     let el : length first ≡ texts.first_len = texts.first_alike j low in
     let es : length second ≡ texts.second_len = texts.second_alike j low in
     let place : ℕ = at - (1 + texts.first_len) in
-    byte_of_second texts.tag first second at place (omega arith) (omega arith)
+    byte_of_second (slice_index texts.tags j) first second at place (omega arith) (omega arith)
 
 pub byte_in_padding : (texts : Texts) (j at : ℕ) → j < 4 → len_of texts ≤ at
     → slice_index (padded_in texts j) at ≡ slice_index (padding (len_of texts)) (at - len_of texts)
@@ -145,7 +145,7 @@ byte_in_padding texts j at low from =
     let el : length first ≡ texts.first_len = texts.first_alike j low in
     let es : length second ≡ texts.second_len = texts.second_alike j low in
     let len : 1 + (length first + length second) ≡ len_of texts = omega arith in
-    byte_of_padding texts.tag first second at (at - len_of texts) (omega arith)
+    byte_of_padding (slice_index texts.tags j) first second at (at - len_of texts) (omega arith)
     ∙ ap (λ (n : ℕ). slice_index (padding n) (at - len_of texts)) len
 
 -- ---- a word in a lane

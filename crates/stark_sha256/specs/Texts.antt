@@ -1,5 +1,5 @@
 -- Four texts of one length, each with its padding, and their blocks.
-use Rattle.std.specs.Prelude.{◌+◌, ◌*◌, ℕ, List, take, drop}
+use Rattle.std.specs.Prelude.{◌+◌, ◌*◌, ℕ, List, take, drop, slice_index}
 use Rattle.sha2.specs.Sha256.{padded_message}
 use Rattle.stark_sha256.specs.Pieces.{piece, text_of}
 use Rattle.stark_sha256.specs.declared.texts.Texts.{Texts}
@@ -10,7 +10,7 @@ len_of texts = 1 + (texts.first_len + texts.second_len)
 
 -- the text in lane j
 abbrev pub text_in : Texts → ℕ → List ℕ
-text_in texts j = text_of texts.tag (piece texts.first j) (piece texts.second j)
+text_in texts j = text_of (slice_index texts.tags j) (piece texts.first j) (piece texts.second j)
 
 -- the text in lane j with its padding
 unfoldable pub padded_in : Texts → ℕ → List ℕ

@@ -25,7 +25,7 @@ fn bytes_at(texts: &Texts, at: usize) -> [u8; 4]
     let second_at = 1 + texts.first_len;
     let len = 1 + (texts.first_len + texts.second_len);
     if at == 0 {
-        return [texts.tag; 4];
+        return texts.tags;
     }
     if at < second_at {
         return bytes_in(&texts.first, at - 1);

@@ -1,5 +1,5 @@
 //! The digests of several texts.
-ghost use Rattle.std.specs.Prelude.{◌≡◌, ◌+◌, ◌*◌, ◌^◌, ◌<◌, ◌≤◌, ◌∷◌, ◌++◌, IsTrue, ℕ, List, [], length, slice_index_or};
+ghost use Rattle.std.specs.Prelude.{◌≡◌, ◌+◌, ◌*◌, ◌^◌, ◌<◌, ◌≤◌, ◌∷◌, ◌++◌, IsTrue, ℕ, List, [], length, slice_index, slice_index_or};
 ghost use Rattle.sha2.specs.Sha256.{digest_bytes, final_hash, initial_hash_256, sha256};
 ghost use Rattle.stark_sha256.specs.Lanes.{lane};
 ghost use Rattle.stark_sha256.specs.Pieces.{HaveLength, piece, text_of};
@@ -92,31 +92,35 @@ fn digest(tag: u8, first: &[u8], second: &[u8]) -> [u8; 32]
 }
 
 /// The digests of four texts, one after the other.
-fn digests_one_by_one(tag: u8, first: [&[u8]; 4], second: [&[u8]; 4]) -> [[u8; 32]; 4]
+fn digests_one_by_one(tags: [u8; 4], first: [&[u8]; 4], second: [&[u8]; 4]) -> [[u8; 32]; 4]
     ensures { (i : ℕ) → i < 4 → slice_index_or result i []
-        ≡ sha256 (text_of tag (piece first.entry i) (piece second.entry i)) }
+        ≡ sha256 (text_of (slice_index tags i) (piece first.entry i) (piece second.entry i)) }
 {
     [
-        digest(tag, first[0], second[0]),
-        digest(tag, first[1], second[1]),
-        digest(tag, first[2], second[2]),
-        digest(tag, first[3], second[3]),
+        digest(tags[0], first[0], second[0]),
+        digest(tags[1], first[1], second[1]),
+        digest(tags[2], first[2], second[2]),
+        digest(tags[3], first[3], second[3]),
     ]
 }
 
-/// The digests of four texts: of each the byte `tag`, then its first piece, then its second one.
-/// Where the first pieces have one length, and the second ones too, they are computed side by side,
-/// else one after the other.
-pub fn sha256_lanes(tag: u8, first: [&[u8]; LANES], second: [&[u8]; LANES]) -> [[u8; 32]; LANES]
+/// The digests of four texts: of each its byte of `tags`, then its first piece, then its second
+/// one. Where the first pieces have one length, and the second ones too, they are computed side by
+/// side, else one after the other.
+pub fn sha256_lanes(
+    tags: [u8; LANES],
+    first: [&[u8]; LANES],
+    second: [&[u8]; LANES],
+) -> [[u8; 32]; LANES]
     ensures { (i : ℕ) → i < 4 → slice_index_or result i []
-        ≡ sha256 (text_of tag (piece first.entry i) (piece second.entry i)) }
+        ≡ sha256 (text_of (slice_index tags i) (piece first.entry i) (piece second.entry i)) }
 {
     let first_len = first[0].len();
     let second_len = second[0].len();
     let is_short = first_len < 1 << 38 && second_len < 1 << 38;
     if is_short && have_length(first_len, first) && have_length(second_len, second) {
         let texts = Texts {
-            tag,
+            tags,
             first,
             second,
             first_len,
@@ -124,6 +128,6 @@ pub fn sha256_lanes(tag: u8, first: [&[u8]; LANES], second: [&[u8]; LANES]) -> [
         };
         digests_of_one_length(&texts)
     } else {
-        digests_one_by_one(tag, first, second)
+        digests_one_by_one(tags, first, second)
     }
 }

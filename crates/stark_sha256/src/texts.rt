@@ -2,11 +2,11 @@
 ghost use Rattle.std.specs.Prelude.{◌+◌, ◌^◌, ◌<◌};
 ghost use Rattle.stark_sha256.specs.Pieces.{HaveLength};
 
-/// Four texts: of each the byte `tag`, then its first piece, then its second one. The first pieces
-/// have one length, and so have the second ones.
+/// Four texts: of each its byte of `tags`, then its first piece, then its second one. The first
+/// pieces have one length, and so have the second ones.
 #[derive(Drop)]
 pub(crate) struct Texts<'a, 'b> {
-    pub(crate) tag: u8,
+    pub(crate) tags: [u8; 4],
     pub(crate) first: [&'a [u8]; 4],
     pub(crate) second: [&'b [u8]; 4],
     /// How many bytes a first piece has.

@@ -6,12 +6,13 @@ ghost use Rattle.stark_fields.specs.Residues.{residue};
 ghost use Rattle.stark_bench.specs.ChallengeFacts.{after_four_in_turn, four_in_turn, sha_laws};
 
 use crate::challenger::commitment::{ClearCommitment, observe_matrices};
+use crate::challenger::trials::{first_of_four, leading, passes_behind};
 use sha2::{Digest, Sha256};
 use stark_fields::{Ext4, Modulus, Residue};
 use stark_merkle::Root;
 use stark_support::{
     CanObserve, CanSample, CanSampleBits, ExtensionChallenger, FieldChallenger, GrindingChallenger,
-    PrimeField64, checked_pow2,
+    PrimeField64,
 };
 use std::alloc::{AllocError, Global};
 use std::marker::{Model, PhantomData};
@@ -53,6 +54,13 @@ impl<F> Sha256Challenger<F> {
         self.state = hasher.finalize();
     }
 
+    // The number that the state hands out.
+    fn leading(&self) -> u64
+        ensures { result ≡ leading self.now }
+    {
+        leading(&self.state)
+    }
+
     fn copied(&self) -> Sha256Challenger<F>
         ensures { result ≡ self.now }
     {
@@ -60,15 +68,6 @@ impl<F> Sha256Challenger<F> {
             state: self.state,
             field: PhantomData,
         }
-    }
-
-    // The number that the state hands out.
-    fn leading(&self) -> u64
-        ensures { result ≡ leading self.now }
-    {
-        let mut bytes = [0; 8];
-        bytes.copy_from_slice(&self.state[..8]);
-        u64::from_be_bytes(bytes)
     }
 }
 
@@ -173,9 +172,18 @@ impl<M: Modulus, Kind> GrindingChallenger for Sha256Challenger<Residue<M, Kind>>
 
     /// The first of the numbers 0, 1, .. below the modulus whose element passes, with the state
     /// after its check; None where no element passes, as is likely where `2^bits` is far above the
-    /// modulus. A number takes two digests, and at `bits` bits one in `2^bits` passes.
+    /// modulus. A number takes two digests, of four numbers side by side, and at `bits` bits one in
+    /// `2^bits` passes.
     fn grind(&mut self, bits: usize) -> Option<Residue<M, Kind>> {
-        for number in 0..M::MODULUS {
+        let groups = M::MODULUS / 4;
+        for group in 0..groups {
+            if let Some(number) = first_of_four(&self.state, bits, 4 * group) {
+                let witness = Residue::new(number);
+                self.check_witness(bits, witness);
+                return Some(witness);
+            }
+        }
+        for number in 4 * groups..M::MODULUS {
             let witness = Residue::new(number);
             let mut trial = self.copied();
             if trial.check_witness(bits, witness) {
@@ -192,10 +200,7 @@ impl<M: Modulus, Kind> GrindingChallenger for Sha256Challenger<Residue<M, Kind>>
         }
         self.observe(&witness);
         self.absorb(2, &[]);
-        match checked_pow2(bits) {
-            Some(power) => self.leading() as usize % power == 0,
-            None => false,
-        }
+        passes_behind(&self.state, bits)
     }
 
     ghost grinding = { sha_laws };

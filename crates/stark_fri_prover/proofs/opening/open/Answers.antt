@@ -1,68 +1,62 @@
-use Rattle.std.proofs.Common.{◌∙◌, ap, length, map, sym}
+use Rattle.std.proofs.Common.{◌≡◌, ◌∙◌, List, ap, length, map, subst, sym}
 use Rattle.std.proofs.lemmas.Bool.{false≢true}
 use Rattle.std.proofs.lemmas.List.{length-map}
+use Rattle.std.specs.List.{AllByRecursion}
 use Rattle.stark_columns.specs.Columns.{columns_list}
 use Rattle.stark_support.specs.Claims.{round_view}
-use Rattle.stark_fri.specs.Claims.{rounds_in}
-use Rattle.stark_fri_prover.specs.OwnClaims.{round_claims}
-use Rattle.stark_fri_prover.proofs.PairSteps.{data_of, opening_refused, points_counted, rounds_claimed}
-use Rattle.stark_merkle.specs.Bytes.{pair_bytes_of, row_bytes_of}
-use Rattle.stark_fri.specs.Parts.{FriOps}
-use Rattle.stark_fri_prover.proofs.opening.open.Given as given
+use Rattle.stark_fri.specs.Claims.{RoundRead, height_of, own_claim, rounds_in}
+use Rattle.stark_fri_prover.specs.Commit.{data_seen}
+use Rattle.stark_fri_prover.specs.HonestOpening.{AreOfHeight, seen_rounds}
+use Rattle.stark_fri_prover.specs.OwnClaims.{points_in, round_claims}
+use Rattle.stark_fri_prover.proofs.MadeSteps.{heights_from_seen, heights_to_seen, seen_again}
+use Rattle.stark_fri_prover.proofs.PairSteps.{points_counted, rounds_claimed}
 use Rattle.stark_fri_prover.proofs.opening.open.Goals as goal
-
-abbrev ops_of : (g : given.Over) → FriOps g.row.C.Denot g.row.F.Denot g.row.EF.Denot
-ops_of g = record {
-  fields = record {
-    adicity = g.F.TwoAdicField.TWO_ADICITY;
-    root = g.F.TwoAdicField.root;
-    generator = g.F.Field.GENERATOR;
-    base = g.F.Field.ring;
-    base_inverse = g.F.Field.inverse_of;
-    ring = g.EF.Field.ring;
-    inverse = g.EF.Field.inverse_of;
-    embed = g.EF.ExtensionField.embed;
-    row_bytes = row_bytes_of g.F.PrimeField64.number_of;
-    pair_bytes = pair_bytes_of g.F.PrimeField64.number_of g.EF.ExtensionField.coordinates;
-  };
-  hash = g.H.TreeHash.digest_of;
-  sponge = record {
-    zero = g.F.Field.ring.zero;
-    observing = record {
-      from_byte = g.F.PrimeField64.of_number;
-      coordinates = g.EF.ExtensionField.coordinates;
-      observe_element = g.C.CanObserve-1.after_observe;
-      observe_root = g.C.CanObserve-2.after_observe;
-    };
-    draw = g.C.CanSample-2.sample_of;
-    after_draw = g.C.CanSample-2.after_sample;
-    bits_of = g.C.CanSampleBits.bits_of;
-    after_bits = g.C.CanSampleBits.after_bits;
-    passes = g.C.GrindingChallenger.passes;
-    after_check = g.C.GrindingChallenger.after_check;
-  };
-}
 
 pub returns-then-not-have_points-clause-refused : goal.returns-then-not-have_points-clause-refused
 returns-then-not-have_points-clause-refused g c = λ all.
     false≢true (sym c.if-not-have_points.true ∙ c.have_points.ensures.1
-    (points_counted (λ d. d.root) (λ d. d.domain.log_size) (λ d. map columns_list d.matrices.items) (λ d. d.extended.items) (λ d. length d.matrices.items) (λ d. length-map d.matrices.items columns_list) (map round_view c.args.rounds.now) all))
+    (points_counted (λ d. d.root) (λ d. d.domain.log_size) (λ d. map columns_list d.matrices.items) (λ d. d.extended.items) (λ d. length d.matrices.items) (λ d. length-map d.matrices.items columns_list) (map round_view c.args.rounds.now)
+    (subst (AllByRecursion (λ round. length round.1 ≡ length round.0.matrices)) (sym (seen_again (λ d. data_seen d.root d.domain.log_size d.matrices d.extended) c.args.rounds.now)) all)))
 
-pub returns-in-Ok-clause-accepted : goal.returns-in-Ok-clause-accepted
-returns-in-Ok-clause-accepted g c =
+pub returns-in-Err-clause-refused : goal.returns-in-Err-clause-refused
+returns-in-Err-clause-refused g c =
     let rounds = map round_view c.args.rounds.now in
     let claims = round_claims (λ d. d.root) (λ d. d.domain.log_size) rounds in
-    let same = ap (rounds_in (λ d. record { shift = d.shift; log_size = d.log_size })) c.deref-2.ensures.value ∙ c.in_ok-claims.ensures
+    let own = ap (rounds_in (λ d. record { shift = d.shift; log_size = d.log_size })) c.deref-2.ensures.value ∙ c.in_ok-claims.ensures
     ∙ ap (λ t. claims (map (λ round. map columns_list round.items) t)) c.deref.ensures.value ∙ ap claims c.in_ok-opened.ensures
-    ∙ rounds_claimed (λ d. d.root) (λ d. d.domain.log_size) (λ d. map columns_list d.matrices.items) (λ d. d.extended.items) g.EF.Field.ring g.EF.ExtensionField.embed rounds in
-    rw (same, c.in_ok-verifier.ensures) at c.in-Ok.ensures.accepted
+    ∙ rounds_claimed (λ d. d.root) (λ d. d.domain.log_size) (λ d. map columns_list d.matrices.items) (λ d. d.extended.items) g.EF.Field.ring g.EF.ExtensionField.embed rounds
+    ∙ ap (map (own_claim g.EF.Field.ring g.EF.ExtensionField.embed)) (seen_again (λ d. data_seen d.root d.domain.log_size d.matrices d.extended) c.args.rounds.now) in
+    rw own at c.in-Err.ensures
 
-pub returns-clause-refused : goal.returns-clause-refused
-returns-clause-refused g c =
+pub returns-then-not-have_height-clause-refused : goal.returns-then-not-have_height-clause-refused
+returns-then-not-have_height-clause-refused g c =
     let rounds = map round_view c.args.rounds.now in
     let claims = round_claims (λ d. d.root) (λ d. d.domain.log_size) rounds in
-    let same = ap (rounds_in (λ d. record { shift = d.shift; log_size = d.log_size })) c.deref-2.ensures.value ∙ c.in_ok-claims.ensures
+    let own = ap (rounds_in (λ d. record { shift = d.shift; log_size = d.log_size })) c.deref-2.ensures.value ∙ c.in_ok-claims.ensures
     ∙ ap (λ t. claims (map (λ round. map columns_list round.items) t)) c.deref.ensures.value ∙ ap claims c.in_ok-opened.ensures
-    ∙ rounds_claimed (λ d. d.root) (λ d. d.domain.log_size) (λ d. map columns_list d.matrices.items) (λ d. d.extended.items) g.EF.Field.ring g.EF.ExtensionField.embed rounds in
-    opening_refused (ops_of g) c.args.parameters.now (map (data_of (λ d. d.root) (λ d. d.domain.log_size) (λ d. map columns_list d.matrices.items) (λ d. d.extended.items)) rounds) c.args.challenger.now c.in-Err.fault
-    (rw (same, c.in_ok-verifier.ensures) at c.in-Err.ensures.refused)
+    ∙ rounds_claimed (λ d. d.root) (λ d. d.domain.log_size) (λ d. map columns_list d.matrices.items) (λ d. d.extended.items) g.EF.Field.ring g.EF.ExtensionField.embed rounds
+    ∙ ap (map (own_claim g.EF.Field.ring g.EF.ExtensionField.embed)) (seen_again (λ d. data_seen d.root d.domain.log_size d.matrices d.extended) c.args.rounds.now) in (
+      rw own at c.in-Ok.ensures.0,
+      λ all. false≢true (sym c.if-not-have_height.true ∙ c.have_height.ensures.1
+          (heights_from_seen (λ d. data_seen d.root d.domain.log_size d.matrices d.extended) c.in-Ok.log_height c.args.rounds.now
+          (subst (λ k. AreOfHeight k (seen_rounds (λ d. data_seen d.root d.domain.log_size d.matrices d.extended) points_in c.args.rounds.now)) (sym (c.in-Ok.ensures.1 ∙ ap height_of own)) all))),
+    )
+
+pub proof_of-made-requires : goal.proof_of-made-requires
+proof_of-made-requires g c =
+    let rounds = map round_view c.args.rounds.now in
+    let claims = round_claims (λ d. d.root) (λ d. d.domain.log_size) rounds in
+    let own_here = ap (rounds_in (λ d. record { shift = d.shift; log_size = d.log_size })) c.deref-3.ensures.value ∙ c.in_ok-claims.ensures
+    ∙ ap (λ t. claims (map (λ round. map columns_list round.items) t)) c.deref.ensures.value ∙ ap claims c.in_ok-opened.ensures
+    ∙ rounds_claimed (λ d. d.root) (λ d. d.domain.log_size) (λ d. map columns_list d.matrices.items) (λ d. d.extended.items) g.EF.Field.ring g.EF.ExtensionField.embed rounds
+    ∙ ap (map (own_claim g.EF.Field.ring g.EF.ExtensionField.embed)) (seen_again (λ d. data_seen d.root d.domain.log_size d.matrices d.extended) c.args.rounds.now) in
+    let own = ap (rounds_in (λ d. record { shift = d.shift; log_size = d.log_size })) c.deref-2.ensures.value ∙ c.in_ok-claims.ensures
+    ∙ ap (λ t. claims (map (λ round. map columns_list round.items) t)) c.deref.ensures.value ∙ ap claims c.in_ok-opened.ensures
+    ∙ rounds_claimed (λ d. d.root) (λ d. d.domain.log_size) (λ d. map columns_list d.matrices.items) (λ d. d.extended.items) g.EF.Field.ring g.EF.ExtensionField.embed rounds
+    ∙ ap (map (own_claim g.EF.Field.ring g.EF.ExtensionField.embed)) (seen_again (λ d. data_seen d.root d.domain.log_size d.matrices d.extended) c.args.rounds.now) in
+    record {
+      own = own_here;
+      fit = rw own at c.in-Ok.ensures.0;
+      height = c.in-Ok.ensures.1 ∙ ap height_of own;
+      heights = heights_to_seen (λ d. data_seen d.root d.domain.log_size d.matrices d.extended) c.in-Ok.log_height c.args.rounds.now (c.have_height.ensures.0 c.if-not-have_height.false);
+    }

@@ -1,11 +1,11 @@
-use Rattle.std.proofs.Common.{arith}
+use Rattle.stark_merkle.specs.Tree.{items_of}
 use Rattle.stark_merkle.proofs.ByteSteps.{all_rows, one_more_row}
 use Rattle.stark_merkle.proofs.bytes.row_bytes.Goals as goal
 
 pub loop-row-preserved : goal.loop-row-preserved
 loop-row-preserved g c =
-    one_more_row g.F.PrimeField64.number_of c.args.rows.now c.loop-row.row-index c.row-item.result c.len.result c.deref.result.now c.loop-row.bytes.items c.push_number-in-loop-row.new.bytes.items _ _
-    c.loop-row-test.true c.row-item.is (omega (arith, c.row-item.result.ok.0, c.len.ensures)) c.deref.ensures.value c.in_ok-push_number-2.ensures c.in_ok-push_elements.ensures c.loop-row.invariant
+    one_more_row g.F.PrimeField64.number_of items_of c.args.rows.now c.loop-row.row-index c.row-item.result c.deref.result.now c.loop-row.bytes.items _ _
+    c.loop-row-test.true c.row-item.is c.deref.ensures.value c.in_ok-push_row.ensures c.loop-row.invariant
 
 pub returns : goal.returns
-returns g c = all_rows g.F.PrimeField64.number_of c.args.rows.now c.loop-row.row-index c.loop-row.bytes.items _ c.loop-row-test.false c.loop-row.invariant
+returns g c = all_rows g.F.PrimeField64.number_of items_of c.args.rows.now c.loop-row.row-index c.loop-row.bytes.items _ c.loop-row-test.false c.loop-row.invariant

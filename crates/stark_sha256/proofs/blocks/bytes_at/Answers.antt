@@ -6,7 +6,7 @@ use Rattle.stark_sha256.proofs.blocks.bytes_at.Goals as goal
 pub returns-then-at-eq0 : goal.returns-then-at-eq0
 returns-then-at-eq0 c j low =
     let texts = c.args.texts.now in
-    rw c.if-at-eq0.true (get_or-replicate 4 j texts.tag 0 low ∙ sym (first_byte texts j))
+    rw c.if-at-eq0.true (sym (first_byte texts j))
 
 pub returns-then-at-second_at : goal.returns-then-at-second_at
 returns-then-at-second_at c j low =

@@ -10,12 +10,12 @@ use Rattle.stark_fri_prover.proofs.pcs.FriPcsPcs.get_evaluations_on_domain.Goals
 pub returns-then-is_extension : goal.returns-then-is_extension
 returns-then-is_extension g c = λ commitment matrices matrix stands there.
     stored_rows g.F.Field.ring g.F.TwoAdicField.root _ _ (map columns_list c.args.prover_data.now.matrices.items) c.args.prover_data.now.extended.items c.args.index matrix.columns
-    c.in_ok-rows.rows.values.items c.in_ok-rows.rows.width stands.rows
-    (ap (λ t. slice_get t c.args.index) stands.columns ∙ slice_get-map (λ m. m.columns) matrices c.args.index ∙ ap (option_map (λ m. m.columns)) there)
+    c.in_ok-rows.rows.values.items c.in_ok-rows.rows.width stands.0.rows
+    (ap (λ t. slice_get t c.args.index) stands.0.columns ∙ slice_get-map (λ m. m.columns) matrices c.args.index ∙ ap (option_map (λ m. m.columns)) there)
     (c.is_extension.ensures c.if-is_extension.true ∙ ap (λ n. extension_of g.F.Field.GENERATOR (c.args.prover_data.now.domain.log_size + n)) c.log_blowup.ensures)
     c.in_ok-rows.ensures.stored
 
 pub returns : goal.returns
 returns g c = λ commitment matrices matrix stands there.
-    c.in_ok-rows-2.ensures matrix.columns (ap (λ t. slice_get (map columns_list t) c.args.index) c.matrices.ensures ∙ ap (λ t. slice_get t c.args.index) stands.columns
+    c.in_ok-rows-2.ensures matrix.columns (ap (λ t. slice_get (map columns_list t) c.args.index) c.matrices.ensures ∙ ap (λ t. slice_get t c.args.index) stands.0.columns
     ∙ slice_get-map (λ m. m.columns) matrices c.args.index ∙ ap (option_map (λ m. m.columns)) there)

@@ -4,9 +4,10 @@ use Rattle.stark_support.specs.Coset.{TwoAdicCoset}
 use Rattle.stark_support.specs.LogarithmFacts.{same_exponent}
 use Rattle.stark_support.specs.Scheme.{AreQuotientChunks, committed_chunk, matrix_row}
 use Rattle.stark_columns.specs.Columns.{columns_list}
+use Rattle.stark_merkle.specs.Tree.{digests_in}
 use Rattle.stark_columns.specs.PlainChunks.{ArePlainChunks, plain_chunks}
 use Rattle.stark_columns.specs.PlainChunkFacts.{are_quotient_chunks, committed_columns, full_chunks}
-use Rattle.stark_fri_prover.specs.Commit.{AreExtended, IsRootOver, extension_of}
+use Rattle.stark_fri_prover.specs.Commit.{AreExtended, AreLayersOver, IsRootOver, extension_of}
 use Rattle.stark_fri_prover.proofs.CommitSteps.{at_most_log, chunk_heights, part_fits}
 use Rattle.stark_fri_prover.proofs.pcs.FriPcsUnivariateStarkPcs.commit_quotient.Goals as goal
 
@@ -42,16 +43,19 @@ returns-clause-stands g c =
     let number_of = g.F.PrimeField64.number_of in
     let generator = g.F.Field.GENERATOR in (
       chunks,
-      record {
-        commitment = made.commitment;
-        columns = ap (map columns_list) made.columns ∙ sym (committed_columns field laws inverse embed root coset r 0 matrices);
-        full = full_chunks field laws inverse embed root coset r width num row matrices plain;
-        heights = subst (λ n. AllByRecursion (λ m. m.domain.log_size ≡ n) (map (committed_chunk field false) chunks)) (sym made.height) (chunk_heights field root coset r 0 matrices);
-        rows = subst (λ n. AreExtended field root (extension_of generator n) (map columns_list c.in_ok-made.made.1.matrices.items) c.in_ok-made.made.1.extended.items) bits
-            (subst (λ t. AreExtended field root (extension_of generator (coset.log_size - r + c.log_blowup-log_blowup.result)) (map columns_list t) c.in_ok-made.made.1.extended.items) (sym made.columns) made.rows);
-        extended = subst (λ n. IsRootOver field root hash number_of (extension_of generator n) (map columns_list c.in_ok-made.made.1.matrices.items) c.in_ok-made.made.0.bytes) bits
-            (subst (λ t. IsRootOver field root hash number_of (extension_of generator (coset.log_size - r + c.log_blowup-log_blowup.result)) (map columns_list t) c.in_ok-made.made.0.bytes) (sym made.columns) made.root);
-      },
+      (
+        record {
+          commitment = made.commitment;
+          columns = ap (map columns_list) made.columns ∙ sym (committed_columns field laws inverse embed root coset r 0 matrices);
+          full = full_chunks field laws inverse embed root coset r width num row matrices plain;
+          heights = subst (λ n. AllByRecursion (λ m. m.domain.log_size ≡ n) (map (committed_chunk field false) chunks)) (sym made.height) (chunk_heights field root coset r 0 matrices);
+          rows = subst (λ n. AreExtended field root (extension_of generator n) (map columns_list c.in_ok-made.made.1.matrices.items) c.in_ok-made.made.1.extended.items) bits
+              (subst (λ t. AreExtended field root (extension_of generator (coset.log_size - r + c.log_blowup-log_blowup.result)) (map columns_list t) c.in_ok-made.made.1.extended.items) (sym made.columns) made.rows);
+          extended = subst (λ n. IsRootOver field root hash number_of (extension_of generator n) (map columns_list c.in_ok-made.made.1.matrices.items) c.in_ok-made.made.0.bytes) bits
+              (subst (λ t. IsRootOver field root hash number_of (extension_of generator (coset.log_size - r + c.log_blowup-log_blowup.result)) (map columns_list t) c.in_ok-made.made.0.bytes) (sym made.columns) made.root);
+        },
+        subst (λ n. AreLayersOver hash number_of n c.in_ok-made.made.1.extended.items (digests_in c.in_ok-made.made.1.layers.items)) bits made.tree,
+      ),
       λ k same.
           let e : r ≡ k = same_exponent r k (power ∙ sym same) in
           subst (λ j. AreQuotientChunks field root g.EF.Field.ring inverse embed false coset j width row chunks) e

@@ -1,21 +1,64 @@
-use Rattle.std.proofs.Common.{◌∙◌, ap, map}
+use Rattle.std.proofs.Common.{◌∙◌, ap, map, refl}
 use Rattle.stark_columns.specs.Columns.{columns_list}
+use Rattle.stark_merkle.specs.Bytes.{pair_bytes_of, row_bytes_of}
+use Rattle.stark_merkle.specs.Tree.{digests_in}
 use Rattle.stark_support.specs.Claims.{round_view}
-use Rattle.stark_fri.specs.SchemeFacts.{own_is_true}
-use Rattle.stark_fri_prover.specs.OwnClaims.{opened_rounds}
+use Rattle.stark_fri.specs.Parts.{FriOps}
+use Rattle.stark_fri_prover.specs.Commit.{data_seen}
+use Rattle.stark_fri_prover.specs.HonestFactsScheme.{made_is_accepted, stand_alone}
+use Rattle.stark_fri_prover.specs.OwnClaims.{opened_rounds, points_in}
+use Rattle.stark_fri_prover.proofs.MadeSteps.{refused_again}
 use Rattle.stark_fri_prover.proofs.PairSteps.{true_openings}
+use Rattle.stark_fri_prover.proofs.pcs.FriPcsUnivariateStarkPcs.open_with_preprocessing.Given as given
 use Rattle.stark_fri_prover.proofs.pcs.FriPcsUnivariateStarkPcs.open_with_preprocessing.Goals as goal
+
+abbrev ops_of : (g : given.Over) → FriOps g.row.C.Denot g.row.F.Denot g.row.EF.Denot
+ops_of g = record {
+  fields = record {
+    adicity = g.F.TwoAdicField.TWO_ADICITY;
+    root = g.F.TwoAdicField.root;
+    generator = g.F.Field.GENERATOR;
+    base = g.F.Field.ring;
+    base_inverse = g.F.Field.inverse_of;
+    ring = g.EF.Field.ring;
+    inverse = g.EF.Field.inverse_of;
+    embed = g.EF.ExtensionField.embed;
+    row_bytes = row_bytes_of g.F.PrimeField64.number_of;
+    pair_bytes = pair_bytes_of g.F.PrimeField64.number_of g.EF.ExtensionField.coordinates;
+  };
+  hash = g.H.TreeHash.digest_of;
+  sponge = record {
+    zero = g.F.Field.ring.zero;
+    observing = record {
+      from_byte = g.F.PrimeField64.of_number;
+      coordinates = g.EF.ExtensionField.coordinates;
+      observe_element = g.C.CanObserve-1.after_observe;
+      observe_root = g.C.CanObserve-2.after_observe;
+    };
+    draw = g.C.CanSample-2.sample_of;
+    after_draw = g.C.CanSample-2.after_sample;
+    bits_of = g.C.CanSampleBits.bits_of;
+    after_bits = g.C.CanSampleBits.after_bits;
+    passes = g.C.GrindingChallenger.passes;
+    after_check = g.C.GrindingChallenger.after_check;
+  };
+}
 
 pub returns-in-Ok-clause-true_values : goal.returns-in-Ok-clause-true_values
 returns-in-Ok-clause-true_values g c = λ made stand same.
     let opened = opened_rounds g.EF.Field.ring g.EF.ExtensionField.embed (λ d. map columns_list d.matrices.items) in
     c.in-Ok.ensures.values ∙ ap (λ t. opened (map round_view t)) c.deref.ensures.value ∙ ap opened same
-    ∙ true_openings _ (λ s. s.parameters) (λ d. record { root = d.root; log_height = d.domain.log_size; matrices = map columns_list d.matrices.items; extended = d.extended.items }) (λ p. p) _ c.args.self.now made stand
+    ∙ true_openings _ (λ s. s.parameters) (λ d. record { root = d.root; log_height = d.domain.log_size; matrices = map columns_list d.matrices.items; extended = d.extended.items }) (λ p. p) _ c.args.self.now made
+    (stand_alone _ g.F.PrimeField64.number_of (λ s. s.parameters) (λ d. record { root = d.root; log_height = d.domain.log_size; matrices = map columns_list d.matrices.items; extended = d.extended.items })
+    (λ d. digests_in d.layers.items) (λ p. p) _ c.args.self.now made stand)
 
 pub returns-in-Ok-clause-whole : goal.returns-in-Ok-clause-whole
 returns-in-Ok-clause-whole g c = λ made stand same whole.
-    own_is_true _ (λ s. s.parameters) (λ d. record { root = d.root; log_height = d.domain.log_size; matrices = map columns_list d.matrices.items; extended = d.extended.items }) (λ p. p) _ c.args.self.now made c.in-Ok.opened.1 c.args.challenger.now c.args._preprocessed_index stand
-    (rw (c.deref.ensures.value, same) at c.in-Ok.ensures.accepted)
+    made_is_accepted _ g.F.PrimeField64.number_of (λ s. s.parameters) (λ d. record { root = d.root; log_height = d.domain.log_size; matrices = map columns_list d.matrices.items; extended = d.extended.items })
+    (λ d. digests_in d.layers.items) (λ p. p) _ c.args.self.now points_in g.EF.ExtensionField.coordinates
+    (record { base = g.met.F.Field.field_laws; extension = g.met.EF.Field.field_laws; embeds = g.met.EF.ExtensionField.embeds; two_adic = g.met.F.TwoAdicField.two_adic; row_bytes = λ rows. refl; pair_bytes = λ x y. refl })
+    c.args.rounds.items c.args.challenger.now c.in-Ok.opened.1 (rw c.deref.ensures.value at c.in-Ok.ensures.made) made stand same c.args._preprocessed_index
 
 pub returns-clause-refused : goal.returns-clause-refused
-returns-clause-refused g c = rw c.deref.ensures.value at c.in-Err.ensures.refused
+returns-clause-refused g c =
+    refused_again (ops_of g) (λ d. data_seen d.root d.domain.log_size d.matrices d.extended) c.args.self.now.parameters c.args.rounds.items c.in-Err.fault (rw c.deref.ensures.value at c.in-Err.ensures.refused)

@@ -1,34 +1,39 @@
-use Rattle.std.proofs.Common.{arith, refl, ap, ◌∙◌}
-use Rattle.stark_bench.specs.Challenges.{sha_passes, sha_after_check}
-use Rattle.stark_bench.specs.ChallengeFacts.{search_starts, search_goes_on, search_finds, search_ends}
+use Rattle.std.proofs.Common.{◌≡◌, ◌∙◌, ◌+◌, ◌*◌, Some, ap, arith, refl, subst}
+use Rattle.stark_bench.specs.Challenges.{sha_passes}
+use Rattle.stark_bench.specs.ChallengeFacts.{NonePassedBelow, four_skipped, one_of_four_found, search_finds, search_goes_on, search_starts}
 use Rattle.stark_bench.proofs.challenger.sha256.Sha256ChallengerResidueGrindingChallenger.grind.Goals as goal
 
-pub loop-number-init : goal.loop-number-init
-loop-number-init g c = (refl, search_starts (sha_passes {M = g.row.M.Denot} {K = g.row.Kind.Denot} {G = g.M.Modulus}) c.args.self.now c.args.bits)
+pub loop-group-init : goal.loop-group-init
+loop-group-init g c = (refl, search_starts (sha_passes {M = g.row.M.Denot} {K = g.row.Kind.Denot} {G = g.M.Modulus}) c.args.self.now c.args.bits)
+
+pub returns-in-Some-clause-answer : goal.returns-in-Some-clause-answer
+returns-in-Some-clause-answer g c =
+    ap Some c.new-witness.ensures ∙ one_of_four_found {M = g.row.M.Denot} g.row.Kind.Denot g.M.Modulus c.args.self.now c.self.inside.state c.args.bits (4 * c.loop-group.group)
+    (c.self.view_is ∙ c.loop-group.invariant.0) (omega (arith, c.loop-group-test.true, c.MODULUS-groups.ensures)) c.in-Some.number c.loop-group.invariant.1 c.in-Some.ensures
+
+pub loop-group-preserved : goal.loop-group-preserved
+loop-group-preserved g c =
+    let passes = sha_passes {M = g.row.M.Denot} {K = g.row.Kind.Denot} {G = g.M.Modulus} in
+    let next : 4 * c.loop-group.group + 4 ≡ 4 * (c.loop-group.group + 1) = omega arith in (
+      c.loop-group.invariant.0,
+      subst (λ n. NonePassedBelow passes c.args.self.now c.args.bits n) next
+          (four_skipped {M = g.row.M.Denot} g.row.Kind.Denot g.M.Modulus c.args.self.now c.self.inside.state c.args.bits (4 * c.loop-group.group)
+          (c.self.view_is ∙ c.loop-group.invariant.0) (omega (arith, c.loop-group-test.true, c.MODULUS-groups.ensures)) c.loop-group.invariant.1 c.in_default.ensures),
+    )
 
 pub loop-number-preserved : goal.loop-number-preserved
 loop-number-preserved g c =
     let passes = sha_passes {M = g.row.M.Denot} {K = g.row.Kind.Denot} {G = g.M.Modulus} in
     let at_first = c.copied-trial.ensures ∙ c.loop-number.invariant.0 in (
       c.loop-number.invariant.0,
-      search_goes_on passes c.args.self.now c.args.bits c.loop-number.number c.loop-number.invariant.1 c.new-witness.ensures
-          (c.check_witness.ensures.answer ∙ ap (λ s. passes s c.args.bits c.new-witness.result) at_first) c.if-check_witness.false,
+      search_goes_on passes c.args.self.now c.args.bits c.loop-number.number c.loop-number.invariant.1 c.new-witness-in-loop-number.ensures
+          (c.check_witness-in-loop-number.ensures.answer ∙ ap (λ s. passes s c.args.bits c.new-witness-in-loop-number.result) at_first) c.if-check_witness.false,
     )
 
 pub returns-then-check_witness-clause-answer : goal.returns-then-check_witness-clause-answer
 returns-then-check_witness-clause-answer g c =
     let passes = sha_passes {M = g.row.M.Denot} {K = g.row.Kind.Denot} {G = g.M.Modulus} in
     let at_first = c.copied-trial.ensures ∙ c.loop-number.invariant.0 in
-    search_finds passes c.args.self.now c.args.bits c.loop-number.number c.loop-number.invariant.1 c.new-witness.ensures
-    (c.check_witness.ensures.answer ∙ ap (λ s. passes s c.args.bits c.new-witness.result) at_first) c.if-check_witness.true (omega (arith, c.loop-number-test.true, c.MODULUS-number-end.ensures))
-
-pub returns-then-check_witness-clause-state : goal.returns-then-check_witness-clause-state
-returns-then-check_witness-clause-state g c =
-    let at_first = c.copied-trial.ensures ∙ c.loop-number.invariant.0 in
-    c.check_witness.ensures.state ∙ ap (λ s. sha_after_check s c.args.bits c.new-witness.result) at_first
-
-pub returns-clause-answer : goal.returns-clause-answer
-returns-clause-answer g c = search_ends (sha_passes {M = g.row.M.Denot} {K = g.row.Kind.Denot} {G = g.M.Modulus}) c.args.self.now c.args.bits c.loop-number.number c.loop-number.invariant.1 (omega (arith, c.loop-number.auto.number-end, c.MODULUS-number-end.ensures)) (omega (arith, c.loop-number-test.false, c.MODULUS-number-end.ensures))
-
-pub returns-clause-state : goal.returns-clause-state
-returns-clause-state g c = c.loop-number.invariant.0
+    search_finds passes c.args.self.now c.args.bits c.loop-number.number c.loop-number.invariant.1 c.new-witness-in-loop-number.ensures
+    (c.check_witness-in-loop-number.ensures.answer ∙ ap (λ s. passes s c.args.bits c.new-witness-in-loop-number.result) at_first) c.if-check_witness.true
+    (omega (arith, c.loop-number-test.true, c.MODULUS-number-end.ensures))

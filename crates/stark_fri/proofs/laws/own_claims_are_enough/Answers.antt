@@ -5,7 +5,7 @@ use Rattle.std.specs.Prelude.{map}
 use Rattle.stark_fri.specs.Accept.{Accepted}
 use Rattle.stark_fri.specs.Scheme.{fri_calls, instance_of, own_rounds}
 use Rattle.stark_fri.specs.SchemeFacts.{own_is_true}
-use Rattle.stark_fri.proofs.laws.own_check_is_enough.Goals as goal
+use Rattle.stark_fri.proofs.laws.own_claims_are_enough.Goals as goal
 
 pub returns : goal.returns
 returns g c = λ ops s made proof state index stand accepted.

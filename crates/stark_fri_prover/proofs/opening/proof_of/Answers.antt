@@ -1,0 +1,63 @@
+use Rattle.std.proofs.Common.{◌≡◌, ◌∙◌, ◌+◌, ◌-◌, ◌*◌, ◌%◌, ◌^◌, ◌<◌, ap, arith, min}
+use Rattle.std.proofs.lemmas.Nat.{one_shl}
+use Rattle.stark_merkle.specs.Bytes.{pair_bytes_of, row_bytes_of}
+use Rattle.stark_merkle.specs.Tree.{digests_in}
+use Rattle.stark_fri.specs.Parts.{FriOps}
+use Rattle.stark_fri_prover.specs.Commit.{data_seen}
+use Rattle.stark_fri_prover.specs.OwnClaims.{points_in}
+use Rattle.stark_fri_prover.proofs.MadeSteps.{is_made, seen_again}
+use Rattle.stark_fri_prover.proofs.opening.proof_of.Given as given
+use Rattle.stark_fri_prover.proofs.opening.proof_of.Goals as goal
+
+abbrev ops_of : (g : given.Over) → FriOps g.row.C.Denot g.row.F.Denot g.row.EF.Denot
+ops_of g = record {
+  fields = record {
+    adicity = g.F.TwoAdicField.TWO_ADICITY;
+    root = g.F.TwoAdicField.root;
+    generator = g.F.Field.GENERATOR;
+    base = g.F.Field.ring;
+    base_inverse = g.F.Field.inverse_of;
+    ring = g.EF.Field.ring;
+    inverse = g.EF.Field.inverse_of;
+    embed = g.EF.ExtensionField.embed;
+    row_bytes = row_bytes_of g.F.PrimeField64.number_of;
+    pair_bytes = pair_bytes_of g.F.PrimeField64.number_of g.EF.ExtensionField.coordinates;
+  };
+  hash = g.H.TreeHash.digest_of;
+  sponge = record {
+    zero = g.F.Field.ring.zero;
+    observing = record {
+      from_byte = g.F.PrimeField64.of_number;
+      coordinates = g.EF.ExtensionField.coordinates;
+      observe_element = g.C.CanObserve-1.after_observe;
+      observe_root = g.C.CanObserve-2.after_observe;
+    };
+    draw = g.C.CanSample-2.sample_of;
+    after_draw = g.C.CanSample-2.after_sample;
+    bits_of = g.C.CanSampleBits.bits_of;
+    after_bits = g.C.CanSampleBits.after_bits;
+    passes = g.C.GrindingChallenger.passes;
+    after_check = g.C.GrindingChallenger.after_check;
+  };
+}
+
+pub returns : goal.returns
+returns g c =
+    let folds = c.in-Some.folds in
+    let short : c.args.log_height < 64 = omega (arith, c.requires.height, c.requires.fit.within, g.met.F.TwoAdicField.two_adic.bounded) in
+    let size : 1 * 2 ^ c.args.log_height % 2 ^ 64 ≡ 2 ^ c.args.log_height = one_shl c.args.log_height 64 short in
+    rw c.new-2.ensures (is_made (ops_of g) g.F.PrimeField64.number_of g.EF.ExtensionField.coordinates (λ d. data_seen d.root d.domain.log_size d.matrices d.extended) (λ d. digests_in d.layers.items) points_in
+    c.args.parameters.now c.args.rounds.now c.args.challenger.now
+    (record { phases = folds.phases.items; final_polynomial = folds.last.items; query_witness = c.in-Some-find_witness.query_witness; queries = c.in_ok-queries.queries.items })
+    c.args.log_height c.requires.height _ c.requires.own c.observe_parameters.new.challenger c.observe_claims.new.challenger c.sample-alpha.new.self c.sample-alpha.result
+    c.observe_parameters.ensures c.observe_claims.ensures c.sample-alpha.ensures.answer c.sample-alpha.ensures.state
+    (c.args.log_height + c.log_blowup.result) (c.args.log_height - c.min.result) (ap (λ n. c.args.log_height + n) c.log_blowup.ensures)
+    (ap (λ n. c.args.log_height - n) (c.min.ensures ∙ ap (min c.args.log_height) c.log_final_poly_len.ensures))
+    c.in_ok-batch.batch.items folds.layers.items c.fold_all.new.challenger c.observe_values.new.challenger c.find_witness.new.challenger (rw c.deref.ensures.value at c.observe_values.ensures)
+    c.in_ok-places.places.items (rw c.num_queries.ensures at c.in_ok-places.ensures)
+    c.requires.fit c.requires.heights (rw (seen_again (λ d. data_seen d.root d.domain.log_size d.matrices d.extended) c.args.rounds.now, size) at c.in_ok-batch.ensures)
+    (rw (c.in-Some.is, c.commit_proof_of_work_bits.ensures) at c.in_ok-folds.ensures.folded)
+    (rw (c.in-Some.is, c.commit_proof_of_work_bits.ensures, c.new.ensures.shift, c.new.ensures.size, c.GENERATOR.ensures) at c.in_ok-folds.ensures.word)
+    (rw (c.in-Some.is, c.new.ensures.size) at c.in_ok-folds.ensures.layers)
+    (rw c.query_proof_of_work_bits-query_bits.ensures at c.in-Some-find_witness.ensures)
+    (rw (c.deref-2.ensures.value, c.deref-3.ensures.value) at c.in_ok-queries.ensures))

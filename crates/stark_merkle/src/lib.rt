@@ -5,6 +5,7 @@
 mod bytes;
 mod hash;
 mod path;
+mod paths;
 mod root;
 mod root_json;
 #[cfg(test)]
@@ -20,5 +21,6 @@ pub use path::{
     full_trees_have_paths, full_trees_have_roots, is_path_to, own_rows_lead_to_roots, paths_bind,
     root_of_path, rows_bind, tops_are_roots, trees_lead_to_roots,
 };
+pub use paths::four_lead;
 pub use root::Root;
 pub use tree::{leaves, next_layer, path_in, root_in, tree_layers};

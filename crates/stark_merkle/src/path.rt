@@ -23,7 +23,7 @@ pub fn root_of_path<H: TreeHash>(start: [u8; 32], index: usize, path: &[[u8; 32]
 }
 
 /// Whether a tree of that depth, which has 2^`depth` leaves, has the place.
-fn has_place(depth: usize, index: usize) -> bool
+pub(crate) fn has_place(depth: usize, index: usize) -> bool
     ensures { IsTrue result ↔ index < 2 ^ depth }
 {
     depth >= 64 || index >> depth == 0

@@ -1,7 +1,9 @@
 //! Worked rows of trees over SHA-256. Row i of a tree is the text `row i`. The digests were
 //! computed in Python with hashlib, and which altered claims are refused by a verifier written
 //! there.
-use crate::{Root, Sha256Tree, TreeHash, is_path_to, leaf, leaves, path_in, root_in, tree_layers};
+use crate::{
+    Root, Sha256Tree, TreeHash, four_lead, is_path_to, leaf, leaves, path_in, root_in, tree_layers,
+};
 use serde_json::Value;
 use stark_support::{JsonCodec, JsonFault, value_from_bytes};
 use std::alloc::Global;
@@ -91,6 +93,8 @@ altered | 8 2 index 1 => refused
 altered | 8 2 index 10 => refused
 altered | 8 2 exchanged => refused
 altered | 8 2 node 2 => refused
+altered | 16 12 nothing => accepted
+altered | 16 12 node 3 => refused
 
 # What spells a root or not. Answered are its first bytes, and whether it is written the same way.
 json | "a94b4fe4b79e2f7254de09d24255b17837de9fbc890e8d2570c84383454a4ccf" => a94b4fe4 same
@@ -239,7 +243,28 @@ fn with_change<H: TreeHash>(
     Ok(altered)
 }
 
-/// Whether the altered claim is accepted.
+/// The altered claim at its lane, and else the true one.
+fn claim_at<'a>(altered: &'a Claim, truth: &'a Claim, is_altered: bool) -> &'a Claim {
+    if is_altered { altered } else { truth }
+}
+
+/// Whether the altered claim and three times the true one are accepted at once, by the altered
+/// one's root and depth.
+fn lead_beside<H: TreeHash>(altered: &Claim, truth: &Claim, lane: usize) -> bool {
+    let first = claim_at(altered, truth, lane == 0);
+    let second = claim_at(altered, truth, lane == 1);
+    let third = claim_at(altered, truth, lane == 2);
+    let fourth = claim_at(altered, truth, lane == 3);
+    four_lead::<H>(
+        &altered.root,
+        altered.depth,
+        [first.index, second.index, third.index, fourth.index],
+        [&first.row, &second.row, &third.row, &fourth.row],
+        [&first.path, &second.path, &third.path, &fourth.path],
+    )
+}
+
+/// Whether the altered claim is accepted, alone and as each of four.
 fn judged<H: TreeHash>(
     alloc: Global,
     leaves: usize,
@@ -256,6 +281,12 @@ fn judged<H: TreeHash>(
         &altered.row,
         &altered.path,
     );
+    let truth = claim_of::<H>(alloc, leaves, 0)?;
+    for lane in 0..4 {
+        if lead_beside::<H>(&altered, &truth, lane) != accepted {
+            return Err(Fail::new("four at once are judged otherwise"));
+        }
+    }
     Ok(String::from_str(alloc, if accepted { "accepted" } else { "refused" })?)
 }
 
@@ -334,6 +365,6 @@ fn rows_are_answered(rt: HostRuntime) -> Result<(), Fail> {
             count = count.saturating_add(1);
         }
     }
-    assert_eq!(rt; count, 99);
+    assert_eq!(rt; count, 101);
     Ok(())
 }

@@ -77,16 +77,16 @@ impl Writer {
         }
     }
 
-    fn extensions(&mut self, elements: &Vec<Extension>) {
+    fn extensions(&mut self, elements: &[Extension]) {
         self.list(elements, Writer::extension);
     }
 
-    fn row(&mut self, row: &Vec<BabyBear>) {
+    fn row(&mut self, row: &[BabyBear]) {
         self.list(row, |writer, element| writer.base(*element));
     }
 
     fn input(&mut self, input: &RowsOpening) {
-        self.list(&input.rows, Writer::row);
+        self.list(&input.rows, |writer, row| writer.row(row));
         self.list(&input.path, Writer::digest);
     }
 
@@ -135,7 +135,7 @@ impl Proof {
         writer.0.push(1);
         writer.extensions(&self.next);
         writer.preprocessed(&self.preprocessed);
-        writer.list(&self.chunks, Writer::extensions);
+        writer.list(&self.chunks, |writer, chunk| writer.extensions(chunk));
         // No random row.
         writer.0.push(0);
         writer.fri(&self.opening);

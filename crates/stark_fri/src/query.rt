@@ -44,7 +44,7 @@ fn rows_fit<EF, D: PolynomialSpace>(
 }
 
 /// Whether a query opens rows of each round that fit its matrices, and one pair for each fold.
-fn query_fits<EF, D: PolynomialSpace>(
+pub(crate) fn query_fits<EF, D: PolynomialSpace>(
     claims: &[OpeningClaim<'_, EF, Root, D>],
     folds: usize,
     query: &QueryProof<D::Val, EF>,
@@ -108,7 +108,7 @@ where
 }
 
 /// The point at which the final polynomial is to have the value that a place leads to.
-fn last_point<F: TwoAdicField + PrimeField64, EF: ExtensionField<F>>(
+pub(crate) fn last_point<F: TwoAdicField + PrimeField64, EF: ExtensionField<F>>(
     folds: usize,
     bits: usize,
     start: usize,

@@ -1,5 +1,5 @@
 -- The steps of a value's way through the folds, and of its pairs' openings.
-use Rattle.std.proofs.Common.{◌≡◌, ◌∙◌, ℕ, suc, ◌+◌, ◌-◌, ◌%◌, ◌<◌, ◌≤◌, true, false, inl, inr, ltb, cond, List, [], ◌∷◌, ◌++◌, length, get_or, drop, sym, ap, refl, subst, arith, append_assoc}
+use Rattle.std.proofs.Common.{◌≡◌, ◌∙◌, ◌↔◌, Bool, IsTrue, ℕ, suc, ◌+◌, ◌-◌, ◌%◌, ◌<◌, ◌≤◌, true, false, inl, inr, ltb, cond, List, [], ◌∷◌, ◌++◌, length, get_or, drop, sym, ap, refl, subst, arith, append_assoc}
 use Rattle.std.specs.List.{AllByRecursion}
 use Rattle.std.proofs.lemmas.Bool.Decides.{leb_tells}
 use Rattle.std.proofs.lemmas.List.{append-nil, drop_all}
@@ -10,8 +10,9 @@ use Rattle.stark_folding.specs.Fold.{squared_coset}
 use Rattle.stark_folding.specs.Walk.{half_size, walked}
 use Rattle.stark_fri_proof.specs.Paths.{digests_of}
 use Rattle.stark_fri_proof.specs.declared.proof.LayerOpening.{LayerOpening}
+use Rattle.stark_merkle.specs.Tree.{LeadsTo}
 use Rattle.stark_fri.specs.Parts.{FriFields}
-use Rattle.stark_fri.specs.Query.{PairOpening, next_at, pair_at, pairs_of, walked_by}
+use Rattle.stark_fri.specs.Query.{PairLeads, PairOpening, next_at, pair_at, pairs_of, walked_by}
 use Rattle.stark_fri.specs.Walks.{opening_of, openings_of, pair_on, pairs_on}
 use Rattle.stark_fri.specs.declared.folds.Pair.{Pair}
 
@@ -139,3 +140,11 @@ module _ {F E : Type 0} (fields : FriFields F E) where
       unfolding IsFirstFault
       openings_stop never so_far =
           subst (IsFirstFault P (openings_of fields k trees layers pairs)) (omega arith) (so_far 0 (subst (λ t. IsFirstFault P t 0) (sym from_here) never))
+
+  -- A test of a pair in memory is one of its opening.
+  pub pair_told : (hash : List ℕ → List ℕ) (depth : ℕ) (root tree : List ℕ) (layer : LayerOpening E) (pair : Pair E) (bytes : List ℕ) (path : List (List ℕ)) (told : Bool)
+      → root ≡ tree → bytes ≡ fields.pair_bytes pair.low pair.high → path ≡ digests_of layer.path → (IsTrue told ↔ LeadsTo hash root depth pair.place bytes path)
+      → IsTrue told ↔ PairLeads hash (opening_of fields depth tree layer pair)
+  pair_told hash depth root tree layer pair bytes path told is_root is_bytes is_path test =
+      subst (λ t. IsTrue told ↔ LeadsTo hash t depth pair.place (fields.pair_bytes pair.low pair.high) (digests_of layer.path)) is_root
+      (subst (λ t. IsTrue told ↔ LeadsTo hash root depth pair.place t (digests_of layer.path)) is_bytes (subst (λ t. IsTrue told ↔ LeadsTo hash root depth pair.place bytes t) is_path test))

@@ -1,14 +1,16 @@
--- Queries whose rows were batched and folded, whether or not their paths lead to the roots, and lists place by place.
-use Rattle.std.specs.Prelude.{◌≡◌, ℕ, ◌-◌, ◌%◌, ltb, cond, List, [], ◌∷◌}
+-- Values' ways through the folds as they stand in memory, whether or not their pairs lead to the layers' roots.
+use Rattle.std.specs.Prelude.{◌≡◌, ℕ, ◌-◌, ◌%◌, ltb, cond, List, [], ◌∷◌, Option, map}
 use Rattle.stark_support.specs.Coset.{TwoAdicCoset}
+use Rattle.stark_support.specs.Faults.{FindsFirstFault}
 use Rattle.stark_folding.specs.Fold.{squared_coset}
 use Rattle.stark_folding.specs.Walk.{half_size}
 use Rattle.stark_fri_proof.specs.Paths.{digests_of}
 use Rattle.stark_fri_proof.specs.declared.proof.LayerOpening.{LayerOpening}
+use Rattle.stark_fri_proof.specs.declared.proof.Phase.{Phase}
 use Rattle.stark_fri.specs.Parts.{FriFields}
-use Rattle.stark_fri.specs.Query.{PairOpening, extension_coset, next_at, walked_by}
-use Rattle.stark_fri.specs.declared.folds.Pair.{Pair}
+use Rattle.stark_fri.specs.Query.{PairLeads, PairOpening, extension_coset, next_at, phase_root, walked_by}
 use Rattle.stark_fri.specs.declared.folds.FoldWalk.{FoldWalk}
+use Rattle.stark_fri.specs.declared.folds.Pair.{Pair}
 
 -- The pair at a place: the value of the lower place comes first.
 abbrev pub pair_on : {E : Type 0} → TwoAdicCoset E → ℕ → E → E → Pair E
@@ -37,3 +39,11 @@ module _ {F E : Type 0} (fields : FriFields F E) where
   abbrev pub IsWalk : ℕ → ℕ → E → List E → List (LayerOpening E) → FoldWalk E → Type 0
   IsWalk bits place v betas layers walk =
       (walk.pairs.items ≡ pairs_on (extension_coset fields bits) place v betas layers) × (walk.reached ≡ walked_by fields (extension_coset fields bits) place v betas layers)
+
+  -- The pair at a place, and what it folds to.
+  abbrev pub FoldsTo : TwoAdicCoset E → E → ℕ → E → E → Pair E × E → Type 0
+  FoldsTo c beta place v sibling found = found ≡ (pair_on c place v sibling, next_at fields c beta place v sibling)
+
+  -- The first fold whose pair doesn't lead to its root; none where all do.
+  abbrev pub FindsLayerFault : (List ℕ → List ℕ) → ℕ → List (Phase F) → List (LayerOpening E) → List (Pair E) → Option ℕ → Type 0
+  FindsLayerFault hash bits phases layers pairs found = FindsFirstFault (PairLeads hash) (openings_of bits (map phase_root phases) layers pairs) found

@@ -1,19 +1,15 @@
 //! Queries taken four at a time, whose paths are hashed side by side.
-ghost use Rattle.std.specs.Prelude.{◌≡◌, ◌<◌, ◌*◌, ◌≤◌, ◌↔◌, IfOk, IsTrue, length};
-ghost use Rattle.stark_merkle.specs.Bytes.{row_bytes_of};
+ghost use Rattle.std.specs.Prelude.{◌≡◌, ◌<◌, ◌*◌, ◌≤◌, IfOk, IsTrue, length};
 ghost use Rattle.stark_fri.specs.Claims.{AreOff, rounds_in};
-ghost use Rattle.stark_fri.specs.Fours.{AllHold, AreWalksIn, EndsAt, FirstHold, FourEnd, FourFit, FourInputsLead, FourLayersLead, HavePairs, InFour, IsWalkIn, OpenLayers, OpenRounds, PairsLead, RowsLead};
+ghost use Rattle.stark_fri.specs.Fours.{FourHoldIf, FourLeadIf, FindsFourWalks, FirstHold, FourEnd, FourFit, FourLayersLead, HavePairs, InFour, OpenLayers, OpenRounds, PairsLead, RowsLead};
 
 use crate::fields::FoldingFields;
-use crate::folds::{FoldWalk, walk_folds};
-use crate::query::{last_point, query_fits};
+use crate::folds::FoldWalk;
+use crate::query::{ends_well, query_fits, query_walk};
 use crate::replay::Drawn;
-use crate::seen::batched_value;
 use stark_fri_proof::{FriProof, Phase, QueryProof};
 use stark_merkle::{Root, TreeHash, four_lead, pair_bytes, row_bytes};
-use stark_support::{
-    ExtensionField, OpeningClaim, PolynomialSpace, PrimeField64, TwoAdicField, polynomial_value,
-};
+use stark_support::{ExtensionField, OpeningClaim, PolynomialSpace, PrimeField64, TwoAdicField};
 use std::alloc::{AllocError, Global};
 
 /// Whether each of four queries opens rows that fit the matrices, and one pair for each fold.
@@ -89,9 +85,8 @@ where
     requires places { length places.now ≡ 4 }
     requires queries { length queries.now ≡ 4 }
     requires rounds { OpenRounds (length claims.now) queries.now }
-    ensures { IfOk result (λ lead. IsTrue lead → FourInputsLead
-        ⟦<EF as FoldingFields<D::Val>>⟧.folding H.digest_of bits (rounds_in D.coset_of claims.now)
-        places.now queries.now) }
+    ensures { IfOk result (FourLeadIf ⟦<EF as FoldingFields<D::Val>>⟧.folding H.digest_of
+        D.coset_of claims.now bits places.now queries.now) }
 {
     for r in 0..claims.len() {
         let claim = &claims[r];
@@ -173,48 +168,6 @@ where
     Ok(true)
 }
 
-/// A query's way through the folds from the batched value of its rows, whether or not they lead to
-/// the rounds' roots.
-pub(crate) fn query_walk<EF, D>(
-    alloc: Global,
-    claims: &[OpeningClaim<'_, EF, Root, D>],
-    proof: &FriProof<D::Val, EF>,
-    drawn: &Drawn<EF>,
-    bits: usize,
-    place: usize,
-    query: &QueryProof<D::Val, EF>,
-) -> Result<FoldWalk<EF>, AllocError>
-where
-    D: PolynomialSpace<Val: PrimeField64>,
-    EF: ExtensionField<D::Val>,
-    requires layers { length query.now.layers ≡ length drawn.now.betas.items }
-    requires folds { length drawn.now.betas.items ≤ bits }
-    requires within { bits ≤ D.Val.TWO_ADICITY }
-    requires off { AreOff ⟦<EF as FoldingFields<D::Val>>⟧.folding bits (rounds_in D.coset_of
-        claims.now) }
-    ensures { IfOk result (IsWalkIn ⟦<EF as FoldingFields<D::Val>>⟧.folding (rounds_in D.coset_of
-        claims.now) bits drawn.now proof.now place query.now) }
-{
-    let value = batched_value::<EF, D>(alloc, claims, query.inputs(), drawn.alpha, bits, place)?;
-    walk_folds::<D::Val, EF>(alloc, &drawn.betas, query.layers(), bits, place, value)
-}
-
-/// Whether the folds lead to the final polynomial's value.
-pub(crate) fn ends_well<F: TwoAdicField + PrimeField64, EF: ExtensionField<F>>(
-    proof: &FriProof<F, EF>,
-    bits: usize,
-    place: usize,
-    walk: &FoldWalk<EF>,
-) -> bool
-    requires folds { length proof.now.phases ≤ bits }
-    requires within { bits ≤ F.TWO_ADICITY }
-    ensures { IsTrue result ↔ EndsAt ⟦<EF as FoldingFields<F>>⟧.folding proof.now bits place
-        walk.now }
-{
-    let point = last_point::<F, EF>(proof.phases().len(), bits, place);
-    walk.reached == polynomial_value(proof.final_polynomial(), point)
-}
-
 /// The way of each of four queries through the folds.
 fn four_walks<EF, D>(
     alloc: Global,
@@ -235,8 +188,8 @@ where
     requires within { bits ≤ D.Val.TWO_ADICITY }
     requires off { AreOff ⟦<EF as FoldingFields<D::Val>>⟧.folding bits (rounds_in D.coset_of
         claims.now) }
-    ensures { IfOk result (λ walks. AreWalksIn ⟦<EF as FoldingFields<D::Val>>⟧.folding (rounds_in
-        D.coset_of claims.now) bits drawn.now proof.now places.now queries.now walks.items) }
+    ensures { IfOk result (FindsFourWalks ⟦<EF as FoldingFields<D::Val>>⟧.folding D.coset_of
+        claims.now bits drawn.now proof.now places.now queries.now) }
 {
     let mut walks = Vec::with_capacity(alloc, 4)?;
     for i in 0..4 {
@@ -269,7 +222,8 @@ fn four_end<F: TwoAdicField + PrimeField64, EF: ExtensionField<F>>(
     true
 }
 
-/// Whether four queries hold at their places. Where it is false, one of them doesn't.
+/// Whether four queries hold at their places: where it is true, they do. Where it is false, which
+/// one is at fault is for them one by one to tell.
 fn four_hold<EF, D, H>(
     alloc: Global,
     claims: &[OpeningClaim<'_, EF, Root, D>],
@@ -290,9 +244,8 @@ where
     requires within { bits ≤ D.Val.TWO_ADICITY }
     requires off { AreOff ⟦<EF as FoldingFields<D::Val>>⟧.folding bits (rounds_in D.coset_of
         claims.now) }
-    ensures { IfOk result (λ hold. IsTrue hold → AllHold ⟦<EF as FoldingFields<D::Val>>⟧.folding
-        (rounds_in D.coset_of claims.now) bits drawn.now proof.now H.digest_of places.now
-        queries.now) }
+    ensures { IfOk result (FourHoldIf ⟦<EF as FoldingFields<D::Val>>⟧.folding H.digest_of
+        D.coset_of claims.now bits drawn.now proof.now places.now queries.now) }
 {
     let phases = proof.phases();
     if !four_fit::<EF, D>(claims, phases.len(), queries) {
@@ -308,9 +261,8 @@ where
     Ok(four_end::<D::Val, EF>(proof, bits, places, &walks))
 }
 
-/// How many of the first queries are known to hold after they were taken four at a time: all of
-/// them, but for those behind the last group of four; or those before the first group in which one
-/// doesn't hold.
+/// How many of the first queries hold, as far as groups of four tell: those before the first group
+/// that isn't found to hold, or those of all groups. No path of these needs to be hashed again.
 pub(crate) fn held_by_fours<EF, D, H>(
     alloc: Global,
     claims: &[OpeningClaim<'_, EF, Root, D>],

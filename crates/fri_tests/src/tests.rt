@@ -1,7 +1,8 @@
 //! Verdicts over three fields.
+use crate::checked::prove_over_baby_bear;
 use crate::proving::{Rows, fits, proved};
 use crate::service::{Config, configuration, counted};
-use p3_uni_stark::{StarkProof, prove};
+use p3_uni_stark::{CheckedProvingError, StarkProof, prove, verify};
 use stark_bench::Sha256Challenger;
 use stark_fields::{BabyBearField, Ext4, F12289, KoalaBearField};
 use stark_samples::CounterAir;
@@ -243,5 +244,43 @@ fn as_text(rt: HostRuntime) -> Result<(), Fail> {
     assert!(rt; counted(alloc, &config, text.as_bytes(), five)?);
     assert!(rt; !counted(alloc, &config, text.as_bytes(), six)?);
     assert!(rt; !counted(alloc, &config, b"{}", five)?);
+    Ok(())
+}
+
+/// A proof of a checked column of four numbers, the public value 5, over this configuration.
+fn checked_proof(
+    alloc: Global,
+    config: &Config,
+    numbers: [u8; 4],
+) -> Result<Result<StarkProof<Config>, Option<usize>>, Fail> {
+    let elements = numbers.map(BabyBearField::from_u8);
+    let trace = RowMajorMatrix::new(Vec::from_slice(alloc, &elements)?, 1);
+    let publics = [BabyBearField::from_u8(5)];
+    if !fits(config, &CounterAir, 2, &trace, &publics) {
+        return Err(Fail::new("no room"));
+    }
+    match prove_over_baby_bear(alloc, config, &CounterAir, 2, trace, &publics, None) {
+        Ok(proof) => Ok(Ok(proof)),
+        Err(CheckedProvingError::Violation(violation)) => Ok(Err(Some(violation.row))),
+        Err(CheckedProvingError::Proving(_)) => Ok(Err(None)),
+    }
+}
+
+#[test]
+fn checked(rt: HostRuntime) -> Result<(), Fail> {
+    let alloc = rt.alloc();
+    let Ok(config) = configuration() else {
+        return Err(Fail::new("no configuration"));
+    };
+    let five = [BabyBearField::from_u8(5)];
+    match checked_proof(alloc, &config, [5, 6, 7, 8])? {
+        Ok(proof) => assert!(rt; verify(alloc, &config, &CounterAir, &proof, &five).is_ok()),
+        Err(_) => return Err(Fail::new("no proof")),
+    }
+    // The third number isn't one more than the second.
+    match checked_proof(alloc, &config, [5, 6, 8, 9])? {
+        Ok(_) => return Err(Fail::new("a proof of a broken trace")),
+        Err(row) => assert_eq!(rt; row, Some(1)),
+    }
     Ok(())
 }

@@ -1,0 +1,187 @@
+//! Checks, proofs and verdicts of the machine's traces.
+ghost use Rattle.std.specs.Prelude.{◌≡◌, ◌+◌, ◌*◌, ◌^◌, ◌<◌, ◌≤◌, IfOk, IsTrue, length};
+ghost use Rattle.stark_protocol.specs.Preprocessing.{HasHeight};
+ghost use Rattle.stark_support.specs.Scheme.{zk_bits};
+
+use crate::interpreter::trace_of;
+use crate::programs::ProgramRow;
+use p3_uni_stark::{
+    ConstraintCheckError, StarkConfig, StarkGenericConfig, Val, check_declared, prove_and_verify,
+    setup_preprocessed,
+};
+use stark_air::{Air, BaseAir};
+use stark_bench::Sha256Challenger;
+use stark_fields::{BabyBearField, Ext4};
+use stark_fri_proof::FriParameters;
+use stark_fri_prover::FriPcs;
+use stark_machine::MachineAir;
+use stark_merkle::Sha256Tree;
+use stark_protocol::power_of_two;
+use stark_support::{PrimeField64, RowMajorMatrix, UnivariateStarkPcs};
+use stark_tree_air::TreeAir;
+use std::alloc::{AllocError, Global};
+use std::test::Fail;
+
+type F = BabyBearField;
+
+pub type Config = StarkConfig<FriPcs<F, Sha256Tree>, Ext4<F>, Sha256Challenger<F>>;
+
+/// A program's run: its inputs, the result, and the logarithm of the rows.
+#[derive(Clone, Copy)]
+pub struct Run {
+    pub program: &'static [ProgramRow; 8],
+    pub inputs: [u8; 2],
+    pub result: u8,
+    pub log_rows: usize,
+}
+
+/// A blow-up of 4, which constraints of degree 3 under a selector need, and few queries.
+fn configuration() -> Result<Config, Fail> {
+    let Ok(parameters) = FriParameters::new(2, 0, 2, 0, 1) else {
+        return Err(Fail::new("no parameters"));
+    };
+    Ok(StarkConfig::new(FriPcs::new(parameters), Sha256Challenger::<F>::new()))
+}
+
+/// The machine with a run's program.
+fn machine_of(alloc: Global, run: &Run) -> Result<MachineAir<F>, Fail> {
+    let mut values = Vec::new(alloc);
+    for row in run.program {
+        for number in row {
+            values.push(F::from_u8(*number))?;
+        }
+    }
+    if values.len() % 14 != 0 {
+        return Err(Fail::new("no rows"));
+    }
+    match MachineAir::new(alloc, &RowMajorMatrix::new(values, 14), run.log_rows) {
+        Ok(air) => Ok(air),
+        Err(_) => Err(Fail::new("no program")),
+    }
+}
+
+/// A run's trace, with one cell changed where one is named.
+fn matrix_of(
+    alloc: Global,
+    run: &Run,
+    change: Option<(usize, usize, u8)>,
+) -> Result<RowMajorMatrix<F>, Fail> {
+    if run.log_rows > 12 {
+        return Err(Fail::new("too many rows"));
+    }
+    let mut values = trace_of(alloc, run.program, run.inputs, power_of_two(run.log_rows))?;
+    if let Some((row, column, number)) = change {
+        let place = row.saturating_mul(40).saturating_add(column);
+        if place < values.len() {
+            values[place] = F::from_u8(number);
+        }
+    }
+    if values.len() % 40 != 0 {
+        return Err(Fail::new("no rows"));
+    }
+    Ok(RowMajorMatrix::new(values, 40))
+}
+
+fn publics_of(run: &Run) -> [F; 3] {
+    [
+        F::from_u8(run.inputs[0]),
+        F::from_u8(run.inputs[1]),
+        F::from_u8(run.result),
+    ]
+}
+
+/// Whether a trace of `2^log_height` rows and these public values are of an AIR's widths and
+/// counts, and the configuration has room for such a trace.
+fn fits<SC: StarkGenericConfig, A: BaseAir<Val<SC>>>(
+    config: &SC,
+    air: &A,
+    log_height: usize,
+    trace: &RowMajorMatrix<Val<SC>>,
+    publics: &[Val<SC>],
+) -> bool
+    ensures columns { IsTrue result → 0 < trace.now.width }
+    ensures width { IsTrue result → trace.now.width ≡ (A.layout air.now).main }
+    ensures height { IsTrue result
+        → length trace.now.values.items ≡ 2 ^ log_height * trace.now.width }
+    ensures within { IsTrue result → log_height + zk_bits SC.Pcs.ZK
+        ≤ SC.Pcs.scheme.log_max_trace_height (SC.config.scheme config.now) }
+    ensures publics { IsTrue result → length publics.now ≡ (A.layout air.now).publics }
+    ensures bounded { IsTrue result → log_height ≤ 12 }
+{
+    if log_height > 12 || log_height + config.is_zk() > config.pcs().log_max_trace_height() {
+        return false;
+    }
+    trace.width > 0
+        && trace.width == air.width()
+        && Some(trace.values.len()) == power_of_two(log_height).checked_mul(trace.width)
+        && publics.len() == air.num_public_values()
+}
+
+/// Whether an AIR's preprocessed columns stand at `2^log_height` rows.
+fn stands_at<A: BaseAir<F>>(alloc: Global, air: &A, log_height: usize) -> Result<bool, AllocError>
+    requires { log_height ≤ 12 }
+    ensures { IfOk result (λ stands.
+        IsTrue stands → HasHeight log_height (A.preprocessed_trace air.now)) }
+{
+    let Some(trace) = air.preprocessed_trace(alloc)? else {
+        return Ok(true);
+    };
+    Ok(Some(trace.values.len()) == power_of_two(log_height).checked_mul(trace.width))
+}
+
+/// What a check finds of a run's trace with one cell changed where one is named: `satisfied`, or
+/// the row and the constraint.
+pub fn found(alloc: Global, run: &Run, change: Option<(usize, usize, u8)>) -> Result<String, Fail> {
+    let config = configuration()?;
+    let air = machine_of(alloc, run)?;
+    let trace = matrix_of(alloc, run, change)?;
+    let publics = publics_of(run);
+    if !fits(&config, &air, run.log_rows, &trace, &publics)
+        || !stands_at(alloc, &air, run.log_rows)?
+    {
+        return Err(Fail::new("other rows"));
+    }
+    match check_declared(alloc, &air, &trace, &publics) {
+        Ok(()) => Ok(String::from_str(alloc, "satisfied")?),
+        Err(ConstraintCheckError::Violation(violation)) => {
+            let (row, constraint) = (violation.row, violation.constraint);
+            Ok(format!(in alloc; "row {row}: constraint {constraint}")?)
+        }
+        Err(ConstraintCheckError::OutOfMemory) => Err(Fail::new("out of memory")),
+    }
+}
+
+/// The text of a proof of a run that the verifier accepts.
+fn proof_of<A: Air<F>>(alloc: Global, air: &A, run: &Run) -> Result<String, Fail> {
+    let config = configuration()?;
+    let trace = matrix_of(alloc, run, None)?;
+    let publics = publics_of(run);
+    if !fits(&config, air, run.log_rows, &trace, &publics)
+        || !stands_at(alloc, air, run.log_rows)?
+    {
+        return Err(Fail::new("other rows"));
+    }
+    let Ok(Some((data, key))) = setup_preprocessed(alloc, &config, air, run.log_rows) else {
+        return Err(Fail::new("not set up"));
+    };
+    match prove_and_verify(
+        alloc,
+        &config,
+        air,
+        trace,
+        &publics,
+        Some(&data),
+        Some(&key),
+    ) {
+        Ok((proof, Ok(()))) => Ok(proof.to_json(alloc)?.to_string(alloc)?),
+        _ => Err(Fail::new("no proof that is accepted")),
+    }
+}
+
+/// Whether the machine and the same AIR as data have, byte for byte, the same proof of a run, which
+/// the verifier accepts.
+pub fn has_one_proof(alloc: Global, run: &Run) -> Result<bool, Fail> {
+    let air = machine_of(alloc, run)?;
+    let data = TreeAir::from_air(alloc, &air)?;
+    Ok(proof_of(alloc, &air, run)? == proof_of(alloc, &data, run)?)
+}

@@ -1,24 +1,63 @@
 //! Proofs of checked traces over BabyBear and FRI, and when the verifier accepts them.
+ghost use Rattle.std.specs.Borrow.{Bor};
 ghost use Rattle.std.specs.Option.{option_copied};
-ghost use Rattle.std.specs.Prelude.{◌≡◌, ◌+◌, ◌<◌, ◌≤◌, IfErr, IfOk, is_some, length, ltb};
+ghost use Rattle.std.specs.Prelude.{◌≡◌, ◌+◌, ◌<◌, ◌≤◌, ℕ, List, Option, IfErr, IfOk, is_some, length, ltb};
 ghost use Rattle.stark_parts.specs.SizingLaw.{AreSizable};
 ghost use Rattle.stark_proof.specs.ProofView.{proof_view};
+ghost use Rattle.stark_proof.specs.declared.values.Proof.{Proof};
 ghost use Rattle.stark_protocol.specs.Preprocessing.{HasHeight};
+ghost use Rattle.stark_protocol.specs.declared.preprocessed.PreprocessedProverData.{PreprocessedProverData};
 ghost use Rattle.stark_prover.specs.Heights.{HoldsColumns, IsHeldAt, IsOfHeight};
 ghost use Rattle.p3_uni_stark.specs.Checked.{IsAcceptedIfSetUp};
 
 use crate::service::Config;
 use p3_uni_stark::{
-    CheckedProvingError, PreprocessedProverData, StarkChecked, StarkInstance, StarkOperations,
-    StarkProof, prove_checked,
+    CheckedProvingError, PreprocessedProverData, StarkChecked, StarkGenericConfig, StarkInstance,
+    StarkOperations, StarkProof, Val, prove_checked,
 };
 use stark_air::Air;
 use stark_fields::BabyBearField;
 use stark_fri::FriProverError;
 use stark_fri_prover::FriData;
 use stark_merkle::Root;
-use stark_support::{RowMajorMatrix, TwoAdicField};
+use stark_support::{GrindingChallenger, RowMajorMatrix, TwoAdicField};
 use std::alloc::Global;
+
+/// What is said of a prover's data and of a proof of a checked trace, with a configuration and for
+/// an AIR. It has no code.
+pub trait CheckedProofs<A>: StarkGenericConfig {
+    ghost Held: { Type 0 };
+
+    ghost Proof: { Type 0 };
+
+    /// What the prover holds stands for as many columns as the AIR has preprocessed ones.
+    ghost holds_columns: { Self → A → Option Held → Type 0 };
+
+    /// With the key that is set up beside what the prover holds, at so many rows, the proof is
+    /// accepted, unless zeta lies in H; where the AIR's terms can be sized.
+    ghost accepted: { Self → A → List Self.Pcs.Domain.Val → Option Held → ℕ → Proof → Type 0 };
+}
+
+impl<SC, A> CheckedProofs<A> for SC
+where
+    SC: StarkGenericConfig,
+    SC::Challenger: GrindingChallenger<Witness = Val<SC>>,
+    A: Air<Val<SC>>,
+{
+    ghost Held = { Bor (PreprocessedProverData SC.Pcs.Commitment SC.Pcs.ProverData) };
+
+    ghost Proof = { Proof SC.Pcs.Commitment SC.Challenge SC.Pcs.Proof SC.Pcs.Domain.Val };
+
+    ghost holds_columns = { λ config air held. HoldsColumns SC.Pcs.scheme
+        (SC.config.scheme config) SC.Pcs.Domain.Val.ring (option_copied held)
+        (A.layout air).preprocessed };
+
+    ghost accepted = { λ config air public_values held log_height proof.
+        AreSizable (A.constraints air)
+        → IsAcceptedIfSetUp ⟦<SC as StarkOperations>⟧.operations
+        (⟦<SC as StarkInstance<A>>⟧.instance config air public_values) (A.preprocessed_trace air)
+        (option_copied held) log_height (proof_view proof) };
+}
 
 /// `prove_checked` over BabyBear and FRI: a proof of a trace of `2^log_height` rows that satisfies
 /// the AIR. The verifier accepts it with the key that was set up beside what the prover holds of
@@ -47,14 +86,10 @@ pub fn prove_over_baby_bear<A: Air<BabyBearField>>(
     requires held { IsHeldAt (option_copied preprocessed) log_height }
     requires publics { length public_values.now ≡ (A.layout air.now).publics }
     requires there { is_some preprocessed ≡ ltb 0 (A.layout air.now).preprocessed }
-    requires stands { HoldsColumns ⟦<Config as StarkOperations>⟧.operations.opening.scheme
-        config.now.pcs ⟦<Config as StarkOperations>⟧.operations.opening.fields.base
-        (option_copied preprocessed) (A.layout air.now).preprocessed }
-    ensures accepted { IfOk result (λ proof. AreSizable (A.constraints air.now)
-        → IsAcceptedIfSetUp ⟦<Config as StarkOperations>⟧.operations
-        (⟦<Config as StarkInstance<A>>⟧.instance config.now air.now public_values.now)
-        (A.preprocessed_trace air.now) (option_copied preprocessed.entry) log_height
-        (proof_view proof)) }
+    requires stands { ⟦<Config as CheckedProofs<A>>⟧.holds_columns config.now air.now
+        preprocessed }
+    ensures accepted { IfOk result (⟦<Config as CheckedProofs<A>>⟧.accepted config.now air.now
+        public_values.now preprocessed.entry log_height) }
     ensures fault { IfErr result (⟦<Config as StarkChecked<A>>⟧.is_fault config.entry air.entry
         public_values.entry preprocessed.entry trace) }
 {

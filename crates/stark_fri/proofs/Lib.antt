@@ -3,6 +3,7 @@ pub mod ClaimSteps
 pub mod FoldSteps
 pub mod FourSteps
 pub mod ListSteps
+pub mod Members
 pub mod ObserveSteps
 pub mod PlaySteps
 pub mod PointSteps

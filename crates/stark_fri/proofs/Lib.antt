@@ -7,6 +7,7 @@ pub mod Members
 pub mod ObserveSteps
 pub mod PlaySteps
 pub mod PointSteps
+pub mod QuerySteps
 pub mod ReplaySteps
 pub mod ViewSteps
 pub mod WalkSteps

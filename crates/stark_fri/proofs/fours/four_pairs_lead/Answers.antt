@@ -2,21 +2,16 @@ use Rattle.std.proofs.Common.{◌≡◌, ◌∙◌, ap, get_or, lit<, slice_inde
 use Rattle.stark_fri_proof.specs.Paths.{digests_of}
 use Rattle.stark_fri_proof.specs.declared.proof.LayerOpening.{LayerOpening}
 use Rattle.stark_fri.specs.Fours.{PairsLead}
-use Rattle.stark_fri.specs.Parts.{FriFields}
 use Rattle.stark_fri.specs.Query.{PairLeads}
 use Rattle.stark_fri.specs.Walks.{opening_of}
 use Rattle.stark_fri.specs.declared.folds.Pair.{Pair}
 use Rattle.stark_fri.proofs.Members.{fields_by}
 use Rattle.stark_fri.proofs.FourSteps.{both_four, pairs_lane}
-use Rattle.stark_fri.proofs.fours.four_pairs_lead.Given as given
 use Rattle.stark_fri.proofs.fours.four_pairs_lead.Goals as goal
-
-abbrev fields_of : (g : given.Over) → FriFields g.row.F.Denot g.row.EF.Denot
-fields_of g = fields_by g.F.TwoAdicField g.F.Field g.F.PrimeField64 g.EF.Field g.EF.ExtensionField
 
 pub returns : goal.returns
 returns g c = λ lead.
-    let fields = fields_of g in
+    let fields = fields_by g.F.TwoAdicField g.F.Field g.F.PrimeField64 g.EF.Field g.EF.ExtensionField in
     let hash = g.H.TreeHash.digest_of in
     let depth = c.args.depth in
     let i = c.args.layer in

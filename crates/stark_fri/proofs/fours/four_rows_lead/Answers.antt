@@ -2,19 +2,14 @@ use Rattle.std.proofs.Common.{◌≡◌, ◌∙◌, ◌<◌, ℕ, ap, arith, get
 use Rattle.stark_merkle.specs.Tree.{LeadsTo}
 use Rattle.stark_fri_proof.specs.Parts.{InputOpening}
 use Rattle.stark_fri_proof.specs.Paths.{digests_of}
-use Rattle.stark_fri.specs.Parts.{FriFields}
 use Rattle.stark_fri.specs.Fours.{RowsLead}
 use Rattle.stark_fri.proofs.Members.{fields_by}
 use Rattle.stark_fri.proofs.FourSteps.{at_itself, both_four, rows_lane}
-use Rattle.stark_fri.proofs.fours.four_rows_lead.Given as given
 use Rattle.stark_fri.proofs.fours.four_rows_lead.Goals as goal
-
-abbrev fields_of : (g : given.Over) → FriFields g.row.F.Denot g.row.EF.Denot
-fields_of g = fields_by g.F.TwoAdicField g.F.Field g.F.PrimeField64 g.EF.Field g.EF.ExtensionField
 
 pub returns : goal.returns
 returns g c = λ lead.
-    let fields = fields_of g in
+    let fields = fields_by g.F.TwoAdicField g.F.Field g.F.PrimeField64 g.EF.Field g.EF.ExtensionField in
     let hash = g.H.TreeHash.digest_of in
     let bits = c.args.bits in
     let round = c.args.round in

@@ -3,7 +3,7 @@ use Rattle.std.specs.List.{zip}
 use Rattle.stark_fri.specs.Accept.{ProofFits, bits_of}
 use Rattle.stark_fri.specs.Claims.{height_of, round_seen}
 use Rattle.stark_fri.specs.Found.{FindsFault, FindsHeight, Replays, ShapeFits, target_by}
-use Rattle.stark_fri.specs.Parts.{FriFields, FriOps, SpongeCalls}
+use Rattle.stark_fri.specs.Parts.{FriOps}
 use Rattle.stark_fri.specs.Scheme.{instance_of}
 use Rattle.stark_fri.specs.Transcript.{Instance}
 use Rattle.stark_fri.proofs.Members.{fields_by, sponge_by}
@@ -11,14 +11,12 @@ use Rattle.stark_fri.proofs.AcceptSteps.{all_accepted, betas_counted, proof_fits
 use Rattle.stark_fri.proofs.verify.check.Given as given
 use Rattle.stark_fri.proofs.verify.check.Goals as goal
 
-abbrev fields_of : (g : given.Over) → FriFields g.row.D-Val.Denot g.row.EF.Denot
-fields_of g = fields_by g.D.Val.TwoAdicField g.D.Val.Field g.D.Val.PrimeField64 g.EF.Field g.EF.ExtensionField
-
-abbrev sponge_of : (g : given.Over) → SpongeCalls g.row.C.Denot g.row.D-Val.Denot g.row.EF.Denot
-sponge_of g = sponge_by g.D.Val.Field g.D.Val.PrimeField64 g.EF.ExtensionField g.C.CanObserve-1 g.C.CanObserve-2 g.C.CanSample g.C.CanSampleBits g.C.GrindingChallenger
-
 abbrev ops_of : (g : given.Over) → FriOps g.row.C.Denot g.row.D-Val.Denot g.row.EF.Denot
-ops_of g = record { fields = fields_of g; hash = g.H.TreeHash.digest_of; sponge = sponge_of g }
+ops_of g = record {
+  fields = fields_by g.D.Val.TwoAdicField g.D.Val.Field g.D.Val.PrimeField64 g.EF.Field g.EF.ExtensionField;
+  hash = g.H.TreeHash.digest_of;
+  sponge = sponge_by g.D.Val.Field g.D.Val.PrimeField64 g.EF.ExtensionField g.C.CanObserve-1 g.C.CanObserve-2 g.C.CanSample g.C.CanSampleBits g.C.GrindingChallenger;
+}
 
 pub first_query_fault-requires-clause-betas : goal.first_query_fault-requires-clause-betas
 first_query_fault-requires-clause-betas g c =

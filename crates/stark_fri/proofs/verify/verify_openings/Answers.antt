@@ -2,21 +2,19 @@ use Rattle.std.proofs.Common.{subst, sym}
 use Rattle.std.specs.Result.{IfErr, IfOk}
 use Rattle.stark_support.specs.Claims.{IfRefused}
 use Rattle.stark_fri.specs.Accept.{Accepted, Refused}
-use Rattle.stark_fri.specs.Parts.{FriFields, FriOps, SpongeCalls}
+use Rattle.stark_fri.specs.Parts.{FriOps}
 use Rattle.stark_fri.specs.Scheme.{instance_of}
 use Rattle.stark_fri.proofs.Members.{fields_by, sponge_by}
 use Rattle.stark_fri.proofs.ViewSteps.{rounds_read}
 use Rattle.stark_fri.proofs.verify.verify_openings.Given as given
 use Rattle.stark_fri.proofs.verify.verify_openings.Goals as goal
 
-abbrev fields_of : (g : given.Over) → FriFields g.row.D-Val.Denot g.row.EF.Denot
-fields_of g = fields_by g.D.Val.TwoAdicField g.D.Val.Field g.D.Val.PrimeField64 g.EF.Field g.EF.ExtensionField
-
-abbrev sponge_of : (g : given.Over) → SpongeCalls g.row.C.Denot g.row.D-Val.Denot g.row.EF.Denot
-sponge_of g = sponge_by g.D.Val.Field g.D.Val.PrimeField64 g.EF.ExtensionField g.C.CanObserve-1 g.C.CanObserve-2 g.C.CanSample g.C.CanSampleBits g.C.GrindingChallenger
-
 abbrev ops_of : (g : given.Over) → FriOps g.row.C.Denot g.row.D-Val.Denot g.row.EF.Denot
-ops_of g = record { fields = fields_of g; hash = g.H.TreeHash.digest_of; sponge = sponge_of g }
+ops_of g = record {
+  fields = fields_by g.D.Val.TwoAdicField g.D.Val.Field g.D.Val.PrimeField64 g.EF.Field g.EF.ExtensionField;
+  hash = g.H.TreeHash.digest_of;
+  sponge = sponge_by g.D.Val.Field g.D.Val.PrimeField64 g.EF.ExtensionField g.C.CanObserve-1 g.C.CanObserve-2 g.C.CanSample g.C.CanSampleBits g.C.GrindingChallenger;
+}
 
 pub returns-clause-accepted : goal.returns-clause-accepted
 returns-clause-accepted g c =

@@ -11,6 +11,8 @@ use std::test::Fail;
 // two roots: 1 1 2 0 0 0 1x1 1x1
 // false layer: --false-value 1 0 2 0 0 3 1x1
 // false end: --false-value 2 1 2 0 0 1 1x1
+// nine: 1 1 9 0 1 3 1x1
+// five false ends: --false-value 2 1 5 0 0 1 1x1
 
 const FLAT: &str = r#"
 {"claims":[{"commitment":"7ad73bd0964a0d9619d28b24cb3639849b581621e45f7516957484881a3ed76a",
@@ -190,6 +192,118 @@ const FALSE_END: &str = r#"
 "725eaf8610f8ff194c4867cf9142d58703897b52832a384594878d2ac0d8effd"],"rows":[[11661]]}],
 "layers":[]}],"query_witness":0}}"#;
 
+const NINE: &str = r#"
+{"claims":[{"commitment":"f03a6a5d95364502091fd6d927138835a9746c95ff6e477782f59bcf745f6687",
+"matrices":[{"log_height":3,"points":[{"point":[11243,1747,1061,9790],"values":[[4902,5615,4319,
+1613]]}]}]}],"parameters":[1,1,9,0,1],"proof":{"final_polynomial":[[467,12240,8979,5246],[11063,
+6903,5827,9122]],"phases":[{"commitment":
+"eba9aeb9521115999a67874a42e39c420c76612e40d1f81d9b2f5b5dfe8f8c5e","witness":0},{"commitment":
+"0ec20c2677fc9ebf167281ebb48fa5fffff0c8721d8063d2dfc9da1b06c41935","witness":0}],"queries":[{
+"inputs":[{"path":["b59ef2e07cd5990a096029325054446a1465dee32cf2e9e1632b596aee4d0be5",
+"125e902470c6fb2d18d12e3077c4592dee96c9517311eee170c86c76c04bf90f",
+"6385bcafeb4fff895bd9a2090d5edb28e1a8ce673c6bedc542dc4f94ceb27735",
+"91f4f86cf9bc107dea05368750446ef95dadd374db33adf921485ebeb49a86e6"],"rows":[[10181]]}],"layers":[{
+"path":["b9596c3227ed6e66f866dfcb5186920ccbc79bb1e37d3df130abc04a6a261368",
+"60e5e2d7b88a387499bdd496562bf88c4e78a61fb42da1df9394359b699be4d3",
+"3411c55daa4035e5941fa9e3860670729cea401b0c15d2a8287b9eb38e9e7c28"],"sibling":[10389,10654,3454,
+3353]},{"path":["d60b5bb5f876e51526f0ccdf5aa389327f88eaccd36309769c9a1001db2d77a4",
+"61b5e1e0dc03c0f97358e789c37afe7f454a9a11fc3a7780a1184d3e3fc4846c"],"sibling":[11024,6084,9597,
+9018]}]},{"inputs":[{"path":["66e1e6d1640da5cc78c44d18aa55286ac98cbd7e21df0a8e7589ef9a4a0ac064",
+"488d25330e139cc03aa62a357c13ab73e423dc7865a250216636276a7a379972",
+"6385bcafeb4fff895bd9a2090d5edb28e1a8ce673c6bedc542dc4f94ceb27735",
+"91f4f86cf9bc107dea05368750446ef95dadd374db33adf921485ebeb49a86e6"],"rows":[[4551]]}],"layers":[{
+"path":["ce904dc801c936221b2784008427821a759e85b458dcd6543a32342bfce31ce7",
+"2d2a91fcc90472a4e3525513aeb68e9a4d184d3423324f3e4b9235986b052724",
+"3411c55daa4035e5941fa9e3860670729cea401b0c15d2a8287b9eb38e9e7c28"],"sibling":[3406,6176,7254,
+11503]},{"path":["0019a36d6ff79addfdee08a5693d2413e3bba2344658de0d679af68362303c09",
+"42eaa623bd4292568f2e546d5fdca7d609dc7629af829cd1faef32e29461da32"],"sibling":[1090,2717,3807,
+5363]}]},{"inputs":[{"path":["1d0b02bd5791a741c882bc8871b5dc9e21c5e14be3030333ca18aed2214b1324",
+"125e902470c6fb2d18d12e3077c4592dee96c9517311eee170c86c76c04bf90f",
+"6385bcafeb4fff895bd9a2090d5edb28e1a8ce673c6bedc542dc4f94ceb27735",
+"91f4f86cf9bc107dea05368750446ef95dadd374db33adf921485ebeb49a86e6"],"rows":[[417]]}],"layers":[{
+"path":["029d2c713d8b06494489cb6e1faabfabf40d5a60df4841add21d83fc96a2932d",
+"60e5e2d7b88a387499bdd496562bf88c4e78a61fb42da1df9394359b699be4d3",
+"3411c55daa4035e5941fa9e3860670729cea401b0c15d2a8287b9eb38e9e7c28"],"sibling":[11358,1809,682,
+12081]},{"path":["e7065be535ffed0a155a4d5c604946a9e63a5f263f7f34a86e5eb09dfc7336e3",
+"61b5e1e0dc03c0f97358e789c37afe7f454a9a11fc3a7780a1184d3e3fc4846c"],"sibling":[643,2065,6387,
+3581]}]},{"inputs":[{"path":["e9356eebd2852ed73a9a9ae478f7cda3814f882664895547633bb9e04d9c7688",
+"43a361593ec173f7f21f8dd556c64be5c5d98f9e26505dc8d07acc88c5855454",
+"a8c8f585529cce64bc05f65fd1446cee4af0f260d90b3a4787183b918cd1bcd2",
+"91f4f86cf9bc107dea05368750446ef95dadd374db33adf921485ebeb49a86e6"],"rows":[[9220]]}],"layers":[{
+"path":["52440b5fca505905561a1ad81a58965fbe0b165c22097ac4f27099d8623116f0",
+"cdf546ff4606cb7eae7a5a5c87e8f328f14fbbb2c59240ff6d3650200e3ab30d",
+"158d32759fa0663cc87d3ff6db4572cb2b5c1db1d4ddc757e96722ae776ed434"],"sibling":[6447,5136,5531,
+4664]},{"path":["0019a36d6ff79addfdee08a5693d2413e3bba2344658de0d679af68362303c09",
+"42eaa623bd4292568f2e546d5fdca7d609dc7629af829cd1faef32e29461da32"],"sibling":[3460,134,688,
+4102]}]},{"inputs":[{"path":["fad911aee83a0637e14c58f7d9854b4db8b2b62c8c8ee9bd770ab3a4196cad0a",
+"96a913082a8a3a89b5f0c93823b899d059bc91de42899a3e1759784ec175b978",
+"36004d7dc0ecbc3d418e78ce280922b0a2da290178d8685e051c3e8ed8a320ee",
+"7b22dc7d7a2817fbf66b53eb602fcd05529e3aa5cc86ad513f458e4d51dc8793"],"rows":[[3459]]}],"layers":[{
+"path":["888f87b20da78a4e3bb5091d788925aa9ee5aad0dba6386eda82b6ca31346bbf",
+"bfe75fec7aa5a7ff89c2583f8e1c2ef5d765cb7d7e37e8d5facee5ada6e7fb0f",
+"158d32759fa0663cc87d3ff6db4572cb2b5c1db1d4ddc757e96722ae776ed434"],"sibling":[10541,8625,7840,
+7332]},{"path":["e7065be535ffed0a155a4d5c604946a9e63a5f263f7f34a86e5eb09dfc7336e3",
+"61b5e1e0dc03c0f97358e789c37afe7f454a9a11fc3a7780a1184d3e3fc4846c"],"sibling":[6476,3687,1761,
+6490]}]},{"inputs":[{"path":["b83e6003b3b035a1619e846fdf2be2f28853de7969afc937efa2c1c530998e92",
+"d83fa80c5f3abc73ea6738258664328fe7c1cd55139da8bf1fafef0241e611a0",
+"15ec26ea7ce01c2dbce9c1631fdfbb52e51bf5cebe0acedb426129a3da75e230",
+"7b22dc7d7a2817fbf66b53eb602fcd05529e3aa5cc86ad513f458e4d51dc8793"],"rows":[[8713]]}],"layers":[{
+"path":["029d2c713d8b06494489cb6e1faabfabf40d5a60df4841add21d83fc96a2932d",
+"60e5e2d7b88a387499bdd496562bf88c4e78a61fb42da1df9394359b699be4d3",
+"3411c55daa4035e5941fa9e3860670729cea401b0c15d2a8287b9eb38e9e7c28"],"sibling":[11032,7437,1976,
+5211]},{"path":["e7065be535ffed0a155a4d5c604946a9e63a5f263f7f34a86e5eb09dfc7336e3",
+"61b5e1e0dc03c0f97358e789c37afe7f454a9a11fc3a7780a1184d3e3fc4846c"],"sibling":[643,2065,6387,
+3581]}]},{"inputs":[{"path":["5e6143b37ab87c1a315848aa3b83161526cf3c6fdaf054cfced51c24b69596fe",
+"9d251dd1c9008456cd1e64a29e675344335f43512e652f530990cd1645bf0525",
+"a8c8f585529cce64bc05f65fd1446cee4af0f260d90b3a4787183b918cd1bcd2",
+"91f4f86cf9bc107dea05368750446ef95dadd374db33adf921485ebeb49a86e6"],"rows":[[6102]]}],"layers":[{
+"path":["2e586ddad5cedc15d713cbba56909cef0a7db69e52961b99d0d38c81b1288c34",
+"bfe75fec7aa5a7ff89c2583f8e1c2ef5d765cb7d7e37e8d5facee5ada6e7fb0f",
+"158d32759fa0663cc87d3ff6db4572cb2b5c1db1d4ddc757e96722ae776ed434"],"sibling":[5440,11960,9813,
+4947]},{"path":["d60b5bb5f876e51526f0ccdf5aa389327f88eaccd36309769c9a1001db2d77a4",
+"61b5e1e0dc03c0f97358e789c37afe7f454a9a11fc3a7780a1184d3e3fc4846c"],"sibling":[12119,3503,11200,
+7306]}]},{"inputs":[{"path":["35b24594c1b534f3fba5daba104e7ef9d785436bcffffac1987bf1ae85bb67ac",
+"d83fa80c5f3abc73ea6738258664328fe7c1cd55139da8bf1fafef0241e611a0",
+"15ec26ea7ce01c2dbce9c1631fdfbb52e51bf5cebe0acedb426129a3da75e230",
+"7b22dc7d7a2817fbf66b53eb602fcd05529e3aa5cc86ad513f458e4d51dc8793"],"rows":[[11807]]}],"layers":[{
+"path":["b9596c3227ed6e66f866dfcb5186920ccbc79bb1e37d3df130abc04a6a261368",
+"60e5e2d7b88a387499bdd496562bf88c4e78a61fb42da1df9394359b699be4d3",
+"3411c55daa4035e5941fa9e3860670729cea401b0c15d2a8287b9eb38e9e7c28"],"sibling":[2564,4784,1965,
+5003]},{"path":["d60b5bb5f876e51526f0ccdf5aa389327f88eaccd36309769c9a1001db2d77a4",
+"61b5e1e0dc03c0f97358e789c37afe7f454a9a11fc3a7780a1184d3e3fc4846c"],"sibling":[11024,6084,9597,
+9018]}]},{"inputs":[{"path":["fe0d4f9ae13d6d96bfd5fbdedca9d2db2a75c612048521ca5b02bf87768734f4",
+"488d25330e139cc03aa62a357c13ab73e423dc7865a250216636276a7a379972",
+"6385bcafeb4fff895bd9a2090d5edb28e1a8ce673c6bedc542dc4f94ceb27735",
+"91f4f86cf9bc107dea05368750446ef95dadd374db33adf921485ebeb49a86e6"],"rows":[[11385]]}],"layers":[{
+"path":["89d5a3fd42f692e3ae461188e9167f7bdb7bdc5dd2fa6de60c0ef093b6a31580",
+"2d2a91fcc90472a4e3525513aeb68e9a4d184d3423324f3e4b9235986b052724",
+"3411c55daa4035e5941fa9e3860670729cea401b0c15d2a8287b9eb38e9e7c28"],"sibling":[11745,403,4187,
+3730]},{"path":["2f65f768a93ac62c9b327cc2e8a72cf47670bcfc9df03fc0ecee5d69f79be9e1",
+"42eaa623bd4292568f2e546d5fdca7d609dc7629af829cd1faef32e29461da32"],"sibling":[4281,1798,7742,
+1349]}]}],"query_witness":0}}"#;
+
+const FIVE_FALSE_ENDS: &str = r#"
+{"claims":[{"commitment":"df490e2df537cb0fd5a05d33b99fefb42676afaa70e8fde1d1e67ca1ee4fde60",
+"matrices":[{"log_height":1,"points":[{"point":[11071,11959,2350,1142],"values":[[2076,5841,7561,
+11738]]}]}]}],"parameters":[2,1,5,0,0],"proof":{"final_polynomial":[[3669,0,0,0],[0,0,0,0]],
+"phases":[],"queries":[{"inputs":[{"path":[
+"ae4326a0a72cf08c56c07479f5e1a4de2577262bb7484a5d196d8b6e4d9170e9",
+"cb01b28606fc12b6e509f96ebaf8abe026fa7f2a1a2fe750363ac03db2a98d12",
+"c0d081df7b7bc681233b91ea29c531df59d0e4c6df0cd21d8db6156b8a17fecc"],"rows":[[6722]]}],"layers":[]},
+{"inputs":[{"path":["253d086a505b20b4c3cd93565fd67e887082eaccb8a9503e5da6387c56dc0220",
+"af01a3c89beca48c34dd0bdb10497c287eac81f3668a02cd5b13c3cc68a45e68",
+"6ee993105235a2adfba6bba692b00387da6a4a485d5bccec399a07675640bcdc"],"rows":[[1213]]}],"layers":[]},
+{"inputs":[{"path":["79ff1fda366d9df591b7571b62da365691bb5f25385e56c88d58f63aeebc56e6",
+"a308cd7130e71ef8efaacc64b4b887ef7bc5b2ec051f9348e9a0b0755e475ba2",
+"6ee993105235a2adfba6bba692b00387da6a4a485d5bccec399a07675640bcdc"],"rows":[[1009]]}],"layers":[]},
+{"inputs":[{"path":["193631ab441f263424bc11cce92d260cb721ce7cc6f36fc717283b82d44bb89d",
+"2d194ab37c52ad3a76b294678e0251763ac62aa2c4dd49112d586aec18529229",
+"c0d081df7b7bc681233b91ea29c531df59d0e4c6df0cd21d8db6156b8a17fecc"],"rows":[[6518]]}],"layers":[]},
+{"inputs":[{"path":["193631ab441f263424bc11cce92d260cb721ce7cc6f36fc717283b82d44bb89d",
+"2d194ab37c52ad3a76b294678e0251763ac62aa2c4dd49112d586aec18529229",
+"c0d081df7b7bc681233b91ea29c531df59d0e4c6df0cd21d8db6156b8a17fecc"],"rows":[[6518]]}],"layers":[]}]
+,"query_witness":0}}"#;
+
 /// The text of a name.
 pub fn text_of(name: &str) -> Result<&'static str, Fail> {
     match name {
@@ -201,6 +315,8 @@ pub fn text_of(name: &str) -> Result<&'static str, Fail> {
         "two roots" => Ok(TWO_ROOTS),
         "false layer" => Ok(FALSE_LAYER),
         "false end" => Ok(FALSE_END),
+        "nine" => Ok(NINE),
+        "five false ends" => Ok(FIVE_FALSE_ENDS),
         _ => Err(Fail::new("no such text")),
     }
 }
@@ -216,6 +332,8 @@ short => accepted
 two roots => accepted
 false layer => Query { query: 0, fault: Layer { layer: 0 } }
 false end => Query { query: 0, fault: Final }
+nine => accepted
+five false ends => Query { query: 0, fault: Final }
 
 # Claims alone: none, another height, too high, other numbers of values, a point on the coset.
 folded | "claims":[ > "claims":[],"unread":[ => NoClaims
@@ -278,6 +396,45 @@ worked | d814abb5ce96" > d814abb5ce90" => Query { query: 0, fault: Layer { layer
 folded | 40d208d41441" > 40d208d41440" => Query { query: 0, fault: Input { round: 0 } }
 short | "final_polynomial":[[11064, > "final_polynomial":[[11065, => Query { query: 0, fault: Input { round: 0 } }
 flat | "final_polynomial":[[0, > "final_polynomial":[[1, => Query { query: 0, fault: Final }
+
+# One query of nine at fault, at each place of two groups of four and behind them: its row, the pair
+# of its first layer and of its second one, its shape.
+nine | "rows":[[10181]] > "rows":[[10182]] => Query { query: 0, fault: Input { round: 0 } }
+nine | "rows":[[4551]] > "rows":[[4552]] => Query { query: 1, fault: Input { round: 0 } }
+nine | "rows":[[417]] > "rows":[[418]] => Query { query: 2, fault: Input { round: 0 } }
+nine | "rows":[[9220]] > "rows":[[9221]] => Query { query: 3, fault: Input { round: 0 } }
+nine | "rows":[[3459]] > "rows":[[3460]] => Query { query: 4, fault: Input { round: 0 } }
+nine | "rows":[[8713]] > "rows":[[8714]] => Query { query: 5, fault: Input { round: 0 } }
+nine | "rows":[[6102]] > "rows":[[6103]] => Query { query: 6, fault: Input { round: 0 } }
+nine | "rows":[[11807]] > "rows":[[11808]] => Query { query: 7, fault: Input { round: 0 } }
+nine | "rows":[[11385]] > "rows":[[11386]] => Query { query: 8, fault: Input { round: 0 } }
+nine | "sibling":[10389,10654,3454,3353] > "sibling":[10390,10654,3454,3353] => Query { query: 0, fault: Layer { layer: 0 } }
+nine | "sibling":[3406,6176,7254,11503] > "sibling":[3407,6176,7254,11503] => Query { query: 1, fault: Layer { layer: 0 } }
+nine | "sibling":[11358,1809,682,12081] > "sibling":[11359,1809,682,12081] => Query { query: 2, fault: Layer { layer: 0 } }
+nine | "sibling":[6447,5136,5531,4664] > "sibling":[6448,5136,5531,4664] => Query { query: 3, fault: Layer { layer: 0 } }
+nine | "sibling":[10541,8625,7840,7332] > "sibling":[10542,8625,7840,7332] => Query { query: 4, fault: Layer { layer: 0 } }
+nine | "sibling":[11032,7437,1976,5211] > "sibling":[11033,7437,1976,5211] => Query { query: 5, fault: Layer { layer: 0 } }
+nine | "sibling":[5440,11960,9813,4947] > "sibling":[5441,11960,9813,4947] => Query { query: 6, fault: Layer { layer: 0 } }
+nine | "sibling":[2564,4784,1965,5003] > "sibling":[2565,4784,1965,5003] => Query { query: 7, fault: Layer { layer: 0 } }
+nine | "sibling":[11745,403,4187,3730] > "sibling":[11746,403,4187,3730] => Query { query: 8, fault: Layer { layer: 0 } }
+nine | "sibling":[1090,2717,3807,5363] > "sibling":[1091,2717,3807,5363] => Query { query: 1, fault: Layer { layer: 1 } }
+nine | "sibling":[3460,134,688,4102] > "sibling":[3461,134,688,4102] => Query { query: 3, fault: Layer { layer: 1 } }
+nine | "sibling":[6476,3687,1761,6490] > "sibling":[6477,3687,1761,6490] => Query { query: 4, fault: Layer { layer: 1 } }
+nine | "sibling":[12119,3503,11200,7306] > "sibling":[12120,3503,11200,7306] => Query { query: 6, fault: Layer { layer: 1 } }
+nine | "sibling":[4281,1798,7742,1349] > "sibling":[4282,1798,7742,1349] => Query { query: 8, fault: Layer { layer: 1 } }
+nine | "rows":[[10181]] > "rows":[[10181,0]] => Query { query: 0, fault: Shape }
+nine | "rows":[[9220]] > "rows":[[9220,0]] => Query { query: 3, fault: Shape }
+nine | "rows":[[3459]] > "rows":[[3459,0]] => Query { query: 4, fault: Shape }
+nine | "rows":[[11807]] > "rows":[[11807,0]] => Query { query: 7, fault: Shape }
+nine | "rows":[[11385]] > "rows":[[11385,0]] => Query { query: 8, fault: Shape }
+
+# Two of nine at fault, in one group or in two: the first of them is told.
+nine | "rows":[[9220]] > "rows":[[9221]] & "sibling":[3406,6176,7254,11503] > "sibling":[3407,6176,7254,11503] => Query { query: 1, fault: Layer { layer: 0 } }
+nine | "sibling":[10389,10654,3454,3353] > "sibling":[10390,10654,3454,3353] & "rows":[[417]] > "rows":[[418]] => Query { query: 0, fault: Layer { layer: 0 } }
+nine | "rows":[[9220]] > "rows":[[9220,0]] & "rows":[[4551]] > "rows":[[4552]] => Query { query: 1, fault: Input { round: 0 } }
+nine | "rows":[[8713]] > "rows":[[8714]] & "sibling":[11358,1809,682,12081] > "sibling":[11359,1809,682,12081] => Query { query: 2, fault: Layer { layer: 0 } }
+nine | "rows":[[3459]] > "rows":[[3460]] & "rows":[[11385]] > "rows":[[11386]] => Query { query: 4, fault: Input { round: 0 } }
+nine | "rows":[[11807]] > "rows":[[11807,0]] & "sibling":[5440,11960,9813,4947] > "sibling":[5441,11960,9813,4947] => Query { query: 6, fault: Layer { layer: 0 } }
 
 # Values, points and parameters that differ are drawn for otherwise.
 flat | "values":[[472, > "values":[[473, => Query { query: 0, fault: Final }

@@ -144,7 +144,7 @@ fn push_row(
     push_flags(trace, step.active && reaches(row), small(step.b))?;
     trace.extend_from_slice(&[step.a, step.b, step.result, step.inverse])?;
     trace.push(F::from_u8(step.then))?;
-    for bit in 0..9 {
+    for bit in 0..9u32 {
         trace.push(flag((step.bits >> bit) & 1 == 1))?;
     }
     Ok(())

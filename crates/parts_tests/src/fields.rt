@@ -70,10 +70,17 @@ json above | [1,2,3] => Invalid: the JSON value is refused
 // value in its first lane and the other one in all others, by its first lane and its last, and the
 // first value in all lanes, as a pack of the extension.
 pub const SCALAR_ROWS: &str = r#"
-widths | all => 1 1 false
 packs | 7 8 | 1 2 3 4, 0 0 0 0 => Some((7, 8)) Some((Ext4 { c0: 1, c1: 2, c2: 3, c3: 4 }, Ext4 { c0: 0, c1: 0, c2: 0, c3: 0 }))
 by lane | 5 6 => Some((5, 5)) Some((Ext4 { c0: 5, c1: 0, c2: 0, c3: 0 }, Ext4 { c0: 5, c1: 0, c2: 0, c3: 0 }))
 by lane | 7 6 => Some((7, 7)) Some((Ext4 { c0: 7, c1: 0, c2: 0, c3: 0 }, Ext4 { c0: 7, c1: 0, c2: 0, c3: 0 }))
+"#;
+
+pub const ONE_LANE_ROWS: &str = r#"
+widths | all => 1 1 false
+"#;
+
+pub const OVER_BABY_BEAR: &str = r#"
+widths | all => 1 1 true
 "#;
 
 pub const PACKED_ROWS: &str = r#"

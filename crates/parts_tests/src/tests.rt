@@ -25,6 +25,7 @@ fn all_parts(rt: HostRuntime) -> Result<(), Fail> {
 fn over_one_lane(rt: HostRuntime) -> Result<(), Fail> {
     all_rows(&rt, rt.alloc(), "fields", fields::ROWS, scalar)?;
     all_rows(&rt, rt.alloc(), "fields", fields::SCALAR_ROWS, scalar)?;
+    all_rows(&rt, rt.alloc(), "fields", fields::ONE_LANE_ROWS, scalar)?;
     all_rows(&rt, rt.alloc(), "lanes", lanes::SCALAR_ROWS, scalar)
 }
 
@@ -48,6 +49,7 @@ fn over_baby_bear(rt: HostRuntime) -> Result<(), Fail> {
     for (subject, rows) in [
         ("clear scheme", clear_scheme::OVER_BABY_BEAR),
         ("fields", fields::SCALAR_ROWS),
+        ("fields", fields::OVER_BABY_BEAR),
         ("lanes", lanes::SCALAR_ROWS),
         ("polynomials", polynomials::OVER_BABY_BEAR),
         ("transcripts", transcripts::ROWS),

@@ -2,6 +2,7 @@
 //! over the configuration that the statement names.
 #![tactic(auto)]
 
+mod bounds;
 mod checking;
 mod counted;
 mod field;
@@ -15,6 +16,7 @@ mod service;
 mod showing;
 mod statement;
 
+pub use bounds::{StatementChallenger, StatementExtension, StatementField};
 pub use counted::{CountedField, Numbered};
 pub use field::ServiceField;
 pub use judging::verify_with;

@@ -17,19 +17,14 @@ ghost use Rattle.stark_service.specs.StatementFacts.{IsOfTrace};
 ghost use Rattle.stark_service.specs.Statements.{HoldsOfRead, IsSaidOfRead, OrUnjudged};
 ghost use Rattle.stark_service.specs.TraceChecks.{OrLacksMemory};
 
+use crate::bounds::{StatementChallenger, StatementExtension, StatementField};
 use crate::counted::Numbered;
 use crate::reading::read_statement;
 use crate::schemes::{FieldAnswers, answer_by, verify_by};
 use serde_json::Value;
 use stark_answers::{Finding, Report, TraceTask, Verdict};
-use stark_bench::ClearCommitment;
-use stark_merkle::Root;
-use stark_proof_bytes::BytesCodec;
 use stark_statement::SchemeChoice;
-use stark_support::{
-    CanObserve, ExtensionChallenger, ExtensionField, FieldChallenger, GrindingChallenger,
-    JsonCodec, NeverNull, PackedExtensionField, PackedField, PrimeField64, TwoAdicField,
-};
+use stark_support::{PackedExtensionField, PackedField};
 use std::alloc::Global;
 
 /// What is said of a JSON value as a statement over a field. It has no code.
@@ -47,14 +42,9 @@ pub trait ValueAnswers<EF, C>: Sized {
 
 impl<F, EF, C> ValueAnswers<EF, C> for F
 where
-    F: PrimeField64 + TwoAdicField + NeverNull + BytesCodec,
-    EF: ExtensionField<F> + JsonCodec + BytesCodec + Drop,
-    C: FieldChallenger<F>
-        + CanObserve<Root>
-        + CanObserve<ClearCommitment<F>>
-        + ExtensionChallenger<F, EF>
-        + GrindingChallenger<Witness = F>
-        + Clone,
+    F: StatementField,
+    EF: StatementExtension<F>,
+    C: StatementChallenger<F, EF>,
 {
     ghost verdict = { λ fresh scheme d proof. IsSaidOfRead (λ v. v)
         (λ s. ⟦<F as FieldAnswers<EF, C>>⟧.verdict fresh scheme s proof)
@@ -85,14 +75,9 @@ pub(crate) fn verify_over<F, EF, C>(
     proof: &[u8],
 ) -> Report<Verdict>
 where
-    F: PrimeField64 + TwoAdicField + NeverNull + BytesCodec,
-    EF: ExtensionField<F> + JsonCodec + BytesCodec + Drop,
-    C: FieldChallenger<F>
-        + CanObserve<Root>
-        + CanObserve<ClearCommitment<F>>
-        + ExtensionChallenger<F, EF>
-        + GrindingChallenger<Witness = F>
-        + Clone,
+    F: StatementField,
+    EF: StatementExtension<F>,
+    C: StatementChallenger<F, EF>,
     requires { HasRoomFor F.TWO_ADICITY scheme }
     ensures verdict { OrUnjudged (⟦<F as ValueAnswers<EF, C>>⟧.verdict challenger
         (scheme_numbers scheme) (view value.now) proof.now) result.answer }
@@ -115,14 +100,9 @@ pub(crate) fn answer_over<F, EF, C>(
     trace: &[u8],
 ) -> Report<Finding>
 where
-    F: PrimeField64 + TwoAdicField + PackedField + NeverNull + BytesCodec,
-    EF: PackedExtensionField<F> + JsonCodec + BytesCodec + Drop,
-    C: FieldChallenger<F>
-        + CanObserve<Root>
-        + CanObserve<ClearCommitment<F>>
-        + ExtensionChallenger<F, EF>
-        + GrindingChallenger<Witness = F>
-        + Clone,
+    F: StatementField + PackedField,
+    EF: StatementExtension<F> + PackedExtensionField<F>,
+    C: StatementChallenger<F, EF>,
     requires room { HasRoomFor F.TWO_ADICITY scheme }
     requires base { WritesNoFloat F.writing }
     requires extension { WritesNoFloat EF.writing }

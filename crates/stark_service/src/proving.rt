@@ -38,7 +38,7 @@ fn prove_rows<SC>(
     form: ProofForm,
     statement: &Statement<Val<SC>>,
     log_rows: usize,
-    rows: &[Vec<Val<SC>>],
+    rows: Vec<Vec<Val<SC>>>,
 ) -> Report<Finding>
 where
     SC: StarkGenericConfig,
@@ -56,20 +56,22 @@ where
     requires columns { 0 < (⟦<TreeAir<Val<SC>> as BaseAir<Val<SC>>>⟧.layout
         statement.now.air).main }
     ensures { OrLacksMemory (⟦<SC as ServiceAnswers>⟧.proves config.now form
-        (statement_view statement.now) log_rows (Some (rows_of rows.now))) result.answer }
+        (statement_view statement.now) log_rows (Some (rows_of rows.items))) result.answer }
 {
     let greatest = config.pcs().log_max_trace_height();
     let Ok(shape) = CheckShape::from_air::<Val<SC>, TreeAir<Val<SC>>>(alloc, &statement.air) else {
         return Report::out_of_memory().as_finding();
     };
     let public_values = statement.public_values.as_slice();
-    let Some(_log_height) = log_height_of_rows(rows, public_values, shape, log_rows, greatest)
+    let Some(_log_height) = log_height_of_rows(&rows, public_values, shape, log_rows, greatest)
     else {
         return Report::unfit_trace(alloc).as_finding();
     };
-    let Ok(values) = values_of(alloc, rows) else {
+    let Ok(values) = values_of(alloc, &rows) else {
         return Report::out_of_memory().as_finding();
     };
+    // A list a row is more than a row of few columns: it goes before anything is committed.
+    drop(rows);
     let trace = RowMajorMatrix::new(values, shape.width);
     let answer = prove_with_held(
         alloc,
@@ -93,7 +95,7 @@ fn answer_rows<SC>(
     asked: TraceTask,
     statement: &Statement<Val<SC>>,
     log_rows: usize,
-    rows: &[Vec<Val<SC>>],
+    rows: Vec<Vec<Val<SC>>>,
 ) -> Report<Finding>
 where
     SC: StarkGenericConfig,
@@ -111,12 +113,12 @@ where
     requires columns { 0 < (⟦<TreeAir<Val<SC>> as BaseAir<Val<SC>>>⟧.layout
         statement.now.air).main }
     ensures { OrLacksMemory (⟦<SC as ServiceAnswers>⟧.tells config.now asked
-        (statement_view statement.now) log_rows (Some (rows_of rows.now))) result.answer }
+        (statement_view statement.now) log_rows (Some (rows_of rows.items))) result.answer }
 {
     let greatest = config.pcs().log_max_trace_height();
     match asked {
         TraceTask::Check => {
-            check_rows::<Val<SC>, SC::Challenge>(alloc, greatest, statement, log_rows, rows)
+            check_rows::<Val<SC>, SC::Challenge>(alloc, greatest, statement, log_rows, &rows)
         }
         TraceTask::ProveUnchecked(form) => {
             prove_rows(alloc, config, form, statement, log_rows, rows)
@@ -124,7 +126,7 @@ where
         TraceTask::Prove(form) => {
             // Before anything is committed: no proof is made of a trace that breaks its AIR.
             let report = check_rows::<Val<SC>, SC::Challenge>(
-                alloc, greatest, statement, log_rows, rows,
+                alloc, greatest, statement, log_rows, &rows,
             );
             match report.answer {
                 Finding::Satisfied => prove_rows(alloc, config, form, statement, log_rows, rows),
@@ -163,7 +165,7 @@ where
         (rows_in ⟦<SC as StarkService>⟧.service.element bytes.now)) result.answer }
 {
     match read_rows::<Val<SC>>(alloc, bytes) {
-        Ok(rows) => answer_rows(alloc, config, asked, statement, log_rows, &rows),
+        Ok(rows) => answer_rows(alloc, config, asked, statement, log_rows, rows),
         Err(report) => report.as_finding(),
     }
 }

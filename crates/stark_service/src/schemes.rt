@@ -16,22 +16,18 @@ ghost use Rattle.stark_service.specs.StatementFacts.{IsOfTrace};
 ghost use Rattle.stark_service.specs.Statements.{IsFileOn, IsSoundOfTakenOn, IsSoundOn, IsToldOn, IsVerdictOn, OrUnjudged, rows_in};
 ghost use Rattle.stark_service.specs.TraceChecks.{OrLacksMemory};
 
+use crate::bounds::{StatementChallenger, StatementExtension, StatementField};
 use crate::judging::verify_with;
 use crate::proving::answer_with;
 use crate::service::StarkService;
 use stark_answers::{Finding, Report, TraceTask, Verdict};
-use stark_bench::ClearCommitment;
 use stark_clear::ClearPcs;
 use stark_fri_proof::FriParameters;
 use stark_fri_prover::FriPcs;
-use stark_merkle::{Root, Sha256Tree};
+use stark_merkle::Sha256Tree;
 use stark_parts::StarkConfig;
-use stark_proof_bytes::BytesCodec;
 use stark_statement::{SchemeChoice, Statement};
-use stark_support::{
-    CanObserve, ExtensionChallenger, ExtensionField, FieldChallenger, GrindingChallenger,
-    JsonCodec, NeverNull, PackedExtensionField, PackedField, PrimeField64, TwoAdicField,
-};
+use stark_support::{CanObserve, PackedExtensionField, PackedField, PrimeField64};
 use std::alloc::{AllocError, Global};
 
 /// A configuration with trees of SHA-256 and FRI.
@@ -61,14 +57,9 @@ pub trait FieldAnswers<EF, C>: Sized {
 
 impl<F, EF, C> FieldAnswers<EF, C> for F
 where
-    F: PrimeField64 + TwoAdicField + NeverNull + BytesCodec,
-    EF: ExtensionField<F> + JsonCodec + BytesCodec + Drop,
-    C: FieldChallenger<F>
-        + CanObserve<Root>
-        + CanObserve<ClearCommitment<F>>
-        + ExtensionChallenger<F, EF>
-        + GrindingChallenger<Witness = F>
-        + Clone,
+    F: StatementField,
+    EF: StatementExtension<F>,
+    C: StatementChallenger<F, EF>,
 {
     ghost verdict = { λ fresh scheme s proof v. ByScheme scheme
         (λ numbers. WithNumbers (λ pcs. pcs.parameters) numbers (λ pcs.
@@ -144,14 +135,9 @@ fn verify_by_fri<F, EF, C>(
     proof: &[u8],
 ) -> Report<Verdict>
 where
-    F: PrimeField64 + TwoAdicField + NeverNull + BytesCodec,
-    EF: ExtensionField<F> + JsonCodec + BytesCodec + Drop,
-    C: FieldChallenger<F>
-        + CanObserve<Root>
-        + CanObserve<ClearCommitment<F>>
-        + ExtensionChallenger<F, EF>
-        + GrindingChallenger<Witness = F>
-        + Clone,
+    F: StatementField,
+    EF: StatementExtension<F>,
+    C: StatementChallenger<F, EF>,
     requires { parameters.log_blowup ≤ F.TWO_ADICITY }
     ensures verdict { OrUnjudged (⟦<F as FieldAnswers<EF, C>>⟧.verdict challenger
         (by_fri parameters) (statement_view statement.now) proof.now) result.answer }
@@ -174,14 +160,9 @@ fn verify_in_the_clear<F, EF, C>(
     proof: &[u8],
 ) -> Report<Verdict>
 where
-    F: PrimeField64 + TwoAdicField + NeverNull + BytesCodec,
-    EF: ExtensionField<F> + JsonCodec + BytesCodec + Drop,
-    C: FieldChallenger<F>
-        + CanObserve<Root>
-        + CanObserve<ClearCommitment<F>>
-        + ExtensionChallenger<F, EF>
-        + GrindingChallenger<Witness = F>
-        + Clone,
+    F: StatementField,
+    EF: StatementExtension<F>,
+    C: StatementChallenger<F, EF>,
     ensures verdict { OrUnjudged (⟦<F as FieldAnswers<EF, C>>⟧.verdict challenger
         None (statement_view statement.now) proof.now) result.answer }
     ensures sound { result.answer ≡ Verdict.Accepted → ⟦<F as FieldAnswers<EF, C>>⟧.sound
@@ -204,14 +185,9 @@ pub(crate) fn verify_by<F, EF, C>(
     proof: &[u8],
 ) -> Report<Verdict>
 where
-    F: PrimeField64 + TwoAdicField + NeverNull + BytesCodec,
-    EF: ExtensionField<F> + JsonCodec + BytesCodec + Drop,
-    C: FieldChallenger<F>
-        + CanObserve<Root>
-        + CanObserve<ClearCommitment<F>>
-        + ExtensionChallenger<F, EF>
-        + GrindingChallenger<Witness = F>
-        + Clone,
+    F: StatementField,
+    EF: StatementExtension<F>,
+    C: StatementChallenger<F, EF>,
     requires { HasRoomFor F.TWO_ADICITY scheme }
     ensures verdict { OrUnjudged (⟦<F as FieldAnswers<EF, C>>⟧.verdict challenger
         (numbers_of scheme) (statement_view statement.now) proof.now) result.answer }
@@ -238,14 +214,9 @@ fn answer_by_fri<F, EF, C>(
     trace: &[u8],
 ) -> Report<Finding>
 where
-    F: PrimeField64 + TwoAdicField + PackedField + NeverNull + BytesCodec,
-    EF: PackedExtensionField<F> + JsonCodec + BytesCodec + Drop,
-    C: FieldChallenger<F>
-        + CanObserve<Root>
-        + CanObserve<ClearCommitment<F>>
-        + ExtensionChallenger<F, EF>
-        + GrindingChallenger<Witness = F>
-        + Clone,
+    F: StatementField + PackedField,
+    EF: StatementExtension<F> + PackedExtensionField<F>,
+    C: StatementChallenger<F, EF>,
     requires room { parameters.log_blowup ≤ F.TWO_ADICITY }
     requires base { WritesNoFloat F.writing }
     requires extension { WritesNoFloat EF.writing }
@@ -273,14 +244,9 @@ fn answer_in_the_clear<F, EF, C>(
     trace: &[u8],
 ) -> Report<Finding>
 where
-    F: PrimeField64 + TwoAdicField + PackedField + NeverNull + BytesCodec,
-    EF: PackedExtensionField<F> + JsonCodec + BytesCodec + Drop,
-    C: FieldChallenger<F>
-        + CanObserve<Root>
-        + CanObserve<ClearCommitment<F>>
-        + ExtensionChallenger<F, EF>
-        + GrindingChallenger<Witness = F>
-        + Clone,
+    F: StatementField + PackedField,
+    EF: StatementExtension<F> + PackedExtensionField<F>,
+    C: StatementChallenger<F, EF>,
     requires base { WritesNoFloat F.writing }
     requires extension { WritesNoFloat EF.writing }
     ensures found { OrLacksMemory (⟦<F as FieldAnswers<EF, C>>⟧.found challenger
@@ -307,14 +273,9 @@ pub(crate) fn answer_by<F, EF, C>(
     trace: &[u8],
 ) -> Report<Finding>
 where
-    F: PrimeField64 + TwoAdicField + PackedField + NeverNull + BytesCodec,
-    EF: PackedExtensionField<F> + JsonCodec + BytesCodec + Drop,
-    C: FieldChallenger<F>
-        + CanObserve<Root>
-        + CanObserve<ClearCommitment<F>>
-        + ExtensionChallenger<F, EF>
-        + GrindingChallenger<Witness = F>
-        + Clone,
+    F: StatementField + PackedField,
+    EF: StatementExtension<F> + PackedExtensionField<F>,
+    C: StatementChallenger<F, EF>,
     requires room { HasRoomFor F.TWO_ADICITY scheme }
     requires base { WritesNoFloat F.writing }
     requires extension { WritesNoFloat EF.writing }

@@ -54,26 +54,26 @@ pub trait ServiceField: Sized {
     ghost showing: { Option FriNumbers → Data → Finding → Type 0 };
 
     /// The verdict on a proof.
-    fn verify(alloc: Global, scheme: SchemeChoice, value: &Value, proof: &[u8]) -> Report<Verdict>
+    fn verify(alloc: Global, scheme: SchemeChoice, value: Value, proof: &[u8]) -> Report<Verdict>
         requires { HasRoomFor adicity scheme }
-        ensures verdict { OrUnjudged (verdict (scheme_numbers scheme) (view value.now) proof.now)
+        ensures verdict { OrUnjudged (verdict (scheme_numbers scheme) (view value) proof.now)
             result.answer }
         ensures sound { result.answer ≡ Verdict.Accepted → sound (scheme_numbers scheme)
-            (view value.now) proof.now };
+            (view value) proof.now };
 
     /// What is found of a trace.
     fn answer(
         alloc: Global,
         scheme: SchemeChoice,
         asked: TraceTask,
-        value: &Value,
+        value: Value,
         trace: &[u8],
     ) -> Report<Finding>
         requires { HasRoomFor adicity scheme }
-        ensures found { OrLacksMemory (found (scheme_numbers scheme) asked (view value.now)
+        ensures found { OrLacksMemory (found (scheme_numbers scheme) asked (view value)
             trace.now) result.answer }
         ensures kind { IsOfTrace asked result.answer }
-        ensures proof { WhereProof (proof_file (scheme_numbers scheme) (view value.now) trace.now)
+        ensures proof { WhereProof (proof_file (scheme_numbers scheme) (view value) trace.now)
             result.answer };
 
     /// What is shown. The JSON is let go of once it is read, before the text is made, which may be
@@ -102,7 +102,7 @@ impl<M: Modulus> ServiceField for Residue<M, Scalar> {
 
     ghost showing = { ⟦<Base<M> as ValueAnswers<Ext4<Base<M>>, Hashing<Base<M>>>>⟧.showing };
 
-    fn verify(alloc: Global, scheme: SchemeChoice, value: &Value, proof: &[u8]) -> Report<Verdict> {
+    fn verify(alloc: Global, scheme: SchemeChoice, value: Value, proof: &[u8]) -> Report<Verdict> {
         let challenger = Hashing::<Base<M>>::new();
         verify_over::<Base<M>, Ext4<Base<M>>, _>(alloc, scheme, challenger, value, proof)
     }
@@ -111,7 +111,7 @@ impl<M: Modulus> ServiceField for Residue<M, Scalar> {
         alloc: Global,
         scheme: SchemeChoice,
         asked: TraceTask,
-        value: &Value,
+        value: Value,
         trace: &[u8],
     ) -> Report<Finding> {
         let challenger = Hashing::<Base<M>>::new();
@@ -140,7 +140,7 @@ impl ServiceField for F12289 {
 
     ghost showing = { ⟦<F12289 as ValueAnswers<Ext4<F12289>, Hashing<F12289>>>⟧.showing };
 
-    fn verify(alloc: Global, scheme: SchemeChoice, value: &Value, proof: &[u8]) -> Report<Verdict> {
+    fn verify(alloc: Global, scheme: SchemeChoice, value: Value, proof: &[u8]) -> Report<Verdict> {
         let challenger = Hashing::<F12289>::new();
         verify_over::<F12289, Ext4<F12289>, _>(alloc, scheme, challenger, value, proof)
     }
@@ -149,7 +149,7 @@ impl ServiceField for F12289 {
         alloc: Global,
         scheme: SchemeChoice,
         asked: TraceTask,
-        value: &Value,
+        value: Value,
         trace: &[u8],
     ) -> Report<Finding> {
         let challenger = Hashing::<F12289>::new();

@@ -71,7 +71,7 @@ pub(crate) fn verify_over<F, EF, C>(
     alloc: Global,
     scheme: SchemeChoice,
     challenger: C,
-    value: &Value,
+    value: Value,
     proof: &[u8],
 ) -> Report<Verdict>
 where
@@ -80,11 +80,14 @@ where
     C: StatementChallenger<F, EF>,
     requires { HasRoomFor F.TWO_ADICITY scheme }
     ensures verdict { OrUnjudged (⟦<F as ValueAnswers<EF, C>>⟧.verdict challenger
-        (scheme_numbers scheme) (view value.now) proof.now) result.answer }
+        (scheme_numbers scheme) (view value) proof.now) result.answer }
     ensures sound { result.answer ≡ Verdict.Accepted → ⟦<F as ValueAnswers<EF, C>>⟧.sound
-        challenger (scheme_numbers scheme) (view value.now) proof.now }
+        challenger (scheme_numbers scheme) (view value) proof.now }
 {
-    match read_statement::<F>(alloc, value) {
+    let read = read_statement::<F>(alloc, &value);
+    // The JSON is several times as long as the statement.
+    drop(value);
+    match read {
         Ok(statement) => verify_by::<F, EF, C>(alloc, scheme, challenger, &statement, proof),
         Err(report) => report,
     }
@@ -96,7 +99,7 @@ pub(crate) fn answer_over<F, EF, C>(
     scheme: SchemeChoice,
     challenger: C,
     asked: TraceTask,
-    value: &Value,
+    value: Value,
     trace: &[u8],
 ) -> Report<Finding>
 where
@@ -107,12 +110,15 @@ where
     requires base { WritesNoFloat F.writing }
     requires extension { WritesNoFloat EF.writing }
     ensures found { OrLacksMemory (⟦<F as ValueAnswers<EF, C>>⟧.found challenger
-        (scheme_numbers scheme) asked (view value.now) trace.now) result.answer }
+        (scheme_numbers scheme) asked (view value) trace.now) result.answer }
     ensures kind { IsOfTrace asked result.answer }
     ensures proof { WhereProof (⟦<F as ValueAnswers<EF, C>>⟧.proof_file challenger
-        (scheme_numbers scheme) (view value.now) trace.now) result.answer }
+        (scheme_numbers scheme) (view value) trace.now) result.answer }
 {
-    match read_statement::<F>(alloc, value) {
+    let read = read_statement::<F>(alloc, &value);
+    // The JSON is several times as long as the statement.
+    drop(value);
+    match read {
         Ok(statement) => {
             answer_by::<F, EF, C>(alloc, scheme, challenger, asked, &statement, trace)
         }

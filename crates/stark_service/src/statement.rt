@@ -128,14 +128,14 @@ impl StatementAnswers for NamedFields {
 
     fn verify(alloc: Global, statement: &[u8], proof: &[u8]) -> Report<Verdict> {
         match read_configured(alloc, statement) {
-            Ok((value, configuration)) => verify_value(alloc, configuration, &value, proof),
+            Ok((value, configuration)) => verify_value(alloc, configuration, value, proof),
             Err(report) => report,
         }
     }
 
     fn answer(alloc: Global, asked: TraceTask, statement: &[u8], trace: &[u8]) -> Report<Finding> {
         match read_configured(alloc, statement) {
-            Ok((value, configuration)) => answer_value(alloc, configuration, asked, &value, trace),
+            Ok((value, configuration)) => answer_value(alloc, configuration, asked, value, trace),
             Err(report) => report.as_finding(),
         }
     }
@@ -168,15 +168,15 @@ fn read_configured(alloc: Global, bytes: &[u8]) -> Result<(Value, Configuration)
 fn verify_value(
     alloc: Global,
     configuration: Configuration,
-    value: &Value,
+    value: Value,
     proof: &[u8],
 ) -> Report<Verdict>
     requires { IsWithinField configuration }
     ensures verdict { OrUnjudged (⟦<NamedFields as ConfiguredAnswers>⟧.verdict
-        (configuration_view configuration) (view value.now) proof.now) result.answer }
+        (configuration_view configuration) (view value) proof.now) result.answer }
     ensures sound { result.answer ≡ Verdict.Accepted
         → ⟦<NamedFields as ConfiguredAnswers>⟧.sound (configuration_view configuration)
-        (view value.now) proof.now }
+        (view value) proof.now }
 {
     let scheme = configuration.scheme;
     match configuration.field {
@@ -191,15 +191,15 @@ fn answer_value(
     alloc: Global,
     configuration: Configuration,
     asked: TraceTask,
-    value: &Value,
+    value: Value,
     trace: &[u8],
 ) -> Report<Finding>
     requires { IsWithinField configuration }
     ensures found { OrLacksMemory (⟦<NamedFields as ConfiguredAnswers>⟧.found asked
-        (configuration_view configuration) (view value.now) trace.now) result.answer }
+        (configuration_view configuration) (view value) trace.now) result.answer }
     ensures kind { IsOfTrace asked result.answer }
     ensures proof { WhereProof (⟦<NamedFields as ConfiguredAnswers>⟧.proof_file
-        (configuration_view configuration) (view value.now) trace.now) result.answer }
+        (configuration_view configuration) (view value) trace.now) result.answer }
 {
     let scheme = configuration.scheme;
     match configuration.field {

@@ -51,6 +51,11 @@ impl BabyBear {
         BabyBear(reduce(number as u64 * R_SQUARED as u64))
     }
 
+    /// The element of a number, if that is below p.
+    pub fn checked(number: u64) -> Option<BabyBear> {
+        (number < P as u64).then(|| BabyBear::new(number as u32))
+    }
+
     /// The number of the element, below p.
     pub const fn number(self) -> u32 {
         reduce(self.0 as u64)

@@ -1,11 +1,15 @@
 //! As much of JSON as statements and traces want.
 
-use crate::field::{BabyBear, P};
+use crate::dft::Rows;
+use crate::field::BabyBear;
 
-/// A value of JSON. Numbers are whole and below 2^64, and texts have no escapes.
+/// A value of JSON. Numbers are whole and below 2^64, and texts have no escapes. An array that is
+/// empty or begins with a number has numbers alone.
 pub enum Json {
+    Null,
     Number(u64),
     Text(String),
+    Numbers(Vec<u64>),
     Array(Vec<Json>),
     Object(Vec<(String, Json)>),
 }
@@ -26,11 +30,6 @@ impl Json {
         }
     }
 
-    /// A number below p, as an element.
-    pub fn element(&self) -> Option<BabyBear> {
-        element(self.number()?)
-    }
-
     pub fn text(&self) -> Option<&str> {
         if let Json::Text(text) = self {
             Some(text)
@@ -39,30 +38,32 @@ impl Json {
         }
     }
 
-    pub fn items(&self) -> Option<&[Json]> {
-        if let Json::Array(items) = self {
-            Some(items)
+    /// The items of an array of numbers.
+    pub fn numbers(&self) -> Option<&[u64]> {
+        if let Json::Numbers(numbers) = self {
+            Some(numbers)
         } else {
             None
         }
     }
 
-    /// What an object has under a name.
+    /// The items of an array of something else.
+    pub fn items(&self) -> Option<&[Json]> {
+        match self {
+            Json::Array(items) => Some(items),
+            Json::Numbers(numbers) if numbers.is_empty() => Some(&[]),
+            _ => None,
+        }
+    }
+
+    /// What an object has under a name, if it isn't null.
     pub fn get(&self, name: &str) -> Option<&Json> {
         let Json::Object(members) = self else {
             return None;
         };
-        members
-            .iter()
-            .rev()
-            .find(|member| member.0 == name)
-            .map(|member| &member.1)
+        let (_, value) = members.iter().rev().find(|member| member.0 == name)?;
+        Some(value).filter(|value| !matches!(value, Json::Null))
     }
-}
-
-/// The element of a number below p.
-fn element(number: u64) -> Option<BabyBear> {
-    (number < P as u64).then(|| BabyBear::new(number as u32))
 }
 
 /// What isn't read yet.
@@ -140,11 +141,28 @@ impl Reader<'_> {
         Some((name, self.value()?))
     }
 
+    fn null(&mut self) -> Option<Json> {
+        self.rest = self.rest.strip_prefix(b"null")?;
+        Some(Json::Null)
+    }
+
+    /// An array, of numbers alone where it is empty or begins with one.
+    fn array(&mut self) -> Option<Json> {
+        let mut ahead = Reader { rest: self.rest };
+        ahead.take(b'[')?;
+        if matches!(ahead.peek()?, b'0'..=b'9' | b']') {
+            self.list(*b"[]", Self::number).map(Json::Numbers)
+        } else {
+            self.list(*b"[]", Self::value).map(Json::Array)
+        }
+    }
+
     fn value(&mut self) -> Option<Json> {
         match self.peek()? {
             b'"' => self.text().map(Json::Text),
-            b'[' => self.list(*b"[]", Self::value).map(Json::Array),
+            b'[' => self.array(),
             b'{' => self.list(*b"{}", Self::member).map(Json::Object),
+            b'n' => self.null(),
             _ => self.number().map(Json::Number),
         }
     }
@@ -154,7 +172,7 @@ impl Reader<'_> {
         let mut row = [BabyBear::ZERO; W];
         for (i, value) in row.iter_mut().enumerate() {
             self.take(if i == 0 { b'[' } else { b',' })?;
-            *value = element(self.number()?)?;
+            *value = BabyBear::checked(self.number()?)?;
         }
         self.take(b']')?;
         Some(row)
@@ -162,7 +180,7 @@ impl Reader<'_> {
 }
 
 /// The rows of a trace, each of `W` elements.
-pub fn parse_rows<const W: usize>(text: &[u8]) -> Option<Vec<[BabyBear; W]>> {
+pub fn parse_rows<const W: usize>(text: &[u8]) -> Option<Rows<W>> {
     let mut reader = Reader { rest: text };
     let rows = reader.list(*b"[]", Reader::row)?;
     reader.ended().then_some(rows)

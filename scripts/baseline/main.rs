@@ -1,41 +1,53 @@
-//! A prover and verifier of one AIR, Fibonacci's, in plain Rust, by which `bench-baseline` measures
-//! `voskligan`: the same statement, the same transcript, the same bytes of the proof.
+//! A prover and verifier of two AIRs, Fibonacci's and that of the machine of
+//! `docs/guide/machine.md`, in plain Rust, by which `bench-baseline` measures `voskligan`: the same
+//! statement, the same transcript, the same bytes of the proof.
 //!
-//! It is written as such programs are: the AIR is a function that the compiler inlines, where
+//! It is written as such programs are: an AIR is a function that the compiler inlines, where
 //! `voskligan` reads it from the statement and interprets its nodes at each point; nothing is
 //! proved, want of memory isn't answered, and a broken invariant panics. It does less besides: it
 //! has one field and one set of parameters. It takes one block of SHA-256 at a time, where
 //! `voskligan` takes four in vectors, for which Rust wants `unsafe` code.
 
+mod air;
 mod challenger;
+mod commitment;
 mod dft;
 mod extension;
 mod fibonacci;
 mod field;
 mod fri;
+mod fri_prover;
+mod fri_verifier;
 mod json;
+mod machine;
 mod merkle;
 mod proof;
+mod protocol;
+mod prover;
+mod quotient;
 mod sha256;
-mod stark;
+mod statement;
+mod verifier;
 
-use fibonacci::{PUBLIC_VALUES, WIDTH};
-use field::BabyBear;
+use air::{first_broken, Air};
+use fibonacci::Fibonacci;
 use json::{parse_rows, Json};
+use machine::Machine;
 use proof::Proof;
+use statement::{air_digest, Statement};
 use std::process::ExitCode;
 use std::time::Instant;
 
 const USAGE: &str = "baseline prove STATEMENT TRACE PROOF | baseline verify STATEMENT PROOF";
 
-fn read(path: &str) -> Result<Vec<u8>, String> {
-    std::fs::read(path).map_err(|error| format!("{path}: {error}"))
+/// What is done with a statement, and the files beside it.
+enum Command<'a> {
+    Prove { trace: &'a str, output: &'a str },
+    Verify { proof: &'a str },
 }
 
-/// The public values of the statement in a file.
-fn read_statement(path: &str) -> Result<[BabyBear; PUBLIC_VALUES], String> {
-    let statement = Json::parse(&read(path)?).ok_or("the statement is no JSON")?;
-    fibonacci::public_values(&statement).ok_or("the statement isn't Fibonacci's".to_string())
+fn read(path: &str) -> Result<Vec<u8>, String> {
+    std::fs::read(path).map_err(|error| format!("{path}: {error}"))
 }
 
 /// Tells how long something took.
@@ -46,36 +58,75 @@ fn told<T>(what: &str, work: impl FnOnce() -> T) -> T {
     done
 }
 
-fn prove(statement: &str, trace: &str, output: &str) -> Result<(), String> {
-    let publics = read_statement(statement)?;
+fn prove<A: Air<W, P>, const W: usize, const P: usize>(
+    statement: Statement<P>,
+    trace: &str,
+    output: &str,
+) -> Result<(), String> {
     let text = read(trace)?;
-    let rows = told("read", || parse_rows::<WIDTH>(&text)).ok_or("the trace has another form")?;
+    let rows = told("trace", || parse_rows::<W>(&text)).ok_or("the trace has another form")?;
     drop(text);
-    if !rows.len().is_power_of_two() {
-        return Err("the number of rows is no power of two".to_string());
+    let preprocessed = statement.preprocessed.as_ref();
+    let count = preprocessed.map_or(rows.len(), |beside| beside.len());
+    if !rows.len().is_power_of_two() || rows.len() != count {
+        return Err("the number of rows is no power of two, or another than beside".to_string());
     }
-    if let Some((row, constraint)) = told("check", || stark::first_broken(&rows, &publics)) {
+    let check = || first_broken::<A, W, P>(&rows, preprocessed, &statement.publics);
+    if let Some((row, constraint)) = told("check", check) {
         return Err(format!("row {row} breaks constraint {constraint}"));
     }
-    let proof = told("prove", || stark::prove(rows, &publics));
+    let proof = told("prove", || prover::prove::<A, W, P>(statement, rows));
     std::fs::write(output, proof.to_bytes()).map_err(|error| format!("{output}: {error}"))
 }
 
-fn verify(statement: &str, proof: &str) -> Result<(), String> {
-    let publics = read_statement(statement)?;
+fn verify<A: Air<W, P>, const W: usize, const P: usize>(
+    statement: Statement<P>,
+    proof: &str,
+) -> Result<(), String> {
     let bytes = read(proof)?;
     let proof = Proof::from_bytes(&bytes).ok_or("the bytes are no proof")?;
-    stark::verify(&proof, &publics).map_err(|refusal| format!("refused: {refusal}"))?;
+    let verdict = told("verify", || verifier::verify::<A, W, P>(statement, &proof));
+    verdict.map_err(|refusal| format!("refused: {refusal}"))?;
     println!("accepted");
     Ok(())
+}
+
+/// Does what is asked with a statement of the AIR.
+fn run<A: Air<W, P>, const W: usize, const P: usize>(
+    json: Json,
+    command: Command,
+) -> Result<(), String> {
+    let statement = Statement::read(&json, A::PUBLIC_VALUES).ok_or("the statement isn't plain")?;
+    drop(json);
+    match command {
+        Command::Prove { trace, output } => prove::<A, W, P>(statement, trace, output),
+        Command::Verify { proof } => verify::<A, W, P>(statement, proof),
+    }
+}
+
+/// Does what is asked with the statement in a file, whichever AIR it has.
+fn run_file(statement: &str, command: Command) -> Result<(), String> {
+    let text = read(statement)?;
+    let json = told("statement", || Json::parse(&text)).ok_or("the statement is no JSON")?;
+    drop(text);
+    match air_digest(&json)
+        .ok_or("the statement's AIR isn't plain")?
+        .as_str()
+    {
+        Fibonacci::DIGEST => run::<Fibonacci, { fibonacci::WIDTH }, 0>(json, command),
+        Machine::DIGEST => run::<Machine, { machine::WIDTH }, { machine::PROGRAM }>(json, command),
+        other => Err(format!("the statement's AIR is another, {other}")),
+    }
 }
 
 fn main() -> ExitCode {
     let words: Vec<String> = std::env::args().skip(1).collect();
     let words: Vec<&str> = words.iter().map(String::as_str).collect();
     let ended = match words[..] {
-        ["prove", statement, trace, output] => prove(statement, trace, output),
-        ["verify", statement, proof] => verify(statement, proof),
+        ["prove", statement, trace, output] => {
+            run_file(statement, Command::Prove { trace, output })
+        }
+        ["verify", statement, proof] => run_file(statement, Command::Verify { proof }),
         _ => Err(USAGE.to_string()),
     };
     match ended {

@@ -104,12 +104,14 @@ fn push_elements(bytes: &mut Vec<u8>, elements: &[BabyBear]) {
     }
 }
 
-/// Writes the bytes of a leaf over the row of one matrix: how many matrices, how many elements, and
-/// these.
-pub fn write_row(bytes: &mut Vec<u8>, row: &[BabyBear]) {
-    bytes.extend_from_slice(&number_bytes(1));
-    bytes.extend_from_slice(&number_bytes(row.len()));
-    push_elements(bytes, row);
+/// Writes the bytes of a leaf over a row of each of some matrices: how many there are, and of each
+/// how many elements, and these.
+pub fn write_rows<'a>(bytes: &mut Vec<u8>, rows: impl ExactSizeIterator<Item = &'a [BabyBear]>) {
+    bytes.extend_from_slice(&number_bytes(rows.len()));
+    for row in rows {
+        bytes.extend_from_slice(&number_bytes(row.len()));
+        push_elements(bytes, row);
+    }
 }
 
 /// Writes the bytes of a leaf over two lists of coordinates.

@@ -4,9 +4,9 @@ use crate::extension::{Extension, DEGREE};
 use crate::field::{BabyBear, P};
 use crate::sha256::Digest;
 
-/// A row of a committed matrix, and its path.
-pub struct RowOpening {
-    pub row: Vec<BabyBear>,
+/// A row of each matrix of a commitment, and their path.
+pub struct RowsOpening {
+    pub rows: Vec<Vec<BabyBear>>,
     pub path: Vec<Digest>,
 }
 
@@ -16,9 +16,9 @@ pub struct LayerOpening {
     pub path: Vec<Digest>,
 }
 
-/// What is opened at a drawn place: a row a commitment, and a value a fold.
+/// What is opened at a drawn place: rows of each commitment, and a value of each fold.
 pub struct Query {
-    pub rows: Vec<RowOpening>,
+    pub inputs: Vec<RowsOpening>,
     pub layers: Vec<LayerOpening>,
 }
 
@@ -31,13 +31,16 @@ pub struct FriProof {
     pub queries: Vec<Query>,
 }
 
-/// A proof for one AIR, whose quotient has one chunk.
+/// A proof for one AIR: the commitments, what is opened of them at zeta, and of the trace at the
+/// next point, and why that is true.
 pub struct Proof {
     pub trace_root: Digest,
     pub quotient_root: Digest,
     pub local: Vec<Extension>,
     pub next: Vec<Extension>,
-    pub chunk: Vec<Extension>,
+    /// None where the AIR has no preprocessed columns.
+    pub preprocessed: Option<Vec<Extension>>,
+    pub chunks: Vec<Vec<Extension>>,
     pub opening: FriProof,
     pub log_height: usize,
 }
@@ -74,11 +77,17 @@ impl Writer {
         }
     }
 
-    fn row(&mut self, row: &RowOpening) {
-        // A commitment has one matrix.
-        self.number(1);
-        self.list(&row.row, |writer, element| writer.base(*element));
-        self.list(&row.path, Writer::digest);
+    fn extensions(&mut self, elements: &[Extension]) {
+        self.list(elements, Writer::extension);
+    }
+
+    fn row(&mut self, row: &[BabyBear]) {
+        self.list(row, |writer, element| writer.base(*element));
+    }
+
+    fn input(&mut self, input: &RowsOpening) {
+        self.list(&input.rows, |writer, row| writer.row(row));
+        self.list(&input.path, Writer::digest);
     }
 
     fn layer(&mut self, layer: &LayerOpening) {
@@ -87,8 +96,20 @@ impl Writer {
     }
 
     fn query(&mut self, query: &Query) {
-        self.list(&query.rows, Writer::row);
+        self.list(&query.inputs, Writer::input);
         self.list(&query.layers, Writer::layer);
+    }
+
+    fn preprocessed(&mut self, row: &Option<Vec<Extension>>) {
+        match row {
+            Some(row) => {
+                self.0.push(1);
+                self.extensions(row);
+                // No next row.
+                self.0.push(0);
+            }
+            None => self.0.push(0),
+        }
     }
 
     fn fri(&mut self, proof: &FriProof) {
@@ -97,7 +118,7 @@ impl Writer {
             // No work is asked for before a fold.
             writer.base(BabyBear::ZERO);
         });
-        self.list(&proof.last, Writer::extension);
+        self.extensions(&proof.last);
         self.base(proof.witness);
         self.list(&proof.queries, Writer::query);
     }
@@ -110,13 +131,12 @@ impl Proof {
         writer.digest(&self.quotient_root);
         // No random commitment.
         writer.0.push(0);
-        writer.list(&self.local, Writer::extension);
+        writer.extensions(&self.local);
         writer.0.push(1);
-        writer.list(&self.next, Writer::extension);
-        // No preprocessed rows, one chunk, no random row.
-        writer.0.push(0);
-        writer.number(1);
-        writer.list(&self.chunk, Writer::extension);
+        writer.extensions(&self.next);
+        writer.preprocessed(&self.preprocessed);
+        writer.list(&self.chunks, |writer, chunk| writer.extensions(chunk));
+        // No random row.
         writer.0.push(0);
         writer.fri(&self.opening);
         writer.number(self.log_height);
@@ -131,12 +151,11 @@ impl Proof {
         reader.expect(MAGIC)?;
         let (trace_root, quotient_root) = (reader.take()?, reader.take()?);
         reader.expect(&[0])?;
-        let local = reader.list(Reader::extension)?;
+        let local = reader.extensions()?;
         reader.expect(&[1])?;
-        let next = reader.list(Reader::extension)?;
-        reader.expect(&[0])?;
-        (reader.number()? == 1).then_some(())?;
-        let chunk = reader.list(Reader::extension)?;
+        let next = reader.extensions()?;
+        let preprocessed = reader.preprocessed()?;
+        let chunks = reader.list(Reader::extensions)?;
         reader.expect(&[0])?;
         let opening = reader.fri()?;
         let log_height = reader.number()?;
@@ -146,7 +165,8 @@ impl Proof {
             quotient_root,
             local,
             next,
-            chunk,
+            preprocessed,
+            chunks,
             opening,
             log_height,
         };
@@ -193,10 +213,27 @@ impl Reader<'_> {
         (0..count).map(|_| read(self)).collect()
     }
 
-    fn row(&mut self) -> Option<RowOpening> {
-        (self.number()? == 1).then_some(())?;
-        Some(RowOpening {
-            row: self.list(Self::base)?,
+    fn extensions(&mut self) -> Option<Vec<Extension>> {
+        self.list(Self::extension)
+    }
+
+    /// The preprocessed row, without a next one, where the first byte says that it is there.
+    fn preprocessed(&mut self) -> Option<Option<Vec<Extension>>> {
+        let [is_there] = self.take()?;
+        match is_there {
+            0 => Some(None),
+            1 => {
+                let row = self.extensions()?;
+                self.expect(&[0])?;
+                Some(Some(row))
+            }
+            _ => None,
+        }
+    }
+
+    fn input(&mut self) -> Option<RowsOpening> {
+        Some(RowsOpening {
+            rows: self.list(|reader| reader.list(Self::base))?,
             path: self.list(Self::take)?,
         })
     }
@@ -210,7 +247,7 @@ impl Reader<'_> {
 
     fn query(&mut self) -> Option<Query> {
         Some(Query {
-            rows: self.list(Self::row)?,
+            inputs: self.list(Self::input)?,
             layers: self.list(Self::layer)?,
         })
     }
@@ -224,7 +261,7 @@ impl Reader<'_> {
     fn fri(&mut self) -> Option<FriProof> {
         Some(FriProof {
             roots: self.list(Self::phase)?,
-            last: self.list(Self::extension)?,
+            last: self.extensions()?,
             witness: self.base()?,
             queries: self.list(Self::query)?,
         })

@@ -17,6 +17,7 @@ ghost use Rattle.stark_service.specs.Statements.{OrUnjudged};
 ghost use Rattle.stark_service.specs.TraceChecks.{OrLacksMemory};
 
 use crate::over::{ValueAnswers, answer_over, verify_over};
+use crate::progress::Progress;
 use crate::showing::show_over;
 use serde_json::Value;
 use stark_answers::{Finding, Report, TraceTask, Verdict};
@@ -62,12 +63,13 @@ pub trait ServiceField: Sized {
             (view value) proof.now };
 
     /// What is found of a trace.
-    fn answer(
+    fn answer<P: Progress>(
         alloc: Global,
         scheme: SchemeChoice,
         asked: TraceTask,
         value: Value,
         trace: &[u8],
+        progress: &mut P,
     ) -> Report<Finding>
         requires { HasRoomFor adicity scheme }
         ensures found { OrLacksMemory (found (scheme_numbers scheme) asked (view value)
@@ -107,15 +109,18 @@ impl<M: Modulus> ServiceField for Residue<M, Scalar> {
         verify_over::<Base<M>, Ext4<Base<M>>, _>(alloc, scheme, challenger, value, proof)
     }
 
-    fn answer(
+    fn answer<P: Progress>(
         alloc: Global,
         scheme: SchemeChoice,
         asked: TraceTask,
         value: Value,
         trace: &[u8],
+        progress: &mut P,
     ) -> Report<Finding> {
         let challenger = Hashing::<Base<M>>::new();
-        answer_over::<Base<M>, Ext4<Base<M>>, _>(alloc, scheme, challenger, asked, value, trace)
+        answer_over::<Base<M>, Ext4<Base<M>>, _, P>(
+            alloc, scheme, challenger, asked, value, trace, progress,
+        )
     }
 
     fn show(alloc: Global, scheme: SchemeChoice, value: Value) -> Report<Finding> {
@@ -145,15 +150,18 @@ impl ServiceField for F12289 {
         verify_over::<F12289, Ext4<F12289>, _>(alloc, scheme, challenger, value, proof)
     }
 
-    fn answer(
+    fn answer<P: Progress>(
         alloc: Global,
         scheme: SchemeChoice,
         asked: TraceTask,
         value: Value,
         trace: &[u8],
+        progress: &mut P,
     ) -> Report<Finding> {
         let challenger = Hashing::<F12289>::new();
-        answer_over::<F12289, Ext4<F12289>, _>(alloc, scheme, challenger, asked, value, trace)
+        answer_over::<F12289, Ext4<F12289>, _, P>(
+            alloc, scheme, challenger, asked, value, trace, progress,
+        )
     }
 
     fn show(alloc: Global, scheme: SchemeChoice, value: Value) -> Report<Finding> {

@@ -19,6 +19,7 @@ ghost use Rattle.stark_service.specs.TraceChecks.{OrLacksMemory};
 
 use crate::bounds::{StatementChallenger, StatementExtension, StatementField};
 use crate::counted::Numbered;
+use crate::progress::Progress;
 use crate::reading::read_statement;
 use crate::schemes::{FieldAnswers, answer_by, verify_by};
 use serde_json::Value;
@@ -94,18 +95,20 @@ where
 }
 
 /// What is found of a trace for a statement over a field.
-pub(crate) fn answer_over<F, EF, C>(
+pub(crate) fn answer_over<F, EF, C, P>(
     alloc: Global,
     scheme: SchemeChoice,
     challenger: C,
     asked: TraceTask,
     value: Value,
     trace: &[u8],
+    progress: &mut P,
 ) -> Report<Finding>
 where
     F: StatementField + PackedField,
     EF: StatementExtension<F> + PackedExtensionField<F>,
     C: StatementChallenger<F, EF>,
+    P: Progress,
     requires room { HasRoomFor F.TWO_ADICITY scheme }
     requires base { WritesNoFloat F.writing }
     requires extension { WritesNoFloat EF.writing }
@@ -120,7 +123,9 @@ where
     drop(value);
     match read {
         Ok(statement) => {
-            answer_by::<F, EF, C>(alloc, scheme, challenger, asked, &statement, trace)
+            answer_by::<F, EF, C, P>(
+                alloc, scheme, challenger, asked, &statement, trace, progress,
+            )
         }
         Err(report) => report.as_finding(),
     }

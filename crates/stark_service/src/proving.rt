@@ -12,6 +12,7 @@ ghost use Rattle.stark_service.specs.TraceChecks.{OrLacksMemory};
 
 use crate::checking::check_rows;
 use crate::judging::unfit_rows;
+use crate::progress::{Progress, Stage};
 use crate::reading::read_rows;
 use crate::service::{ServiceAnswers, StarkService};
 use stark_air::BaseAir;
@@ -89,13 +90,14 @@ where
 }
 
 /// What is found of rows, by what is asked for them.
-fn answer_rows<SC>(
+fn answer_rows<SC, P>(
     alloc: Global,
     config: &SC,
     asked: TraceTask,
     statement: &Statement<Val<SC>>,
     log_rows: usize,
     rows: Vec<Vec<Val<SC>>>,
+    progress: &mut P,
 ) -> Report<Finding>
 where
     SC: StarkGenericConfig,
@@ -104,6 +106,7 @@ where
     Val<SC>: PackedField + NeverNull + BytesCodec,
     Com<SC>: NeverNull + BytesCodec,
     PcsProof<SC>: JsonCodec + BytesCodec,
+    P: Progress,
     requires ready { ⟦<SC as ServiceAnswers>⟧.is_ready config.now
         (statement_view statement.now) }
     requires able { ⟦<SC as ServiceAnswers>⟧.can_prove config.now }
@@ -116,20 +119,35 @@ where
         (statement_view statement.now) log_rows (Some (rows_of rows.items))) result.answer }
 {
     let greatest = config.pcs().log_max_trace_height();
+    let (height, columns) = (rows.len(), statement.air.width());
+    let checking = Stage::Checking {
+        rows: height,
+        columns,
+    };
+    let proving = Stage::Proving {
+        rows: height,
+        columns,
+    };
     match asked {
         TraceTask::Check => {
+            progress.stage(checking);
             check_rows::<Val<SC>, SC::Challenge>(alloc, greatest, statement, log_rows, &rows)
         }
         TraceTask::ProveUnchecked(form) => {
+            progress.stage(proving);
             prove_rows(alloc, config, form, statement, log_rows, rows)
         }
         TraceTask::Prove(form) => {
             // Before anything is committed: no proof is made of a trace that breaks its AIR.
+            progress.stage(checking);
             let report = check_rows::<Val<SC>, SC::Challenge>(
                 alloc, greatest, statement, log_rows, &rows,
             );
             match report.answer {
-                Finding::Satisfied => prove_rows(alloc, config, form, statement, log_rows, rows),
+                Finding::Satisfied => {
+                    progress.stage(proving);
+                    prove_rows(alloc, config, form, statement, log_rows, rows)
+                }
                 _ => report,
             }
         }
@@ -137,13 +155,14 @@ where
 }
 
 /// What is found of the rows that the bytes of a file spell.
-fn answer_with_rows<SC>(
+fn answer_with_rows<SC, P>(
     alloc: Global,
     config: &SC,
     asked: TraceTask,
     statement: &Statement<Val<SC>>,
     log_rows: usize,
     bytes: &[u8],
+    progress: &mut P,
 ) -> Report<Finding>
 where
     SC: StarkGenericConfig,
@@ -152,6 +171,7 @@ where
     Val<SC>: PackedField + NeverNull + BytesCodec,
     Com<SC>: NeverNull + BytesCodec,
     PcsProof<SC>: JsonCodec + BytesCodec,
+    P: Progress,
     requires ready { ⟦<SC as ServiceAnswers>⟧.is_ready config.now
         (statement_view statement.now) }
     requires able { ⟦<SC as ServiceAnswers>⟧.can_prove config.now }
@@ -165,7 +185,7 @@ where
         (rows_in ⟦<SC as StarkService>⟧.service.element bytes.now)) result.answer }
 {
     match read_rows::<Val<SC>>(alloc, bytes) {
-        Ok(rows) => answer_rows(alloc, config, asked, statement, log_rows, rows),
+        Ok(rows) => { answer_rows(alloc, config, asked, statement, log_rows, rows, progress) }
         Err(report) => report.as_finding(),
     }
 }
@@ -173,14 +193,16 @@ where
 /// What is found of a trace for a statement that was read, with a configuration whose challenger
 /// has observed the statement, which asks for the statement's work, masks nothing, sets up all
 /// columns, proves traces of any height and refuses no true opening; by what is asked for the
-/// trace. It is `bad input` where the trace can't be read, the AIR has no main columns, or the
+/// trace; its check and its proof are told before they begin. It is `bad input` where the trace
+/// can't be read, the AIR has no main columns, or the
 /// trace isn't one of its widths and counts; or `out of memory`.
-pub fn answer_with<SC>(
+pub fn answer_with<SC, P>(
     alloc: Global,
     config: &SC,
     asked: TraceTask,
     statement: &Statement<Val<SC>>,
     bytes: &[u8],
+    progress: &mut P,
 ) -> Report<Finding>
 where
     SC: StarkGenericConfig,
@@ -189,6 +211,7 @@ where
     Val<SC>: PackedField + NeverNull + BytesCodec,
     Com<SC>: NeverNull + BytesCodec,
     PcsProof<SC>: JsonCodec + BytesCodec,
+    P: Progress,
     requires ready { ⟦<SC as ServiceAnswers>⟧.is_ready config.now
         (statement_view statement.now) }
     requires able { ⟦<SC as ServiceAnswers>⟧.can_prove config.now }
@@ -204,7 +227,9 @@ where
     }
     let greatest = config.pcs().log_max_trace_height();
     match log_rows_of(alloc, &statement.air, greatest) {
-        Ok(Some(log_rows)) => answer_with_rows(alloc, config, asked, statement, log_rows, bytes),
+        Ok(Some(log_rows)) => {
+            answer_with_rows(alloc, config, asked, statement, log_rows, bytes, progress)
+        }
         Ok(None) => unfit_rows(alloc).as_finding(),
         Err(AllocError) => Report::out_of_memory().as_finding(),
     }

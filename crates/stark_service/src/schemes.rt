@@ -18,6 +18,7 @@ ghost use Rattle.stark_service.specs.TraceChecks.{OrLacksMemory};
 
 use crate::bounds::{StatementChallenger, StatementExtension, StatementField};
 use crate::judging::verify_with;
+use crate::progress::Progress;
 use crate::proving::answer_with;
 use crate::service::StarkService;
 use stark_answers::{Finding, Report, TraceTask, Verdict};
@@ -205,18 +206,20 @@ where
 }
 
 /// What is found of a trace by FRI with these parameters.
-fn answer_by_fri<F, EF, C>(
+fn answer_by_fri<F, EF, C, P>(
     alloc: Global,
     parameters: FriParameters,
     challenger: C,
     asked: TraceTask,
     statement: &Statement<F>,
     trace: &[u8],
+    progress: &mut P,
 ) -> Report<Finding>
 where
     F: StatementField + PackedField,
     EF: StatementExtension<F> + PackedExtensionField<F>,
     C: StatementChallenger<F, EF>,
+    P: Progress,
     requires room { parameters.log_blowup ≤ F.TWO_ADICITY }
     requires base { WritesNoFloat F.writing }
     requires extension { WritesNoFloat EF.writing }
@@ -232,21 +235,23 @@ where
     };
     let pcs: FriPcs<F, Sha256Tree> = FriPcs::new(parameters);
     let config: FriConfig<F, EF, C> = configured(pcs, bound, statement);
-    answer_with(alloc, &config, asked, statement, trace)
+    answer_with(alloc, &config, asked, statement, trace, progress)
 }
 
 /// What is found of a trace in the clear.
-fn answer_in_the_clear<F, EF, C>(
+fn answer_in_the_clear<F, EF, C, P>(
     alloc: Global,
     challenger: C,
     asked: TraceTask,
     statement: &Statement<F>,
     trace: &[u8],
+    progress: &mut P,
 ) -> Report<Finding>
 where
     F: StatementField + PackedField,
     EF: StatementExtension<F> + PackedExtensionField<F>,
     C: StatementChallenger<F, EF>,
+    P: Progress,
     requires base { WritesNoFloat F.writing }
     requires extension { WritesNoFloat EF.writing }
     ensures found { OrLacksMemory (⟦<F as FieldAnswers<EF, C>>⟧.found challenger
@@ -260,22 +265,24 @@ where
     };
     let pcs: ClearPcs<F> = ClearPcs::new();
     let config: ClearConfig<F, EF, C> = configured(pcs, bound, statement);
-    answer_with(alloc, &config, asked, statement, trace)
+    answer_with(alloc, &config, asked, statement, trace, progress)
 }
 
 /// What is found of a trace, by the scheme that is chosen.
-pub(crate) fn answer_by<F, EF, C>(
+pub(crate) fn answer_by<F, EF, C, P>(
     alloc: Global,
     scheme: SchemeChoice,
     challenger: C,
     asked: TraceTask,
     statement: &Statement<F>,
     trace: &[u8],
+    progress: &mut P,
 ) -> Report<Finding>
 where
     F: StatementField + PackedField,
     EF: StatementExtension<F> + PackedExtensionField<F>,
     C: StatementChallenger<F, EF>,
+    P: Progress,
     requires room { HasRoomFor F.TWO_ADICITY scheme }
     requires base { WritesNoFloat F.writing }
     requires extension { WritesNoFloat EF.writing }
@@ -286,11 +293,11 @@ where
         (numbers_of scheme) (statement_view statement.now) trace.now) result.answer }
 {
     match scheme {
-        SchemeChoice::Fri(parameters) => answer_by_fri::<F, EF, C>(
-            alloc, parameters, challenger, asked, statement, trace,
+        SchemeChoice::Fri(parameters) => answer_by_fri::<F, EF, C, P>(
+            alloc, parameters, challenger, asked, statement, trace, progress,
         ),
-        SchemeChoice::Clear => {
-            answer_in_the_clear::<F, EF, C>(alloc, challenger, asked, statement, trace)
-        }
+        SchemeChoice::Clear => answer_in_the_clear::<F, EF, C, P>(
+            alloc, challenger, asked, statement, trace, progress,
+        ),
     }
 }

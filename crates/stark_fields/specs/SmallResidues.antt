@@ -1,5 +1,5 @@
 -- The residues modulo 12289.
-use Rattle.std.specs.Prelude.{ℕ}
+use Rattle.std.specs.Prelude.{ℕ, false}
 use Rattle.stark_fields.specs.Small.{is_prime_modulus, eleven_is_non_square, is_two_adic}
 use Rattle.stark_support.specs.Ring.{FieldLaws, IsQuarticConstant}
 use Rattle.stark_support.specs.TwoAdic.{TwoAdicLaws}
@@ -17,6 +17,7 @@ small_ghosts = record {
   QUARTIC_CONSTANT = 11;
   TWO_ADICITY = 12;
   ROOT = 1331;
+  BENEFITS_FROM_LOCKSTEP = false;
   prime = is_prime_modulus;
   non_square = eleven_is_non_square;
   two_adic = is_two_adic;

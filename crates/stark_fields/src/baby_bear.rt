@@ -1,4 +1,5 @@
 //! The field of 2013265921 elements, which Plonky3 and others call BabyBear.
+ghost use Rattle.std.specs.Prelude.{true};
 ghost use Rattle.stark_fields.specs.BabyBear.{eleven_is_non_square, is_prime_modulus, is_two_adic};
 
 use crate::modulus::Modulus;
@@ -21,6 +22,8 @@ impl Modulus for BabyBear {
 
     ghost ROOT = { 440564289 };
 
+    ghost BENEFITS_FROM_LOCKSTEP = { true };
+
     const MODULUS: u32 = 2013265921;
 
     const GENERATOR: u32 = 31;
@@ -30,6 +33,8 @@ impl Modulus for BabyBear {
     const TWO_ADICITY: usize = 27;
 
     const ROOT: u32 = 440564289;
+
+    const BENEFITS_FROM_LOCKSTEP: bool = true;
 
     ghost prime = { is_prime_modulus };
 

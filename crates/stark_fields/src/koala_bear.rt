@@ -1,4 +1,5 @@
 //! The field of 2130706433 elements, which Plonky3 and others call KoalaBear.
+ghost use Rattle.std.specs.Prelude.{true};
 ghost use Rattle.stark_fields.specs.KoalaBear.{is_prime_modulus, is_two_adic, three_is_non_square};
 
 use crate::modulus::Modulus;
@@ -21,6 +22,8 @@ impl Modulus for KoalaBear {
 
     ghost ROOT = { 1791270792 };
 
+    ghost BENEFITS_FROM_LOCKSTEP = { true };
+
     const MODULUS: u32 = 2130706433;
 
     const GENERATOR: u32 = 3;
@@ -30,6 +33,8 @@ impl Modulus for KoalaBear {
     const TWO_ADICITY: usize = 24;
 
     const ROOT: u32 = 1791270792;
+
+    const BENEFITS_FROM_LOCKSTEP: bool = true;
 
     ghost prime = { is_prime_modulus };
 

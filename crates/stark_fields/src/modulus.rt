@@ -1,5 +1,5 @@
 //! Prime moduli.
-ghost use Rattle.std.specs.Prelude.{ℕ};
+ghost use Rattle.std.specs.Prelude.{ℕ, Bool};
 ghost use Rattle.stark_fields.specs.Moduli.{IsNonSquare, IsPrimeModulus, IsTwoAdic};
 
 /// A prime above 255 and below 2^31, with a generator, a constant for the extension of degree four
@@ -15,6 +15,8 @@ pub trait Modulus {
     ghost TWO_ADICITY: { ℕ };
 
     ghost ROOT: { ℕ };
+
+    ghost BENEFITS_FROM_LOCKSTEP: { Bool };
 
     /// The prime.
     const MODULUS: u32;
@@ -32,6 +34,10 @@ pub trait Modulus {
     /// An element of order `2 ^ TWO_ADICITY`: `TWO_ADICITY` squarings lead to one, and one squaring
     /// less to the opposite of one.
     const ROOT: u32;
+
+    /// Whether constraints over elements one by one are evaluated at two points side by side, which
+    /// asks once what each node is. It changes no value.
+    const BENEFITS_FROM_LOCKSTEP: bool;
 
     ghost prime: { IsPrimeModulus MODULUS GENERATOR };
 

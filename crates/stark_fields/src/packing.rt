@@ -15,9 +15,9 @@ use stark_support::{ExtensionField, PackedExtensionField, PackedField, packed_li
 impl<M: Modulus> PackedField for Residue<M, Scalar> {
     type Packing = Residue<M, Scalar>;
 
-    ghost BENEFITS_FROM_LOCKSTEP_EVALUATION = { false };
+    ghost BENEFITS_FROM_LOCKSTEP_EVALUATION = { M.BENEFITS_FROM_LOCKSTEP };
 
-    const BENEFITS_FROM_LOCKSTEP_EVALUATION: bool = false;
+    const BENEFITS_FROM_LOCKSTEP_EVALUATION: bool = M::BENEFITS_FROM_LOCKSTEP;
 
     fn packed_sum(
         values: &[Residue<M, Scalar>],

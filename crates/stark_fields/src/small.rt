@@ -1,4 +1,5 @@
 //! The field of 12289 elements.
+ghost use Rattle.std.specs.Prelude.{false};
 ghost use Rattle.stark_fields.specs.Small.{eleven_is_non_square, is_prime_modulus, is_two_adic};
 
 use crate::modulus::Modulus;
@@ -20,6 +21,8 @@ impl Modulus for M12289 {
 
     ghost ROOT = { 1331 };
 
+    ghost BENEFITS_FROM_LOCKSTEP = { false };
+
     const MODULUS: u32 = 12289;
 
     const GENERATOR: u32 = 11;
@@ -29,6 +32,8 @@ impl Modulus for M12289 {
     const TWO_ADICITY: usize = 12;
 
     const ROOT: u32 = 1331;
+
+    const BENEFITS_FROM_LOCKSTEP: bool = false;
 
     ghost prime = { is_prime_modulus };
 

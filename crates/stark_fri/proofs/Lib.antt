@@ -1,5 +1,7 @@
 pub mod AcceptSteps
 pub mod ClaimSteps
+pub mod FoldSteps
+pub mod FourSteps
 pub mod ListSteps
 pub mod ObserveSteps
 pub mod PlaySteps

@@ -5,7 +5,6 @@ use Rattle.std.specs.declared.vec.Vec.{Vec}
 use Rattle.stark_support.specs.Claims.{IfRefused}
 use Rattle.stark_support.specs.declared.scheme.SchemeFault.{SchemeFault}
 use Rattle.stark_support.specs.Coset.{TwoAdicCoset}
-use Rattle.stark_fri_proof.specs.declared.proof.LayerOpening.{LayerOpening}
 use Rattle.stark_fri_proof.specs.declared.proof.Phase.{Phase}
 use Rattle.stark_support.specs.Faults.{FindsFirstFault, IsFirstFault, IsFirstFaultWith}
 use Rattle.stark_fri_proof.specs.Parts.{FriProofView, InputOpening, QueryProof}
@@ -13,7 +12,7 @@ use Rattle.stark_fri_proof.specs.declared.parameters.FriParameters.{FriParameter
 use Rattle.stark_fri.specs.Accept.{HasFolds, HasLength, HasQueryCount, Refused, Accepted}
 use Rattle.stark_fri.specs.Claims.{ClaimsFault, ClaimsFit, RoundRead, height_of, rounds_in, matrices_in}
 use Rattle.stark_fri.specs.Parts.{FriFields, FriOps, SpongeCalls}
-use Rattle.stark_fri.specs.Query.{InputLeads, PairLeads, QueryAt, QueryFails, QueryHolds, Target, extension_coset, next_at, pair_at, pairs_of, phase_root, walked_by, rows_seen}
+use Rattle.stark_fri.specs.Query.{InputLeads, QueryAt, QueryFails, QueryHolds, Target, phase_root, rows_seen}
 use Rattle.stark_folding.specs.Reduce.{Seen}
 use Rattle.stark_fri.specs.Transcript.{FoldsWork, Instance, Passes, QueryWorkPasses, after_phases, alpha_of, betas_of, checks_of, fold_betas, fold_checks, query_places}
 use Rattle.stark_fri.specs.declared.replay.Drawn.{Drawn}
@@ -60,23 +59,6 @@ Replays sponge i bits (Err (Query query fault)) = ⊥
 abbrev pub FindsHeight : {F E : Type 0} → FriFields F E → FriParameters → List (RoundRead E) → Result ℕ FriError → Type 0
 FindsHeight fields s rounds (Ok k) = ClaimsFit fields s rounds × (k ≡ height_of rounds)
 FindsHeight fields s rounds (Err error) = ClaimsFault fields s rounds error
-
--- The pair leads to its root, and this is the folded value; or it doesn't.
-abbrev pub Steps : {F E : Type 0} → FriFields F E → (List ℕ → List ℕ) → TwoAdicCoset E → E → ℕ → E → List ℕ → LayerOpening E → Option E → Type 0
-Steps fields hash c beta place value tree layer None = PairLeads hash (pair_at fields c place value tree layer) → ⊥
-Steps fields hash c beta place value tree layer (Some v) =
-    PairLeads hash (pair_at fields c place value tree layer) × (v ≡ next_at fields c beta place value layer.sibling)
-
--- All pairs lead to their roots and this is the last value; or this fold is the first whose pair doesn't.
-abbrev pub Walks : {F E : Type 0} → FriFields F E → (List ℕ → List ℕ) → TwoAdicCoset E → ℕ → E → List (List ℕ) → List E → List (LayerOpening E) → Result E ℕ → Type 0
-Walks fields hash c i v trees betas layers (Ok w) =
-    AllByRecursion (PairLeads hash) (pairs_of fields c i v trees betas layers) × (w ≡ walked_by fields c i v betas layers)
-Walks fields hash c i v trees betas layers (Err fold) = IsFirstFault (PairLeads hash) (pairs_of fields c i v trees betas layers) fold
-
--- The same from a place of 2 ^ bits extended rows.
-abbrev pub WalksFrom : {F E : Type 0} → FriFields F E → (List ℕ → List ℕ) → ℕ → ℕ → E → List (Phase F) → List E → List (LayerOpening E) → Result E ℕ → Type 0
-WalksFrom fields hash bits place value phases betas layers found =
-    Walks fields hash (extension_coset fields bits) place value (map phase_root phases) betas layers found
 
 -- The first round whose rows don't lead to its root; none where all do.
 abbrev pub FindsInputFault : {F E : Type 0} → FriFields F E → (List ℕ → List ℕ) → ℕ → ℕ → List (RoundRead E) → List (InputOpening F) → Option ℕ → Type 0

@@ -1,8 +1,10 @@
 pub mod Accept
 pub mod Claims
 pub mod Found
+pub mod Fours
 pub mod Parts
 pub mod Query
 pub mod Scheme
 pub mod SchemeFacts
 pub mod Transcript
+pub mod Walks

@@ -6,6 +6,7 @@ mod claims;
 mod error;
 mod fields;
 mod folds;
+mod fours;
 mod laws;
 mod phases;
 mod query;

@@ -7,12 +7,13 @@ ghost use Rattle.stark_merkle.specs.Tree.{LeadsTo, items_of};
 ghost use Rattle.stark_fri_proof.specs.Paths.{digests_of};
 ghost use Rattle.stark_fri.specs.Claims.{AreOff, matrices_in, rounds_in};
 ghost use Rattle.stark_fri.specs.Found.{FindsInputFault, FindsFaultIn};
+ghost use Rattle.stark_fri.specs.Fours.{EndsAt, IsWalkIn};
 ghost use Rattle.stark_fri.specs.Query.{QueryFits, RowFits, extension_coset, last_point};
 
 use crate::claims::points_have_count;
 use crate::error::QueryFault;
 use crate::fields::FoldingFields;
-use crate::folds::{half_size, point_at, walk};
+use crate::folds::{FoldWalk, first_layer_fault, half_size, point_at, walk_folds};
 use crate::replay::Drawn;
 use crate::seen::batched_value;
 use stark_fri_proof::{FriProof, InputOpening, QueryProof};
@@ -44,7 +45,7 @@ fn rows_fit<EF, D: PolynomialSpace>(
 }
 
 /// Whether a query opens rows of each round that fit its matrices, and one pair for each fold.
-fn query_fits<EF, D: PolynomialSpace>(
+pub(crate) fn query_fits<EF, D: PolynomialSpace>(
     claims: &[OpeningClaim<'_, EF, Root, D>],
     folds: usize,
     query: &QueryProof<D::Val, EF>,
@@ -129,6 +130,48 @@ fn last_point<F: TwoAdicField + PrimeField64, EF: ExtensionField<F>>(
     EF::from_base(point_at(shift, log_size, place))
 }
 
+/// A query's way through the folds from the batched value of its rows, whether or not they lead to
+/// the rounds' roots.
+pub(crate) fn query_walk<EF, D>(
+    alloc: Global,
+    claims: &[OpeningClaim<'_, EF, Root, D>],
+    proof: &FriProof<D::Val, EF>,
+    drawn: &Drawn<EF>,
+    bits: usize,
+    place: usize,
+    query: &QueryProof<D::Val, EF>,
+) -> Result<FoldWalk<EF>, AllocError>
+where
+    D: PolynomialSpace<Val: PrimeField64>,
+    EF: ExtensionField<D::Val>,
+    requires layers { length query.now.layers ≡ length drawn.now.betas.items }
+    requires folds { length drawn.now.betas.items ≤ bits }
+    requires within { bits ≤ D.Val.TWO_ADICITY }
+    requires off { AreOff ⟦<EF as FoldingFields<D::Val>>⟧.folding bits (rounds_in D.coset_of
+        claims.now) }
+    ensures { IfOk result (IsWalkIn ⟦<EF as FoldingFields<D::Val>>⟧.folding (rounds_in D.coset_of
+        claims.now) bits drawn.now proof.now place query.now) }
+{
+    let value = batched_value::<EF, D>(alloc, claims, query.inputs(), drawn.alpha, bits, place)?;
+    walk_folds::<D::Val, EF>(alloc, &drawn.betas, query.layers(), bits, place, value)
+}
+
+/// Whether the folds lead to the final polynomial's value.
+pub(crate) fn ends_well<F: TwoAdicField + PrimeField64, EF: ExtensionField<F>>(
+    proof: &FriProof<F, EF>,
+    bits: usize,
+    place: usize,
+    walk: &FoldWalk<EF>,
+) -> bool
+    requires folds { length proof.now.phases ≤ bits }
+    requires within { bits ≤ F.TWO_ADICITY }
+    ensures { IsTrue result ↔ EndsAt ⟦<EF as FoldingFields<F>>⟧.folding proof.now bits place
+        walk.now }
+{
+    let point = last_point::<F, EF>(proof.phases().len(), bits, place);
+    walk.reached == polynomial_value(proof.final_polynomial(), point)
+}
+
 /// The first fault of a query at a place of `2^bits` extended rows: of its shape, then of the
 /// rounds' rows, then of the folds' pairs, then of the value at the end. None where it holds.
 pub(crate) fn query_fault<EF, D, H>(
@@ -160,15 +203,13 @@ where
     if let Some(round) = first_input_fault::<EF, D, H>(alloc, claims, inputs, bits, place)? {
         return Ok(Some(QueryFault::Input { round }));
     }
-    let value = batched_value::<EF, D>(alloc, claims, inputs, drawn.alpha, bits, place)?;
+    let walk = query_walk::<EF, D>(alloc, claims, proof, drawn, bits, place, query)?;
     let layers = query.layers();
-    let walked = walk::<D::Val, EF, H>(alloc, phases, &drawn.betas, layers, bits, place, value)?;
-    let reached = match walked {
-        Ok(reached) => reached,
-        Err(layer) => return Ok(Some(QueryFault::Layer { layer })),
-    };
-    let point = last_point::<D::Val, EF>(phases.len(), bits, place);
-    if reached != polynomial_value(proof.final_polynomial(), point) {
+    let fault = first_layer_fault::<D::Val, EF, H>(alloc, phases, bits, layers, &walk.pairs)?;
+    if let Some(layer) = fault {
+        return Ok(Some(QueryFault::Layer { layer }));
+    }
+    if !ends_well::<D::Val, EF>(proof, bits, place, &walk) {
         return Ok(Some(QueryFault::Final));
     }
     Ok(None)

@@ -7,6 +7,7 @@ ghost use Rattle.stark_fri.specs.Found.{FindsFirstQuery, ShapeFits, AcceptsClaim
 use crate::claims::check_claims;
 use crate::error::{FriError, QueryFault};
 use crate::fields::FoldingFields;
+use crate::fours::held_by_fours;
 use crate::query::query_fault;
 use crate::replay::{Drawn, replay_proof};
 use crate::sponge::FriCalls;
@@ -48,7 +49,8 @@ fn check_shape<F, EF>(
     Ok(())
 }
 
-/// The first query at fault, and its first fault.
+/// The first query at fault, and its first fault. The queries are taken four at a time as long as
+/// these hold, and then one by one.
 fn first_query_fault<EF, D, H>(
     alloc: Global,
     claims: &[OpeningClaim<'_, EF, Root, D>],
@@ -69,7 +71,8 @@ where
         (rounds_in D.coset_of claims.now) bits drawn.now proof.now) }
 {
     let queries = proof.queries();
-    for i in 0..drawn.places.len().min(queries.len()) {
+    let held = held_by_fours::<EF, D, H>(alloc, claims, proof, drawn, bits)?;
+    for i in held..drawn.places.len().min(queries.len()) {
         let place = drawn.places[i];
         let query = &queries[i];
         let found = query_fault::<EF, D, H>(alloc, claims, proof, drawn, bits, place, query)?;

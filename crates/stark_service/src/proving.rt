@@ -12,6 +12,7 @@ ghost use Rattle.stark_service.specs.TraceChecks.{OrLacksMemory};
 
 use crate::checking::check_rows;
 use crate::judging::unfit_rows;
+use crate::progress::{Progress, Stage};
 use crate::reading::read_rows;
 use crate::service::{ServiceAnswers, StarkService};
 use stark_air::BaseAir;
@@ -38,7 +39,7 @@ fn prove_rows<SC>(
     form: ProofForm,
     statement: &Statement<Val<SC>>,
     log_rows: usize,
-    rows: &[Vec<Val<SC>>],
+    rows: Vec<Vec<Val<SC>>>,
 ) -> Report<Finding>
 where
     SC: StarkGenericConfig,
@@ -56,20 +57,22 @@ where
     requires columns { 0 < (⟦<TreeAir<Val<SC>> as BaseAir<Val<SC>>>⟧.layout
         statement.now.air).main }
     ensures { OrLacksMemory (⟦<SC as ServiceAnswers>⟧.proves config.now form
-        (statement_view statement.now) log_rows (Some (rows_of rows.now))) result.answer }
+        (statement_view statement.now) log_rows (Some (rows_of rows.items))) result.answer }
 {
     let greatest = config.pcs().log_max_trace_height();
     let Ok(shape) = CheckShape::from_air::<Val<SC>, TreeAir<Val<SC>>>(alloc, &statement.air) else {
         return Report::out_of_memory().as_finding();
     };
     let public_values = statement.public_values.as_slice();
-    let Some(_log_height) = log_height_of_rows(rows, public_values, shape, log_rows, greatest)
+    let Some(_log_height) = log_height_of_rows(&rows, public_values, shape, log_rows, greatest)
     else {
         return Report::unfit_trace(alloc).as_finding();
     };
-    let Ok(values) = values_of(alloc, rows) else {
+    let Ok(values) = values_of(alloc, &rows) else {
         return Report::out_of_memory().as_finding();
     };
+    // A list a row is more than a row of few columns: it goes before anything is committed.
+    drop(rows);
     let trace = RowMajorMatrix::new(values, shape.width);
     let answer = prove_with_held(
         alloc,
@@ -87,13 +90,14 @@ where
 }
 
 /// What is found of rows, by what is asked for them.
-fn answer_rows<SC>(
+fn answer_rows<SC, P>(
     alloc: Global,
     config: &SC,
     asked: TraceTask,
     statement: &Statement<Val<SC>>,
     log_rows: usize,
-    rows: &[Vec<Val<SC>>],
+    rows: Vec<Vec<Val<SC>>>,
+    progress: &mut P,
 ) -> Report<Finding>
 where
     SC: StarkGenericConfig,
@@ -102,6 +106,7 @@ where
     Val<SC>: PackedField + NeverNull + BytesCodec,
     Com<SC>: NeverNull + BytesCodec,
     PcsProof<SC>: JsonCodec + BytesCodec,
+    P: Progress,
     requires ready { ⟦<SC as ServiceAnswers>⟧.is_ready config.now
         (statement_view statement.now) }
     requires able { ⟦<SC as ServiceAnswers>⟧.can_prove config.now }
@@ -111,23 +116,38 @@ where
     requires columns { 0 < (⟦<TreeAir<Val<SC>> as BaseAir<Val<SC>>>⟧.layout
         statement.now.air).main }
     ensures { OrLacksMemory (⟦<SC as ServiceAnswers>⟧.tells config.now asked
-        (statement_view statement.now) log_rows (Some (rows_of rows.now))) result.answer }
+        (statement_view statement.now) log_rows (Some (rows_of rows.items))) result.answer }
 {
     let greatest = config.pcs().log_max_trace_height();
+    let (height, columns) = (rows.len(), statement.air.width());
+    let checking = Stage::Checking {
+        rows: height,
+        columns,
+    };
+    let proving = Stage::Proving {
+        rows: height,
+        columns,
+    };
     match asked {
         TraceTask::Check => {
-            check_rows::<Val<SC>, SC::Challenge>(alloc, greatest, statement, log_rows, rows)
+            progress.stage(checking);
+            check_rows::<Val<SC>, SC::Challenge>(alloc, greatest, statement, log_rows, &rows)
         }
         TraceTask::ProveUnchecked(form) => {
+            progress.stage(proving);
             prove_rows(alloc, config, form, statement, log_rows, rows)
         }
         TraceTask::Prove(form) => {
             // Before anything is committed: no proof is made of a trace that breaks its AIR.
+            progress.stage(checking);
             let report = check_rows::<Val<SC>, SC::Challenge>(
-                alloc, greatest, statement, log_rows, rows,
+                alloc, greatest, statement, log_rows, &rows,
             );
             match report.answer {
-                Finding::Satisfied => prove_rows(alloc, config, form, statement, log_rows, rows),
+                Finding::Satisfied => {
+                    progress.stage(proving);
+                    prove_rows(alloc, config, form, statement, log_rows, rows)
+                }
                 _ => report,
             }
         }
@@ -135,13 +155,14 @@ where
 }
 
 /// What is found of the rows that the bytes of a file spell.
-fn answer_with_rows<SC>(
+fn answer_with_rows<SC, P>(
     alloc: Global,
     config: &SC,
     asked: TraceTask,
     statement: &Statement<Val<SC>>,
     log_rows: usize,
     bytes: &[u8],
+    progress: &mut P,
 ) -> Report<Finding>
 where
     SC: StarkGenericConfig,
@@ -150,6 +171,7 @@ where
     Val<SC>: PackedField + NeverNull + BytesCodec,
     Com<SC>: NeverNull + BytesCodec,
     PcsProof<SC>: JsonCodec + BytesCodec,
+    P: Progress,
     requires ready { ⟦<SC as ServiceAnswers>⟧.is_ready config.now
         (statement_view statement.now) }
     requires able { ⟦<SC as ServiceAnswers>⟧.can_prove config.now }
@@ -163,7 +185,7 @@ where
         (rows_in ⟦<SC as StarkService>⟧.service.element bytes.now)) result.answer }
 {
     match read_rows::<Val<SC>>(alloc, bytes) {
-        Ok(rows) => answer_rows(alloc, config, asked, statement, log_rows, &rows),
+        Ok(rows) => { answer_rows(alloc, config, asked, statement, log_rows, rows, progress) }
         Err(report) => report.as_finding(),
     }
 }
@@ -171,14 +193,16 @@ where
 /// What is found of a trace for a statement that was read, with a configuration whose challenger
 /// has observed the statement, which asks for the statement's work, masks nothing, sets up all
 /// columns, proves traces of any height and refuses no true opening; by what is asked for the
-/// trace. It is `bad input` where the trace can't be read, the AIR has no main columns, or the
+/// trace; its check and its proof are told before they begin. It is `bad input` where the trace
+/// can't be read, the AIR has no main columns, or the
 /// trace isn't one of its widths and counts; or `out of memory`.
-pub fn answer_with<SC>(
+pub fn answer_with<SC, P>(
     alloc: Global,
     config: &SC,
     asked: TraceTask,
     statement: &Statement<Val<SC>>,
     bytes: &[u8],
+    progress: &mut P,
 ) -> Report<Finding>
 where
     SC: StarkGenericConfig,
@@ -187,6 +211,7 @@ where
     Val<SC>: PackedField + NeverNull + BytesCodec,
     Com<SC>: NeverNull + BytesCodec,
     PcsProof<SC>: JsonCodec + BytesCodec,
+    P: Progress,
     requires ready { ⟦<SC as ServiceAnswers>⟧.is_ready config.now
         (statement_view statement.now) }
     requires able { ⟦<SC as ServiceAnswers>⟧.can_prove config.now }
@@ -202,7 +227,9 @@ where
     }
     let greatest = config.pcs().log_max_trace_height();
     match log_rows_of(alloc, &statement.air, greatest) {
-        Ok(Some(log_rows)) => answer_with_rows(alloc, config, asked, statement, log_rows, bytes),
+        Ok(Some(log_rows)) => {
+            answer_with_rows(alloc, config, asked, statement, log_rows, bytes, progress)
+        }
         Ok(None) => unfit_rows(alloc).as_finding(),
         Err(AllocError) => Report::out_of_memory().as_finding(),
     }

@@ -47,9 +47,9 @@ impl<F: PrimeField64> Statement<F> {
             F.number_of (statement_view self.now) challenger.old) }
         ensures unchanged { OnErr result (challenger.new ≡ challenger.old) }
     {
-        let bytes = self.canonical_bytes(alloc)?;
+        let body = self.labelled_words(alloc)?;
         // A block of SHA-256 for 64 bytes; observed one by one, each byte would take a block.
-        observe_bytes(challenger, &Sha256::digest(&bytes));
+        observe_bytes(challenger, &framed_digest(&body));
         Ok(())
     }
 }

@@ -23,7 +23,7 @@ pub(crate) fn number_bytes(count: usize) -> [u8; 8]
 fn labelled(alloc: Global, words: &[u64]) -> Result<Vec<u8>, AllocError>
     ensures { IfOk result (λ bytes. bytes.items ≡ labelled words.now) }
 {
-    let mut bytes = Vec::new(alloc);
+    let mut bytes = Vec::with_capacity(alloc, words.len().saturating_mul(8).saturating_add(32))?;
     bytes.extend_from_slice("voskligan statement 2".as_bytes())?;
     for word in words {
         bytes.extend_from_slice(&word.to_be_bytes())?;
@@ -36,7 +36,7 @@ fn labelled(alloc: Global, words: &[u64]) -> Result<Vec<u8>, AllocError>
 fn framed(alloc: Global, bytes: &[u8]) -> Result<Vec<u8>, AllocError>
     ensures { IfOk result (λ whole. whole.items ≡ framed bytes.now) }
 {
-    let mut whole = Vec::new(alloc);
+    let mut whole = Vec::with_capacity(alloc, bytes.len().saturating_add(8))?;
     whole.extend_from_slice(&number_bytes(bytes.len()))?;
     whole.extend_from_slice(bytes)?;
     Ok(whole)
@@ -65,10 +65,21 @@ impl<F: PrimeField64> Statement<F> {
         ensures of_this_statement { IfOk result (λ bytes.
             TellsStatement F.number_of (statement_view self.now) bytes.items) }
     {
+        let body = self.labelled_words(alloc)?;
+        let bytes = framed(alloc, &body)?;
+        Ok(bytes)
+    }
+
+    /// The canonical bytes but for their number: the label and the words.
+    pub(crate) fn labelled_words(&self, alloc: Global) -> Result<Vec<u8>, AllocError>
+        ensures bytes { IfOk result (λ body. framed body.items
+            ≡ statement_bytes F.number_of (statement_view self.now)) }
+        ensures of_this_statement { IfOk result (λ body.
+            TellsStatement F.number_of (statement_view self.now) (framed body.items)) }
+    {
         let words = statement_words(alloc, self)?;
         known_words(&words);
         let body = labelled(alloc, &words)?;
-        let bytes = framed(alloc, &body)?;
-        Ok(bytes)
+        Ok(body)
     }
 }

@@ -149,7 +149,7 @@ pub(crate) fn node_values<AB: AirBuilder>(
         main: None,
         preprocessed: None,
     };
-    let mut values = Vec::new(alloc);
+    let mut values = Vec::with_capacity(alloc, nodes.len())?;
     for (place, node) in nodes.iter().enumerate() {
         if needed[place] {
             windows = with_read::<AB>(*node, windows, builder)?;

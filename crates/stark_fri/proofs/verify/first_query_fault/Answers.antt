@@ -3,9 +3,21 @@ use Rattle.std.specs.List.{zip}
 use Rattle.stark_fri.specs.Claims.{round_seen}
 use Rattle.stark_fri.specs.Found.{FindsQueryFault, target_by}
 use Rattle.stark_fri.specs.Query.{QueryFails, QueryHolds}
+use Rattle.stark_fri.proofs.FourSteps.{first_hold, first_passed}
 use Rattle.stark_fri.proofs.ListSteps.{holds_end, holds_step, passed_with_step, passed_with_stop, zip_ended, zip_place, zip_within}
 use Rattle.stark_fri.proofs.verify.first_query_fault.Invariants.{fields_of}
 use Rattle.stark_fri.proofs.verify.first_query_fault.Goals as goal
+
+pub loop-i-init : goal.loop-i-init
+loop-i-init g c =
+    let fields = fields_of g in
+    let hash = g.H.TreeHash.digest_of in
+    let target = target_by (map (round_seen g.D.PolynomialSpace.coset_of) c.args.claims.now) c.args.bits c.args.drawn.now c.args.proof.now in
+    let queries = zip c.args.drawn.now.places.items c.args.proof.now.queries in
+    let held = c.in_ok-held.ensures in record {
+      holds = first_hold (QueryHolds fields hash target) queries c.in_ok-held.held held.1;
+      passed = λ fault. first_passed (QueryHolds fields hash target) (QueryFails fields hash target fault) queries c.in_ok-held.held held.0 held.1;
+    }
 
 pub returns-in-Some : goal.returns-in-Some
 returns-in-Some g c =

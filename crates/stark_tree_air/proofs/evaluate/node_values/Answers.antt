@@ -8,7 +8,7 @@ use Rattle.stark_tree_air.proofs.evaluate.node_values.Goals.{then-needed-place+i
 use Rattle.stark_tree_air.proofs.evaluate.node_values.Goals as goal
 
 pub loop-place-init : goal.loop-place-init
-loop-place-init g c = (nodes_start _ _ _ _ _ _ _ _ c.new-values.ensures.items c.requires.fit c.requires.operands, (tt, tt))
+loop-place-init g c = (nodes_start _ _ _ _ _ _ _ _ c.in_ok-values.ensures.items c.requires.fit c.requires.operands, (tt, tt))
 
 pub loop-place-preserved : goal.loop-place-preserved
 loop-place-preserved g c =

@@ -1,14 +1,8 @@
-use Rattle.std.proofs.Common.{◌≡◌, ◌∙◌, ap, subst}
-use Rattle.stark_statement.specs.StatementBytes.{statement_bytes}
+use Rattle.std.proofs.Common.{◌∙◌, ap, subst, sym}
+use Rattle.stark_statement.specs.StatementBytes.{TellsStatement}
 use Rattle.stark_statement.specs.StatementView.{statement_view}
-use Rattle.stark_statement.specs.Words.{AreWords, framed, labelled}
-use Rattle.stark_statement.proofs.StatementCodes.{no_other_statement}
+use Rattle.stark_statement.specs.Words.{framed}
 use Rattle.stark_statement.proofs.statement.Statement.canonical_bytes.Goals as goal
 
 pub returns-clause-of_this_statement : goal.returns-clause-of_this_statement
-returns-clause-of_this_statement g c =
-    let field = g.F.PrimeField64 in
-    let bounded = subst AreWords (c.deref.ensures.value ∙ c.in_ok-words.ensures) c.known_words.ensures in
-    let body = c.deref-3.ensures.value ∙ c.in_ok-body.ensures ∙ ap labelled (c.deref-2.ensures.value ∙ c.in_ok-words.ensures) in
-    let written : c.in_ok-bytes.bytes.items ≡ statement_bytes field.number_of (statement_view c.args.self.now) = c.in_ok-bytes.ensures ∙ ap framed body in
-    no_other_statement field.number_of field.of_number g.met.F.PrimeField64.same_number (statement_view c.args.self.now) c.in_ok-bytes.bytes.items bounded written
+returns-clause-of_this_statement g c = subst (TellsStatement g.F.PrimeField64.number_of (statement_view c.args.self.now)) (sym (c.in_ok-bytes.ensures ∙ ap framed c.deref.ensures.value)) c.in_ok-body.ensures.of_this_statement

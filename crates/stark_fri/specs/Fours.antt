@@ -1,0 +1,110 @@
+-- Queries taken four at a time: what the tests of four find.
+use Rattle.std.specs.Prelude.{◌≡◌, ℕ, ◌<◌, ◌≤◌, Bool, IsTrue, List, length, map, slice_index_or, take}
+use Rattle.std.specs.List.{AllByRecursion, zip}
+use Rattle.std.specs.Borrow.{Bor}
+use Rattle.std.specs.declared.vec.Vec.{Vec}
+use Rattle.stark_support.specs.Coset.{TwoAdicCoset}
+use Rattle.stark_support.specs.Polynomial.{value}
+use Rattle.stark_merkle.specs.Tree.{LeadsTo}
+use Rattle.stark_merkle.specs.declared.root.Root.{Root}
+use Rattle.stark_fri_proof.specs.Parts.{FriProofView, InputOpening, QueryProof}
+use Rattle.stark_fri_proof.specs.Paths.{digests_of}
+use Rattle.stark_fri_proof.specs.declared.proof.LayerOpening.{LayerOpening}
+use Rattle.stark_fri_proof.specs.declared.proof.Phase.{Phase}
+use Rattle.stark_fri.specs.Claims.{RoundRead, rounds_in}
+use Rattle.stark_fri.specs.Found.{target_by}
+use Rattle.stark_fri.specs.Parts.{FriFields}
+use Rattle.stark_fri.specs.Query.{InputLeads, PairLeads, QueryFits, QueryHolds, Target, batched_at, extension_coset, last_point, phase_root}
+use Rattle.stark_fri.specs.Walks.{IsWalk, opening_of, openings_of}
+use Rattle.stark_fri.specs.declared.folds.FoldWalk.{FoldWalk}
+use Rattle.stark_fri.specs.declared.folds.Pair.{Pair}
+use Rattle.stark_fri.specs.declared.replay.Drawn.{Drawn}
+
+-- What holds of each of four elements, and of those at the same place of two lists.
+module _ {A : Type 0} (P : A → Type 0) (xs : List A) where
+  abbrev pub InFour : Type 0
+  InFour = (j : ℕ) (x : A) → j < 4 → x ≡ slice_index_or xs j x → P x
+
+module _ {A B : Type 0} (P : A → B → Type 0) (xs : List A) (ys : List B) where
+  abbrev pub InBothFour : Type 0
+  InBothFour = (j : ℕ) (x : A) (y : B) → j < 4 → x ≡ slice_index_or xs j x → y ≡ slice_index_or ys j y → P x y
+
+-- Each opens so many rounds.
+abbrev pub OpenRounds : {F E : Type 0} → ℕ → List (QueryProof F E) → Type 0
+OpenRounds count queries = InFour (λ query. length query.inputs ≡ count) queries
+
+-- Each opens so many layers.
+abbrev pub OpenLayers : {F E : Type 0} → ℕ → List (QueryProof F E) → Type 0
+OpenLayers count queries = InFour (λ query. length query.layers ≡ count) queries
+
+abbrev pub HavePairs : {E : Type 0} → ℕ → List (FoldWalk E) → Type 0
+HavePairs count walks = InFour (λ walk. length walk.pairs.items ≡ count) walks
+
+abbrev pub FourFit : {F E : Type 0} → List (RoundRead E) → ℕ → List (QueryProof F E) → Type 0
+FourFit rounds folds queries = InFour (QueryFits rounds folds) queries
+
+module _ {F E : Type 0} (fields : FriFields F E) (hash : List ℕ → List ℕ) where
+  -- What each opens of a round leads to its root.
+  abbrev pub RowsLead : List ℕ → ℕ → ℕ → List ℕ → List (QueryProof F E) → Type 0
+  RowsLead root bits round places queries =
+      InBothFour (λ place query. (input : InputOpening F) → input ≡ slice_index_or query.inputs round input
+      → LeadsTo hash root bits place (fields.row_bytes input.rows) (digests_of input.path)) places queries
+
+  -- What each opens of all rounds.
+  abbrev pub FourInputsLead : ℕ → List (RoundRead E) → List ℕ → List (QueryProof F E) → Type 0
+  FourInputsLead bits rounds places queries = InBothFour (λ place query. AllByRecursion (InputLeads fields hash bits place) (zip rounds query.inputs)) places queries
+
+  -- Each one's pair of a layer leads to its root.
+  abbrev pub PairsLead : List ℕ → ℕ → ℕ → List (QueryProof F E) → List (FoldWalk E) → Type 0
+  PairsLead root depth i queries walks =
+      InBothFour (λ query walk. (layer : LayerOpening E) (pair : Pair E) → layer ≡ slice_index_or query.layers i layer → pair ≡ slice_index_or walk.pairs.items i pair
+      → PairLeads hash (opening_of fields depth root layer pair)) queries walks
+
+  -- Each one's pairs of all layers.
+  abbrev pub FourLayersLead : ℕ → List (Phase F) → List (QueryProof F E) → List (FoldWalk E) → Type 0
+  FourLayersLead bits phases queries walks =
+      InBothFour (λ query walk. AllByRecursion (PairLeads hash) (openings_of fields bits (map phase_root phases) query.layers walk.pairs.items)) queries walks
+
+module _ {F E : Type 0} (fields : FriFields F E) (target : Target E) where
+  -- A query's rows, batched and folded.
+  abbrev pub IsQueryWalk : ℕ → QueryProof F E → FoldWalk E → Type 0
+  IsQueryWalk place query walk =
+      IsWalk fields target.bits place (batched_at fields target.alpha target.bits target.rounds place query.inputs) target.betas query.layers walk
+
+  abbrev pub AreWalks : List ℕ → List (QueryProof F E) → List (FoldWalk E) → Type 0
+  AreWalks places queries walks = (length walks ≡ 4) × ((walk : FoldWalk E) (j : ℕ) → j < 4 → walk ≡ slice_index_or walks j walk
+      → (place : ℕ) (query : QueryProof F E) → place ≡ slice_index_or places j place → query ≡ slice_index_or queries j query → IsQueryWalk place query walk)
+
+-- Of what was drawn in memory: a query's walk, and the last value.
+abbrev pub IsWalkIn : {F E : Type 0} → FriFields F E → List (RoundRead E) → ℕ → Drawn E → FriProofView F E → ℕ → QueryProof F E → FoldWalk E → Type 0
+IsWalkIn fields rounds bits drawn proof place query walk = IsQueryWalk fields (target_by rounds bits drawn proof) place query walk
+
+-- The folds lead to the final polynomial's value.
+abbrev pub EndsAt : {F E : Type 0} → FriFields F E → FriProofView F E → ℕ → ℕ → FoldWalk E → Type 0
+EndsAt fields proof bits place walk = walk.reached ≡ value fields.ring proof.final_polynomial (last_point fields (length proof.phases) (extension_coset fields bits) place)
+
+abbrev pub FourEnd : {F E : Type 0} → FriFields F E → FriProofView F E → ℕ → List ℕ → List (FoldWalk E) → Type 0
+FourEnd fields proof bits places walks = InBothFour (EndsAt fields proof bits) places walks
+
+-- So many of the first queries hold, and there are as many.
+abbrev pub FirstHold : {F E : Type 0} → FriFields F E → List (RoundRead E) → ℕ → Drawn E → FriProofView F E → (List ℕ → List ℕ) → ℕ → Type 0
+FirstHold fields rounds bits drawn proof hash n = (n ≤ length (zip drawn.places.items proof.queries))
+    × AllByRecursion (QueryHolds fields hash (target_by rounds bits drawn proof)) (take n (zip drawn.places.items proof.queries))
+
+-- ---- of claims as they stand in memory
+
+module _ {F E D A B : Type 0} (fields : FriFields F E) where
+  -- Where it is true, all that the four open of the rounds leads to the roots.
+  abbrev pub FourLeadIf : (List ℕ → List ℕ) → (D → TwoAdicCoset F) → List (Bor Root × Vec (D × Vec (E × Bor (List E)) A) B) → ℕ → List ℕ → List (QueryProof F E) → Bool → Type 0
+  FourLeadIf hash coset_of claims bits places queries lead = IsTrue lead → FourInputsLead fields hash bits (rounds_in coset_of claims) places queries
+
+  -- Where it is true, the four hold.
+  abbrev pub FourHoldIf : (List ℕ → List ℕ) → (D → TwoAdicCoset F) → List (Bor Root × Vec (D × Vec (E × Bor (List E)) A) B) → ℕ → Drawn E → FriProofView F E
+      → List ℕ → List (QueryProof F E) → Bool → Type 0
+  FourHoldIf hash coset_of claims bits drawn proof places queries hold =
+      IsTrue hold → AllByRecursion (QueryHolds fields hash (target_by (rounds_in coset_of claims) bits drawn proof)) (zip places queries)
+
+-- The ways of the four through the folds.
+abbrev pub FindsFourWalks : {F E D A B C : Type 0} → FriFields F E → (D → TwoAdicCoset F) → List (Bor Root × Vec (D × Vec (E × Bor (List E)) A) B) → ℕ → Drawn E → FriProofView F E
+    → List ℕ → List (QueryProof F E) → Vec (FoldWalk E) C → Type 0
+FindsFourWalks fields coset_of claims bits drawn proof places queries walks = AreWalks fields (target_by (rounds_in coset_of claims) bits drawn proof) places queries walks.items

@@ -24,8 +24,13 @@ use crate::reading::read_statement;
 use crate::schemes::{FieldAnswers, answer_by, verify_by};
 use serde_json::Value;
 use stark_answers::{Finding, Report, TraceTask, Verdict};
+use stark_bench::ClearCommitment;
+use stark_merkle::Root;
 use stark_statement::SchemeChoice;
-use stark_support::{PackedExtensionField, PackedField};
+use stark_support::{
+    CanObserve, ExtensionChallenger, FieldChallenger, GrindingChallenger, PackedExtensionField,
+    PackedField,
+};
 use std::alloc::Global;
 
 /// What is said of a JSON value as a statement over a field. It has no code.
@@ -78,7 +83,12 @@ pub(crate) fn verify_over<F, EF, C>(
 where
     F: StatementField,
     EF: StatementExtension<F>,
-    C: StatementChallenger<F, EF>,
+    C: FieldChallenger<F>
+        + CanObserve<Root>
+        + CanObserve<ClearCommitment<F>>
+        + ExtensionChallenger<F, EF>
+        + GrindingChallenger<Witness = F>
+        + Clone,
     requires { HasRoomFor F.TWO_ADICITY scheme }
     ensures verdict { OrUnjudged (⟦<F as ValueAnswers<EF, C>>⟧.verdict challenger
         (scheme_numbers scheme) (view value) proof.now) result.answer }
@@ -107,7 +117,12 @@ pub(crate) fn answer_over<F, EF, C, P>(
 where
     F: StatementField + PackedField,
     EF: StatementExtension<F> + PackedExtensionField<F>,
-    C: StatementChallenger<F, EF>,
+    C: FieldChallenger<F>
+        + CanObserve<Root>
+        + CanObserve<ClearCommitment<F>>
+        + ExtensionChallenger<F, EF>
+        + GrindingChallenger<Witness = F>
+        + Clone,
     P: Progress,
     requires room { HasRoomFor F.TWO_ADICITY scheme }
     requires base { WritesNoFloat F.writing }

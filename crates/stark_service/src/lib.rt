@@ -6,6 +6,7 @@ mod bounds;
 mod checking;
 mod counted;
 mod field;
+mod fitting;
 mod judging;
 mod over;
 mod progress;

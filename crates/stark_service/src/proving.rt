@@ -4,21 +4,22 @@
 ghost use Rattle.std.specs.Prelude.{◌≡◌, ◌<◌, ◌≤◌, Some};
 ghost use Rattle.stark_protocol.specs.Preprocessing.{HasHeight};
 ghost use Rattle.stark_statement.specs.StatementView.{statement_view};
-ghost use Rattle.stark_answers.specs.TraceShape.{rows_of};
 ghost use Rattle.stark_answers.specs.Finding.{WhereProof};
+ghost use Rattle.stark_service.specs.Fitting.{AreSomeRows, IsOfRows, TellsOfRows, TellsOfTrace};
 ghost use Rattle.stark_service.specs.StatementFacts.{IsOfTrace};
 ghost use Rattle.stark_service.specs.Statements.{rows_in};
 ghost use Rattle.stark_service.specs.TraceChecks.{OrLacksMemory};
 
 use crate::checking::check_rows;
+use crate::fitting::fitting_trace;
 use crate::judging::unfit_rows;
 use crate::progress::{Progress, Stage};
 use crate::reading::read_rows;
 use crate::service::{ServiceAnswers, StarkService};
 use stark_air::BaseAir;
 use stark_answers::{
-    CheckShape, Finding, ProofForm, Report, TraceTask, finding_of_proof, log_height_of_rows,
-    log_rows_of, prove_with_held, values_of, words_of_failure,
+    Finding, ProofForm, Report, TraceTask, finding_of_proof, log_rows_of, prove_with_held,
+    words_of_failure,
 };
 use stark_parts::{Com, StarkGenericConfig, Val};
 use stark_proof_bytes::BytesCodec;
@@ -28,18 +29,20 @@ use stark_support::{
     GrindingChallenger, JsonCodec, NeverNull, PackedExtensionField, PackedField, RowMajorMatrix,
     TwoAdicField, UnivariateStarkPcs,
 };
+use stark_trace_json::TraceRows;
 use stark_tree_air::TreeAir;
 use std::alloc::{AllocError, Global};
 
-/// What a prover finds of rows, with preprocessed columns of `2^log_rows` rows: their proof in a
-/// form, or why there is none.
+/// What a prover finds of the trace that rows are, with preprocessed columns of `2^log_rows` rows:
+/// its proof in a form, or why there is none.
 fn prove_rows<SC>(
     alloc: Global,
     config: &SC,
     form: ProofForm,
+    greatest: usize,
     statement: &Statement<Val<SC>>,
     log_rows: usize,
-    rows: Vec<Vec<Val<SC>>>,
+    trace: RowMajorMatrix<Val<SC>>,
 ) -> Report<Finding>
 where
     SC: StarkGenericConfig,
@@ -56,24 +59,13 @@ where
     requires within { log_rows ≤ SC.Pcs.scheme.log_max_trace_height (SC.config.scheme config.now) }
     requires columns { 0 < (⟦<TreeAir<Val<SC>> as BaseAir<Val<SC>>>⟧.layout
         statement.now.air).main }
-    ensures { OrLacksMemory (⟦<SC as ServiceAnswers>⟧.proves config.now form
-        (statement_view statement.now) log_rows (Some (rows_of rows.items))) result.answer }
+    requires greatest { greatest
+        ≡ SC.Pcs.scheme.log_max_trace_height (SC.config.scheme config.now) }
+    requires fits { IsOfRows greatest log_rows (statement_view statement.now) trace }
+    ensures { let s = statement_view statement.now in TellsOfTrace greatest log_rows s trace
+        (⟦<SC as ServiceAnswers>⟧.proves config.now form s log_rows) result.answer }
 {
-    let greatest = config.pcs().log_max_trace_height();
-    let Ok(shape) = CheckShape::from_air::<Val<SC>, TreeAir<Val<SC>>>(alloc, &statement.air) else {
-        return Report::out_of_memory().as_finding();
-    };
     let public_values = statement.public_values.as_slice();
-    let Some(_log_height) = log_height_of_rows(&rows, public_values, shape, log_rows, greatest)
-    else {
-        return Report::unfit_trace(alloc).as_finding();
-    };
-    let Ok(values) = values_of(alloc, &rows) else {
-        return Report::out_of_memory().as_finding();
-    };
-    // A list a row is more than a row of few columns: it goes before anything is committed.
-    drop(rows);
-    let trace = RowMajorMatrix::new(values, shape.width);
     let answer = prove_with_held(
         alloc,
         config,
@@ -96,7 +88,7 @@ fn answer_rows<SC, P>(
     asked: TraceTask,
     statement: &Statement<Val<SC>>,
     log_rows: usize,
-    rows: Vec<Vec<Val<SC>>>,
+    rows: TraceRows<Val<SC>>,
     progress: &mut P,
 ) -> Report<Finding>
 where
@@ -115,11 +107,16 @@ where
     requires within { log_rows ≤ SC.Pcs.scheme.log_max_trace_height (SC.config.scheme config.now) }
     requires columns { 0 < (⟦<TreeAir<Val<SC>> as BaseAir<Val<SC>>>⟧.layout
         statement.now.air).main }
-    ensures { OrLacksMemory (⟦<SC as ServiceAnswers>⟧.tells config.now asked
-        (statement_view statement.now) log_rows (Some (rows_of rows.items))) result.answer }
+    requires read { AreSomeRows rows }
+    ensures { TellsOfRows rows (⟦<SC as ServiceAnswers>⟧.tells config.now asked
+        (statement_view statement.now) log_rows) result.answer }
 {
     let greatest = config.pcs().log_max_trace_height();
-    let (height, columns) = (rows.len(), statement.air.width());
+    let (height, columns) = (rows.height, statement.air.width());
+    let trace = match fitting_trace(alloc, greatest, statement, log_rows, rows) {
+        Ok(trace) => trace,
+        Err(report) => return report,
+    };
     let checking = Stage::Checking {
         rows: height,
         columns,
@@ -131,22 +128,22 @@ where
     match asked {
         TraceTask::Check => {
             progress.stage(checking);
-            check_rows::<Val<SC>, SC::Challenge>(alloc, greatest, statement, log_rows, &rows)
+            check_rows::<Val<SC>, SC::Challenge>(alloc, greatest, statement, log_rows, &trace)
         }
         TraceTask::ProveUnchecked(form) => {
             progress.stage(proving);
-            prove_rows(alloc, config, form, statement, log_rows, rows)
+            prove_rows(alloc, config, form, greatest, statement, log_rows, trace)
         }
         TraceTask::Prove(form) => {
             // Before anything is committed: no proof is made of a trace that breaks its AIR.
             progress.stage(checking);
             let report = check_rows::<Val<SC>, SC::Challenge>(
-                alloc, greatest, statement, log_rows, &rows,
+                alloc, greatest, statement, log_rows, &trace,
             );
             match report.answer {
                 Finding::Satisfied => {
                     progress.stage(proving);
-                    prove_rows(alloc, config, form, statement, log_rows, rows)
+                    prove_rows(alloc, config, form, greatest, statement, log_rows, trace)
                 }
                 _ => report,
             }

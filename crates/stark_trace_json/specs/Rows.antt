@@ -29,9 +29,13 @@ pub record AreRows {F : Type 0} (listed : List F) (count length_of_each : ℕ) (
   pub width : length_of_each ≡ width_of rows
   pub even : are_even rows ≡ true
 
+-- What was read are these rows.
+abbrev pub HasRows : {F : Type 0} → TraceRows F → List (List F) → Type 0
+HasRows found rows = AreRows found.values.items found.height found.width rows
+
 -- The text spells rows of one length, and these are they.
 abbrev pub AreRowsIn : {F : Type 0} → TraceRows F → Option (List (List F)) → Type 0
-AreRowsIn {F} found reading = (rows : List (List F)) × (reading ≡ Some rows) × AreRows found.values.items found.height found.width rows
+AreRowsIn {F} found reading = (rows : List (List F)) × (reading ≡ Some rows) × HasRows found rows
 
 -- What was read is what reading gives: rows of one length, rows of different lengths, or none; unless memory ran out.
 abbrev pub GivesRows : {F : Type 0} → Result (TraceRows F) RowsFault → Option (List (List F)) → Type 0

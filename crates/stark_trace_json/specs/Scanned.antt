@@ -5,7 +5,7 @@ use Rattle.json.specs.Lex as spec
 use Rattle.json.specs.Lex.{between, lex, fresh, after_value, after_comma, punctuate}
 use Rattle.serde_json.specs.Data.{Data, unsigned}
 use Rattle.serde_json.specs.Data as json_data
-use Rattle.stark_trace_json.specs.Rows.{AreRows}
+use Rattle.stark_trace_json.specs.Rows.{HasRows}
 use Rattle.stark_trace_json.specs.declared.rows.TraceRows.{TraceRows}
 use Rattle.stark_trace_json.specs.declared.scanner.Place.{Place}
 use Rattle.stark_trace_json.specs.declared.scanner.Place.TheVariants.{Fresh, AfterValue, AfterComma}
@@ -54,4 +54,4 @@ module _ {F : Type 0} (reading : Data → Option F) where
 
   -- the table of these rows
   unfoldable pub HasTable : TraceRows F → List Token → Type 0
-  HasTable found ts = (rows : List (List F)) × AreRows found.values.items found.height found.width rows × IsTable rows ts
+  HasTable found ts = (rows : List (List F)) × HasRows found rows × IsTable rows ts

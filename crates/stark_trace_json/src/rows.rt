@@ -99,8 +99,8 @@ fn rows_of_tree<F: JsonCodec + Copy>(alloc: Global, bytes: &[u8]) -> Result<Trac
 
 /// The rows of a trace that the bytes of a JSON text spell, an array of arrays of elements:
 /// `Invalid` where they spell none, `Uneven` where the rows are of different lengths, and
-/// `OutOfMemory` where memory was refused. Rows of one length, of whole numbers below 2^63, are read
-/// in one pass into their values, and any other text into the tree of its values first.
+/// `OutOfMemory` where memory was refused. Rows of one length, of whole numbers below 2^63, are
+/// read in one pass into their values, and any other text into the tree of its values first.
 pub fn rows_from_bytes<F: JsonCodec + Copy>(
     alloc: Global,
     bytes: &[u8],

@@ -313,11 +313,11 @@ show | <small> | <lines of small>
 
 // What is told of the stages of runs, a line each.
 pub(crate) const STAGES: &str = r#"
-prove | <two rows> | reading the statement\0areading the trace\0aproving: statement of 330 bytes, trace of 9 bytes\0awriting the proof: 403 bytes
-prove --unchecked | <two rows> | reading the statement\0areading the trace\0aproving: statement of 330 bytes, trace of 9 bytes\0awriting the proof: 403 bytes
-prove | <two rows> | [[5],[6]] => [[6],[7]] | reading the statement\0areading the trace\0aproving: statement of 330 bytes, trace of 9 bytes
-prove | {} | reading the statement\0areading the trace\0aproving: statement of 2 bytes, trace of 0 bytes
-check | <two rows> | reading the statement\0areading the trace\0achecking: statement of 330 bytes, trace of 9 bytes
+prove | <two rows> | reading the statement\0areading the trace\0aparsing: statement of 330 bytes, trace of 9 bytes\0achecking: rows 2, columns 1\0aproving: rows 2, columns 1\0awriting the proof: 403 bytes
+prove --unchecked | <two rows> | reading the statement\0areading the trace\0aparsing: statement of 330 bytes, trace of 9 bytes\0aproving: rows 2, columns 1\0awriting the proof: 403 bytes
+prove | <two rows> | [[5],[6]] => [[6],[7]] | reading the statement\0areading the trace\0aparsing: statement of 330 bytes, trace of 9 bytes\0achecking: rows 2, columns 1
+prove | {} | reading the statement\0areading the trace\0aparsing: statement of 2 bytes, trace of 0 bytes
+check | <two rows> | reading the statement\0areading the trace\0aparsing: statement of 330 bytes, trace of 9 bytes\0achecking: rows 2, columns 1
 verify | <proved> | reading the statement\0areading the proof\0averifying: statement of 330 bytes, proof of 402 bytes
 show | <small> | reading the statement\0ashowing: statement of 152 bytes
 "#;

@@ -19,7 +19,7 @@ pub use files::InputFile;
 pub use host::{exit_code, words_of};
 pub use outcome::tell;
 pub use output::{OutputFault, PartialFile};
-pub use progress::{Progress, Silent, Stage, StageLines};
+pub use progress::StageLines;
 pub use sources::{WatchedReader, WatchedWriter};
 pub use streams::{
     InputFault, ReadFailed, RunWith, RunWithBoth, Sink, Source, WriteFailed, read_to_end, write_all,

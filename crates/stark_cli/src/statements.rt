@@ -13,10 +13,10 @@ ghost use Rattle.stark_answers.specs.declared.verdict.RunEnd.{RunEnd};
 ghost use Rattle.stark_answers.specs.declared.verdict.Verdict.{Verdict};
 
 use crate::outcome::{tell, tell_apart, unread_input};
-use crate::progress::{Progress, Stage, tell_proof, tell_second};
+use crate::progress::{stage_of_inputs, tell_proof, tell_second};
 use crate::streams::{InputFault, RunWithBoth, Sink, Source, read_to_end};
 use stark_answers::{Finding, Report, RunEnd, TraceTask, Verdict};
-use stark_service::StatementAnswers;
+use stark_service::{Progress, Stage, StatementAnswers};
 use std::alloc::Global;
 
 /// What is asked for a statement.
@@ -170,11 +170,12 @@ impl<A: StatementAnswers> DeliveryFindings for A {
 
 /// What is found of the bytes of both.
 #[tactic(auto, unfolding(crate::specs::StatementRun::IsFinding))]
-fn answer<A: StatementAnswers>(
+fn answer<A: StatementAnswers, P: Progress>(
     alloc: Global,
     verb: Verb,
     statement: Vec<u8>,
     second: Vec<u8>,
+    progress: &mut P,
 ) -> Report<Finding>
     ensures { IsFoundOrLacksMemory no_memory
         (⟦<A as StatementFindings>⟧.finding verb)
@@ -182,7 +183,7 @@ fn answer<A: StatementAnswers>(
 {
     match verb {
         Verb::Verify => A::verify(alloc, &statement, &second).as_finding(),
-        Verb::Trace(asked) => A::answer(alloc, asked, &statement, &second),
+        Verb::Trace(asked) => A::answer(alloc, asked, &statement, &second, progress),
         Verb::Show => A::show(alloc, statement),
     }
 }
@@ -229,8 +230,8 @@ fn find<A: StatementAnswers, S: Source, R: Source, P: Progress>(
         Ok(bytes) => bytes,
         Err(fault) => return unread(fault),
     };
-    progress.stage(Stage::of_answer(verb, first.len(), other.len()));
-    Ok(answer::<A>(alloc, verb, first, other))
+    progress.stage(stage_of_inputs(verb, first.len(), other.len()));
+    Ok(answer::<A, P>(alloc, verb, first, other, progress))
 }
 
 /// A run, by its exact clauses alone.

@@ -7,5 +7,6 @@ pub mod SecuritySteps
 pub mod ShowSteps
 pub mod StatementSteps
 pub mod StatementsSound
+mod FittingRows
 pub mod TraceTasks
 pub mod UnreadFindings

@@ -4,12 +4,8 @@ use Rattle.serde_json.specs.Data.{Data}
 use Rattle.serde_json.specs.Written.{has_float}
 use Rattle.stark_support.specs.JsonFacts.{list_written}
 use Rattle.stark_bench.specs.CommitmentJson.{commitment_written}
-use Rattle.stark_clear.specs.ClearJson.{proof_written as clear_written}
 use Rattle.stark_merkle.specs.RootJson.{root_written}
 use Rattle.stark_merkle.specs.declared.root.Root.{Root}
-use Rattle.stark_fri_proof.specs.Parts.{FriProofView, InputOpening, QueryProof}
-use Rattle.stark_fri_proof.specs.declared.proof.LayerOpening.{LayerOpening}
-use Rattle.stark_fri_proof.specs.declared.proof.Phase.{Phase}
 use Rattle.stark_fri_proof.specs.PathJson.{path_written}
 use Rattle.stark_fri_proof.specs.ProofJson.{input_written, layer_written, phase_written, proof_written, query_written}
 use Rattle.stark_answers.proofs.NoFloats.{no_float_in_list}

@@ -1,5 +1,5 @@
 -- From an AIR's sizes to what is said of its proofs by FRI.
-use Rattle.std.proofs.Common.{◌≡◌, ◌∙◌, ℕ, ◌+◌, ◌-◌, ◌*◌, ◌^◌, ◌<◌, ◌≤◌, ◌||◌, max, Bool, true, false, Result, Ok, Err, IfOk, unwrap_or, refl, ap, arith, subst, sym}
+use Rattle.std.proofs.Common.{◌≡◌, ◌∙◌, ℕ, ◌+◌, ◌*◌, ◌^◌, ◌<◌, ◌≤◌, ◌||◌, max, Bool, true, false, Result, Ok, Err, IfOk, unwrap_or, ap, arith, subst, sym}
 use Rattle.std.proofs.Math.Nat.{le-mul_of_pos_right, mul-le-mul_left}
 use Rattle.std.specs.List.{filter_map}
 use Rattle.std.specs.Prelude.{◌↔◌, IsTrue, List, length}

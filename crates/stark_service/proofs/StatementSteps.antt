@@ -50,7 +50,7 @@ use Rattle.stark_answers.proofs.Proved.{is_proved, written_exactly}
 use Rattle.stark_answers.proofs.VerdictSteps.{is_verdict}
 use Rattle.stark_service.specs.StatementAir.{declared_of}
 use Rattle.stark_service.specs.Service.{ServiceOps, proof_file}
-use Rattle.stark_service.specs.Statements.{IsFoundWithRows, IsSaidOfNone, IsVerdictWithRows, PassesLimit, ReadsDeclared, proof_in_bytes, proof_in_json, rows_in, too_large, verdict_of_fault, verdict_without}
+use Rattle.stark_service.specs.Statements.{IsFoundWithRows, IsSaidOfNone, IsVerdictWithRows, PassesLimit, ReadsDeclared, proof_in_bytes, proof_in_json, too_large, verdict_of_fault, verdict_without}
 
 -- ---- an AIR that is data
 
@@ -213,11 +213,6 @@ pub unread_proof : {W K E P F : Type 0} (view : W → Data) (reading : Data → 
     → (v ≡ verdict.OutOfMemory) ⊎ ((proof_in_json reading bytes ≡ None) × (v ≡ verdict.BadInput))
 unfolding proof_in_json
 unread_proof view reading bytes fault v unread is = unread_json view fault (json_of bytes) _ v unread is
-
-pub unread_rows : {W F : Type 0} (view : W → Data) (element : Data → Option F) (bytes : List ℕ) (fault : JsonFault) (v : Verdict) → Gives view (Err fault) (json_of bytes) → v ≡ verdict_of_fault fault
-    → (v ≡ verdict.OutOfMemory) ⊎ ((rows_in element bytes ≡ None) × (v ≡ verdict.BadInput))
-unfolding rows_in
-unread_rows view element bytes fault v unread is = unread_json view fault (json_of bytes) _ v unread is
 
 -- A proof was read of the JSON.
 module _ {K E P F : Type 0} (reading : Data → Result (ProofView K E P F) ProofFault) (bytes : List ℕ) (d : Data) (is_json : json_of bytes ≡ Some d) where

@@ -23,8 +23,10 @@ use Rattle.stark_answers.specs.declared.verdict.Verdict.TheVariants as verdict
 use Rattle.stark_answers.proofs.TraceSteps.{trace_fits}
 use Rattle.stark_service.specs.StatementAir.{declared_of}
 use Rattle.stark_service.specs.Service.{ServiceOps}
-use Rattle.stark_service.specs.Statements.{IsFoundWithRows, IsToldWithRows}
+use Rattle.stark_service.specs.Statements.{IsFoundWithRows, IsToldWithRows, SpellsNoTrace}
 use Rattle.stark_service.specs.TraceChecks.{IsCheckedTrace, IsCheckedWithRows}
+use Rattle.stark_service.specs.Fitting.{IsUnfit}
+use Rattle.stark_service.proofs.FittingRows.{uneven_unfit}
 
 abbrev no_memory : Finding
 no_memory = finding.Verdict verdict.OutOfMemory
@@ -112,10 +114,26 @@ module _ {S F E C K T P X Y : Type 0} (ops : ServiceOps S F E C K T P X Y) (sche
   bad_rows (task.Prove form) = inr (λ is. cc, refl)
   bad_rows (task.ProveUnchecked form) = refl
 
-  -- A file that spells no rows is bad input.
-  pub told_without_rows : (read : Option (List (List F))) (v : Verdict) (f : Finding) → f ≡ finding.Verdict v → (v ≡ verdict.OutOfMemory) ⊎ ((read ≡ None) × (v ≡ verdict.BadInput))
+  unfit_rows : (rows : List (List F)) → IsUnfit most log_rows (declared_of s.air) s.public_values rows → (k : TraceTask) → IsToldWithRows ops scheme first_state s k log_rows (Some rows) (finding.Verdict verdict.BadInput)
+  unfolding IsToldWithRows IsCheckedWithRows IsFoundWithRows
+  unfit_rows rows none task.Check = inr (none, refl)
+  unfit_rows rows none (task.Prove form) = inr (λ is. cc, inr (none, refl))
+  unfit_rows rows none (task.ProveUnchecked form) = inr (none, refl)
+
+  -- Rows that are no trace of the AIR's are bad input,
+  pub told_unfit : (greatest : ℕ) (rows : List (List F)) (f : Finding) → greatest ≡ most
+      → (f ≡ no_memory) ⊎ (IsUnfit greatest log_rows (declared_of s.air) s.public_values rows × (f ≡ finding.Verdict verdict.BadInput)) → (f ≡ no_memory) ⊎ IsToldWithRows ops scheme first_state s asked log_rows (Some rows) f
+  told_unfit greatest rows f same (inl memory) = inl memory
+  told_unfit greatest rows f same (inr bad) =
+      let none = subst (λ n. IsUnfit n log_rows (declared_of s.air) s.public_values rows) same bad.0 in
+      inr (subst (λ g. IsToldWithRows ops scheme first_state s asked log_rows (Some rows) g) (sym bad.1) (unfit_rows rows none asked))
+
+  -- and so is a file that spells no rows, or rows of different lengths.
+  spells_none : (read : Option (List (List F))) → SpellsNoTrace read → IsToldWithRows ops scheme first_state s asked log_rows read (finding.Verdict verdict.BadInput)
+  spells_none None none = bad_rows asked
+  spells_none (Some rows) uneven = unfit_rows rows (uneven_unfit (shape_of (declared_of s.air)) log_rows most rows s.public_values uneven) asked
+
+  pub told_without_rows : (read : Option (List (List F))) (v : Verdict) (f : Finding) → f ≡ finding.Verdict v → (v ≡ verdict.OutOfMemory) ⊎ (SpellsNoTrace read × (v ≡ verdict.BadInput))
       → (f ≡ no_memory) ⊎ IsToldWithRows ops scheme first_state s asked log_rows read f
   told_without_rows read v f is (inl memory) = inl (is ∙ ap (λ w. finding.Verdict w) memory)
-  told_without_rows read v f is (inr bad) =
-      inr (subst (λ r. IsToldWithRows ops scheme first_state s asked log_rows r f) (sym bad.0)
-      (subst (λ g. IsToldWithRows ops scheme first_state s asked log_rows None g) (sym (is ∙ ap (λ w. finding.Verdict w) bad.1)) (bad_rows asked)))
+  told_without_rows read v f is (inr bad) = inr (subst (λ g. IsToldWithRows ops scheme first_state s asked log_rows read g) (sym (is ∙ ap (λ w. finding.Verdict w) bad.1)) (spells_none read bad.0))

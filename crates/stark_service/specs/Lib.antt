@@ -1,3 +1,4 @@
+pub mod Fitting
 pub mod NoFloats
 pub mod Schemes
 pub mod Security

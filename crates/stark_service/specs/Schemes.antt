@@ -6,7 +6,7 @@ use Rattle.serde_json.specs.declared.value.Value.{Value}
 use Rattle.stark_support.specs.Json.{json_of}
 use Rattle.stark_fri_proof.specs.declared.parameters.FriParameters.{FriParameters}
 use Rattle.stark_statement.specs.Configuration.{ConfigurationView, FriNumbers, IsWithinField, configuration_view, fri_numbers}
-use Rattle.stark_statement.specs.StatementJson.{StatementFault, configuration_reading}
+use Rattle.stark_statement.specs.StatementJson.{configuration_reading}
 use Rattle.stark_statement.specs.declared.configuration.Configuration.{Configuration}
 use Rattle.stark_statement.specs.declared.configuration.FieldName.{FieldName}
 use Rattle.stark_statement.specs.declared.configuration.FieldName.TheVariants.{BabyBear, KoalaBear, F12289}

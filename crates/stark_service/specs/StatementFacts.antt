@@ -1,5 +1,5 @@
 -- What is said where a statement's prover or check finds something.
-use Rattle.std.specs.Prelude.{◌≡◌, ◌⊎◌, ℕ, List, Option, None, Some, take}
+use Rattle.std.specs.Prelude.{◌≡◌, ℕ, List, Option, None, Some, take}
 use Rattle.std.proofs.Common.{ap, inl, inr, refl, subst, sym}
 use Rattle.stark_support.specs.FieldPair.{FieldsOps}
 use Rattle.stark_air.specs.Declaration.{Trace}

@@ -1,11 +1,15 @@
 -- What is said of a statement, beside a proof or a trace.
-use Rattle.std.specs.Prelude.{◌≡◌, ◌⊎◌, ℕ, ◌<◌, ◌≤◌, if◌then◌else◌, List, Option, None, Some, Result, Ok, Err, nat_eq}
+use Rattle.std.specs.Prelude.{◌≡◌, ◌⊎◌, ℕ, ◌<◌, ◌≤◌, if◌then◌else◌, false, List, Option, None, Some, Result, Ok, Err, nat_eq}
 use Rattle.std.specs.List.{starts_with}
 use Rattle.std.specs.Result.{result_ok}
 use Rattle.serde_json.specs.Data.{Data}
-use Rattle.stark_support.specs.Json.{◌>>=◌, array_at, json_of}
+use Rattle.stark_support.specs.Json.{◌>>=◌, json_of}
 use Rattle.stark_support.specs.declared.json.JsonFault.{JsonFault}
 use Rattle.stark_support.specs.declared.json.JsonFault.TheVariants.{Invalid, OutOfMemory}
+-- the rows that a file spells: an array of arrays of elements
+unfoldable pub use Rattle.stark_trace_json.specs.Rows.{rows_in}
+use Rattle.stark_trace_json.specs.Rows.{AreRowsIn, are_even}
+use Rattle.stark_trace_json.specs.declared.rows.TraceRows.{TraceRows}
 use Rattle.stark_air.specs.Declaration.{IsDeclared}
 use Rattle.stark_air.specs.Layout.{LeavesWithin}
 use Rattle.stark_proof.specs.ProofJson.{ProofFault}
@@ -48,10 +52,6 @@ proof_in_bytes codecs bytes = result_ok (proof_reading codecs bytes)
 unfoldable pub proof_in : {K E P F : Type 0} → (Data → Result (ProofView K E P F) ProofFault) → ProofCodecs K E P F → List ℕ → Option (ProofView K E P F)
 proof_in reading codecs bytes = if starts_with nat_eq bytes magic then proof_in_bytes codecs bytes else proof_in_json reading bytes
 
--- the rows that a file spells: an array of arrays of elements
-unfoldable pub rows_in : {F : Type 0} → (Data → Option F) → List ℕ → Option (List (List F))
-rows_in element bytes = json_of bytes >>= array_at (array_at element)
-
 -- what is said where nothing was read: memory was wanting, or there is a fault
 abbrev pub verdict_without : {Fault : Type 0} → Option Fault → Verdict
 verdict_without None = verdict.OutOfMemory
@@ -66,6 +66,16 @@ verdict_of_fault OutOfMemory = verdict.OutOfMemory
 abbrev pub ReadsPart : {X Y : Type 0} → (X → Y) → Result X (Report Verdict) → Option Y → Type 0
 ReadsPart view (Ok x) reading = reading ≡ Some (view x)
 ReadsPart view (Err report) reading = (report.answer ≡ verdict.OutOfMemory) ⊎ ((reading ≡ None) × (report.answer ≡ verdict.BadInput))
+
+-- A file spells no rows, or rows of different lengths.
+abbrev pub SpellsNoTrace : {F : Type 0} → Option (List (List F)) → Type 0
+SpellsNoTrace None = Unit {0}
+SpellsNoTrace (Some rows) = are_even rows ≡ false
+
+-- Rows of one length were read, or the report says why not: the file spells none, or memory was wanting.
+abbrev pub ReadsRows : {F : Type 0} → Result (TraceRows F) (Report Verdict) → Option (List (List F)) → Type 0
+ReadsRows (Ok rows) reading = AreRowsIn rows reading
+ReadsRows (Err report) reading = (report.answer ≡ verdict.OutOfMemory) ⊎ (SpellsNoTrace reading × (report.answer ≡ verdict.BadInput))
 
 -- This is said, or memory was wanting.
 abbrev pub OrUnjudged : (Verdict → Type 0) → Verdict → Type 0

@@ -1,18 +1,16 @@
 //! The check of a trace: whether it satisfies a statement's AIR.
 
-ghost use Rattle.std.specs.Prelude.{◌≡◌, ◌<◌, ◌≤◌, IfOk, Some, length};
+ghost use Rattle.std.specs.Prelude.{◌≡◌, ◌<◌, IfOk, Some, length};
 ghost use Rattle.stark_completeness.specs.RowCheck.{trace_of};
 ghost use Rattle.stark_protocol.specs.Preprocessing.{HasHeight};
 ghost use Rattle.stark_statement.specs.StatementView.{statement_view};
 ghost use Rattle.stark_support.specs.FieldPair.{FieldsOps};
 ghost use Rattle.stark_tree_air.specs.TreeJson.{list_view};
-ghost use Rattle.stark_answers.specs.TraceShape.{rows_of};
-ghost use Rattle.stark_service.specs.TraceChecks.{IsAsHighAs, IsCheckedTrace, IsCheckedWithRows, OrLacksMemory, TellsBroken};
+ghost use Rattle.stark_service.specs.Fitting.{ChecksTrace, IsOfRows};
+ghost use Rattle.stark_service.specs.TraceChecks.{IsAsHighAs, IsCheckedTrace, OrLacksMemory, TellsBroken};
 
 use stark_air::BaseAir;
-use stark_answers::{
-    BrokenRow, CheckShape, DeclaredAir, Finding, Report, log_height_of_rows, values_of,
-};
+use stark_answers::{BrokenRow, DeclaredAir, Finding, Report};
 use stark_completeness::{ConstraintCheckError, ConstraintViolation, check_declared};
 use stark_show::equation;
 use stark_statement::Statement;
@@ -79,34 +77,21 @@ fn check_trace<F: PrimeField64 + TwoAdicField, EF: ExtensionField<F>>(
     }
 }
 
-/// What a check finds of rows: `bad input` where they are no trace of the AIR's widths and counts
-/// with a power of two of rows, at most `2^greatest`, or don't have as many rows as its
-/// preprocessed columns, which have `2^log_rows`.
+/// What a check finds of the trace that rows are.
 pub(crate) fn check_rows<F: PrimeField64 + TwoAdicField, EF: ExtensionField<F>>(
     alloc: Global,
     greatest: usize,
     statement: &Statement<F>,
     log_rows: usize,
-    rows: &[Vec<F>],
+    trace: &RowMajorMatrix<F>,
 ) -> Report<Finding>
-    requires greatest { greatest ≤ 63 }
     requires height { HasHeight log_rows
         (⟦<TreeAir<F> as BaseAir<F>>⟧.preprocessed_trace statement.now.air) }
     requires columns { 0 < (⟦<TreeAir<F> as BaseAir<F>>⟧.layout statement.now.air).main }
-    ensures { OrLacksMemory (IsCheckedWithRows ⟦<EF as FieldPair<F>>⟧.fields F.number_of greatest
-        (statement_view statement.now) log_rows (Some (rows_of rows.now))) result.answer }
+    requires fits { IsOfRows greatest log_rows (statement_view statement.now) trace.now }
+    ensures { ChecksTrace greatest log_rows (statement_view statement.now)
+        ⟦<EF as FieldPair<F>>⟧.fields F.number_of trace.now result.answer }
 {
-    let Ok(shape) = CheckShape::from_air::<F, TreeAir<F>>(alloc, &statement.air) else {
-        return Report::out_of_memory().as_finding();
-    };
     let public_values = statement.public_values.as_slice();
-    let Some(_log_height) = log_height_of_rows(rows, public_values, shape, log_rows, greatest)
-    else {
-        return Report::unfit_trace(alloc).as_finding();
-    };
-    let Ok(values) = values_of(alloc, rows) else {
-        return Report::out_of_memory().as_finding();
-    };
-    let trace = RowMajorMatrix::new(values, shape.width);
-    check_trace::<F, EF>(alloc, &statement.air, &trace, public_values)
+    check_trace::<F, EF>(alloc, &statement.air, trace, public_values)
 }

@@ -17,6 +17,7 @@ ghost use Rattle.stark_service.specs.Statements.{OrUnjudged};
 ghost use Rattle.stark_service.specs.TraceChecks.{OrLacksMemory};
 
 use crate::over::{ValueAnswers, answer_over, verify_over};
+use crate::progress::Progress;
 use crate::showing::show_over;
 use serde_json::Value;
 use stark_answers::{Finding, Report, TraceTask, Verdict};
@@ -54,26 +55,27 @@ pub trait ServiceField: Sized {
     ghost showing: { Option FriNumbers → Data → Finding → Type 0 };
 
     /// The verdict on a proof.
-    fn verify(alloc: Global, scheme: SchemeChoice, value: &Value, proof: &[u8]) -> Report<Verdict>
+    fn verify(alloc: Global, scheme: SchemeChoice, value: Value, proof: &[u8]) -> Report<Verdict>
         requires { HasRoomFor adicity scheme }
-        ensures verdict { OrUnjudged (verdict (scheme_numbers scheme) (view value.now) proof.now)
+        ensures verdict { OrUnjudged (verdict (scheme_numbers scheme) (view value) proof.now)
             result.answer }
         ensures sound { result.answer ≡ Verdict.Accepted → sound (scheme_numbers scheme)
-            (view value.now) proof.now };
+            (view value) proof.now };
 
     /// What is found of a trace.
-    fn answer(
+    fn answer<P: Progress>(
         alloc: Global,
         scheme: SchemeChoice,
         asked: TraceTask,
-        value: &Value,
+        value: Value,
         trace: &[u8],
+        progress: &mut P,
     ) -> Report<Finding>
         requires { HasRoomFor adicity scheme }
-        ensures found { OrLacksMemory (found (scheme_numbers scheme) asked (view value.now)
+        ensures found { OrLacksMemory (found (scheme_numbers scheme) asked (view value)
             trace.now) result.answer }
         ensures kind { IsOfTrace asked result.answer }
-        ensures proof { WhereProof (proof_file (scheme_numbers scheme) (view value.now) trace.now)
+        ensures proof { WhereProof (proof_file (scheme_numbers scheme) (view value) trace.now)
             result.answer };
 
     /// What is shown. The JSON is let go of once it is read, before the text is made, which may be
@@ -102,20 +104,23 @@ impl<M: Modulus> ServiceField for Residue<M, Scalar> {
 
     ghost showing = { ⟦<Base<M> as ValueAnswers<Ext4<Base<M>>, Hashing<Base<M>>>>⟧.showing };
 
-    fn verify(alloc: Global, scheme: SchemeChoice, value: &Value, proof: &[u8]) -> Report<Verdict> {
+    fn verify(alloc: Global, scheme: SchemeChoice, value: Value, proof: &[u8]) -> Report<Verdict> {
         let challenger = Hashing::<Base<M>>::new();
         verify_over::<Base<M>, Ext4<Base<M>>, _>(alloc, scheme, challenger, value, proof)
     }
 
-    fn answer(
+    fn answer<P: Progress>(
         alloc: Global,
         scheme: SchemeChoice,
         asked: TraceTask,
-        value: &Value,
+        value: Value,
         trace: &[u8],
+        progress: &mut P,
     ) -> Report<Finding> {
         let challenger = Hashing::<Base<M>>::new();
-        answer_over::<Base<M>, Ext4<Base<M>>, _>(alloc, scheme, challenger, asked, value, trace)
+        answer_over::<Base<M>, Ext4<Base<M>>, _, P>(
+            alloc, scheme, challenger, asked, value, trace, progress,
+        )
     }
 
     fn show(alloc: Global, scheme: SchemeChoice, value: Value) -> Report<Finding> {
@@ -140,20 +145,23 @@ impl ServiceField for F12289 {
 
     ghost showing = { ⟦<F12289 as ValueAnswers<Ext4<F12289>, Hashing<F12289>>>⟧.showing };
 
-    fn verify(alloc: Global, scheme: SchemeChoice, value: &Value, proof: &[u8]) -> Report<Verdict> {
+    fn verify(alloc: Global, scheme: SchemeChoice, value: Value, proof: &[u8]) -> Report<Verdict> {
         let challenger = Hashing::<F12289>::new();
         verify_over::<F12289, Ext4<F12289>, _>(alloc, scheme, challenger, value, proof)
     }
 
-    fn answer(
+    fn answer<P: Progress>(
         alloc: Global,
         scheme: SchemeChoice,
         asked: TraceTask,
-        value: &Value,
+        value: Value,
         trace: &[u8],
+        progress: &mut P,
     ) -> Report<Finding> {
         let challenger = Hashing::<F12289>::new();
-        answer_over::<F12289, Ext4<F12289>, _>(alloc, scheme, challenger, asked, value, trace)
+        answer_over::<F12289, Ext4<F12289>, _, P>(
+            alloc, scheme, challenger, asked, value, trace, progress,
+        )
     }
 
     fn show(alloc: Global, scheme: SchemeChoice, value: Value) -> Report<Finding> {

@@ -2,11 +2,14 @@
 //! over the configuration that the statement names.
 #![tactic(auto)]
 
+mod bounds;
 mod checking;
 mod counted;
 mod field;
+mod fitting;
 mod judging;
 mod over;
+mod progress;
 mod proving;
 mod reading;
 mod schemes;
@@ -15,10 +18,12 @@ mod service;
 mod showing;
 mod statement;
 
+pub use bounds::{StatementChallenger, StatementExtension, StatementField};
 pub use counted::{CountedField, Numbered};
 pub use field::ServiceField;
 pub use judging::verify_with;
 pub use over::ValueAnswers;
+pub use progress::{Progress, Silent, Stage};
 pub use proving::answer_with;
 pub use reading::read_statement;
 pub use schemes::{ClearConfig, FieldAnswers, FriConfig};

@@ -17,18 +17,19 @@ ghost use Rattle.stark_service.specs.StatementFacts.{IsOfTrace};
 ghost use Rattle.stark_service.specs.Statements.{HoldsOfRead, IsSaidOfRead, OrUnjudged};
 ghost use Rattle.stark_service.specs.TraceChecks.{OrLacksMemory};
 
+use crate::bounds::{StatementChallenger, StatementExtension, StatementField};
 use crate::counted::Numbered;
+use crate::progress::Progress;
 use crate::reading::read_statement;
 use crate::schemes::{FieldAnswers, answer_by, verify_by};
 use serde_json::Value;
 use stark_answers::{Finding, Report, TraceTask, Verdict};
 use stark_bench::ClearCommitment;
 use stark_merkle::Root;
-use stark_proof_bytes::BytesCodec;
 use stark_statement::SchemeChoice;
 use stark_support::{
-    CanObserve, ExtensionChallenger, ExtensionField, FieldChallenger, GrindingChallenger,
-    JsonCodec, NeverNull, PackedExtensionField, PackedField, PrimeField64, TwoAdicField,
+    CanObserve, ExtensionChallenger, FieldChallenger, GrindingChallenger, PackedExtensionField,
+    PackedField,
 };
 use std::alloc::Global;
 
@@ -47,14 +48,9 @@ pub trait ValueAnswers<EF, C>: Sized {
 
 impl<F, EF, C> ValueAnswers<EF, C> for F
 where
-    F: PrimeField64 + TwoAdicField + NeverNull + BytesCodec,
-    EF: ExtensionField<F> + JsonCodec + BytesCodec + Drop,
-    C: FieldChallenger<F>
-        + CanObserve<Root>
-        + CanObserve<ClearCommitment<F>>
-        + ExtensionChallenger<F, EF>
-        + GrindingChallenger<Witness = F>
-        + Clone,
+    F: StatementField,
+    EF: StatementExtension<F>,
+    C: StatementChallenger<F, EF>,
 {
     ghost verdict = { λ fresh scheme d proof. IsSaidOfRead (λ v. v)
         (λ s. ⟦<F as FieldAnswers<EF, C>>⟧.verdict fresh scheme s proof)
@@ -81,12 +77,12 @@ pub(crate) fn verify_over<F, EF, C>(
     alloc: Global,
     scheme: SchemeChoice,
     challenger: C,
-    value: &Value,
+    value: Value,
     proof: &[u8],
 ) -> Report<Verdict>
 where
-    F: PrimeField64 + TwoAdicField + NeverNull + BytesCodec,
-    EF: ExtensionField<F> + JsonCodec + BytesCodec + Drop,
+    F: StatementField,
+    EF: StatementExtension<F>,
     C: FieldChallenger<F>
         + CanObserve<Root>
         + CanObserve<ClearCommitment<F>>
@@ -95,46 +91,56 @@ where
         + Clone,
     requires { HasRoomFor F.TWO_ADICITY scheme }
     ensures verdict { OrUnjudged (⟦<F as ValueAnswers<EF, C>>⟧.verdict challenger
-        (scheme_numbers scheme) (view value.now) proof.now) result.answer }
+        (scheme_numbers scheme) (view value) proof.now) result.answer }
     ensures sound { result.answer ≡ Verdict.Accepted → ⟦<F as ValueAnswers<EF, C>>⟧.sound
-        challenger (scheme_numbers scheme) (view value.now) proof.now }
+        challenger (scheme_numbers scheme) (view value) proof.now }
 {
-    match read_statement::<F>(alloc, value) {
+    let read = read_statement::<F>(alloc, &value);
+    // The JSON is several times as long as the statement.
+    drop(value);
+    match read {
         Ok(statement) => verify_by::<F, EF, C>(alloc, scheme, challenger, &statement, proof),
         Err(report) => report,
     }
 }
 
 /// What is found of a trace for a statement over a field.
-pub(crate) fn answer_over<F, EF, C>(
+pub(crate) fn answer_over<F, EF, C, P>(
     alloc: Global,
     scheme: SchemeChoice,
     challenger: C,
     asked: TraceTask,
-    value: &Value,
+    value: Value,
     trace: &[u8],
+    progress: &mut P,
 ) -> Report<Finding>
 where
-    F: PrimeField64 + TwoAdicField + PackedField + NeverNull + BytesCodec,
-    EF: PackedExtensionField<F> + JsonCodec + BytesCodec + Drop,
+    F: StatementField + PackedField,
+    EF: StatementExtension<F> + PackedExtensionField<F>,
     C: FieldChallenger<F>
         + CanObserve<Root>
         + CanObserve<ClearCommitment<F>>
         + ExtensionChallenger<F, EF>
         + GrindingChallenger<Witness = F>
         + Clone,
+    P: Progress,
     requires room { HasRoomFor F.TWO_ADICITY scheme }
     requires base { WritesNoFloat F.writing }
     requires extension { WritesNoFloat EF.writing }
     ensures found { OrLacksMemory (⟦<F as ValueAnswers<EF, C>>⟧.found challenger
-        (scheme_numbers scheme) asked (view value.now) trace.now) result.answer }
+        (scheme_numbers scheme) asked (view value) trace.now) result.answer }
     ensures kind { IsOfTrace asked result.answer }
     ensures proof { WhereProof (⟦<F as ValueAnswers<EF, C>>⟧.proof_file challenger
-        (scheme_numbers scheme) (view value.now) trace.now) result.answer }
+        (scheme_numbers scheme) (view value) trace.now) result.answer }
 {
-    match read_statement::<F>(alloc, value) {
+    let read = read_statement::<F>(alloc, &value);
+    // The JSON is several times as long as the statement.
+    drop(value);
+    match read {
         Ok(statement) => {
-            answer_by::<F, EF, C>(alloc, scheme, challenger, asked, &statement, trace)
+            answer_by::<F, EF, C, P>(
+                alloc, scheme, challenger, asked, &statement, trace, progress,
+            )
         }
         Err(report) => report.as_finding(),
     }

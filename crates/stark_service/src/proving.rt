@@ -4,20 +4,22 @@
 ghost use Rattle.std.specs.Prelude.{◌≡◌, ◌<◌, ◌≤◌, Some};
 ghost use Rattle.stark_protocol.specs.Preprocessing.{HasHeight};
 ghost use Rattle.stark_statement.specs.StatementView.{statement_view};
-ghost use Rattle.stark_answers.specs.TraceShape.{rows_of};
 ghost use Rattle.stark_answers.specs.Finding.{WhereProof};
+ghost use Rattle.stark_service.specs.Fitting.{AreSomeRows, IsOfRows, TellsOfRows, TellsOfTrace};
 ghost use Rattle.stark_service.specs.StatementFacts.{IsOfTrace};
 ghost use Rattle.stark_service.specs.Statements.{rows_in};
 ghost use Rattle.stark_service.specs.TraceChecks.{OrLacksMemory};
 
 use crate::checking::check_rows;
+use crate::fitting::fitting_trace;
 use crate::judging::unfit_rows;
+use crate::progress::{Progress, Stage};
 use crate::reading::read_rows;
 use crate::service::{ServiceAnswers, StarkService};
 use stark_air::BaseAir;
 use stark_answers::{
-    CheckShape, Finding, ProofForm, Report, TraceTask, finding_of_proof, log_height_of_rows,
-    log_rows_of, prove_with_held, values_of, words_of_failure,
+    Finding, ProofForm, Report, TraceTask, finding_of_proof, log_rows_of, prove_with_held,
+    words_of_failure,
 };
 use stark_parts::{Com, StarkGenericConfig, Val};
 use stark_proof_bytes::BytesCodec;
@@ -27,18 +29,20 @@ use stark_support::{
     GrindingChallenger, JsonCodec, NeverNull, PackedExtensionField, PackedField, RowMajorMatrix,
     TwoAdicField, UnivariateStarkPcs,
 };
+use stark_trace_json::TraceRows;
 use stark_tree_air::TreeAir;
 use std::alloc::{AllocError, Global};
 
-/// What a prover finds of rows, with preprocessed columns of `2^log_rows` rows: their proof in a
-/// form, or why there is none.
+/// What a prover finds of the trace that rows are, with preprocessed columns of `2^log_rows` rows:
+/// its proof in a form, or why there is none.
 fn prove_rows<SC>(
     alloc: Global,
     config: &SC,
     form: ProofForm,
+    greatest: usize,
     statement: &Statement<Val<SC>>,
     log_rows: usize,
-    rows: &[Vec<Val<SC>>],
+    trace: RowMajorMatrix<Val<SC>>,
 ) -> Report<Finding>
 where
     SC: StarkGenericConfig,
@@ -55,22 +59,13 @@ where
     requires within { log_rows ≤ SC.Pcs.scheme.log_max_trace_height (SC.config.scheme config.now) }
     requires columns { 0 < (⟦<TreeAir<Val<SC>> as BaseAir<Val<SC>>>⟧.layout
         statement.now.air).main }
-    ensures { OrLacksMemory (⟦<SC as ServiceAnswers>⟧.proves config.now form
-        (statement_view statement.now) log_rows (Some (rows_of rows.now))) result.answer }
+    requires greatest { greatest
+        ≡ SC.Pcs.scheme.log_max_trace_height (SC.config.scheme config.now) }
+    requires fits { IsOfRows greatest log_rows (statement_view statement.now) trace }
+    ensures { let s = statement_view statement.now in TellsOfTrace greatest log_rows s trace
+        (⟦<SC as ServiceAnswers>⟧.proves config.now form s log_rows) result.answer }
 {
-    let greatest = config.pcs().log_max_trace_height();
-    let Ok(shape) = CheckShape::from_air::<Val<SC>, TreeAir<Val<SC>>>(alloc, &statement.air) else {
-        return Report::out_of_memory().as_finding();
-    };
     let public_values = statement.public_values.as_slice();
-    let Some(_log_height) = log_height_of_rows(rows, public_values, shape, log_rows, greatest)
-    else {
-        return Report::unfit_trace(alloc).as_finding();
-    };
-    let Ok(values) = values_of(alloc, rows) else {
-        return Report::out_of_memory().as_finding();
-    };
-    let trace = RowMajorMatrix::new(values, shape.width);
     let answer = prove_with_held(
         alloc,
         config,
@@ -87,13 +82,14 @@ where
 }
 
 /// What is found of rows, by what is asked for them.
-fn answer_rows<SC>(
+fn answer_rows<SC, P>(
     alloc: Global,
     config: &SC,
     asked: TraceTask,
     statement: &Statement<Val<SC>>,
     log_rows: usize,
-    rows: &[Vec<Val<SC>>],
+    rows: TraceRows<Val<SC>>,
+    progress: &mut P,
 ) -> Report<Finding>
 where
     SC: StarkGenericConfig,
@@ -102,6 +98,7 @@ where
     Val<SC>: PackedField + NeverNull + BytesCodec,
     Com<SC>: NeverNull + BytesCodec,
     PcsProof<SC>: JsonCodec + BytesCodec,
+    P: Progress,
     requires ready { ⟦<SC as ServiceAnswers>⟧.is_ready config.now
         (statement_view statement.now) }
     requires able { ⟦<SC as ServiceAnswers>⟧.can_prove config.now }
@@ -110,24 +107,44 @@ where
     requires within { log_rows ≤ SC.Pcs.scheme.log_max_trace_height (SC.config.scheme config.now) }
     requires columns { 0 < (⟦<TreeAir<Val<SC>> as BaseAir<Val<SC>>>⟧.layout
         statement.now.air).main }
-    ensures { OrLacksMemory (⟦<SC as ServiceAnswers>⟧.tells config.now asked
-        (statement_view statement.now) log_rows (Some (rows_of rows.now))) result.answer }
+    requires read { AreSomeRows rows }
+    ensures { TellsOfRows rows (⟦<SC as ServiceAnswers>⟧.tells config.now asked
+        (statement_view statement.now) log_rows) result.answer }
 {
     let greatest = config.pcs().log_max_trace_height();
+    let (height, columns) = (rows.height, statement.air.width());
+    let trace = match fitting_trace(alloc, greatest, statement, log_rows, rows) {
+        Ok(trace) => trace,
+        Err(report) => return report,
+    };
+    let checking = Stage::Checking {
+        rows: height,
+        columns,
+    };
+    let proving = Stage::Proving {
+        rows: height,
+        columns,
+    };
     match asked {
         TraceTask::Check => {
-            check_rows::<Val<SC>, SC::Challenge>(alloc, greatest, statement, log_rows, rows)
+            progress.stage(checking);
+            check_rows::<Val<SC>, SC::Challenge>(alloc, greatest, statement, log_rows, &trace)
         }
         TraceTask::ProveUnchecked(form) => {
-            prove_rows(alloc, config, form, statement, log_rows, rows)
+            progress.stage(proving);
+            prove_rows(alloc, config, form, greatest, statement, log_rows, trace)
         }
         TraceTask::Prove(form) => {
             // Before anything is committed: no proof is made of a trace that breaks its AIR.
+            progress.stage(checking);
             let report = check_rows::<Val<SC>, SC::Challenge>(
-                alloc, greatest, statement, log_rows, rows,
+                alloc, greatest, statement, log_rows, &trace,
             );
             match report.answer {
-                Finding::Satisfied => prove_rows(alloc, config, form, statement, log_rows, rows),
+                Finding::Satisfied => {
+                    progress.stage(proving);
+                    prove_rows(alloc, config, form, greatest, statement, log_rows, trace)
+                }
                 _ => report,
             }
         }
@@ -135,13 +152,14 @@ where
 }
 
 /// What is found of the rows that the bytes of a file spell.
-fn answer_with_rows<SC>(
+fn answer_with_rows<SC, P>(
     alloc: Global,
     config: &SC,
     asked: TraceTask,
     statement: &Statement<Val<SC>>,
     log_rows: usize,
     bytes: &[u8],
+    progress: &mut P,
 ) -> Report<Finding>
 where
     SC: StarkGenericConfig,
@@ -150,6 +168,7 @@ where
     Val<SC>: PackedField + NeverNull + BytesCodec,
     Com<SC>: NeverNull + BytesCodec,
     PcsProof<SC>: JsonCodec + BytesCodec,
+    P: Progress,
     requires ready { ⟦<SC as ServiceAnswers>⟧.is_ready config.now
         (statement_view statement.now) }
     requires able { ⟦<SC as ServiceAnswers>⟧.can_prove config.now }
@@ -163,7 +182,7 @@ where
         (rows_in ⟦<SC as StarkService>⟧.service.element bytes.now)) result.answer }
 {
     match read_rows::<Val<SC>>(alloc, bytes) {
-        Ok(rows) => answer_rows(alloc, config, asked, statement, log_rows, &rows),
+        Ok(rows) => { answer_rows(alloc, config, asked, statement, log_rows, rows, progress) }
         Err(report) => report.as_finding(),
     }
 }
@@ -171,14 +190,16 @@ where
 /// What is found of a trace for a statement that was read, with a configuration whose challenger
 /// has observed the statement, which asks for the statement's work, masks nothing, sets up all
 /// columns, proves traces of any height and refuses no true opening; by what is asked for the
-/// trace. It is `bad input` where the trace can't be read, the AIR has no main columns, or the
+/// trace; its check and its proof are told before they begin. It is `bad input` where the trace
+/// can't be read, the AIR has no main columns, or the
 /// trace isn't one of its widths and counts; or `out of memory`.
-pub fn answer_with<SC>(
+pub fn answer_with<SC, P>(
     alloc: Global,
     config: &SC,
     asked: TraceTask,
     statement: &Statement<Val<SC>>,
     bytes: &[u8],
+    progress: &mut P,
 ) -> Report<Finding>
 where
     SC: StarkGenericConfig,
@@ -187,6 +208,7 @@ where
     Val<SC>: PackedField + NeverNull + BytesCodec,
     Com<SC>: NeverNull + BytesCodec,
     PcsProof<SC>: JsonCodec + BytesCodec,
+    P: Progress,
     requires ready { ⟦<SC as ServiceAnswers>⟧.is_ready config.now
         (statement_view statement.now) }
     requires able { ⟦<SC as ServiceAnswers>⟧.can_prove config.now }
@@ -202,7 +224,9 @@ where
     }
     let greatest = config.pcs().log_max_trace_height();
     match log_rows_of(alloc, &statement.air, greatest) {
-        Ok(Some(log_rows)) => answer_with_rows(alloc, config, asked, statement, log_rows, bytes),
+        Ok(Some(log_rows)) => {
+            answer_with_rows(alloc, config, asked, statement, log_rows, bytes, progress)
+        }
         Ok(None) => unfit_rows(alloc).as_finding(),
         Err(AllocError) => Report::out_of_memory().as_finding(),
     }

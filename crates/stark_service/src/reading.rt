@@ -1,6 +1,6 @@
 //! Statements, proofs and traces, read; and what is said where one wasn't.
 
-ghost use Rattle.std.specs.Prelude.{◌≡◌, ℕ, List, None, Result, map, nat_eq, true};
+ghost use Rattle.std.specs.Prelude.{◌≡◌, ℕ, List, None, Result, nat_eq, true};
 ghost use Rattle.std.specs.List.{starts_with};
 ghost use Rattle.serde_json.specs.View.{view};
 ghost use Rattle.stark_support.specs.Json.{json_of};
@@ -11,14 +11,15 @@ ghost use Rattle.stark_proof_bytes.specs.ProofBytes.{codecs, magic};
 ghost use Rattle.stark_statement.specs.StatementJson.{statement_fault, statement_reading};
 ghost use Rattle.stark_answers.specs.declared.report.Report.{Report};
 ghost use Rattle.stark_answers.specs.declared.verdict.Verdict.{Verdict};
-ghost use Rattle.stark_service.specs.Statements.{ReadsPart, ReadsStatement, proof_in, proof_in_bytes, proof_in_json, rows_in, verdict_of_fault, verdict_without};
+ghost use Rattle.stark_service.specs.Statements.{ReadsPart, ReadsRows, ReadsStatement, proof_in, proof_in_bytes, proof_in_json, rows_in, verdict_of_fault, verdict_without};
 
 use serde_json::Value;
 use stark_answers::{Report, Verdict};
 use stark_proof::{Proof, ProofDecodeError};
 use stark_proof_bytes::{BytesCodec, BytesFault, proof_from_bytes};
 use stark_statement::{AirLimits, Statement, StatementError};
-use stark_support::{Field, JsonCodec, JsonFault, NeverNull, lists_from_json, value_from_bytes};
+use stark_support::{Field, JsonCodec, JsonFault, NeverNull, value_from_bytes};
+use stark_trace_json::{RowsFault, TraceRows, rows_from_bytes};
 use stark_tree_air::TreeJsonError;
 use std::alloc::Global;
 
@@ -176,22 +177,19 @@ fn unread_bytes(alloc: Global, fault: &BytesFault) -> Report<Verdict>
     }
 }
 
-/// The rows of a trace that the bytes of a JSON text spell: an array of arrays of numbers.
-#[tactic(auto, unfolding(crate::specs::Statements::rows_in))]
+/// The rows of a trace that the bytes of a JSON text spell: an array of arrays of numbers, all of
+/// one length.
 pub(crate) fn read_rows<F: JsonCodec + Copy>(
     alloc: Global,
     bytes: &[u8],
-) -> Result<Vec<Vec<F>>, Report<Verdict>>
-    ensures { ReadsPart (λ rows. map (λ row. row.items) rows.items) result
-        (rows_in F.reading bytes.now) }
+) -> Result<TraceRows<F>, Report<Verdict>>
+    ensures { ReadsRows result (rows_in F.reading bytes.now) }
 {
-    let value = match value_from_bytes(alloc, bytes) {
-        Ok(value) => value,
-        Err(error) => return Err(unread_text(alloc, "the trace", &error)),
-    };
-    match lists_from_json::<F>(alloc, &value) {
+    match rows_from_bytes::<F>(alloc, bytes) {
         Ok(rows) => Ok(rows),
-        Err(error) => Err(unread_text(alloc, "the trace", &error)),
+        Err(RowsFault::Invalid) => Err(Report::bad_input(alloc, "the trace", &JsonFault::Invalid)),
+        Err(RowsFault::Uneven) => Err(Report::unfit_trace(alloc)),
+        Err(RowsFault::OutOfMemory) => Err(Report::out_of_memory()),
     }
 }
 

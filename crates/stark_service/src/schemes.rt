@@ -16,22 +16,19 @@ ghost use Rattle.stark_service.specs.StatementFacts.{IsOfTrace};
 ghost use Rattle.stark_service.specs.Statements.{IsFileOn, IsSoundOfTakenOn, IsSoundOn, IsToldOn, IsVerdictOn, OrUnjudged, rows_in};
 ghost use Rattle.stark_service.specs.TraceChecks.{OrLacksMemory};
 
+use crate::bounds::{StatementChallenger, StatementExtension, StatementField};
 use crate::judging::verify_with;
+use crate::progress::Progress;
 use crate::proving::answer_with;
 use crate::service::StarkService;
 use stark_answers::{Finding, Report, TraceTask, Verdict};
-use stark_bench::ClearCommitment;
 use stark_clear::ClearPcs;
 use stark_fri_proof::FriParameters;
 use stark_fri_prover::FriPcs;
-use stark_merkle::{Root, Sha256Tree};
+use stark_merkle::Sha256Tree;
 use stark_parts::StarkConfig;
-use stark_proof_bytes::BytesCodec;
 use stark_statement::{SchemeChoice, Statement};
-use stark_support::{
-    CanObserve, ExtensionChallenger, ExtensionField, FieldChallenger, GrindingChallenger,
-    JsonCodec, NeverNull, PackedExtensionField, PackedField, PrimeField64, TwoAdicField,
-};
+use stark_support::{CanObserve, PackedExtensionField, PackedField, PrimeField64};
 use std::alloc::{AllocError, Global};
 
 /// A configuration with trees of SHA-256 and FRI.
@@ -61,14 +58,9 @@ pub trait FieldAnswers<EF, C>: Sized {
 
 impl<F, EF, C> FieldAnswers<EF, C> for F
 where
-    F: PrimeField64 + TwoAdicField + NeverNull + BytesCodec,
-    EF: ExtensionField<F> + JsonCodec + BytesCodec + Drop,
-    C: FieldChallenger<F>
-        + CanObserve<Root>
-        + CanObserve<ClearCommitment<F>>
-        + ExtensionChallenger<F, EF>
-        + GrindingChallenger<Witness = F>
-        + Clone,
+    F: StatementField,
+    EF: StatementExtension<F>,
+    C: StatementChallenger<F, EF>,
 {
     ghost verdict = { λ fresh scheme s proof v. ByScheme scheme
         (λ numbers. WithNumbers (λ pcs. pcs.parameters) numbers (λ pcs.
@@ -144,14 +136,9 @@ fn verify_by_fri<F, EF, C>(
     proof: &[u8],
 ) -> Report<Verdict>
 where
-    F: PrimeField64 + TwoAdicField + NeverNull + BytesCodec,
-    EF: ExtensionField<F> + JsonCodec + BytesCodec + Drop,
-    C: FieldChallenger<F>
-        + CanObserve<Root>
-        + CanObserve<ClearCommitment<F>>
-        + ExtensionChallenger<F, EF>
-        + GrindingChallenger<Witness = F>
-        + Clone,
+    F: StatementField,
+    EF: StatementExtension<F>,
+    C: StatementChallenger<F, EF>,
     requires { parameters.log_blowup ≤ F.TWO_ADICITY }
     ensures verdict { OrUnjudged (⟦<F as FieldAnswers<EF, C>>⟧.verdict challenger
         (by_fri parameters) (statement_view statement.now) proof.now) result.answer }
@@ -174,14 +161,9 @@ fn verify_in_the_clear<F, EF, C>(
     proof: &[u8],
 ) -> Report<Verdict>
 where
-    F: PrimeField64 + TwoAdicField + NeverNull + BytesCodec,
-    EF: ExtensionField<F> + JsonCodec + BytesCodec + Drop,
-    C: FieldChallenger<F>
-        + CanObserve<Root>
-        + CanObserve<ClearCommitment<F>>
-        + ExtensionChallenger<F, EF>
-        + GrindingChallenger<Witness = F>
-        + Clone,
+    F: StatementField,
+    EF: StatementExtension<F>,
+    C: StatementChallenger<F, EF>,
     ensures verdict { OrUnjudged (⟦<F as FieldAnswers<EF, C>>⟧.verdict challenger
         None (statement_view statement.now) proof.now) result.answer }
     ensures sound { result.answer ≡ Verdict.Accepted → ⟦<F as FieldAnswers<EF, C>>⟧.sound
@@ -204,14 +186,9 @@ pub(crate) fn verify_by<F, EF, C>(
     proof: &[u8],
 ) -> Report<Verdict>
 where
-    F: PrimeField64 + TwoAdicField + NeverNull + BytesCodec,
-    EF: ExtensionField<F> + JsonCodec + BytesCodec + Drop,
-    C: FieldChallenger<F>
-        + CanObserve<Root>
-        + CanObserve<ClearCommitment<F>>
-        + ExtensionChallenger<F, EF>
-        + GrindingChallenger<Witness = F>
-        + Clone,
+    F: StatementField,
+    EF: StatementExtension<F>,
+    C: StatementChallenger<F, EF>,
     requires { HasRoomFor F.TWO_ADICITY scheme }
     ensures verdict { OrUnjudged (⟦<F as FieldAnswers<EF, C>>⟧.verdict challenger
         (numbers_of scheme) (statement_view statement.now) proof.now) result.answer }
@@ -229,23 +206,20 @@ where
 }
 
 /// What is found of a trace by FRI with these parameters.
-fn answer_by_fri<F, EF, C>(
+fn answer_by_fri<F, EF, C, P>(
     alloc: Global,
     parameters: FriParameters,
     challenger: C,
     asked: TraceTask,
     statement: &Statement<F>,
     trace: &[u8],
+    progress: &mut P,
 ) -> Report<Finding>
 where
-    F: PrimeField64 + TwoAdicField + PackedField + NeverNull + BytesCodec,
-    EF: PackedExtensionField<F> + JsonCodec + BytesCodec + Drop,
-    C: FieldChallenger<F>
-        + CanObserve<Root>
-        + CanObserve<ClearCommitment<F>>
-        + ExtensionChallenger<F, EF>
-        + GrindingChallenger<Witness = F>
-        + Clone,
+    F: StatementField + PackedField,
+    EF: StatementExtension<F> + PackedExtensionField<F>,
+    C: StatementChallenger<F, EF>,
+    P: Progress,
     requires room { parameters.log_blowup ≤ F.TWO_ADICITY }
     requires base { WritesNoFloat F.writing }
     requires extension { WritesNoFloat EF.writing }
@@ -261,26 +235,23 @@ where
     };
     let pcs: FriPcs<F, Sha256Tree> = FriPcs::new(parameters);
     let config: FriConfig<F, EF, C> = configured(pcs, bound, statement);
-    answer_with(alloc, &config, asked, statement, trace)
+    answer_with(alloc, &config, asked, statement, trace, progress)
 }
 
 /// What is found of a trace in the clear.
-fn answer_in_the_clear<F, EF, C>(
+fn answer_in_the_clear<F, EF, C, P>(
     alloc: Global,
     challenger: C,
     asked: TraceTask,
     statement: &Statement<F>,
     trace: &[u8],
+    progress: &mut P,
 ) -> Report<Finding>
 where
-    F: PrimeField64 + TwoAdicField + PackedField + NeverNull + BytesCodec,
-    EF: PackedExtensionField<F> + JsonCodec + BytesCodec + Drop,
-    C: FieldChallenger<F>
-        + CanObserve<Root>
-        + CanObserve<ClearCommitment<F>>
-        + ExtensionChallenger<F, EF>
-        + GrindingChallenger<Witness = F>
-        + Clone,
+    F: StatementField + PackedField,
+    EF: StatementExtension<F> + PackedExtensionField<F>,
+    C: StatementChallenger<F, EF>,
+    P: Progress,
     requires base { WritesNoFloat F.writing }
     requires extension { WritesNoFloat EF.writing }
     ensures found { OrLacksMemory (⟦<F as FieldAnswers<EF, C>>⟧.found challenger
@@ -294,27 +265,24 @@ where
     };
     let pcs: ClearPcs<F> = ClearPcs::new();
     let config: ClearConfig<F, EF, C> = configured(pcs, bound, statement);
-    answer_with(alloc, &config, asked, statement, trace)
+    answer_with(alloc, &config, asked, statement, trace, progress)
 }
 
 /// What is found of a trace, by the scheme that is chosen.
-pub(crate) fn answer_by<F, EF, C>(
+pub(crate) fn answer_by<F, EF, C, P>(
     alloc: Global,
     scheme: SchemeChoice,
     challenger: C,
     asked: TraceTask,
     statement: &Statement<F>,
     trace: &[u8],
+    progress: &mut P,
 ) -> Report<Finding>
 where
-    F: PrimeField64 + TwoAdicField + PackedField + NeverNull + BytesCodec,
-    EF: PackedExtensionField<F> + JsonCodec + BytesCodec + Drop,
-    C: FieldChallenger<F>
-        + CanObserve<Root>
-        + CanObserve<ClearCommitment<F>>
-        + ExtensionChallenger<F, EF>
-        + GrindingChallenger<Witness = F>
-        + Clone,
+    F: StatementField + PackedField,
+    EF: StatementExtension<F> + PackedExtensionField<F>,
+    C: StatementChallenger<F, EF>,
+    P: Progress,
     requires room { HasRoomFor F.TWO_ADICITY scheme }
     requires base { WritesNoFloat F.writing }
     requires extension { WritesNoFloat EF.writing }
@@ -325,11 +293,11 @@ where
         (numbers_of scheme) (statement_view statement.now) trace.now) result.answer }
 {
     match scheme {
-        SchemeChoice::Fri(parameters) => answer_by_fri::<F, EF, C>(
-            alloc, parameters, challenger, asked, statement, trace,
+        SchemeChoice::Fri(parameters) => answer_by_fri::<F, EF, C, P>(
+            alloc, parameters, challenger, asked, statement, trace, progress,
         ),
-        SchemeChoice::Clear => {
-            answer_in_the_clear::<F, EF, C>(alloc, challenger, asked, statement, trace)
-        }
+        SchemeChoice::Clear => answer_in_the_clear::<F, EF, C, P>(
+            alloc, challenger, asked, statement, trace, progress,
+        ),
     }
 }

@@ -21,6 +21,7 @@ ghost use Rattle.stark_service.specs.Statements.{OrUnjudged};
 ghost use Rattle.stark_service.specs.TraceChecks.{OrLacksMemory};
 
 use crate::field::ServiceField;
+use crate::progress::{Progress, Silent};
 use crate::reading::{unread_statement, unread_text};
 use serde_json::Value;
 use stark_answers::{Finding, ProofForm, Report, TraceTask, Verdict};
@@ -53,8 +54,15 @@ pub trait StatementAnswers: Sized {
         ensures verdict { OrUnjudged (verdict statement.now proof.now) result.answer }
         ensures sound { result.answer ≡ Verdict.Accepted → sound statement.now proof.now };
 
-    /// What is found of a trace, as `answer_trace` says it.
-    fn answer(alloc: Global, asked: TraceTask, statement: &[u8], trace: &[u8]) -> Report<Finding>
+    /// What is found of a trace, as `answer_trace` says it; its check and its proof are told before
+    /// they begin.
+    fn answer<P: Progress>(
+        alloc: Global,
+        asked: TraceTask,
+        statement: &[u8],
+        trace: &[u8],
+        progress: &mut P,
+    ) -> Report<Finding>
         ensures found { OrLacksMemory (found asked statement.now trace.now) result.answer }
         ensures kind { IsOfTrace asked result.answer }
         ensures proof { WhereProof (proof_file statement.now trace.now) result.answer };
@@ -128,14 +136,22 @@ impl StatementAnswers for NamedFields {
 
     fn verify(alloc: Global, statement: &[u8], proof: &[u8]) -> Report<Verdict> {
         match read_configured(alloc, statement) {
-            Ok((value, configuration)) => verify_value(alloc, configuration, &value, proof),
+            Ok((value, configuration)) => verify_value(alloc, configuration, value, proof),
             Err(report) => report,
         }
     }
 
-    fn answer(alloc: Global, asked: TraceTask, statement: &[u8], trace: &[u8]) -> Report<Finding> {
+    fn answer<P: Progress>(
+        alloc: Global,
+        asked: TraceTask,
+        statement: &[u8],
+        trace: &[u8],
+        progress: &mut P,
+    ) -> Report<Finding> {
         match read_configured(alloc, statement) {
-            Ok((value, configuration)) => answer_value(alloc, configuration, asked, &value, trace),
+            Ok((value, configuration)) => {
+                answer_value(alloc, configuration, asked, value, trace, progress)
+            }
             Err(report) => report.as_finding(),
         }
     }
@@ -168,15 +184,15 @@ fn read_configured(alloc: Global, bytes: &[u8]) -> Result<(Value, Configuration)
 fn verify_value(
     alloc: Global,
     configuration: Configuration,
-    value: &Value,
+    value: Value,
     proof: &[u8],
 ) -> Report<Verdict>
     requires { IsWithinField configuration }
     ensures verdict { OrUnjudged (⟦<NamedFields as ConfiguredAnswers>⟧.verdict
-        (configuration_view configuration) (view value.now) proof.now) result.answer }
+        (configuration_view configuration) (view value) proof.now) result.answer }
     ensures sound { result.answer ≡ Verdict.Accepted
         → ⟦<NamedFields as ConfiguredAnswers>⟧.sound (configuration_view configuration)
-        (view value.now) proof.now }
+        (view value) proof.now }
 {
     let scheme = configuration.scheme;
     match configuration.field {
@@ -187,25 +203,28 @@ fn verify_value(
 }
 
 /// What is found of a trace for a statement that was read as JSON, whose configuration is this.
-fn answer_value(
+fn answer_value<P: Progress>(
     alloc: Global,
     configuration: Configuration,
     asked: TraceTask,
-    value: &Value,
+    value: Value,
     trace: &[u8],
+    progress: &mut P,
 ) -> Report<Finding>
     requires { IsWithinField configuration }
     ensures found { OrLacksMemory (⟦<NamedFields as ConfiguredAnswers>⟧.found asked
-        (configuration_view configuration) (view value.now) trace.now) result.answer }
+        (configuration_view configuration) (view value) trace.now) result.answer }
     ensures kind { IsOfTrace asked result.answer }
     ensures proof { WhereProof (⟦<NamedFields as ConfiguredAnswers>⟧.proof_file
-        (configuration_view configuration) (view value.now) trace.now) result.answer }
+        (configuration_view configuration) (view value) trace.now) result.answer }
 {
     let scheme = configuration.scheme;
     match configuration.field {
-        FieldName::BabyBear => BabyBearField::answer(alloc, scheme, asked, value, trace),
-        FieldName::KoalaBear => KoalaBearField::answer(alloc, scheme, asked, value, trace),
-        FieldName::F12289 => F12289::answer(alloc, scheme, asked, value, trace),
+        FieldName::BabyBear => BabyBearField::answer(alloc, scheme, asked, value, trace, progress),
+        FieldName::KoalaBear => KoalaBearField::answer(
+            alloc, scheme, asked, value, trace, progress,
+        ),
+        FieldName::F12289 => F12289::answer(alloc, scheme, asked, value, trace, progress),
     }
 }
 
@@ -274,7 +293,7 @@ pub fn answer_trace(
     ensures proof { WhereProof (⟦<NamedFields as StatementAnswers>⟧.proof_file
         statement.now trace.now) result.answer }
 {
-    NamedFields::answer(alloc, asked, statement, trace)
+    NamedFields::answer(alloc, asked, statement, trace, &mut Silent)
 }
 
 /// `answer_trace` where a check is asked for.
@@ -283,7 +302,7 @@ pub fn check_statement(alloc: Global, statement: &[u8], trace: &[u8]) -> Report<
         statement.now trace.now) result.answer }
     ensures kind { IsOfTrace TraceTask.Check result.answer }
 {
-    NamedFields::answer(alloc, TraceTask::Check, statement, trace)
+    NamedFields::answer(alloc, TraceTask::Check, statement, trace, &mut Silent)
 }
 
 /// `answer_trace` where a proof as JSON is asked for of a trace that satisfies its AIR.
@@ -294,7 +313,8 @@ pub fn prove_statement(alloc: Global, statement: &[u8], trace: &[u8]) -> Report<
     ensures proof { WhereProof (⟦<NamedFields as StatementAnswers>⟧.proof_file
         statement.now trace.now) result.answer }
 {
-    NamedFields::answer(alloc, TraceTask::Prove(ProofForm::Json), statement, trace)
+    let asked = TraceTask::Prove(ProofForm::Json);
+    NamedFields::answer(alloc, asked, statement, trace, &mut Silent)
 }
 
 /// What is shown of the statement that the bytes of a JSON text spell: its AIR's columns,

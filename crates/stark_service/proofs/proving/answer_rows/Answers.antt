@@ -1,21 +1,46 @@
 use Rattle.std.proofs.Common.{◌∙◌, ap}
-use Rattle.stark_service.proofs.TraceTasks.{checked_within, told_check, told_otherwise, told_satisfied, told_unchecked}
+use Rattle.stark_service.proofs.TraceTasks.{checked_within, told_check, told_otherwise, told_satisfied, told_unchecked, told_unfit}
 use Rattle.stark_service.proofs.proving.answer_rows.Goals as goal
 
-pub returns-in-Check : goal.returns-in-Check
-returns-in-Check g c =
+pub check_rows-requires-clause-fits : goal.check_rows-requires-clause-fits
+check_rows-requires-clause-fits g c = (c.requires.read.0, c.in-Ok.ensures c.requires.read.0 c.requires.read.1)
+
+pub check_rows-report-requires-clause-fits : goal.check_rows-report-requires-clause-fits
+check_rows-report-requires-clause-fits g c = (c.requires.read.0, c.in-Ok.ensures c.requires.read.0 c.requires.read.1)
+
+pub prove_rows-requires-clause-greatest : goal.prove_rows-requires-clause-greatest
+prove_rows-requires-clause-greatest g c = c.log_max_trace_height-greatest.ensures ∙ ap (λ p. g.SC.Pcs.Pcs.scheme.log_max_trace_height p) c.pcs.ensures
+
+pub prove_rows-requires-clause-fits : goal.prove_rows-requires-clause-fits
+prove_rows-requires-clause-fits g c = (c.requires.read.0, c.in-Ok.ensures c.requires.read.0 c.requires.read.1)
+
+pub prove_rows-requires-in-Satisfied-clause-greatest : goal.prove_rows-requires-in-Satisfied-clause-greatest
+prove_rows-requires-in-Satisfied-clause-greatest g c = c.log_max_trace_height-greatest.ensures ∙ ap (λ p. g.SC.Pcs.Pcs.scheme.log_max_trace_height p) c.pcs.ensures
+
+pub prove_rows-requires-in-Satisfied-clause-fits : goal.prove_rows-requires-in-Satisfied-clause-fits
+prove_rows-requires-in-Satisfied-clause-fits g c = (c.requires.read.0, c.in-Ok.ensures c.requires.read.0 c.requires.read.1)
+
+pub returns-in-Err : goal.returns-in-Err
+returns-in-Err g c = λ list has.
     let most = c.log_max_trace_height-greatest.ensures ∙ ap (λ p. g.SC.Pcs.Pcs.scheme.log_max_trace_height p) c.pcs.ensures in
-    told_check _ _ _ _ _ c.args.asked _ _ c.in-Check.is (checked_within _ _ _ _ most _ _ _ _ c.check_rows.ensures)
+    told_unfit _ _ _ _ _ c.args.asked c.log_max_trace_height-greatest.result list _ most (c.in-Err.ensures list has)
+
+pub returns-in-Check : goal.returns-in-Check
+returns-in-Check g c = λ list has.
+    let most = c.log_max_trace_height-greatest.ensures ∙ ap (λ p. g.SC.Pcs.Pcs.scheme.log_max_trace_height p) c.pcs.ensures in
+    told_check _ _ _ _ _ c.args.asked _ _ c.in-Check.is (checked_within _ _ _ _ most _ _ _ _ (c.check_rows.ensures list (c.in-Ok.ensures list has)))
 
 pub returns-in-Satisfied : goal.returns-in-Satisfied
-returns-in-Satisfied g c =
+returns-in-Satisfied g c = λ list has.
     let most = c.log_max_trace_height-greatest.ensures ∙ ap (λ p. g.SC.Pcs.Pcs.scheme.log_max_trace_height p) c.pcs.ensures in
-    told_satisfied _ _ _ _ _ c.args.asked _ _ c.in-Prove.form c.in-Prove.is c.check_rows-report.result.answer c.in-Satisfied.is (checked_within _ _ _ _ most _ _ _ _ c.check_rows-report.ensures) c.prove_rows-in-Satisfied.ensures
+    told_satisfied _ _ _ _ _ c.args.asked _ _ c.in-Prove.form c.in-Prove.is c.check_rows-report.result.answer c.in-Satisfied.is (checked_within _ _ _ _ most _ _ _ _ (c.check_rows-report.ensures list (c.in-Ok.ensures list has)))
+    (c.prove_rows-in-Satisfied.ensures list (c.in-Ok.ensures list has))
 
 pub returns-in_default : goal.returns-in_default
-returns-in_default g c =
+returns-in_default g c = λ list has.
     let most = c.log_max_trace_height-greatest.ensures ∙ ap (λ p. g.SC.Pcs.Pcs.scheme.log_max_trace_height p) c.pcs.ensures in
-    told_otherwise _ _ _ _ _ c.args.asked _ _ c.in-Prove.form c.in-Prove.is c.in_default.not-Satisfied (checked_within _ _ _ _ most _ _ _ _ c.check_rows-report.ensures)
+    told_otherwise _ _ _ _ _ c.args.asked _ _ c.in-Prove.form c.in-Prove.is c.in_default.not-Satisfied (checked_within _ _ _ _ most _ _ _ _ (c.check_rows-report.ensures list (c.in-Ok.ensures list has)))
 
 pub returns-in-ProveUnchecked : goal.returns-in-ProveUnchecked
-returns-in-ProveUnchecked g c = told_unchecked _ _ _ _ _ c.args.asked _ _ c.in-ProveUnchecked.form c.in-ProveUnchecked.is c.prove_rows.ensures
+returns-in-ProveUnchecked g c = λ list has.
+    told_unchecked _ _ _ _ _ c.args.asked _ _ c.in-ProveUnchecked.form c.in-ProveUnchecked.is (c.prove_rows.ensures list (c.in-Ok.ensures list has))

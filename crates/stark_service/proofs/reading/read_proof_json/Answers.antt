@@ -1,4 +1,4 @@
-use Rattle.stark_service.proofs.StatementSteps.{proof_refused, read_proof_as, unread_proof}
+use Rattle.stark_service.proofs.StatementSteps.{proof_refused, read_proof_as}
 use Rattle.stark_service.proofs.reading.read_proof_json.Goals as goal
 
 pub returns-in-Ok-from_json : goal.returns-in-Ok-from_json

@@ -1,4 +1,3 @@
-use Rattle.std.proofs.Common.{inr}
 use Rattle.stark_statement.specs.StatementView.{statement_view}
 use Rattle.stark_service.specs.Showing.{shown_of_showing}
 use Rattle.stark_service.proofs.showing.showing_of.Goals as goal

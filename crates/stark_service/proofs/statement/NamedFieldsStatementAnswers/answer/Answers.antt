@@ -4,16 +4,16 @@ use Rattle.stark_service.proofs.ShowSteps.{unconfigured_told, verdict_proves_non
 use Rattle.stark_service.proofs.statement.NamedFieldsStatementAnswers.answer.Goals as goal
 
 pub returns-in-Ok-clause-found : goal.returns-in-Ok-clause-found
-returns-in-Ok-clause-found c = said_of_configured (λ v. finding.Verdict v) _ _ _ _ _ c.in-Ok.ensures.0 c.in-Ok.ensures.1 c.answer_value.ensures.found
+returns-in-Ok-clause-found g c = said_of_configured (λ v. finding.Verdict v) _ _ _ _ _ c.in-Ok.ensures.0 c.in-Ok.ensures.1 c.answer_value.ensures.found
 
 pub returns-in-Ok-clause-proof : goal.returns-in-Ok-clause-proof
-returns-in-Ok-clause-proof c = λ form proof. holds_of_bytes _ _ _ _ c.in-Ok.ensures.0 c.in-Ok.ensures.1 (c.answer_value.ensures.proof form proof)
+returns-in-Ok-clause-proof g c = λ form proof. holds_of_bytes _ _ _ _ c.in-Ok.ensures.0 c.in-Ok.ensures.1 (c.answer_value.ensures.proof form proof)
 
 pub returns-in-Err-clause-found : goal.returns-in-Err-clause-found
-returns-in-Err-clause-found c = said_unconfigured (λ v. finding.Verdict v) _ _ _ _ c.as_finding.ensures c.in-Err.ensures
+returns-in-Err-clause-found g c = said_unconfigured (λ v. finding.Verdict v) _ _ _ _ c.as_finding.ensures c.in-Err.ensures
 
 pub returns-in-Err-clause-kind : goal.returns-in-Err-clause-kind
-returns-in-Err-clause-kind c = unconfigured_told _ _ c.as_finding.ensures _ _ c.in-Err.ensures
+returns-in-Err-clause-kind g c = unconfigured_told _ _ c.as_finding.ensures _ _ c.in-Err.ensures
 
 pub returns-in-Err-clause-proof : goal.returns-in-Err-clause-proof
-returns-in-Err-clause-proof c = λ form proof. absurd (verdict_proves_none _ _ c.as_finding.ensures form proof)
+returns-in-Err-clause-proof g c = λ form proof. absurd (verdict_proves_none _ _ c.as_finding.ensures form proof)

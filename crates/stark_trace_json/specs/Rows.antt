@@ -1,0 +1,50 @@
+-- The rows of a trace, as a JSON text spells them.
+use Rattle.std.specs.Prelude.{◌≡◌, ℕ, ◌==◌, Bool, true, false, List, [], ◌∷◌, length, Option, None, Some, Result, Ok, Err}
+use Rattle.std.specs.List.{flat_map, list_all}
+use Rattle.serde_json.specs.Data.{Data}
+use Rattle.stark_support.specs.Json.{◌>>=◌, array_at, json_of}
+use Rattle.stark_support.specs.declared.json.JsonFault.{JsonFault}
+use Rattle.stark_support.specs.declared.json.JsonFault.TheVariants as json
+use Rattle.stark_trace_json.specs.declared.rows.TraceRows.{TraceRows}
+use Rattle.stark_trace_json.specs.declared.rows.RowsFault.{RowsFault}
+use Rattle.stark_trace_json.specs.declared.rows.RowsFault.TheVariants.{Invalid, Uneven, OutOfMemory}
+
+-- the rows that a text spells: an array of arrays of elements
+unfoldable pub rows_in : {F : Type 0} → (Data → Option F) → List ℕ → Option (List (List F))
+rows_in element bytes = json_of bytes >>= array_at (array_at element)
+
+-- the length of the first row, or 0
+abbrev pub width_of : {F : Type 0} → List (List F) → ℕ
+width_of [] = 0
+width_of (row ∷ rows) = length row
+
+-- whether all rows are of one length
+abbrev pub are_even : {F : Type 0} → List (List F) → Bool
+are_even rows = list_all (λ row. length row == width_of rows) rows
+
+-- These are the values of the rows, one row after the other, the number of the rows and their one length.
+pub record AreRows {F : Type 0} (listed : List F) (count length_of_each : ℕ) (rows : List (List F)) : Type 0 where
+  pub values : listed ≡ flat_map (λ row. row) rows
+  pub height : count ≡ length rows
+  pub width : length_of_each ≡ width_of rows
+  pub even : are_even rows ≡ true
+
+-- What was read are these rows.
+abbrev pub HasRows : {F : Type 0} → TraceRows F → List (List F) → Type 0
+HasRows found rows = AreRows found.values.items found.height found.width rows
+
+-- The text spells rows of one length, and these are they.
+abbrev pub AreRowsIn : {F : Type 0} → TraceRows F → Option (List (List F)) → Type 0
+AreRowsIn {F} found reading = (rows : List (List F)) × (reading ≡ Some rows) × HasRows found rows
+
+-- What was read is what reading gives: rows of one length, rows of different lengths, or none; unless memory ran out.
+abbrev pub GivesRows : {F : Type 0} → Result (TraceRows F) RowsFault → Option (List (List F)) → Type 0
+GivesRows {F} (Ok found) reading = AreRowsIn found reading
+GivesRows {F} (Err Uneven) reading = (rows : List (List F)) × (reading ≡ Some rows) × (are_even rows ≡ false)
+GivesRows (Err Invalid) reading = reading ≡ None
+GivesRows (Err OutOfMemory) reading = Unit {0}
+
+-- the fault of a text that wasn't read as JSON
+abbrev pub of_json_fault : JsonFault → RowsFault
+of_json_fault json.Invalid = Invalid
+of_json_fault json.OutOfMemory = OutOfMemory

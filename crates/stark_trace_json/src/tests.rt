@@ -1,0 +1,223 @@
+//! Texts, and the rows that they spell; the answers are those of Python's `json`, where a number
+//! with a minus, a point or an exponent is no element.
+use crate::rows::{RowsFault, TraceRows, rows_from_bytes};
+use crate::table::read_table;
+use stark_fields::F12289;
+use stark_support::{JsonFault, lists_from_json, value_from_bytes};
+use std::alloc::Global;
+use std::test::Fail;
+
+// A text, in which a backslash stands before the two digits of a byte => whether it is read at once
+// or by the tree of its values | the number of rows and their length, and the values.
+const ROWS: &str = r#"
+# Empty, and rows with nothing in them.
+[] => at once | 0 x 0:
+ [ ]  => at once | 0 x 0:
+[[]] => at once | 1 x 0:
+[[],[]] => at once | 2 x 0:
+[[],[],[1]] => by the tree | uneven
+[[1],[]] => by the tree | uneven
+
+# One row and more.
+[[0]] => at once | 1 x 1: 0
+[[12288]] => at once | 1 x 1: 12288
+[[0,1],[1,1]] => at once | 2 x 2: 0 1 1 1
+[[0,1],[1,1],[1,2],[2,3]] => at once | 4 x 2: 0 1 1 1 1 2 2 3
+[[1,2,3]] => at once | 1 x 3: 1 2 3
+[[1],[2],[3],[4],[5],[6],[7]] => at once | 7 x 1: 1 2 3 4 5 6 7
+[[10,100,1000,10000],[11,101,1001,10001]] => at once | 2 x 4: 10 100 1000 10000 11 101 1001 10001
+
+# With spaces, tabs and ends of lines.
+ [ [ 0 , 1 ] , [ 1 , 1 ] ]  => at once | 2 x 2: 0 1 1 1
+[\0a  [0, 1],\0a  [1, 1]\0a]\0a => at once | 2 x 2: 0 1 1 1
+\09[\09[0\09,\091]\09]\09 => at once | 1 x 2: 0 1
+[[0,1]\0d\0a,[1,1]]\0d\0a => at once | 2 x 2: 0 1 1 1
+\0a\0a\0a[[5]] => at once | 1 x 1: 5
+[\0b[1]] => by the tree | refused
+[[1]]\0c => by the tree | refused
+
+# Rows of different lengths.
+[[1,2],[3]] => by the tree | uneven
+[[1],[2,3]] => by the tree | uneven
+[[1,2],[3,4],[5,6,7]] => by the tree | uneven
+[[1],[],[2]] => by the tree | uneven
+
+# Numbers that are no whole numbers in digits.
+[[1.5]] => by the tree | refused
+[[1.0]] => by the tree | refused
+[[1e2]] => by the tree | refused
+[[1E0]] => by the tree | refused
+[[-1]] => by the tree | refused
+[[-0]] => by the tree | refused
+[[0,-0]] => by the tree | refused
+[[+1]] => by the tree | refused
+[[01]] => by the tree | refused
+[[00]] => by the tree | refused
+[[1,007]] => by the tree | refused
+[[.5]] => by the tree | refused
+[[1.]] => by the tree | refused
+[[1_000]] => by the tree | refused
+[[0x10]] => by the tree | refused
+[[1e]] => by the tree | refused
+[[NaN]] => by the tree | refused
+[[-]] => by the tree | refused
+
+# Numbers above those of the field.
+[[12289]] => by the tree | refused
+[[1,12290]] => by the tree | refused
+[[4294967296]] => by the tree | refused
+[[18446744073709551609]] => by the tree | refused
+[[18446744073709551610]] => by the tree | refused
+[[18446744073709551615]] => by the tree | refused
+[[18446744073709551616]] => by the tree | refused
+[[18446744073709563905]] => by the tree | refused
+[[100000000000000000000]] => by the tree | refused
+[[340282366920938463463374607431768211456]] => by the tree | refused
+
+# Other values.
+[[true]] => by the tree | refused
+[[null]] => by the tree | refused
+[["1"]] => by the tree | refused
+[[1,"2"]] => by the tree | refused
+[[[1]]] => by the tree | refused
+[[1],[[2]]] => by the tree | refused
+[[{}]] => by the tree | refused
+[{}] => by the tree | refused
+{} => by the tree | refused
+[1,2] => by the tree | refused
+[1,[2]] => by the tree | refused
+[[1],2] => by the tree | refused
+5 => by the tree | refused
+null => by the tree | refused
+"[[1]]" => by the tree | refused
+{"rows":[[1]]} => by the tree | refused
+
+# No JSON.
+ => by the tree | refused
+[ => by the tree | refused
+[[ => by the tree | refused
+[[1 => by the tree | refused
+[[1] => by the tree | refused
+[[1, => by the tree | refused
+[[1,]] => by the tree | refused
+[[,1]] => by the tree | refused
+[[1],] => by the tree | refused
+[,[1]] => by the tree | refused
+[[1]], => by the tree | refused
+[[1]]] => by the tree | refused
+[[1]] [[2]] => by the tree | refused
+[[1]]5 => by the tree | refused
+[[1]]x => by the tree | refused
+[[1 2]] => by the tree | refused
+[[1][2]] => by the tree | refused
+[[1],,[2]] => by the tree | refused
+[[1,,2]] => by the tree | refused
+[[1]:[2]] => by the tree | refused
+[[1:2]] => by the tree | refused
+[[1}] => by the tree | refused
+[(1)] => by the tree | refused
+[[1]]\00 => by the tree | refused
+\00[[1]] => by the tree | refused
+[['1']] => by the tree | refused
+[[1]/**/] => by the tree | refused
+[[1 ,2],[3, 4] => by the tree | refused
+] => by the tree | refused
+[]] => by the tree | refused
+[[]],[] => by the tree | refused
+
+# Bytes that are no UTF-8, and letters that are.
+[[1]]\ff => by the tree | refused
+\ff[[1]] => by the tree | refused
+[[\ff]] => by the tree | refused
+[["\c3\a4"]] => by the tree | refused
+[["\c3"]] => by the tree | refused
+\ef\bb\bf[[1]] => by the tree | refused
+\c2\a0[[1]] => by the tree | refused
+[[\d9\a1]] => by the tree | refused
+"#;
+
+/// The bytes of a text.
+fn bytes_of(alloc: Global, text: &str) -> Result<Vec<u8>, Fail> {
+    let mut bytes = Vec::new(alloc);
+    let mut parts = text.split('\\');
+    if let Some(first) = parts.next() {
+        bytes.extend_from_slice(first.as_bytes())?;
+    }
+    for part in parts {
+        let (digits, rest) = part.split_at_checked(2).ok_or("no byte")?;
+        bytes.extend_from_slice(&hex::decode(alloc, digits)?)?;
+        bytes.extend_from_slice(rest.as_bytes())?;
+    }
+    Ok(bytes)
+}
+
+/// Rows as the answers have them.
+fn shown(alloc: Global, height: usize, width: usize, values: &[F12289]) -> Result<String, Fail> {
+    let mut text = format!(in alloc; "{height} x {width}:")?;
+    for value in values {
+        text.push_str(&format!(in alloc; " {}", value.value())?)?;
+    }
+    Ok(text)
+}
+
+/// What is read of a text.
+fn answer(alloc: Global, bytes: &[u8]) -> Result<String, Fail> {
+    match rows_from_bytes::<F12289>(alloc, bytes) {
+        Ok(
+            TraceRows {
+                values,
+                height,
+                width,
+            },
+        ) => shown(alloc, height, width, &values),
+        Err(RowsFault::Invalid) => Ok(String::from_str(alloc, "refused")?),
+        Err(RowsFault::Uneven) => Ok(String::from_str(alloc, "uneven")?),
+        Err(RowsFault::OutOfMemory) => Ok(String::from_str(alloc, "out of memory")?),
+    }
+}
+
+/// What lists of lists are, that were read of a text.
+fn answer_of_lists(
+    alloc: Global,
+    lists: Result<Vec<Vec<F12289>>, JsonFault>,
+) -> Result<String, Fail> {
+    let Ok(lists) = lists else {
+        return Ok(String::from_str(alloc, "refused")?);
+    };
+    let mut values = Vec::new(alloc);
+    let mut width = None;
+    for list in &lists {
+        if width.is_some_and(|width| width != list.len()) {
+            return Ok(String::from_str(alloc, "uneven")?);
+        }
+        width = Some(list.len());
+        values.extend_from_slice(list)?;
+    }
+    shown(alloc, lists.len(), width.unwrap_or(0), &values)
+}
+
+/// The lists of lists that a text spells, by the tree of its values.
+fn lists_of(alloc: Global, bytes: &[u8]) -> Result<Vec<Vec<F12289>>, JsonFault> {
+    lists_from_json(alloc, &value_from_bytes(alloc, bytes)?)
+}
+
+#[test]
+fn rows_are_read(rt: HostRuntime) -> Result<(), Fail> {
+    let mut count = 0usize;
+    for row in ROWS.lines() {
+        if !row.is_empty() && !row.starts_with('#') {
+            let (text, expected) = row.split_once(" => ").ok_or("a row without an answer")?;
+            let (way, expected) = expected.split_once(" | ").ok_or("no bar")?;
+            let bytes = bytes_of(rt.alloc(), text)?;
+            let found = answer(rt.alloc(), &bytes)?;
+            assert_eq!(rt; found.as_str(), expected, "{text}");
+            let old = answer_of_lists(rt.alloc(), lists_of(rt.alloc(), &bytes))?;
+            assert_eq!(rt; old.as_str(), expected, "{text}");
+            let at_once = read_table::<F12289>(rt.alloc(), &bytes)?.is_some();
+            assert_eq!(rt; at_once, way == "at once", "{text}");
+            count = count.saturating_add(1);
+        }
+    }
+    assert_eq!(rt; count, 107);
+    Ok(())
+}

@@ -6,8 +6,8 @@ use crate::texts::TEXTS;
 use crate::voskligan_texts::VOSKLIGAN_TEXTS;
 use stark_answers::{ProofForm, RunEnd, TraceTask};
 use stark_cli::statements::Verb;
-use stark_cli::{Silent, Sink, Source, samples, statements};
-use stark_service::NamedFields;
+use stark_cli::{Sink, Source, samples, statements};
+use stark_service::{NamedFields, Silent};
 use std::alloc::Global;
 
 /// A program.

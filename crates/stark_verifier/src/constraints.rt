@@ -5,9 +5,7 @@ ghost use Rattle.stark_verifier.specs.Constraints.{AreWideEnough, FailsOnRows, H
 ghost use Rattle.stark_verifier.specs.MemoryAside.{IfErrMemoryAside};
 
 use stark_air::{Air, RowWindow};
-use stark_parts::{
-    Domain, RowsAtPoint, StarkFields, StarkGenericConfig, Val, fold_constraints,
-};
+use stark_parts::{Domain, RowsAtPoint, StarkFields, StarkGenericConfig, Val, fold_constraints};
 use stark_support::{Field, PolynomialSpace};
 use stark_transcript::{InvalidProofShapeError, VerificationError};
 use std::marker::PhantomData;

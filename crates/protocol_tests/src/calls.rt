@@ -15,8 +15,8 @@ use stark_air::{Air, BaseAir, BaseAirBuilder, RowWindow, SubAirBuilder, WindowAc
 use stark_bench::{ClearCommitment, Coset};
 use stark_clear::{ClearPcs, ClearProof};
 use stark_parts::{
-    Com, PcsError, StarkChallenger, StarkConfig, StarkGenericConfig, Val, VerifierConstraintFolder,
-    fold_constraints,
+    Com, PcsError, RowsAtPoint, StarkChallenger, StarkConfig, StarkGenericConfig, Val,
+    VerifierConstraintFolder, fold_constraints,
 };
 use stark_protocol::quotient_at;
 use stark_samples::CounterAir;
@@ -28,6 +28,7 @@ use stark_support::{
 use stark_transcript::VerificationError;
 use std::alloc::{AllocError, Global};
 use std::fmt::Debug;
+use std::marker::PhantomData;
 
 /// The configuration with the scheme in the clear.
 pub type ClearConfig<F, EF, C> = StarkConfig<ClearPcs<F>, EF, C>;
@@ -52,17 +53,23 @@ where
     requires { Covers (layout_of local.now next.now fixed.now [] publics.now periodic.now)
         (A.layout air.now) }
 {
-    fold_constraints::<ClearConfig<F, EF, C>, A>(
-        air,
-        local,
+    let main = RowWindow {
+        current: local,
         next,
-        fixed,
-        &local[..0],
-        periodic,
-        publics,
-        selectors,
-        alpha,
-    )
+        of: PhantomData,
+    };
+    let preprocessed = RowWindow {
+        current: fixed,
+        next: &local[..0],
+        of: PhantomData,
+    };
+    let rows = RowsAtPoint {
+        main,
+        preprocessed,
+        periodic_values: periodic,
+        public_values: publics,
+    };
+    fold_constraints::<ClearConfig<F, EF, C>, A>(air, rows, selectors, alpha)
 }
 
 /// Whether a domain's vanishing value at a point is zero.

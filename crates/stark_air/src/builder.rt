@@ -46,16 +46,12 @@ pub trait BaseAirBuilder {
 
     /// The main columns' two rows. Err only where memory was refused.
     fn main(&self) -> Result<Self::MainWindow, AllocError>
-        ensures rows { IfOk result (ShowsMain ⟦<Self::Expr as From<Self::Var>>⟧.from_gives
-            Self.Expr.stands environment layout self.now Self.MainWindow.current_at
-            Self.MainWindow.next_at) }
+        ensures rows { IfOk result (⟦<Self as ShownRows>⟧.shows_main self.now) }
         ensures memory { OnErr result may_refuse };
 
     /// The preprocessed columns' two rows. Err only where memory was refused.
     fn preprocessed(&self) -> Result<Self::PreprocessedWindow, AllocError>
-        ensures rows { IfOk result (ShowsPreprocessed ⟦<Self::Expr as From<Self::Var>>⟧.from_gives
-            Self.Expr.stands environment layout self.now Self.PreprocessedWindow.current_at
-            Self.PreprocessedWindow.next_at) }
+        ensures rows { IfOk result (⟦<Self as ShownRows>⟧.shows_preprocessed self.now) }
         ensures memory { OnErr result may_refuse };
 
     /// The selector that isn't zero on the first row alone.
@@ -102,6 +98,25 @@ pub trait BaseAirBuilder {
     /// Asserting nothing changes nothing, one list after another is the joined list, and the row
     /// stays.
     ghost emission_laws: { EmissionLaws environment layout after };
+}
+
+/// What a builder's windows show of its row.
+pub trait ShownRows: BaseAirBuilder {
+    /// The window has both rows of the main columns.
+    ghost shows_main: { Self → Self.MainWindow → Type 0 };
+
+    /// The window has both rows of the preprocessed columns.
+    ghost shows_preprocessed: { Self → Self.PreprocessedWindow → Type 0 };
+}
+
+impl<AB: BaseAirBuilder> ShownRows for AB {
+    ghost shows_main = { λ builder. ShowsMain ⟦<AB::Expr as From<AB::Var>>⟧.from_gives
+        AB.Expr.stands AB.environment AB.layout builder AB.MainWindow.current_at
+        AB.MainWindow.next_at };
+
+    ghost shows_preprocessed = { λ builder.
+        ShowsPreprocessed ⟦<AB::Expr as From<AB::Var>>⟧.from_gives AB.Expr.stands AB.environment
+        AB.layout builder AB.PreprocessedWindow.current_at AB.PreprocessedWindow.next_at };
 }
 
 /// What an AIR is evaluated on: a builder's own calls and those that stand on them. Every

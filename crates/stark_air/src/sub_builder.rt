@@ -4,11 +4,10 @@ ghost use Rattle.std.specs.List.{slice_get};
 ghost use Rattle.std.proofs.Common.{◌∙◌};
 ghost use Rattle.stark_air.specs.Emission.{Asserted};
 ghost use Rattle.stark_air.specs.Layout.{Covers};
-ghost use Rattle.stark_air.specs.Value.{Shows};
 ghost use Rattle.stark_air.specs.Shift.{shifted_environment, shifted_layout, columns_at, shift, shift_both, shift_environment, shift_layout};
 
 use crate::air::{Air, BaseAir};
-use crate::builder::{BaseAirBuilder, ExtensionBuilder};
+use crate::builder::{BaseAirBuilder, ExtensionBuilder, ShownRows};
 use crate::window::WindowAccess;
 use stark_support::Field;
 use std::alloc::AllocError;
@@ -160,19 +159,7 @@ impl<AB: BaseAirBuilder, SubAir: BaseAir<AB::F>, T> BaseAirBuilder
 
     /// The parent's window, in the range of columns.
     fn main(&self) -> Result<SubSliced<AB::MainWindow, AB::Var>, AllocError>
-        ensures rows { IfOk result (λ w.
-            (Shows ⟦<AB::Expr as From<AB::Var>>⟧.from_gives AB.Expr.stands
-            (shifted_environment self.now.column_range.start
-            (AB.environment self.now.inner.now)).main_current
-            (shifted_layout self.now.column_range.start self.now.column_range.end
-            (AB.layout self.now.inner.now)).main
-            (columns_at w.range.start w.range.end (AB.MainWindow.current_at w.window)))
-            × (Shows ⟦<AB::Expr as From<AB::Var>>⟧.from_gives AB.Expr.stands
-            (shifted_environment self.now.column_range.start
-            (AB.environment self.now.inner.now)).main_next
-            (shifted_layout self.now.column_range.start self.now.column_range.end
-            (AB.layout self.now.inner.now)).main_next
-            (columns_at w.range.start w.range.end (AB.MainWindow.next_at w.window)))) }
+        ensures rows { IfOk result (⟦<Self as ShownRows>⟧.shows_main self.now) }
         ensures memory { OnErr result AB.may_refuse }
         ensures range { IfOk result (λ w. (w.range.start ≡ self.now.column_range.start)
             × (w.range.end ≡ self.now.column_range.end)) }

@@ -1,7 +1,7 @@
 //! Values over one row of a trace.
 ghost use Rattle.std.specs.Prelude.{◌≡◌, ⊤};
 ghost use Rattle.stark_support.specs.Ring.{difference};
-ghost use Rattle.stark_support.specs.Operations.{exact};
+ghost use Rattle.stark_support.specs.Operations.{exact, total};
 
 use stark_support::{ExactAlgebra, Field};
 use std::marker::Model;
@@ -99,6 +99,8 @@ impl<F: Field> ExactAlgebra for RowValue<F> {
     ghost algebra_ring = { F.ring };
 
     ghost embedding = { λ k. k };
+
+    ghost is_total = { total };
 
     ghost is_exact = { exact F.ring (λ k. k) };
 }

@@ -1,8 +1,8 @@
 -- The steps of a value's way through the folds, and of its pairs' openings.
-use Rattle.std.proofs.Common.{◌≡◌, ◌∙◌, ◌↔◌, Bool, IsTrue, ℕ, suc, ◌+◌, ◌-◌, ◌%◌, ◌<◌, ◌≤◌, true, false, inl, inr, ltb, cond, List, [], ◌∷◌, ◌++◌, length, get_or, drop, sym, ap, refl, subst, arith, append_assoc}
+use Rattle.std.proofs.Common.{◌≡◌, ◌∙◌, ◌↔◌, Bool, IsTrue, ℕ, suc, ◌+◌, ◌-◌, ◌%◌, ◌<◌, ◌≤◌, true, false, inl, inr, ltb, cond, List, [], ◌∷◌, ◌++◌, length, get_or, drop, map, sym, ap, refl, subst, arith, append_assoc}
 use Rattle.std.specs.List.{AllByRecursion}
 use Rattle.std.proofs.lemmas.Bool.Decides.{leb_tells}
-use Rattle.std.proofs.lemmas.List.{append-nil, drop_all}
+use Rattle.std.proofs.lemmas.List.{append-nil, drop_all, length-map}
 use Rattle.stark_support.proofs.Places.{from_place}
 use Rattle.stark_support.specs.Coset.{TwoAdicCoset}
 use Rattle.stark_support.specs.Faults.{IsFirstFault}
@@ -10,9 +10,11 @@ use Rattle.stark_folding.specs.Fold.{squared_coset}
 use Rattle.stark_folding.specs.Walk.{half_size, walked}
 use Rattle.stark_fri_proof.specs.Paths.{digests_of}
 use Rattle.stark_fri_proof.specs.declared.proof.LayerOpening.{LayerOpening}
+use Rattle.stark_fri_proof.specs.declared.proof.Phase.{Phase}
+use Rattle.stark_fri.proofs.WalkSteps.{mapped_place}
 use Rattle.stark_merkle.specs.Tree.{LeadsTo}
 use Rattle.stark_fri.specs.Parts.{FriFields}
-use Rattle.stark_fri.specs.Query.{PairLeads, PairOpening, next_at, pair_at, pairs_of, walked_by}
+use Rattle.stark_fri.specs.Query.{PairLeads, PairOpening, next_at, pair_at, pairs_of, phase_root, walked_by}
 use Rattle.stark_fri.specs.Walks.{opening_of, openings_of, pair_on, pairs_on}
 use Rattle.stark_fri.specs.declared.folds.Pair.{Pair}
 
@@ -148,3 +150,31 @@ module _ {F E : Type 0} (fields : FriFields F E) where
   pair_told hash depth root tree layer pair bytes path told is_root is_bytes is_path test =
       subst (λ t. IsTrue told ↔ LeadsTo hash t depth pair.place (fields.pair_bytes pair.low pair.high) (digests_of layer.path)) is_root
       (subst (λ t. IsTrue told ↔ LeadsTo hash root depth pair.place t (digests_of layer.path)) is_bytes (subst (λ t. IsTrue told ↔ LeadsTo hash root depth pair.place bytes t) is_path test))
+
+-- ---- a turn of the loop over the layers
+
+module _ {F E : Type 0} (fields : FriFields F E) (hash : List ℕ → List ℕ) (bits : ℕ) (phases : List (Phase F)) (layers : List (LayerOpening E)) (pairs : List (Pair E))
+    (as_many : length layers ≡ length phases) (also : length pairs ≡ length phases) (i : ℕ) (turn : i < length phases)
+    (phase : Phase F) (is_phase : phase ≡ get_or phases i phase) (layer : LayerOpening E) (is_layer : layer ≡ get_or layers i layer) (pair : Pair E) (is_pair : pair ≡ get_or pairs i pair)
+    (root bytes : List ℕ) (path : List (List ℕ)) (is_root : root ≡ phase_root (get_or phases i phase)) (is_bytes : bytes ≡ fields.pair_bytes pair.low pair.high)
+    (is_path : path ≡ digests_of (get_or layers i layer).path) (told : Bool) (test : IsTrue told ↔ LeadsTo hash root (bits - (i + 1)) pair.place bytes path) where
+  in_trees : i < length (map phase_root phases)
+  in_trees = omega (arith, turn, length-map phases phase_root)
+
+  of_pair : IsTrue told ↔ PairLeads hash (opening_of fields (bits - (i + 1)) (phase_root phase) layer pair)
+  of_pair = pair_told fields hash (bits - (i + 1)) root (phase_root phase) layer pair bytes path told (is_root ∙ ap phase_root (sym is_phase)) is_bytes (is_path ∙ ap (λ l. digests_of l.path) (sym is_layer)) test
+
+  pub layer_passed : IsTrue told → OpeningsSoFar fields (PairLeads hash) bits (map phase_root phases) layers pairs i × OpeningsPassed fields (PairLeads hash) bits (map phase_root phases) layers pairs i
+      → OpeningsSoFar fields (PairLeads hash) bits (map phase_root phases) layers pairs (i + 1) × OpeningsPassed fields (PairLeads hash) bits (map phase_root phases) layers pairs (i + 1)
+  layer_passed leads so_far = (
+    openings_step fields (PairLeads hash) bits (map phase_root phases) layers pairs i (phase_root phase) layer pair in_trees (mapped_place phase_root phases i phase turn is_phase)
+        (omega arith) is_layer (omega arith) is_pair (of_pair.0 leads) so_far.0,
+    openings_passed fields (PairLeads hash) bits (map phase_root phases) layers pairs i (phase_root phase) layer pair in_trees (mapped_place phase_root phases i phase turn is_phase)
+        (omega arith) is_layer (omega arith) is_pair (of_pair.0 leads) so_far.1,
+  )
+
+  pub layer_stops : (IsTrue told → ⊥) → OpeningsPassed fields (PairLeads hash) bits (map phase_root phases) layers pairs i
+      → IsFirstFault (PairLeads hash) (openings_of fields bits (map phase_root phases) layers pairs) i
+  layer_stops never so_far =
+      openings_stop fields (PairLeads hash) bits (map phase_root phases) layers pairs i (phase_root phase) layer pair in_trees (mapped_place phase_root phases i phase turn is_phase)
+      (omega arith) is_layer (omega arith) is_pair (λ leads. never (of_pair.1 leads)) so_far

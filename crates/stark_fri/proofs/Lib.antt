@@ -3,9 +3,11 @@ pub mod ClaimSteps
 pub mod FoldSteps
 pub mod FourSteps
 pub mod ListSteps
+pub mod Members
 pub mod ObserveSteps
 pub mod PlaySteps
 pub mod PointSteps
+pub mod QuerySteps
 pub mod ReplaySteps
 pub mod ViewSteps
 pub mod WalkSteps

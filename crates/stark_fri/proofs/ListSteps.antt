@@ -1,7 +1,7 @@
 -- Lists that are made in turn, pairs of lists, and the first fault of a list.
 use Rattle.std.proofs.Common.{◌≡◌, ◌∙◌, ℕ, suc, ◌+◌, ◌-◌, ◌<◌, ◌≤◌, min, List, [], ◌∷◌, ◌++◌, length, get_or, drop, map, sym, ap, refl, subst, arith, append_assoc}
 use Rattle.std.specs.List.{AllByRecursion, flat_map, zip}
-use Rattle.std.proofs.lemmas.List.{append-nil, drop_all}
+use Rattle.std.proofs.lemmas.List.{append-nil, drop_all, get_or-map, length-map}
 use Rattle.std.proofs.lemmas.List.Concat.{flat_map-cons}
 use Rattle.std.proofs.lemmas.Slice.Zip.{get_or-zip, length-zip}
 use Rattle.stark_support.proofs.Places.{from_place}
@@ -60,6 +60,22 @@ module _ {A B : Type 0} (xs : List A) (ys : List B) where
 
   pub zip_place : (i : ℕ) (x : A) (y : B) → i < length xs → i < length ys → x ≡ get_or xs i x → y ≡ get_or ys i y → (x, y) ≡ get_or (zip xs ys) i (x, y)
   zip_place i x y h k is_x is_y = ap (λ t. (t, y)) is_x ∙ ap (λ t. (get_or xs i x, t)) is_y ∙ sym (get_or-zip xs ys i (x, y) h k)
+
+-- What stands at a place of both, where a loop runs as far as the shorter one.
+module _ {A B : Type 0} (xs : List A) (ys : List B) (i end : ℕ) (x : A) (y : B) (turn : i < end) (is_x : x ≡ get_or xs i x) (is_y : y ≡ get_or ys i y) where
+  pub zip_at : (n m : ℕ) → end ≡ min n m → n ≡ length xs → m ≡ length ys → (i < length (zip xs ys)) × ((x, y) ≡ get_or (zip xs ys) i (x, y))
+  zip_at n m is_end is_n is_m =
+      let in_xs : i < length xs = omega (arith, turn, is_end, is_n) in
+      let in_ys : i < length ys = omega (arith, turn, is_end, is_m) in
+      (zip_within xs ys i (omega (arith, in_xs, in_ys)), zip_place xs ys i x y in_xs in_ys is_x is_y)
+
+  -- The same where one is mapped.
+  pub zip_mapped : {C : Type 0} (f : A → C) → end ≡ min (length xs) (length ys) → (i < length (zip (map f xs) ys)) × ((f x, y) ≡ get_or (zip (map f xs) ys) i (f x, y))
+  zip_mapped f is_end =
+      let in_xs : i < length xs = omega (arith, turn, is_end) in
+      let in_ys : i < length ys = omega (arith, turn, is_end) in
+      let in_map : i < length (map f xs) = omega (arith, in_xs, length-map xs f) in
+      (zip_within (map f xs) ys i (omega (arith, in_map, in_ys)), zip_place (map f xs) ys i (f x) y in_map in_ys (ap f is_x ∙ sym (get_or-map f xs i x (f x) in_xs)) is_y)
 
 -- ---- the first fault, and why
 

@@ -8,9 +8,11 @@ use Rattle.stark_air.specs.Layout.{Layout, Covers}
 use Rattle.stark_air.specs.Value.{Environment, value, constraint_value, constraint_values}
 use Rattle.stark_air.specs.Emission.{EmissionLaws, Asserts}
 use Rattle.stark_air.specs.Rows.{environment_of, layout_of}
-use Rattle.stark_parts.specs.Folded.{accumulated, accumulated_append}
+use Rattle.stark_parts.specs.Folded.{accumulated, accumulated_append, folded}
+use Rattle.stark_parts.specs.declared.folder.RowsAtPoint.{RowsAtPoint}
 use Rattle.stark_parts.specs.declared.folder.VerifierConstraintFolder.{VerifierConstraintFolder}
 use Rattle.stark_support.specs.FieldPair.{FieldsOps}
+use Rattle.stark_support.specs.declared.domain.LagrangeSelectors.{LagrangeSelectors}
 
 -- The folder's types, in its declared order: configuration, scheme, extension, challenger, domain, commitment, prover's data, opening
 -- proof, the verifier's and the prover's error, and base field. F is the base field and E the extension.
@@ -58,7 +60,18 @@ abbrev pub FoldsIn : {S P E C D K T A X Y F : Type 0} → FieldsOps F E → Oper
 FoldsIn fields o stands constraint s x t =
     Asserts o stands (folder_environment fields.base fields.ring fields.embed) (after_folding fields.base fields.ring fields.embed) constraint s x t
 
--- An AIR's layout is covered by two rows of a trace, two preprocessed ones, public and periodic values.
-abbrev pub CoversRows : {F E : Type 0} → List E → List E → List E → List E → List F → List E → Layout → Type 0
-CoversRows current next preprocessed_current preprocessed_next publics periodic layout =
-    Covers (layout_of current next preprocessed_current preprocessed_next publics periodic) layout
+module _ {F E : Type 0} where
+  -- An AIR's layout is covered by two rows of main columns, two preprocessed ones, public and periodic values.
+  abbrev pub CoversRows : RowsAtPoint F E → Layout → Type 0
+  CoversRows rows layout = Covers (layout_of rows.main.current.now rows.main.next.now rows.preprocessed.current.now rows.preprocessed.next.now rows.public_values.now rows.periodic_values.now) layout
+
+  -- The values that an AIR's constraints read there; past the ends of the rows stands zero.
+  abbrev pub rows_environment : FieldsOps F E → RowsAtPoint F E → LagrangeSelectors E → Environment E
+  rows_environment fields rows selectors =
+      environment_of (ring_operations fields.ring fields.embed) fields.base.zero fields.ring.zero rows.main.current.now rows.main.next.now rows.preprocessed.current.now rows.preprocessed.next.now
+      rows.public_values.now rows.periodic_values.now selectors.is_first_row selectors.is_last_row selectors.is_transition
+
+  -- The sum over j below n of alpha ^ (n - 1 - j) times the value there of constraint j of n.
+  abbrev pub IsFoldedSum : FieldsOps F E → List (Constraint F) → RowsAtPoint F E → LagrangeSelectors E → E → E → Type 0
+  IsFoldedSum fields cs rows selectors alpha sum =
+      sum ≡ folded fields.ring alpha (constraint_values (ring_operations fields.ring fields.embed) (rows_environment fields rows selectors) cs)

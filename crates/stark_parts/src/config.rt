@@ -1,10 +1,11 @@
 //! What a proof is made with: a commitment scheme, an extension field, a challenger.
 ghost use Rattle.std.specs.Prelude.{◌≡◌, ◌+◌, IfOk};
+ghost use Rattle.stark_support.specs.FieldPair.{FieldsOps};
 ghost use Rattle.stark_support.specs.Scheme.{zk_bits};
 ghost use Rattle.stark_parts.specs.Config.{ConfigOps};
 
 use stark_support::{
-    CanObserve, DomainVal, ExtensionChallenger, ExtensionField, FieldChallenger,
+    CanObserve, DomainVal, ExtensionChallenger, ExtensionField, FieldChallenger, FieldPair,
     PackedExtensionField, PackedField, Pcs, PolynomialSpace, PrimeField64, UnivariateStarkPcs,
 };
 use std::alloc::{AllocError, Global};
@@ -88,6 +89,15 @@ pub trait StarkGenericConfig: Clone {
     /// How many bits of work are asked for before alpha.
     fn constraint_proof_of_work_bits(&self) -> usize
         ensures { result ≡ config.constraint_bits self.now };
+}
+
+/// The operations of a configuration's two fields, in one record.
+pub trait StarkFields: StarkGenericConfig {
+    ghost fields: { FieldsOps Self.Pcs.Domain.Val Self.Challenge };
+}
+
+impl<SC: StarkGenericConfig> StarkFields for SC {
+    ghost fields = { ⟦<SC::Challenge as FieldPair<Val<SC>>>⟧.fields };
 }
 
 /// A scheme, a challenger in its first state and three counts of bits of work.

@@ -1,18 +1,15 @@
 //! The verifier's folder: it carries on one accumulator.
 ghost use Rattle.std.specs.Prelude.{◌≡◌, [], IfOk, OnErr};
 ghost use Rattle.std.proofs.Common.{sym, subst};
-ghost use Rattle.stark_air.specs.Rows.{environment_of};
 ghost use Rattle.stark_air.specs.Tree.{base, extension};
-ghost use Rattle.stark_air.specs.Value.{constraint_values, value};
-ghost use Rattle.stark_support.specs.Operations.{ring_operations};
-ghost use Rattle.stark_parts.specs.Folded.{folded};
-ghost use Rattle.stark_parts.specs.Folding.{folder_environment, folder_layout, after_folding, folding_laws, CoversRows, FoldsIn, HasSameLayout, ShowsSameRow};
+ghost use Rattle.stark_air.specs.Value.{value};
+ghost use Rattle.stark_parts.specs.Folding.{folder_environment, folder_layout, after_folding, folding_laws, CoversRows, FoldsIn, HasSameLayout, IsFoldedSum, ShowsSameRow};
 
-use crate::config::{StarkGenericConfig, Val};
+use crate::config::{StarkFields, StarkGenericConfig, Val};
 use stark_air::{Air, BaseAirBuilder, ExtensionBuilder, RowWindow};
 use stark_support::{
-    ExtensionField, Field, FieldPair, LagrangeSelectors, PolynomialSpace, RowMajorMatrixView,
-    VerticalPair, ViewPair,
+    ExtensionField, Field, LagrangeSelectors, PolynomialSpace, RowMajorMatrixView, VerticalPair,
+    ViewPair,
 };
 use std::alloc::AllocError;
 
@@ -105,7 +102,7 @@ impl<'a, SC: StarkGenericConfig> BaseAirBuilder for VerifierConstraintFolder<'a,
         ensures same_layout { HasSameLayout SC.Pcs.Domain.Val.ring SC.Challenge.ring
             SC.Challenge.embed self.old self.new }
         ensures asserted { IfOk result (λ _.
-            FoldsIn ⟦<SC::Challenge as FieldPair<Val<SC>>>⟧.fields SC.Challenge.operations
+            FoldsIn ⟦<SC as StarkFields>⟧.fields SC.Challenge.operations
             SC.Challenge.stands base self.old x self.new) }
         ensures refused { OnErr result (after_folding SC.Pcs.Domain.Val.ring SC.Challenge.ring
             SC.Challenge.embed self.old [] self.new) }
@@ -139,7 +136,7 @@ impl<'a, SC: StarkGenericConfig> ExtensionBuilder for VerifierConstraintFolder<'
         ensures same_layout { HasSameLayout SC.Pcs.Domain.Val.ring SC.Challenge.ring
             SC.Challenge.embed self.old self.new }
         ensures asserted { IfOk result (λ _.
-            FoldsIn ⟦<SC::Challenge as FieldPair<Val<SC>>>⟧.fields SC.Challenge.operations
+            FoldsIn ⟦<SC as StarkFields>⟧.fields SC.Challenge.operations
             SC.Challenge.stands extension self.old x self.new) }
         ensures refused { OnErr result (after_folding SC.Pcs.Domain.Val.ring SC.Challenge.ring
             SC.Challenge.embed self.old [] self.new) }
@@ -151,45 +148,44 @@ impl<'a, SC: StarkGenericConfig> ExtensionBuilder for VerifierConstraintFolder<'
     }
 }
 
+/// What an AIR's constraints read at a point: two rows of the main columns and two of the
+/// preprocessed ones, which are empty where there are none, the periodic columns' values there, and
+/// the public values.
+#[derive(Clone, Copy, Debug)]
+pub struct RowsAtPoint<'a, F, EF> {
+    pub main: RowWindow<'a, EF>,
+    pub preprocessed: RowWindow<'a, EF>,
+    pub periodic_values: &'a [EF],
+    pub public_values: &'a [F],
+}
+
 /// The folded sum of an AIR's constraints over two opened rows, `alpha^(n - 1 - j)` times
 /// constraint `j` for each of the `n`. The rows and values have at least the lengths that the AIR
-/// declares; a trace without preprocessed columns has empty rows of them. The folder takes no
-/// memory: Err only where the AIR's `eval` takes some of its own, and was refused it.
+/// declares. The folder takes no memory: Err only where the AIR's `eval` takes some of its own, and
+/// was refused it.
 pub fn fold_constraints<SC: StarkGenericConfig, A: Air<Val<SC>>>(
     air: &A,
-    main_current: &[SC::Challenge],
-    main_next: &[SC::Challenge],
-    preprocessed_current: &[SC::Challenge],
-    preprocessed_next: &[SC::Challenge],
-    periodic_values: &[SC::Challenge],
-    public_values: &[Val<SC>],
+    rows: RowsAtPoint<'_, Val<SC>, SC::Challenge>,
     selectors: LagrangeSelectors<SC::Challenge>,
     alpha: SC::Challenge,
 ) -> Result<SC::Challenge, AllocError>
-    requires { CoversRows main_current.now main_next.now preprocessed_current.now
-        preprocessed_next.now public_values.now periodic_values.now (A.layout air.now) }
-    ensures folded { IfOk result (λ sum. sum
-        ≡ folded SC.Challenge.ring alpha (constraint_values
-        (ring_operations SC.Challenge.ring SC.Challenge.embed)
-        (environment_of (ring_operations SC.Challenge.ring SC.Challenge.embed)
-        SC.Pcs.Domain.Val.ring.zero SC.Challenge.ring.zero main_current.now main_next.now
-        preprocessed_current.now preprocessed_next.now public_values.now periodic_values.now
-        selectors.is_first_row selectors.is_last_row selectors.is_transition)
-        (A.constraints air.now))) }
+    requires { CoversRows rows (A.layout air.now) }
+    ensures folded { IfOk result (IsFoldedSum ⟦<SC as StarkFields>⟧.fields (A.constraints air.now)
+        rows.entry selectors alpha) }
     ensures memory { OnErr result (A.takes_memory air.now) }
 {
     let mut folder: VerifierConstraintFolder<'_, SC> = VerifierConstraintFolder {
         main: VerticalPair {
-            top: RowMajorMatrixView::new_row(main_current),
-            bottom: RowMajorMatrixView::new_row(main_next),
+            top: RowMajorMatrixView::new_row(rows.main.current),
+            bottom: RowMajorMatrixView::new_row(rows.main.next),
         },
         preprocessed: VerticalPair {
-            top: RowMajorMatrixView::new_row(preprocessed_current),
-            bottom: RowMajorMatrixView::new_row(preprocessed_next),
+            top: RowMajorMatrixView::new_row(rows.preprocessed.current),
+            bottom: RowMajorMatrixView::new_row(rows.preprocessed.next),
         },
-        preprocessed_window: RowWindow::from_two_rows(preprocessed_current, preprocessed_next),
-        periodic_values,
-        public_values,
+        preprocessed_window: rows.preprocessed,
+        periodic_values: rows.periodic_values,
+        public_values: rows.public_values,
         is_first_row: selectors.is_first_row,
         is_last_row: selectors.is_last_row,
         is_transition: selectors.is_transition,

@@ -9,10 +9,10 @@ mod symbolic;
 
 pub use challenger::StarkChallenger;
 pub use config::{
-    Com, Domain, PackedChallenge, PackedVal, PcsError, PcsProverError, StarkConfig,
+    Com, Domain, PackedChallenge, PackedVal, PcsError, PcsProverError, StarkConfig, StarkFields,
     StarkGenericConfig, StarkOpeningLayout, Val,
 };
-pub use folder::{VerifierConstraintFolder, fold_constraints};
+pub use folder::{RowsAtPoint, VerifierConstraintFolder, fold_constraints};
 pub use symbolic::{
     get_log_num_quotient_chunks, get_log_num_quotient_chunks_for_degree,
     get_log_num_quotient_chunks_for_domain, get_log_quotient_degree_extension,

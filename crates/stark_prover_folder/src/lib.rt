@@ -5,5 +5,5 @@
 mod prover_folder;
 mod vectorized_folder;
 
-pub use prover_folder::ProverConstraintFolder;
+pub use prover_folder::{FolderSums, ProverConstraintFolder, StarkPacking};
 pub use vectorized_folder::{VectorizedChallenge, VectorizedConstraintFolder, VectorizedVal};

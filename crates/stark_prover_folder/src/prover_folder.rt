@@ -4,16 +4,52 @@ ghost use Rattle.std.specs.Vec.{vec_items};
 ghost use Rattle.std.proofs.Common.{ap, ◌∙◌};
 ghost use Rattle.stark_air.specs.Rows.{environment_of, layout_of};
 ghost use Rattle.stark_air.specs.CollectingBoth.{CollectedBoth, collecting_both_laws};
-ghost use Rattle.stark_prover_folder.specs.Finalized.{base_sums, finalized, lane_values, sum_of_products};
+ghost use Rattle.stark_prover_folder.specs.Finalized.{AddsBaseSums, IsFinalized, PackingOps, SumsProducts};
 ghost use Rattle.stark_prover_folder.specs.PackedFacts.{embedded_product};
 
 use stark_air::{BaseAirBuilder, ExtensionBuilder, RowWindow};
-use stark_parts::{PackedChallenge, PackedVal, StarkGenericConfig, Val};
+use stark_parts::{PackedChallenge, PackedVal, StarkFields, StarkGenericConfig, Val};
 use stark_support::{
     ExtensionField, Field, PackedExtensionField, PackedField, PackedValue, RowMajorMatrixView,
     packed_linear_combination,
 };
 use std::alloc::AllocError;
+
+/// How a configuration's elements are packed, in one record.
+pub trait StarkPacking: StarkGenericConfig
+where
+    Val<Self>: PackedField,
+    Self::Challenge: PackedExtensionField<Val<Self>>,
+{
+    ghost packing: { PackingOps Self.Pcs.Domain.Val Self.Challenge Self.Pcs.Domain.Val.Packing
+        Self.Challenge.ExtensionPacking };
+}
+
+impl<SC: StarkGenericConfig> StarkPacking for SC
+where
+    Val<SC>: PackedField,
+    SC::Challenge: PackedExtensionField<Val<SC>>,
+{
+    ghost packing = { record {
+      fields = ⟦<SC as StarkFields>⟧.fields;
+      coordinates = SC.Challenge.coordinates;
+      zero = SC.Pcs.Domain.Val.ZERO;
+      zero_above = SC.Challenge.ZERO;
+      operations = SC.Pcs.Domain.Val.Packing.operations;
+      lanes = SC.Pcs.Domain.Val.Packing.lanes;
+      lanes_above = SC.Challenge.ExtensionPacking.lanes;
+      width = SC.Challenge.ExtensionPacking.WIDTH;
+    } };
+}
+
+/// What a folder sums its kept values up to.
+pub trait FolderSums {
+    /// The packed values of the extension.
+    ghost Sum: { Type 0 };
+
+    /// In each lane it is the sum of the kept values there, each times its power of alpha.
+    ghost is_sum: { Self → Sum → Type 0 };
+}
 
 /// Evaluates an AIR's constraints at packed rows, and keeps their values: those of base constraints
 /// and those of constraints over the extension, each in their order.
@@ -177,6 +213,18 @@ where
     }
 }
 
+impl<SC: StarkGenericConfig> FolderSums for ProverConstraintFolder<'_, SC>
+where
+    Val<SC>: PackedField,
+    SC::Challenge: PackedExtensionField<Val<SC>>,
+{
+    ghost Sum = { SC.Challenge.ExtensionPacking };
+
+    ghost is_sum = { λ folder. IsFinalized ⟦<SC as StarkPacking>⟧.packing
+        folder.base_alpha_powers.now folder.ext_alpha_powers.now folder.base_constraints.items
+        folder.ext_constraints.items };
+}
+
 impl<SC: StarkGenericConfig> ProverConstraintFolder<'_, SC>
 where
     Val<SC>: PackedField,
@@ -191,14 +239,7 @@ where
             self.now.base_alpha_powers.now }
         requires powers { length self.now.ext_constraints.items
             ≡ length self.now.ext_alpha_powers.now }
-        ensures { (i : ℕ) → i < SC.Challenge.ExtensionPacking.WIDTH
-            → slice_index_or (SC.Challenge.ExtensionPacking.lanes result) i SC.Challenge.ring.zero
-            ≡ finalized SC.Pcs.Domain.Val.ring SC.Pcs.Domain.Val.ZERO SC.Challenge.ring
-            SC.Challenge.ZERO SC.Challenge.embed SC.Challenge.basis
-            (map vec_items self.now.base_alpha_powers.now) self.now.ext_alpha_powers.now
-            (lane_values SC.Pcs.Domain.Val.Packing.lanes i SC.Pcs.Domain.Val.ring.zero
-            self.now.base_constraints.items) (lane_values SC.Challenge.ExtensionPacking.lanes i
-            SC.Challenge.ring.zero self.now.ext_constraints.items) }
+        ensures { ⟦<Self as FolderSums>⟧.is_sum self.now result }
     {
         let sum = packed_sum::<SC::Challenge, PackedChallenge<SC>>(
             self.ext_constraints.as_slice(),
@@ -224,12 +265,7 @@ where
     SC::Challenge: PackedExtensionField<Val<SC>>,
     requires dimension { length powers.now ≡ SC.Challenge.DIMENSION }
     requires rows { All (λ row. length row.items ≡ length values.now) powers.now }
-    ensures { (i : ℕ) → i < SC.Challenge.ExtensionPacking.WIDTH
-        → slice_index_or (SC.Challenge.ExtensionPacking.lanes result) i SC.Challenge.ring.zero
-        ≡ SC.Challenge.ring.add (base_sums SC.Pcs.Domain.Val.ring SC.Pcs.Domain.Val.ZERO
-        SC.Challenge.ring SC.Challenge.embed SC.Challenge.basis (map vec_items powers.now)
-        (lane_values SC.Pcs.Domain.Val.Packing.lanes i SC.Pcs.Domain.Val.ring.zero values.now))
-        (slice_index_or (SC.Challenge.ExtensionPacking.lanes rest) i SC.Challenge.ring.zero) }
+    ensures { AddsBaseSums ⟦<SC as StarkPacking>⟧.packing powers.now values.now rest result }
 {
     let mut sum = rest;
     let mut index = SC::Challenge::DIMENSION;
@@ -244,9 +280,8 @@ where
 /// The sum of the values, each times its coefficient, lane by lane.
 pub(crate) fn packed_sum<F: Field, P: PackedValue<Value = F>>(values: &[P], coefficients: &[F]) -> P
     requires { length values.now ≡ length coefficients.now }
-    ensures { (i : ℕ) → i < P.WIDTH → slice_index_or (P.lanes result) i F.ring.zero
-        ≡ sum_of_products P.lane_ring F.ZERO (lane_values P.lanes i F.ring.zero values.now)
-        coefficients.now }
+    ensures { SumsProducts P.lane_ring F.ZERO F.ring.zero P.lanes P.WIDTH values.now
+        coefficients.now result }
 {
     packed_linear_combination::<F, P>(values, coefficients)
 }

@@ -3,12 +3,14 @@ ghost use Rattle.std.specs.Prelude.{◌≡◌, ◌<◌, ◌+◌, ◌-◌, ◌*�
 ghost use Rattle.std.specs.Vec.{vec_items};
 ghost use Rattle.std.proofs.Common.{ap, ◌∙◌};
 ghost use Rattle.stark_support.specs.Pairs.{both_lanes, both_operations, pack_at, pair_binary, pair_is_lane_by_lane, pair_parts};
+ghost use Rattle.stark_support.specs.declared.vectorized.OfExtension.{OfExtension};
+ghost use Rattle.stark_support.specs.declared.vectorized.PackedPair.{PackedPair};
 ghost use Rattle.stark_air.specs.Rows.{environment_of, layout_of};
 ghost use Rattle.stark_air.specs.CollectingBoth.{CollectedBoth, collecting_both_laws};
-ghost use Rattle.stark_prover_folder.specs.Finalized.{finalized, lane_values};
+ghost use Rattle.stark_prover_folder.specs.Finalized.{IsFinalized, in_pairs};
 ghost use Rattle.stark_prover_folder.specs.PackedFacts.{embedded_product};
 
-use crate::prover_folder::{packed_sum, plus_base_sums};
+use crate::prover_folder::{FolderSums, StarkPacking, packed_sum, plus_base_sums};
 use stark_air::{BaseAirBuilder, ExtensionBuilder, RowWindow};
 use stark_parts::{PackedVal, StarkGenericConfig, Val};
 use stark_support::{
@@ -209,6 +211,18 @@ fn packs_at<F, P: Copy, Level>(
     Ok(())
 }
 
+impl<SC: StarkGenericConfig> FolderSums for VectorizedConstraintFolder<'_, SC, 2>
+where
+    Val<SC>: PackedField,
+    SC::Challenge: PackedExtensionField<Val<SC>>,
+{
+    ghost Sum = { PackedPair SC.Challenge SC.Challenge.ExtensionPacking OfExtension 2 };
+
+    ghost is_sum = { λ folder. IsFinalized (in_pairs ⟦<SC as StarkPacking>⟧.packing)
+        folder.base_alpha_powers.now folder.ext_alpha_powers.now folder.base_constraints.items
+        folder.ext_constraints.items };
+}
+
 impl<SC: StarkGenericConfig> VectorizedConstraintFolder<'_, SC, 2>
 where
     Val<SC>: PackedField,
@@ -227,16 +241,7 @@ where
             self.now.base_alpha_powers.now }
         requires powers { length self.now.ext_constraints.items
             ≡ length self.now.ext_alpha_powers.now }
-        ensures { IfOk result (λ packed. (i : ℕ) → i < 2 * SC.Challenge.ExtensionPacking.WIDTH
-            → slice_index_or (both_lanes SC.Challenge.ExtensionPacking.lanes packed) i
-            SC.Challenge.ring.zero
-            ≡ finalized SC.Pcs.Domain.Val.ring SC.Pcs.Domain.Val.ZERO SC.Challenge.ring
-            SC.Challenge.ZERO SC.Challenge.embed SC.Challenge.basis
-            (map vec_items self.now.base_alpha_powers.now) self.now.ext_alpha_powers.now
-            (lane_values (both_lanes SC.Pcs.Domain.Val.Packing.lanes) i SC.Pcs.Domain.Val.ring.zero
-            self.now.base_constraints.items)
-            (lane_values (both_lanes SC.Challenge.ExtensionPacking.lanes) i
-            SC.Challenge.ring.zero self.now.ext_constraints.items)) }
+        ensures { IfOk result (⟦<Self as FolderSums>⟧.is_sum self.now) }
     {
         let sum = packed_sum::<SC::Challenge, VectorizedChallenge<SC, 2>>(
             self.ext_constraints.as_slice(),

@@ -2,6 +2,7 @@
 use Rattle.std.specs.Prelude.{◌≡◌, ◌⊎◌, ℕ, ◌+◌, ◌-◌, ◌*◌, ◌^◌, ◌≤◌, List, length, Option}
 use Rattle.stark_support.specs.Logarithm.{IsCeilingOfLog}
 use Rattle.stark_support.specs.Polynomial.{IsWithoutRepeats, HoldsOfAtMost}
+use Rattle.stark_support.specs.TwoAdic.{HasOrder}
 use Rattle.stark_support.specs.RecompositionPolynomial.{ChunksFit}
 use Rattle.stark_air.specs.Tree.{Constraint}
 use Rattle.stark_parts.specs.Sizing.{constraint_degree, quotient_multiple}
@@ -36,6 +37,14 @@ pub record FewBadDraws {F E : Type 0} (i : AirInstance F E) (m : ℕ) (chunk_cou
       → (shifts : List E) (answer : E → List (List (List E))) → length shifts ≡ chunk_count → ((a : E) → ChunksFit m (answer a))
       → (decide : (a z : E) → IsBalanced i columns shifts (answer a) a z ⊎ (IsBalanced i columns shifts (answer a) a z → ⊥))
       → (alphas zetas : List E) → IsWithoutRepeats alphas → IsWithoutRepeats zetas → count_pairs decide alphas zetas ≤ na * length zetas + nz * length alphas
+
+-- Two numbers bound the bad draws of an AIR over the trace's rows, a subgroup of any generator, whatever chunks its quotient is cut
+-- into. The committed columns have 2 ^ degree_bits coefficients.
+abbrev pub BoundBadDraws : {F E : Type 0} → (F → ℕ → AirInstance F E) → Option ℕ → ℕ → ℕ → ℕ × ℕ → Type 0
+BoundBadDraws {F = F} air hint degree_bits is_zk bounds = (generator : F) (chunks : ℕ)
+    → HasOrder (air generator (degree_bits - is_zk)).base generator (2 ^ (degree_bits - is_zk))
+    → IsChunkCount 0 (air generator (degree_bits - is_zk)).constraints hint is_zk chunks
+    → FewBadDraws (air generator (degree_bits - is_zk)) (2 ^ degree_bits) chunks bounds.0 bounds.1
 
 -- ---- under an opening's shape, which says whether the quotient is masked
 

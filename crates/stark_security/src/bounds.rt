@@ -1,17 +1,38 @@
 //! How many of a verifier's draws can be bad.
 ghost use Rattle.std.specs.Prelude.{◌≡◌, ◌+◌, ◌-◌, ◌^◌, ◌≤◌, ℕ, List, map, max, IfOk, IfSome};
-ghost use Rattle.stark_support.specs.TwoAdic.{HasOrder};
 ghost use Rattle.stark_air.specs.Layout.{Covers};
 ghost use Rattle.stark_air.specs.SymbolicLayout.{symbolic_layout};
 ghost use Rattle.stark_symbolic.specs.Fitting.{fitting};
+ghost use Rattle.stark_security.specs.ConstraintPolynomial.{AirInstance};
 ghost use Rattle.stark_security.specs.DegreeBound.{bound_leaves};
-ghost use Rattle.stark_security.specs.ErrorBound.{IsChunkCount, IsErrorBound, FewBadDraws};
+ghost use Rattle.stark_security.specs.ErrorBound.{BoundBadDraws, IsErrorBound};
 
 use stark_air::{Air, AirLayout};
 use stark_parts::get_log_num_quotient_chunks_for_degree;
 use stark_support::{ExtensionField, Field, checked_log_size_sum};
 use stark_symbolic::{LeafDegrees, greatest_degrees};
 use std::alloc::{AllocError, Global};
+
+/// An AIR over two fields and a subgroup, given by its generator and the logarithm of its size, in
+/// one record.
+pub trait AirOver<F, EF> {
+    ghost instance: { Self → F → ℕ → AirInstance F EF };
+}
+
+impl<F: Field, EF: ExtensionField<F>, A: Air<F>> AirOver<F, EF> for A {
+    ghost instance = { λ air generator log_size. record {
+      base = F.ring;
+      base_inverse = F.inverse_of;
+      ring = EF.ring;
+      inverse = EF.inverse_of;
+      embed = EF.embed;
+      basis = EF.basis;
+      generator = generator;
+      log_size = log_size;
+      constraints = A.constraints air;
+      periodic = A.periodic_columns air;
+    } };
+}
 
 /// The greater of two numbers, None where one of them is none.
 fn greater(left: Option<usize>, right: Option<usize>) -> Option<usize>
@@ -79,21 +100,8 @@ pub fn ood_error_bound<F: Field, EF: ExtensionField<F>, A: Air<F>>(
     requires fits { degree_bits ≤ 63 }
     ensures exact { IfOk result (λ answer.
         IsErrorBound (A.constraints air.now) (A.degree_hint air.now) degree_bits is_zk answer) }
-    ensures counts { IfOk result (λ answer. IfSome answer (λ bounds. (generator : F) (chunks : ℕ)
-        → HasOrder F.ring generator (2 ^ (degree_bits - is_zk))
-        → IsChunkCount 0 (A.constraints air.now) (A.degree_hint air.now) is_zk chunks
-        → FewBadDraws (record {
-          base = F.ring;
-          base_inverse = F.inverse_of;
-          ring = EF.ring;
-          inverse = EF.inverse_of;
-          embed = EF.embed;
-          basis = EF.basis;
-          generator = generator;
-          log_size = degree_bits - is_zk;
-          constraints = A.constraints air.now;
-          periodic = A.periodic_columns air.now;
-        }) (2 ^ degree_bits) chunks bounds.0 bounds.1)) }
+    ensures counts { IfOk result (λ answer. IfSome answer (BoundBadDraws
+        (⟦<A as AirOver<F, EF>>⟧.instance air.now) (A.degree_hint air.now) degree_bits is_zk)) }
 {
     let multiples = LeafDegrees::trace_multiples(0);
     let bounds = bound_leaves(degree_bits, is_zk);

@@ -6,6 +6,6 @@ mod bounds;
 mod openings;
 mod params;
 
-pub use bounds::ood_error_bound;
+pub use bounds::{AirOver, ood_error_bound};
 pub use openings::{OpeningShape, num_batched_openings};
-pub use params::StarkSecurityParams;
+pub use params::{SizedAir, StarkSecurityParams};

@@ -6,8 +6,7 @@ ghost use Rattle.stark_air.specs.Layout.{Covers};
 ghost use Rattle.stark_air.specs.SymbolicLayout.{symbolic_layout};
 ghost use Rattle.stark_transcript.specs.Shape.{opens_next_row};
 ghost use Rattle.stark_security.specs.ErrorBound.{HasRoomForChunks, IsChunkCountFor};
-ghost use Rattle.stark_security.specs.Openings.{batched_of};
-ghost use Rattle.stark_security.specs.Params.{params_of};
+ghost use Rattle.stark_security.specs.Params.{AirSizes, AreFewFunctions, HasCounts, HasGiven, HasItsChunks, HasItsCounts, functions_of, no_grinding};
 
 use crate::openings::{OpeningShape, num_batched_openings};
 use stark_air::{Air, AirLayout};
@@ -15,6 +14,20 @@ use stark_parts::get_log_num_quotient_chunks_for_domain;
 use stark_support::{DomainShape, ExtensionField, Field, FriRegime, GrindingSites};
 use stark_symbolic::{LeafDegrees, get_max_constraint_degree_with_transition, greatest_degrees};
 use std::alloc::{AllocError, Global};
+
+/// What an AIR declares that its proofs' numbers are read off, in one record.
+pub trait SizedAir<F> {
+    ghost sizes: { Self → AirSizes F };
+}
+
+impl<F: Field, A: Air<F>> SizedAir<F> for A {
+    ghost sizes = { λ air. record {
+      constraints = A.constraints air;
+      degree_hint = A.degree_hint air;
+      main_next_columns = A.main_next_row_columns air;
+      preprocessed_next_columns = A.preprocessed_next_row_columns air;
+    } };
+}
 
 /// The low-degree test's parameters, the AIR's shape and the hash's strength.
 #[derive(Clone, Debug, Drop)]
@@ -57,8 +70,10 @@ impl StarkSecurityParams {
         num_quotient_chunks: usize,
     ) -> Self
         requires { air_max_constraint_degree ≤ 2 ^ fri.log_blowup + 1 }
-        ensures { result ≡ params_of fri num_modulus_bits collision_resistance num_constraints
-            air_max_constraint_degree max_combo num_batched_functions num_quotient_chunks }
+        ensures given { HasGiven fri num_modulus_bits collision_resistance max_combo no_grinding
+            result }
+        ensures counted { HasCounts num_constraints air_max_constraint_degree num_batched_functions
+            num_quotient_chunks result }
     {
         StarkSecurityParams {
             fri_log_blowup: fri.log_blowup,
@@ -113,35 +128,16 @@ impl StarkSecurityParams {
             (A.constraints air.now) ≤ 2 ^ fri.log_blowup + 1 }
         requires sized { HasRoomForChunks (D.transition_multiple trace_domain.now)
             (A.constraints air.now) (A.degree_hint air.now) openings }
-        requires batched { (chunks : ℕ) → IsChunkCountFor (D.transition_multiple trace_domain.now)
-            (A.constraints air.now) (A.degree_hint air.now) openings chunks
-            → batched_of layout (A.main_next_row_columns air.now)
-            (A.preprocessed_next_row_columns air.now)
-            chunks EF.DIMENSION openings < 2 ^ 64 }
+        requires batched { AreFewFunctions (⟦<A as SizedAir<F>>⟧.sizes air.now)
+            (D.transition_multiple trace_domain.now) layout EF.DIMENSION openings }
         requires combined { zk_bits (opens_next_row (A.main_next_row_columns air.now) ||
             opens_next_row (A.preprocessed_next_row_columns air.now)) < max_combo }
-        ensures chunks { IfOk result (λ p.
-            IsChunkCountFor (D.transition_multiple trace_domain.now) (A.constraints air.now)
-            (A.degree_hint air.now) openings p.num_quotient_chunks) }
-        ensures numbers { IfOk result (λ params. params ≡ record {
-          fri_log_blowup = fri.log_blowup;
-          fri_log_final_poly_len = fri.log_final_poly_len;
-          fri_max_log_arity = fri.max_log_arity;
-          fri_num_queries = fri.num_queries;
-          fri_commit_proof_of_work_bits = fri.commit_pow_bits;
-          fri_query_proof_of_work_bits = fri.query_pow_bits;
-          num_modulus_bits = num_modulus_bits;
-          collision_resistance = collision_resistance;
-          num_constraints = length (A.constraints air.now);
-          air_max_constraint_degree = greatest_degree (D.transition_multiple trace_domain.now)
-              (A.constraints air.now);
-          num_quotient_chunks = params.num_quotient_chunks;
-          max_combo = max_combo;
-          num_batched_functions = batched_of layout (A.main_next_row_columns air.now)
-              (A.preprocessed_next_row_columns air.now) params.num_quotient_chunks
-              EF.DIMENSION openings;
-          grinding = grinding;
-        }) }
+        ensures chunks { IfOk result (HasItsChunks (⟦<A as SizedAir<F>>⟧.sizes air.now)
+            (D.transition_multiple trace_domain.now) openings) }
+        ensures given { IfOk result (HasGiven fri num_modulus_bits collision_resistance max_combo
+            grinding) }
+        ensures counted { IfOk result (HasItsCounts (⟦<A as SizedAir<F>>⟧.sizes air.now)
+            (D.transition_multiple trace_domain.now) layout EF.DIMENSION openings) }
     {
         let num_quotient_chunks = committed_chunks::<F, A, D>(
             alloc,
@@ -194,11 +190,10 @@ fn batched_functions<F: Field, EF: ExtensionField<F>, A: Air<F>>(
     num_quotient_chunks: usize,
     openings: OpeningShape,
 ) -> Result<usize, AllocError>
-    requires { batched_of layout (A.main_next_row_columns air.now)
-        (A.preprocessed_next_row_columns air.now)
-        num_quotient_chunks EF.DIMENSION openings < 2 ^ 64 }
-    ensures { IfOk result (λ n. n ≡ batched_of layout (A.main_next_row_columns air.now)
-        (A.preprocessed_next_row_columns air.now) num_quotient_chunks EF.DIMENSION openings) }
+    requires { functions_of (⟦<A as SizedAir<F>>⟧.sizes air.now) layout EF.DIMENSION openings
+        num_quotient_chunks < 2 ^ 64 }
+    ensures { IfOk result (λ n. n ≡ functions_of (⟦<A as SizedAir<F>>⟧.sizes air.now) layout
+        EF.DIMENSION openings num_quotient_chunks) }
 {
     let main_next = is_read(&air.main_next_row_columns(alloc)?);
     let preprocessed_next = is_read(&air.preprocessed_next_row_columns(alloc)?);

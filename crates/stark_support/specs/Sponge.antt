@@ -61,6 +61,11 @@ pub record GrindingLaws {C F : Type 0} (passes : C → ℕ → F → Bool) (afte
   pub found_passes : (state : C) (bits : ℕ) (witness : F) → found state bits ≡ Some witness → passes state bits witness ≡ true
   pub none_passes : (state : C) (bits : ℕ) → found state bits ≡ None → (witness : F) → passes state bits witness ≡ false
 
+-- What a draw answers, and the state that it leaves.
+pub record DrawOps (C T : Type 0) : Type 0 where
+  pub draw : C → T
+  pub after_draw : C → C
+
 -- An element is drawn as so many coordinates, one after the other.
-abbrev pub DrawsInTurn : {C E T : Type 0} → (E → List T) → (C → E) → (C → T) → (C → C) → ℕ → Type 0
-DrawsInTurn {C} coordinates draw draw_one after_one n = (state : C) → coordinates (draw state) ≡ drawn_in_turn draw_one after_one n state
+abbrev pub DrawsInTurn : {C E T : Type 0} → (E → List T) → (C → E) → DrawOps C T → ℕ → Type 0
+DrawsInTurn {C} coordinates draw one n = (state : C) → coordinates (draw state) ≡ drawn_in_turn one.draw one.after_draw n state

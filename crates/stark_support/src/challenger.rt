@@ -1,6 +1,6 @@
 //! Challengers: sponges that observe what a prover sends, and draw what a verifier asks.
 ghost use Rattle.std.specs.Prelude.{◌≡◌, ◌<◌, ℕ, Bool, Option, IfOk};
-ghost use Rattle.stark_support.specs.Sponge.{SpongeOps, GrindingLaws, after_search, after_draws, observed_all, observed_bytes, DrawsInTurn};
+ghost use Rattle.stark_support.specs.Sponge.{DrawOps, SpongeOps, GrindingLaws, after_search, after_draws, observed_all, observed_bytes, DrawsInTurn};
 
 use crate::field::{Element, ExtensionField, Field, PrimeField64};
 use std::alloc::{AllocError, Global};
@@ -26,6 +26,15 @@ pub trait CanSample<T> {
         ensures state { self.new ≡ after_sample self.old };
 }
 
+/// What a draw answers and leaves, in one record.
+pub trait Draws<T> {
+    ghost draws: { DrawOps Self T };
+}
+
+impl<T, C: CanSample<T>> Draws<T> for C {
+    ghost draws = { record { draw = C.sample_of; after_draw = C.after_sample } };
+}
+
 /// A sponge that numbers of a few bits are drawn from.
 pub trait CanSampleBits<T> {
     ghost bits_of: { Self → ℕ → T };
@@ -49,7 +58,7 @@ pub trait FieldChallenger<F>: CanObserve<F> + CanSample<F> + CanSampleBits<usize
 /// A sponge that draws an element of an extension as its coordinates, the constant one first.
 pub trait ExtensionChallenger<F: Field, EF: ExtensionField<F>>: CanSample<F> + CanSample<EF> {
     ghost draws_coordinates: { DrawsInTurn EF.coordinates ⟦<Self as CanSample<EF>>⟧.sample_of
-        ⟦<Self as CanSample<F>>⟧.sample_of ⟦<Self as CanSample<F>>⟧.after_sample EF.DIMENSION };
+        ⟦<Self as Draws<F>>⟧.draws EF.DIMENSION };
 
     ghost leaves_state: { (state : Self) → ⟦<Self as CanSample<EF>>⟧.after_sample state
         ≡ after_draws ⟦<Self as CanSample<F>>⟧.after_sample EF.DIMENSION state };

@@ -2,7 +2,7 @@
 ghost use Rattle.std.specs.Prelude.{◌≡◌, ◌≢◌, ◌<◌, ◌≤◌, ◌^◌, ℕ, true, Bool, List, map, Option, Some, None, length, refl};
 ghost use Rattle.std.specs.List.{slice_get};
 ghost use Rattle.stark_support.specs.Ring.{RingOps, FieldLaws, IsQuarticConstant, difference};
-ghost use Rattle.stark_support.specs.Operations.{AreExact, Operations, exact_binary, exact_unary, ring_operations};
+ghost use Rattle.stark_support.specs.Operations.{AreExact, AreTotal, Operations, exact_binary, exact_unary, ring_operations};
 ghost use Rattle.stark_support.specs.Combination.{linear_combination};
 ghost use Rattle.stark_support.specs.Embedding.{IsEmbedding};
 ghost use Rattle.stark_support.specs.Extension.{IsBasis, basis_sum};
@@ -83,9 +83,12 @@ pub trait ExactAlgebra: Copy
     /// A scalar, as a value.
     ghost embedding: { Self.Scalar → Self };
 
-    /// The operators and the conversion compute that, whatever they are handed.
-    ghost is_exact: { AreExact algebra_ring embedding Self.from_gives Self.can_add Self.can_sub
-        Self.can_mul Self.can_neg Self.add_gives Self.sub_gives Self.mul_gives Self.neg_gives };
+    /// The operators may be called on whatever they are handed.
+    ghost is_total: { AreTotal Self.can_add Self.can_sub Self.can_mul Self.can_neg };
+
+    /// The operators and the conversion compute that.
+    ghost is_exact: { AreExact algebra_ring embedding Self.from_gives Self.add_gives Self.sub_gives
+        Self.mul_gives Self.neg_gives };
 }
 
 impl<A: ExactAlgebra> Algebra<A::Scalar> for A {
@@ -97,13 +100,13 @@ impl<A: ExactAlgebra> Algebra<A::Scalar> for A {
         *self
     }
 
-    ghost may_add = { A.is_exact.may_add };
+    ghost may_add = { A.is_total.may_add };
 
-    ghost may_sub = { A.is_exact.may_sub };
+    ghost may_sub = { A.is_total.may_sub };
 
-    ghost may_mul = { A.is_exact.may_mul };
+    ghost may_mul = { A.is_total.may_mul };
 
-    ghost may_neg = { A.is_exact.may_neg };
+    ghost may_neg = { A.is_total.may_neg };
 
     ghost stands_itself = { λ _. refl };
 

@@ -14,14 +14,14 @@ use Rattle.stark_symbolic.specs.declared.degree_builder.ConstraintDegrees.{Const
 use Rattle.stark_symbolic.specs.declared.degree_builder.DegreeBuilder.{DegreeBuilder}
 
 module _ {F : Type 0} {G : Type 0} where
-  -- Public and periodic values by their lists; past the ends stand the degrees of their kind.
+  -- Periodic values by their list; past the end stands the degree of their kind.
   abbrev pub kept_environment : DegreeBuilder F G → Environment (DegreeExpression F)
   kept_environment s = record {
     main_current = λ _. s.column;
     main_next = λ _. s.column;
     preprocessed_current = λ _. s.column;
     preprocessed_next = λ _. s.column;
-    public_value = λ i. slice_index_or s.public_values.items i (known 0 0);
+    public_value = λ _. known 0 0;
     periodic_value = λ i. slice_index_or s.periodic_values.items i s.periodic;
     first_row = s.boundary;
     last_row = s.boundary;
@@ -47,15 +47,15 @@ always : {A : Type 0} (items : List A) (n : ℕ) (x y : A) → items ≡ replica
 always items n x y filled same i = ap (λ l. slice_index_or l i x) filled ∙ filled_at n x i ∙ same
 
 -- A row of values that are all those of their kind.
-pub row_of_kinds : {F : Type 0} {G : Type 0} (one other : LeafDegrees) (s : DegreeBuilder F G) (m n : ℕ) → s.column ≡ known one.column other.column → s.periodic ≡ known one.periodic other.periodic
-    → s.boundary ≡ known one.boundary other.boundary → s.transition ≡ known one.transition other.transition → s.public_values.items ≡ replicate m (known 0 0) → s.periodic_values.items ≡ replicate n s.periodic
+pub row_of_kinds : {F : Type 0} {G : Type 0} (one other : LeafDegrees) (s : DegreeBuilder F G) (n : ℕ) → s.column ≡ known one.column other.column → s.periodic ≡ known one.periodic other.periodic
+    → s.boundary ≡ known one.boundary other.boundary → s.transition ≡ known one.transition other.transition → s.periodic_values.items ≡ replicate n s.periodic
     → kept_environment s ≡ pair_environment one other
-row_of_kinds {F} one other s m n column periodic boundary transition publics periodics = λ j. record {
+row_of_kinds one other s n column periodic boundary transition periodics = λ j. record {
   main_current = λ _. column j;
   main_next = λ _. column j;
   preprocessed_current = λ _. column j;
   preprocessed_next = λ _. column j;
-  public_value = λ i. always s.public_values.items m (known {F = F} 0 0) (known 0 0) publics refl i j;
+  public_value = λ _. known 0 0;
   periodic_value = λ i. always s.periodic_values.items n s.periodic (known one.periodic other.periodic) periodics periodic i j;
   first_row = boundary j;
   last_row = boundary j;

@@ -1,5 +1,5 @@
 //! The builder that keeps two degrees of each constraint, and no tree.
-ghost use Rattle.std.specs.Prelude.{◌≡◌, [], IfOk, map, replicate};
+ghost use Rattle.std.specs.Prelude.{◌≡◌, [], IfOk, length, map, replicate};
 ghost use Rattle.std.specs.List.{slice_get};
 ghost use Rattle.std.proofs.Common.{◌∙◌};
 ghost use Rattle.stark_support.specs.Operations.{exact_binary};
@@ -8,7 +8,7 @@ ghost use Rattle.stark_air.specs.SymbolicLayout.{symbolic_layout};
 ghost use Rattle.stark_symbolic.specs.DegreeBuilder.{after_keeping, keeping_laws, kept_environment, kept_layout};
 ghost use Rattle.stark_symbolic.specs.DegreePair.{LeavesFit, known, marked_degrees, sum_degrees};
 
-use crate::degree_expression::{DegreeExpression, DegreePair};
+use crate::degree_expression::{DegreeExpression, DegreePair, PublicDegree};
 use crate::leaf_degrees::LeafDegrees;
 use stark_air::{Air, AirLayout, BaseAirBuilder, ExtensionBuilder, WindowAccess};
 use stark_support::Field;
@@ -60,7 +60,7 @@ pub struct DegreeBuilder<F, EF = F> {
     pub periodic: DegreeExpression<F>,
     pub boundary: DegreeExpression<F>,
     pub transition: DegreeExpression<F>,
-    pub public_values: Vec<DegreeExpression<F>>,
+    pub public_values: Vec<PublicDegree<F>>,
     pub periodic_values: Vec<DegreeExpression<F>>,
     pub constraints: Vec<ConstraintDegrees>,
     pub extension: PhantomData<EF>,
@@ -85,14 +85,14 @@ impl<F: Field, EF> DegreeBuilder<F, EF> {
         ensures transition { IfOk result (λ builder.
             builder.transition ≡ known first.transition second.transition) }
         ensures public_values { IfOk result (λ builder.
-            builder.public_values.items ≡ replicate layout.num_public_values (known 0 0)) }
+            length builder.public_values.items ≡ layout.num_public_values) }
         ensures periodic_values { IfOk result (λ builder.
             builder.periodic_values.items
             ≡ replicate layout.num_periodic_columns builder.periodic) }
         ensures nothing { IfOk result (λ builder. builder.constraints.items ≡ []) }
         ensures fits { IfOk result (λ _. LeavesFit first × LeavesFit second) }
     {
-        let value = DegreeExpression::of(0, 0);
+        let value = PublicDegree { field: PhantomData };
         let periodic = DegreeExpression::of(first.periodic, second.periodic);
         Ok(DegreeBuilder {
             alloc,
@@ -125,7 +125,7 @@ impl<F: Field, EF> BaseAirBuilder for DegreeBuilder<F, EF> {
 
     type Var = DegreeExpression<F>;
 
-    type PublicVar = DegreeExpression<F>;
+    type PublicVar = PublicDegree<F>;
 
     type PeriodicVar = DegreeExpression<F>;
 
@@ -166,7 +166,7 @@ impl<F: Field, EF> BaseAirBuilder for DegreeBuilder<F, EF> {
         self.transition
     }
 
-    fn public_values(&self) -> &[DegreeExpression<F>] {
+    fn public_values(&self) -> &[PublicDegree<F>] {
         self.public_values.as_slice()
     }
 

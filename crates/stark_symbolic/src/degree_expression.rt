@@ -90,6 +90,21 @@ impl<F: Field> From<F> for DegreeExpression<F> {
     }
 }
 
+/// A public value, of which nothing is known but that its degree is 0: a list of them has no bytes.
+#[derive(Clone, Copy)]
+pub struct PublicDegree<F> {
+    pub field: PhantomData<F>,
+}
+
+impl<F: Field> From<PublicDegree<F>> for DegreeExpression<F> {
+    ghost from_gives = { λ k x. x ≡ known 0 0 };
+
+    fn from(_value: PublicDegree<F>) -> DegreeExpression<F> {
+        let degree = 0;
+        DegreeExpression::of(degree, degree)
+    }
+}
+
 impl<F: Field> Add<DegreeExpression<F>> for DegreeExpression<F> {
     type Output = DegreeExpression<F>;
 

@@ -43,14 +43,14 @@ module _ {C F E K : Type 0} (ops : SpongeOps C F E K) where
   HasNoZetaWitness t quotient random =
       (witness : F) → ops.passes (replay ops (ood_events quotient (lent random)) t.challenger.now) t.shape.ood_pow_bits witness ≡ false
 
-  -- With the witness that was found a verifier draws the same alpha, or the same zeta, and its challenger has this state.
-  abbrev pub DrawsAlpha : StarkProverTranscript C F E → K → Option (Bor K) → List F → C → E × Option F → Type 0
-  DrawsAlpha t trace preprocessed publics state drawn = (witness : F) → IsWitness drawn.1 witness
-      → constraint_outcome ops t.shape trace (lent preprocessed) publics witness t.challenger.now ≡ succeeds drawn.0 state Bound
+  -- With the witness that was found a verifier draws the same alpha, or the same zeta, and its challenger has the state of this transcript's.
+  abbrev pub DrawsAlpha : StarkProverTranscript C F E → K → Option (Bor K) → List F → StarkProverTranscript C F E → E × Option F → Type 0
+  DrawsAlpha t trace preprocessed publics played drawn = (witness : F) → IsWitness drawn.1 witness
+      → constraint_outcome ops t.shape trace (lent preprocessed) publics witness t.challenger.now ≡ succeeds drawn.0 played.challenger.now Bound
 
-  abbrev pub DrawsZeta : StarkProverTranscript C F E → K → Option (Bor K) → C → E × Option F → Type 0
-  DrawsZeta t quotient random state drawn = (witness : F) → IsWitness drawn.1 witness
-      → ood_outcome ops t.shape quotient (lent random) witness t.challenger.now ≡ succeeds drawn.0 state Drawn
+  abbrev pub DrawsZeta : StarkProverTranscript C F E → K → Option (Bor K) → StarkProverTranscript C F E → E × Option F → Type 0
+  DrawsZeta t quotient random played drawn = (witness : F) → IsWitness drawn.1 witness
+      → ood_outcome ops t.shape quotient (lent random) witness t.challenger.now ≡ succeeds drawn.0 played.challenger.now Drawn
 
   -- ---- without work before alpha
 

@@ -1,7 +1,7 @@
 //! The numbers that fix a transcript, and why one fails.
 ghost use Rattle.std.specs.Prelude.{◌≡◌, ◌<◌, ◌^◌, IfOk, codes, map};
 ghost use Rattle.stark_support.specs.Seed.{IsBounded, described, elements, flag, marker, message, plain_seed, row_view, shape_seed, shape_steps, step_view};
-ghost use Rattle.stark_transcript.specs.Shape.{opens_next_row, shape_numbers, shape_of, TellsShape};
+ghost use Rattle.stark_transcript.specs.Shape.{HasDeclaredCounts, HasNumbers, opens_next_row, shape_numbers, TellsShape};
 
 use stark_air::BaseAir;
 use stark_support::{
@@ -149,11 +149,10 @@ impl StarkShape {
         ood_pow_bits: usize,
         constraint_pow_bits: usize,
     ) -> Result<StarkShape, AllocError>
-        ensures { IfOk result (λ shape. shape
-            ≡ shape_of (A.layout air.now) (A.main_next_row_columns air.now)
-            (A.preprocessed_next_row_columns air.now)
-            preprocessed_width log_ext_degree log_degree num_quotient_chunks has_randomization
-            ood_pow_bits constraint_pow_bits) }
+        ensures declared { IfOk result (HasDeclaredCounts (A.layout air.now)
+            (A.main_next_row_columns air.now) (A.preprocessed_next_row_columns air.now)) }
+        ensures given { IfOk result (HasNumbers preprocessed_width log_ext_degree log_degree
+            num_quotient_chunks has_randomization ood_pow_bits constraint_pow_bits) }
     {
         let main_next = air.main_next_row_columns(alloc)?;
         let preprocessed_next = air.preprocessed_next_row_columns(alloc)?;

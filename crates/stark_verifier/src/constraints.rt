@@ -4,11 +4,11 @@ ghost use Rattle.stark_protocol.specs.Equation.{row_or_empty};
 ghost use Rattle.stark_verifier.specs.Constraints.{AreWideEnough, FailsOnRows, HoldsOnRows, LiesOutside, given_rows};
 ghost use Rattle.stark_verifier.specs.MemoryAside.{IfErrMemoryAside};
 
-use crate::contracts::StarkFields;
-use stark_air::Air;
-use stark_parts::{Domain, StarkGenericConfig, Val, fold_constraints};
+use stark_air::{Air, RowWindow};
+use stark_parts::{Domain, RowsAtPoint, StarkFields, StarkGenericConfig, Val, fold_constraints};
 use stark_support::{Field, PolynomialSpace};
 use stark_transcript::{InvalidProofShapeError, VerificationError};
+use std::marker::PhantomData;
 
 /// An opened row; one that isn't opened has no value.
 fn row_or_empty<'a, EF>(row: Option<&'a [EF]>) -> &'a [EF]
@@ -87,17 +87,23 @@ pub fn verify_constraints<SC: StarkGenericConfig, A: Air<Val<SC>>, PcsErr>(
     // The folded constraints over Z_H are the quotient. Multiplied out this says as much: zeta lies
     // outside H, and so Z_H(zeta) isn't zero.
     let selectors = trace_domain.selectors_at_point(zeta);
-    let folded = fold_constraints::<SC, A>(
-        air,
-        trace_local,
-        trace_next,
-        preprocessed_local,
-        preprocessed_next,
+    let main = RowWindow {
+        current: trace_local,
+        next: trace_next,
+        of: PhantomData,
+    };
+    let preprocessed = RowWindow {
+        current: preprocessed_local,
+        next: preprocessed_next,
+        of: PhantomData,
+    };
+    let rows = RowsAtPoint {
+        main,
+        preprocessed,
         periodic_values,
         public_values,
-        selectors,
-        alpha,
-    )?;
+    };
+    let folded = fold_constraints::<SC, A>(air, rows, selectors, alpha)?;
     if is_balanced(folded, trace_domain.vanishing_poly_at_point(zeta), quotient) {
         Ok(())
     } else {

@@ -8,7 +8,6 @@ ghost use Rattle.stark_transcript.specs.declared.shape.StarkTranscriptFailure.{S
 ghost use Rattle.stark_transcript.specs.declared.shape.TranscriptPhase.{TranscriptPhase};
 ghost use Rattle.stark_protocol.specs.Acceptance.{IsBalanced, RunHolds, challenges, described, domain_fault, height_fault, key_fault, shape_fault, values_fault};
 ghost use Rattle.stark_protocol.specs.FirstFault.{RunFault};
-ghost use Rattle.stark_support.specs.FieldPair.{FieldsOps};
 ghost use Rattle.stark_verifier.specs.Checks.{AreDomains, IsOpened, IsOpeningsVerdict, IsPointFault, IsQuotient, IsSampled, IsShaped, expected_openings, log_chunks};
 ghost use Rattle.stark_verifier.specs.Given.{of_given};
 ghost use Rattle.stark_verifier.specs.declared.instance.VerifierInstance.{VerifierInstance};
@@ -19,27 +18,6 @@ use stark_air::Air;
 use stark_parts::{StarkGenericConfig, Val};
 use stark_protocol::{StarkInstance, StarkOperations};
 use stark_support::GrindingChallenger;
-
-/// The operations of a configuration's two fields, in one record.
-pub trait StarkFields: StarkGenericConfig {
-    ghost fields: { FieldsOps Self.Pcs.Domain.Val Self.Challenge };
-}
-
-impl<SC: StarkGenericConfig> StarkFields for SC {
-    ghost fields = { record {
-      base = SC.Pcs.Domain.Val.ring;
-      base_inverse = SC.Pcs.Domain.Val.inverse_of;
-      same = SC.Pcs.Domain.Val.eq;
-      adicity = SC.Pcs.Domain.Val.TWO_ADICITY;
-      root = SC.Pcs.Domain.Val.root;
-      generator = SC.Pcs.Domain.Val.GENERATOR;
-      ring = SC.Challenge.ring;
-      inverse = SC.Challenge.inverse_of;
-      embed = SC.Challenge.embed;
-      dimension = SC.Challenge.DIMENSION;
-      basis = SC.Challenge.basis;
-    } };
-}
 
 /// What the stages of a verifier find of what it is given, and what each leaves to the next.
 pub(crate) trait StarkChecks<A>: StarkGenericConfig {

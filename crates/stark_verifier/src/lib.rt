@@ -15,6 +15,5 @@ mod transcript;
 mod verdict;
 
 pub use constraints::verify_constraints;
-pub use contracts::StarkFields;
 pub use shape::validate_degree_bits;
 pub use verdict::{StarkVerdict, verify, verify_with_preprocessed};

@@ -4,7 +4,7 @@ ghost use Rattle.std.proofs.Common.{lit<};
 ghost use Rattle.stark_support.specs.Extension.{basis_sum};
 ghost use Rattle.stark_support.specs.Ring.{difference};
 ghost use Rattle.stark_support.specs.Lanes.{one_lane, alone_is_lane_by_lane};
-ghost use Rattle.stark_support.specs.Operations.{exact, exact_binary, exact_unary, ring_operations};
+ghost use Rattle.stark_support.specs.Operations.{exact, exact_binary, exact_unary, ring_operations, total};
 ghost use Rattle.stark_support.specs.Embedding.{embedded_two_adic};
 ghost use Rattle.stark_fields.specs.Quartic.{quartic_norm, quartic_cofactor};
 ghost use Rattle.stark_fields.specs.Ext4Field.{coordinates_of, of_coordinates, ext4, ext4_ring, ext4_inverse, ext4_laws, embedded, embedded_is_embedding, basis_of, coordinate_list, ext4_basis, generator_x, eq_gives_same};
@@ -140,6 +140,8 @@ impl<F: QuarticBase> ExactAlgebra for Ext4<F> {
     ghost algebra_ring = { ext4_ring F.ring F.QUARTIC_CONSTANT };
 
     ghost embedding = { embedded F.ring };
+
+    ghost is_total = { total };
 
     ghost is_exact = { exact (ext4_ring F.ring F.QUARTIC_CONSTANT) (embedded F.ring) };
 }

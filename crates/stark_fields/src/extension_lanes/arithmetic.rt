@@ -2,7 +2,7 @@
 ghost use Rattle.std.specs.Prelude.{[], ◌≡◌, ◌∷◌, ◌<◌};
 ghost use Rattle.std.proofs.Common.{lit<};
 ghost use Rattle.stark_support.specs.Ring.{difference};
-ghost use Rattle.stark_support.specs.Operations.{exact};
+ghost use Rattle.stark_support.specs.Operations.{exact, total};
 ghost use Rattle.stark_fields.specs.Residues.{residue, residue_ring};
 ghost use Rattle.stark_fields.specs.Ext4Field.{ext4_ring};
 ghost use Rattle.stark_fields.specs.ResidueLanes.{in_each_lane, lane};
@@ -158,6 +158,8 @@ impl<Kind> ExactAlgebra for ExtensionLanes<Kind> {
     ghost algebra_ring = { extension_lanes_ring };
 
     ghost embedding = { element_in_each_lane };
+
+    ghost is_total = { total };
 
     ghost is_exact = { exact extension_lanes_ring element_in_each_lane };
 }

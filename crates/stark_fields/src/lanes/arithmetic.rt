@@ -5,7 +5,7 @@ ghost use Rattle.std.specs.Simd.Lanes.{zip2};
 ghost use Rattle.std.proofs.Common.{lit<};
 ghost use Rattle.stark_support.specs.Combination.{linear_combination};
 ghost use Rattle.stark_support.specs.Ring.{difference};
-ghost use Rattle.stark_support.specs.Operations.{exact, ring_operations};
+ghost use Rattle.stark_support.specs.Operations.{exact, ring_operations, total};
 ghost use Rattle.stark_fields.specs.Residues.{residue, residue_ring};
 ghost use Rattle.stark_fields.specs.ResidueLanes.{lanes_of, in_each_lane, lanes_ring, is_lane_by_lane, number_sums, number_products, number_complements, number_remainders, product, plus_product};
 
@@ -317,6 +317,8 @@ impl<Kind> ExactAlgebra for Lanes<Kind> {
     ghost algebra_ring = { lanes_ring };
 
     ghost embedding = { in_each_lane };
+
+    ghost is_total = { total };
 
     ghost is_exact = { exact lanes_ring in_each_lane };
 }

@@ -3,7 +3,7 @@ ghost use Rattle.std.specs.Prelude.{◌<◌, ◌≡◌, ◌==◌, zero, ◌*◌,
 ghost use Rattle.stark_support.specs.Ring.{difference};
 ghost use Rattle.stark_support.specs.Powers.{power, squarings};
 ghost use Rattle.stark_support.specs.Lanes.{one_lane, alone_is_lane_by_lane};
-ghost use Rattle.stark_support.specs.Operations.{exact};
+ghost use Rattle.stark_support.specs.Operations.{exact, total};
 ghost use Rattle.std.specs.Cmp.Rules.{comparing};
 ghost use Rattle.std.proofs.Common.{rules, lit<};
 ghost use Rattle.stark_fields.specs.Residues.{residue, residue_ring, residue_inverse, eq_gives_same, residue_of_value, value_of_residue};
@@ -203,6 +203,8 @@ impl<M: Modulus, Kind> ExactAlgebra for Residue<M, Kind> {
     ghost algebra_ring = { residue_ring };
 
     ghost embedding = { λ x. x };
+
+    ghost is_total = { total };
 
     ghost is_exact = { exact residue_ring (λ x. x) };
 }

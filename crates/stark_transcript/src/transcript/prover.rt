@@ -78,7 +78,7 @@ where
             ⟦<C as Sponge<F, EF, K>>⟧.sponge self.old trace.now preprocessed.entry
             public_values.now) }
         ensures as_verifier { IfOk result (DrawsAlpha ⟦<C as Sponge<F, EF, K>>⟧.sponge
-            self.old trace.now preprocessed.entry public_values.now self.new.challenger.now) }
+            self.old trace.now preprocessed.entry public_values.now self.new) }
     {
         self.challenger.observe(trace);
         play_values::<C, F, EF, K>(&mut *self.challenger, preprocessed, public_values);
@@ -122,7 +122,7 @@ where
         ensures exhausted { OnErr result (HasNoZetaWitness
             ⟦<C as Sponge<F, EF, K>>⟧.sponge self.old quotient.now random.entry) }
         ensures as_verifier { IfOk result (DrawsZeta ⟦<C as Sponge<F, EF, K>>⟧.sponge
-            self.old quotient.now random.entry self.new.challenger.now) }
+            self.old quotient.now random.entry self.new) }
     {
         self.challenger.observe(quotient);
         observe_optional::<C, F, EF, K>(&mut *self.challenger, random);

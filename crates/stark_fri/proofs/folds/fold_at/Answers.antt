@@ -4,10 +4,10 @@ use Rattle.stark_support.specs.CosetFacts.{point_nonzero}
 use Rattle.stark_folding.specs.Fold.{folded_pair}
 use Rattle.stark_folding.specs.Walk.{half_size}
 use Rattle.stark_folding.proofs.Steps.{embedded_point}
-use Rattle.stark_merkle.specs.Bytes.{pair_bytes_of, row_bytes_of}
 use Rattle.stark_fri.specs.Parts.{FriFields}
 use Rattle.stark_fri.specs.Walks.{pair_on}
 use Rattle.stark_fri.specs.declared.folds.Pair.{Pair}
+use Rattle.stark_fri.proofs.Members.{fields_by}
 use Rattle.stark_fri.proofs.FoldSteps.{lower_pair, upper_pair}
 use Rattle.stark_fri.proofs.WalkSteps.{lower_value, upper_value}
 use Rattle.stark_fri.proofs.folds.fold_at.Given as given
@@ -15,18 +15,7 @@ use Rattle.stark_fri.proofs.folds.fold_at.Goals as goal
 use Rattle.stark_fri.proofs.folds.fold_at.Goals.{then-place-half, else-place-half}
 
 abbrev fields_of : (g : given.Over) → FriFields g.row.F.Denot g.row.EF.Denot
-fields_of g = record {
-  adicity = g.F.TwoAdicField.TWO_ADICITY;
-  root = g.F.TwoAdicField.root;
-  generator = g.F.Field.GENERATOR;
-  base = g.F.Field.ring;
-  base_inverse = g.F.Field.inverse_of;
-  ring = g.EF.Field.ring;
-  inverse = g.EF.Field.inverse_of;
-  embed = g.EF.ExtensionField.embed;
-  row_bytes = row_bytes_of g.F.PrimeField64.number_of;
-  pair_bytes = pair_bytes_of g.F.PrimeField64.number_of g.EF.ExtensionField.coordinates;
-}
+fields_of g = fields_by g.F.TwoAdicField g.F.Field g.F.PrimeField64 g.EF.Field g.EF.ExtensionField
 
 pub fold_pair_in-folded-requires : goal.fold_pair_in-folded-requires
 fold_pair_in-folded-requires g c = λ e.

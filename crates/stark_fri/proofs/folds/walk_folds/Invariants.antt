@@ -1,24 +1,13 @@
 use Rattle.std.proofs.Common.{◌≡◌, ◌≢◌, ◌+◌, ◌++◌, drop}
-use Rattle.stark_merkle.specs.Bytes.{pair_bytes_of, row_bytes_of}
 use Rattle.stark_support.specs.Coset.{TwoAdicCoset}
 use Rattle.stark_fri.specs.Parts.{FriFields}
 use Rattle.stark_fri.specs.Query.{extension_coset, walked_by}
 use Rattle.stark_fri.specs.Walks.{pairs_on}
+use Rattle.stark_fri.proofs.Members.{fields_by}
 use Rattle.stark_fri.proofs.folds.walk_folds.Given as goal
 
 abbrev pub fields_of : (g : goal.Over) → FriFields g.row.F.Denot g.row.EF.Denot
-fields_of g = record {
-  adicity = g.F.TwoAdicField.TWO_ADICITY;
-  root = g.F.TwoAdicField.root;
-  generator = g.F.Field.GENERATOR;
-  base = g.F.Field.ring;
-  base_inverse = g.F.Field.inverse_of;
-  ring = g.EF.Field.ring;
-  inverse = g.EF.Field.inverse_of;
-  embed = g.EF.ExtensionField.embed;
-  row_bytes = row_bytes_of g.F.PrimeField64.number_of;
-  pair_bytes = pair_bytes_of g.F.PrimeField64.number_of g.EF.ExtensionField.coordinates;
-}
+fields_of g = fields_by g.F.TwoAdicField g.F.Field g.F.PrimeField64 g.EF.Field g.EF.ExtensionField
 
 -- The way from here is what is left of the whole, and the coset is that of the layer that was reached.
 abbrev pub invariant-loop-i : goal.invariant-loop-i

@@ -1,31 +1,20 @@
 use Rattle.std.proofs.Common.{◌≡◌, ◌∙◌, ◌<◌, ap, arith, length, map, slice_index_or, subst, sym}
 use Rattle.std.specs.List.{AllByRecursion}
 use Rattle.std.proofs.lemmas.List.{length-map}
-use Rattle.stark_merkle.specs.Bytes.{pair_bytes_of, row_bytes_of}
 use Rattle.stark_support.specs.Polynomial.{value}
 use Rattle.stark_fri.specs.Claims.{round_seen}
 use Rattle.stark_fri.specs.Found.{target_by}
 use Rattle.stark_fri.specs.Parts.{FriFields}
 use Rattle.stark_fri.specs.Query.{PairLeads, QueryHolds, batched_at, extension_coset, last_point, phase_root}
 use Rattle.stark_fri.specs.Walks.{openings_of}
+use Rattle.stark_fri.proofs.Members.{fields_by}
 use Rattle.stark_fri.proofs.FoldSteps.{openings_are, pairs_count}
 use Rattle.stark_fri.proofs.FourSteps.{all_of_four, at_itself, placed_length, some_at}
 use Rattle.stark_fri.proofs.fours.four_hold.Given as given
 use Rattle.stark_fri.proofs.fours.four_hold.Goals as goal
 
 abbrev fields_of : (g : given.Over) → FriFields g.row.D-Val.Denot g.row.EF.Denot
-fields_of g = record {
-  adicity = g.D.Val.TwoAdicField.TWO_ADICITY;
-  root = g.D.Val.TwoAdicField.root;
-  generator = g.D.Val.Field.GENERATOR;
-  base = g.D.Val.Field.ring;
-  base_inverse = g.D.Val.Field.inverse_of;
-  ring = g.EF.Field.ring;
-  inverse = g.EF.Field.inverse_of;
-  embed = g.EF.ExtensionField.embed;
-  row_bytes = row_bytes_of g.D.Val.PrimeField64.number_of;
-  pair_bytes = pair_bytes_of g.D.Val.PrimeField64.number_of g.EF.ExtensionField.coordinates;
-}
+fields_of g = fields_by g.D.Val.TwoAdicField g.D.Val.Field g.D.Val.PrimeField64 g.EF.Field g.EF.ExtensionField
 
 pub four_inputs_lead-requires-clause-rounds : goal.four_inputs_lead-requires-clause-rounds
 four_inputs_lead-requires-clause-rounds g c = λ j query low is_query.

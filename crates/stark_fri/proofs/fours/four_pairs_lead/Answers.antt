@@ -1,33 +1,17 @@
 use Rattle.std.proofs.Common.{◌≡◌, ◌∙◌, ap, get_or, lit<, slice_index_or, subst, sym}
-use Rattle.stark_merkle.specs.Bytes.{pair_bytes_of, row_bytes_of}
 use Rattle.stark_fri_proof.specs.Paths.{digests_of}
 use Rattle.stark_fri_proof.specs.declared.proof.LayerOpening.{LayerOpening}
 use Rattle.stark_fri.specs.Fours.{PairsLead}
-use Rattle.stark_fri.specs.Parts.{FriFields}
 use Rattle.stark_fri.specs.Query.{PairLeads}
 use Rattle.stark_fri.specs.Walks.{opening_of}
 use Rattle.stark_fri.specs.declared.folds.Pair.{Pair}
+use Rattle.stark_fri.proofs.Members.{fields_by}
 use Rattle.stark_fri.proofs.FourSteps.{both_four, pairs_lane}
-use Rattle.stark_fri.proofs.fours.four_pairs_lead.Given as given
 use Rattle.stark_fri.proofs.fours.four_pairs_lead.Goals as goal
-
-abbrev fields_of : (g : given.Over) → FriFields g.row.F.Denot g.row.EF.Denot
-fields_of g = record {
-  adicity = g.F.TwoAdicField.TWO_ADICITY;
-  root = g.F.TwoAdicField.root;
-  generator = g.F.Field.GENERATOR;
-  base = g.F.Field.ring;
-  base_inverse = g.F.Field.inverse_of;
-  ring = g.EF.Field.ring;
-  inverse = g.EF.Field.inverse_of;
-  embed = g.EF.ExtensionField.embed;
-  row_bytes = row_bytes_of g.F.PrimeField64.number_of;
-  pair_bytes = pair_bytes_of g.F.PrimeField64.number_of g.EF.ExtensionField.coordinates;
-}
 
 pub returns : goal.returns
 returns g c = λ lead.
-    let fields = fields_of g in
+    let fields = fields_by g.F.TwoAdicField g.F.Field g.F.PrimeField64 g.EF.Field g.EF.ExtensionField in
     let hash = g.H.TreeHash.digest_of in
     let depth = c.args.depth in
     let i = c.args.layer in

@@ -1,31 +1,15 @@
 use Rattle.std.proofs.Common.{◌≡◌, ◌∙◌, ◌<◌, ℕ, ap, arith, get_or, length, lit<, slice_index_or, subst}
-use Rattle.stark_merkle.specs.Bytes.{pair_bytes_of, row_bytes_of}
 use Rattle.stark_merkle.specs.Tree.{LeadsTo}
 use Rattle.stark_fri_proof.specs.Parts.{InputOpening}
 use Rattle.stark_fri_proof.specs.Paths.{digests_of}
-use Rattle.stark_fri.specs.Parts.{FriFields}
 use Rattle.stark_fri.specs.Fours.{RowsLead}
+use Rattle.stark_fri.proofs.Members.{fields_by}
 use Rattle.stark_fri.proofs.FourSteps.{at_itself, both_four, rows_lane}
-use Rattle.stark_fri.proofs.fours.four_rows_lead.Given as given
 use Rattle.stark_fri.proofs.fours.four_rows_lead.Goals as goal
-
-abbrev fields_of : (g : given.Over) → FriFields g.row.F.Denot g.row.EF.Denot
-fields_of g = record {
-  adicity = g.F.TwoAdicField.TWO_ADICITY;
-  root = g.F.TwoAdicField.root;
-  generator = g.F.Field.GENERATOR;
-  base = g.F.Field.ring;
-  base_inverse = g.F.Field.inverse_of;
-  ring = g.EF.Field.ring;
-  inverse = g.EF.Field.inverse_of;
-  embed = g.EF.ExtensionField.embed;
-  row_bytes = row_bytes_of g.F.PrimeField64.number_of;
-  pair_bytes = pair_bytes_of g.F.PrimeField64.number_of g.EF.ExtensionField.coordinates;
-}
 
 pub returns : goal.returns
 returns g c = λ lead.
-    let fields = fields_of g in
+    let fields = fields_by g.F.TwoAdicField g.F.Field g.F.PrimeField64 g.EF.Field g.EF.ExtensionField in
     let hash = g.H.TreeHash.digest_of in
     let bits = c.args.bits in
     let round = c.args.round in

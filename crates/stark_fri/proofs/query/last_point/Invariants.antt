@@ -1,22 +1,11 @@
 use Rattle.std.proofs.Common.{◌≡◌, ◌+◌, ◌-◌}
-use Rattle.stark_merkle.specs.Bytes.{pair_bytes_of, row_bytes_of}
 use Rattle.stark_fri.specs.Parts.{FriFields}
 use Rattle.stark_fri.specs.Query.{extension_coset, last_point}
+use Rattle.stark_fri.proofs.Members.{fields_by}
 use Rattle.stark_fri.proofs.query.last_point.Given as goal
 
 abbrev pub fields_of : (g : goal.Over) → FriFields g.row.F.Denot g.row.EF.Denot
-fields_of g = record {
-  adicity = g.F.TwoAdicField.TWO_ADICITY;
-  root = g.F.TwoAdicField.root;
-  generator = g.F.Field.GENERATOR;
-  base = g.F.Field.ring;
-  base_inverse = g.F.Field.inverse_of;
-  ring = g.EF.Field.ring;
-  inverse = g.EF.Field.inverse_of;
-  embed = g.EF.ExtensionField.embed;
-  row_bytes = row_bytes_of g.F.PrimeField64.number_of;
-  pair_bytes = pair_bytes_of g.F.PrimeField64.number_of g.EF.ExtensionField.coordinates;
-}
+fields_of g = fields_by g.F.TwoAdicField g.F.Field g.F.PrimeField64 g.EF.Field g.EF.ExtensionField
 
 -- The folds that are left lead from here to the last point.
 abbrev pub invariant-loop-fold : goal.invariant-loop-fold

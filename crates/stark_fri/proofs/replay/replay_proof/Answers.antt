@@ -5,26 +5,13 @@ use Rattle.stark_fri.specs.Found.{PlaysTo}
 use Rattle.stark_fri.specs.Parts.{SpongeCalls}
 use Rattle.stark_fri.specs.Scheme.{instance_of}
 use Rattle.stark_fri.specs.Transcript.{Instance}
+use Rattle.stark_fri.proofs.Members.{sponge_by}
 use Rattle.stark_fri.proofs.ReplaySteps.{replay_ends, replay_refuses}
 use Rattle.stark_fri.proofs.replay.replay_proof.Given as given
 use Rattle.stark_fri.proofs.replay.replay_proof.Goals as goal
 
 abbrev sponge_of : (g : given.Over) → SpongeCalls g.row.C.Denot g.row.D-Val.Denot g.row.EF.Denot
-sponge_of g = record {
-  zero = g.D.Val.Field.ring.zero;
-  observing = record {
-    from_byte = g.D.Val.PrimeField64.of_number;
-    coordinates = g.EF.ExtensionField.coordinates;
-    observe_element = g.C.CanObserve-1.after_observe;
-    observe_root = g.C.CanObserve-2.after_observe;
-  };
-  draw = g.C.CanSample.sample_of;
-  after_draw = g.C.CanSample.after_sample;
-  bits_of = g.C.CanSampleBits.bits_of;
-  after_bits = g.C.CanSampleBits.after_bits;
-  passes = g.C.GrindingChallenger.passes;
-  after_check = g.C.GrindingChallenger.after_check;
-}
+sponge_of g = sponge_by g.D.Val.Field g.D.Val.PrimeField64 g.EF.ExtensionField g.C.CanObserve-1 g.C.CanObserve-2 g.C.CanSample g.C.CanSampleBits g.C.GrindingChallenger
 
 pub returns-then-not-witness_passes : goal.returns-then-not-witness_passes
 returns-then-not-witness_passes g c =

@@ -3,27 +3,16 @@ use Rattle.std.specs.List.{AllByRecursion}
 use Rattle.stark_support.specs.Coset.{coset_point}
 use Rattle.stark_folding.specs.Reduce.{Seen, reduced_at}
 use Rattle.stark_folding.proofs.Steps.{embedded_point}
-use Rattle.stark_merkle.specs.Bytes.{pair_bytes_of, row_bytes_of}
 use Rattle.stark_fri.specs.Claims.{round_seen}
 use Rattle.stark_fri.specs.Parts.{FriFields}
 use Rattle.stark_fri.specs.Query.{extension_coset, extension_root}
+use Rattle.stark_fri.proofs.Members.{fields_by}
 use Rattle.stark_fri.proofs.PointSteps.{all_apart, apart_from_rows}
 use Rattle.stark_fri.proofs.seen.batched_value.Given as given
 use Rattle.stark_fri.proofs.seen.batched_value.Goals as goal
 
 abbrev fields_of : (g : given.Over) → FriFields g.row.D-Val.Denot g.row.EF.Denot
-fields_of g = record {
-  adicity = g.D.Val.TwoAdicField.TWO_ADICITY;
-  root = g.D.Val.TwoAdicField.root;
-  generator = g.D.Val.Field.GENERATOR;
-  base = g.D.Val.Field.ring;
-  base_inverse = g.D.Val.Field.inverse_of;
-  ring = g.EF.Field.ring;
-  inverse = g.EF.Field.inverse_of;
-  embed = g.EF.ExtensionField.embed;
-  row_bytes = row_bytes_of g.D.Val.PrimeField64.number_of;
-  pair_bytes = pair_bytes_of g.D.Val.PrimeField64.number_of g.EF.ExtensionField.coordinates;
-}
+fields_of g = fields_by g.D.Val.TwoAdicField g.D.Val.Field g.D.Val.PrimeField64 g.EF.Field g.EF.ExtensionField
 
 pub reduce_claims-requires : goal.reduce_claims-requires
 reduce_claims-requires g c =

@@ -1,24 +1,13 @@
 use Rattle.std.proofs.Common.{◌≡◌, ◌++◌, drop, map}
 use Rattle.std.specs.List.{flat_map, zip}
-use Rattle.stark_merkle.specs.Bytes.{pair_bytes_of, row_bytes_of}
 use Rattle.stark_fri.specs.Claims.{round_seen}
 use Rattle.stark_fri.specs.Parts.{FriFields}
 use Rattle.stark_fri.specs.Query.{seen_in_round}
+use Rattle.stark_fri.proofs.Members.{fields_by}
 use Rattle.stark_fri.proofs.seen.seen_of.Given as goal
 
 abbrev pub fields_of : (g : goal.Over) → FriFields g.row.D-Val.Denot g.row.EF.Denot
-fields_of g = record {
-  adicity = g.D.Val.TwoAdicField.TWO_ADICITY;
-  root = g.D.Val.TwoAdicField.root;
-  generator = g.D.Val.Field.GENERATOR;
-  base = g.D.Val.Field.ring;
-  base_inverse = g.D.Val.Field.inverse_of;
-  ring = g.EF.Field.ring;
-  inverse = g.EF.Field.inverse_of;
-  embed = g.EF.ExtensionField.embed;
-  row_bytes = row_bytes_of g.D.Val.PrimeField64.number_of;
-  pair_bytes = pair_bytes_of g.D.Val.PrimeField64.number_of g.EF.ExtensionField.coordinates;
-}
+fields_of g = fields_by g.D.Val.TwoAdicField g.D.Val.Field g.D.Val.PrimeField64 g.EF.Field g.EF.ExtensionField
 
 abbrev pub invariant-loop-r : goal.invariant-loop-r
 invariant-loop-r g l =

@@ -1,49 +1,22 @@
 use Rattle.std.proofs.Common.{◌≡◌, ◌∙◌, ◌+◌, Ok, ap, map, subst}
 use Rattle.std.specs.List.{zip}
-use Rattle.stark_merkle.specs.Bytes.{pair_bytes_of, row_bytes_of}
 use Rattle.stark_fri.specs.Accept.{ProofFits, bits_of}
 use Rattle.stark_fri.specs.Claims.{height_of, round_seen}
 use Rattle.stark_fri.specs.Found.{FindsFault, FindsHeight, Replays, ShapeFits, target_by}
-use Rattle.stark_fri.specs.Parts.{FriFields, FriOps, SpongeCalls}
+use Rattle.stark_fri.specs.Parts.{FriOps}
 use Rattle.stark_fri.specs.Scheme.{instance_of}
 use Rattle.stark_fri.specs.Transcript.{Instance}
+use Rattle.stark_fri.proofs.Members.{fields_by, sponge_by}
 use Rattle.stark_fri.proofs.AcceptSteps.{all_accepted, betas_counted, proof_fits}
 use Rattle.stark_fri.proofs.verify.check.Given as given
 use Rattle.stark_fri.proofs.verify.check.Goals as goal
 
-abbrev fields_of : (g : given.Over) → FriFields g.row.D-Val.Denot g.row.EF.Denot
-fields_of g = record {
-  adicity = g.D.Val.TwoAdicField.TWO_ADICITY;
-  root = g.D.Val.TwoAdicField.root;
-  generator = g.D.Val.Field.GENERATOR;
-  base = g.D.Val.Field.ring;
-  base_inverse = g.D.Val.Field.inverse_of;
-  ring = g.EF.Field.ring;
-  inverse = g.EF.Field.inverse_of;
-  embed = g.EF.ExtensionField.embed;
-  row_bytes = row_bytes_of g.D.Val.PrimeField64.number_of;
-  pair_bytes = pair_bytes_of g.D.Val.PrimeField64.number_of g.EF.ExtensionField.coordinates;
-}
-
-abbrev sponge_of : (g : given.Over) → SpongeCalls g.row.C.Denot g.row.D-Val.Denot g.row.EF.Denot
-sponge_of g = record {
-  zero = g.D.Val.Field.ring.zero;
-  observing = record {
-    from_byte = g.D.Val.PrimeField64.of_number;
-    coordinates = g.EF.ExtensionField.coordinates;
-    observe_element = g.C.CanObserve-1.after_observe;
-    observe_root = g.C.CanObserve-2.after_observe;
-  };
-  draw = g.C.CanSample.sample_of;
-  after_draw = g.C.CanSample.after_sample;
-  bits_of = g.C.CanSampleBits.bits_of;
-  after_bits = g.C.CanSampleBits.after_bits;
-  passes = g.C.GrindingChallenger.passes;
-  after_check = g.C.GrindingChallenger.after_check;
-}
-
 abbrev ops_of : (g : given.Over) → FriOps g.row.C.Denot g.row.D-Val.Denot g.row.EF.Denot
-ops_of g = record { fields = fields_of g; hash = g.H.TreeHash.digest_of; sponge = sponge_of g }
+ops_of g = record {
+  fields = fields_by g.D.Val.TwoAdicField g.D.Val.Field g.D.Val.PrimeField64 g.EF.Field g.EF.ExtensionField;
+  hash = g.H.TreeHash.digest_of;
+  sponge = sponge_by g.D.Val.Field g.D.Val.PrimeField64 g.EF.ExtensionField g.C.CanObserve-1 g.C.CanObserve-2 g.C.CanSample g.C.CanSampleBits g.C.GrindingChallenger;
+}
 
 pub first_query_fault-requires-clause-betas : goal.first_query_fault-requires-clause-betas
 first_query_fault-requires-clause-betas g c =

@@ -1,10 +1,10 @@
-use Rattle.std.proofs.Common.{rules, ◌≡◌, ◌∙◌, ◌<◌, ap, arith, get_or, length, map, subst}
+use Rattle.std.proofs.Common.{rules, ◌≡◌, ◌∙◌, ap, arith, get_or, length, map, subst}
 use Rattle.std.specs.List.{zip}
 use Rattle.stark_fri.specs.Claims.{round_seen}
 use Rattle.stark_fri.specs.Found.{FindsQueryFault, target_by}
 use Rattle.stark_fri.specs.Query.{QueryFails, QueryHolds}
 use Rattle.stark_fri.proofs.FourSteps.{first_hold, first_passed}
-use Rattle.stark_fri.proofs.ListSteps.{holds_end, holds_step, passed_with_step, passed_with_stop, zip_ended, zip_place, zip_within}
+use Rattle.stark_fri.proofs.ListSteps.{holds_end, holds_step, passed_with_step, passed_with_stop, zip_at, zip_ended}
 use Rattle.stark_fri.proofs.verify.first_query_fault.Invariants.{fields_of}
 use Rattle.stark_fri.proofs.verify.first_query_fault.Goals as goal
 
@@ -21,49 +21,27 @@ loop-i-init g c =
 
 pub returns-in-Some : goal.returns-in-Some
 returns-in-Some g c =
-    let fields = fields_of g in
-    let hash = g.H.TreeHash.digest_of in
     let target = target_by (map (round_seen g.D.PolynomialSpace.coset_of) c.args.claims.now) c.args.bits c.args.drawn.now c.args.proof.now in
-    let places = c.args.drawn.now.places in
-    let queries = c.args.proof.now.queries in
-    let i = c.loop-i.i in
-    let place = c.index-place.result.now in
-    let query = c.index-queries-i.result in
-    let turn = c.loop-i-test.true in
-    let end = c.min-i-end.ensures in
-    let n : c.len.result ≡ length places.items = c.len.ensures ∙ places.ok.0 in
-    let m : length c.queries-queries.result.now ≡ length queries = ap length c.queries-queries.ensures in
-    let in_places : i < length places.items = omega (arith, turn, end, n) in
-    let in_queries : i < length queries = omega (arith, turn, end, m) in
-    let is_place : place ≡ get_or places.items i place = search rules in
-    passed_with_stop (QueryHolds fields hash target) (QueryFails fields hash target c.in-Some.fault) (zip places.items queries) i (place, query)
-    (zip_within places.items queries i (omega (arith, in_places, in_queries)))
-    (zip_place places.items queries i place query in_places in_queries is_place (c.index-queries-i.is ∙ ap (λ t. get_or t i query) c.queries-queries.ensures))
-    (subst (FindsQueryFault fields hash target (place, query)) c.in-Some.is c.in_ok-found.ensures) (c.loop-i.invariant.passed c.in-Some.fault)
+    let queries = zip c.args.drawn.now.places.items c.args.proof.now.queries in
+    let is_place : c.index-place.result.now ≡ get_or c.args.drawn.now.places.items c.loop-i.i c.index-place.result.now = search rules in
+    let at = zip_at c.args.drawn.now.places.items c.args.proof.now.queries c.loop-i.i _ _ _ c.loop-i-test.true is_place (c.index-queries-i.is ∙ ap (λ t. get_or t c.loop-i.i c.index-queries-i.result) c.queries-queries.ensures)
+    _ _ c.min-i-end.ensures (c.len.ensures ∙ c.args.drawn.now.places.ok.0) (ap length c.queries-queries.ensures) in
+    let holds = QueryHolds (fields_of g) g.H.TreeHash.digest_of target in
+    passed_with_stop holds (QueryFails (fields_of g) g.H.TreeHash.digest_of target c.in-Some.fault) queries c.loop-i.i _ at.0 at.1
+    (subst (FindsQueryFault (fields_of g) g.H.TreeHash.digest_of target (c.index-place.result.now, c.index-queries-i.result)) c.in-Some.is c.in_ok-found.ensures) (c.loop-i.invariant.passed c.in-Some.fault)
 
 pub loop-i-preserved : goal.loop-i-preserved
 loop-i-preserved g c =
     let fields = fields_of g in
     let hash = g.H.TreeHash.digest_of in
     let target = target_by (map (round_seen g.D.PolynomialSpace.coset_of) c.args.claims.now) c.args.bits c.args.drawn.now c.args.proof.now in
-    let places = c.args.drawn.now.places in
-    let queries = c.args.proof.now.queries in
-    let i = c.loop-i.i in
-    let place = c.index-place.result.now in
-    let query = c.index-queries-i.result in
-    let turn = c.loop-i-test.true in
-    let end = c.min-i-end.ensures in
-    let n : c.len.result ≡ length places.items = c.len.ensures ∙ places.ok.0 in
-    let m : length c.queries-queries.result.now ≡ length queries = ap length c.queries-queries.ensures in
-    let in_places : i < length places.items = omega (arith, turn, end, n) in
-    let in_queries : i < length queries = omega (arith, turn, end, m) in
-    let is_place : place ≡ get_or places.items i place = search rules in
-    let within = zip_within places.items queries i (omega (arith, in_places, in_queries)) in
-    let here = zip_place places.items queries i place query in_places in_queries is_place (c.index-queries-i.is ∙ ap (λ t. get_or t i query) c.queries-queries.ensures) in
-    let holds : QueryHolds fields hash target (place, query) = subst (FindsQueryFault fields hash target (place, query)) c.in_default.is c.in_ok-found.ensures in record {
-      holds = holds_step (QueryHolds fields hash target) (zip places.items queries) i (place, query) within here holds c.loop-i.invariant.holds;
-      passed = λ fault. passed_with_step (QueryHolds fields hash target) (QueryFails fields hash target fault) (zip places.items queries) i (place, query) within here holds
-          (c.loop-i.invariant.passed fault);
+    let queries = zip c.args.drawn.now.places.items c.args.proof.now.queries in
+    let is_place : c.index-place.result.now ≡ get_or c.args.drawn.now.places.items c.loop-i.i c.index-place.result.now = search rules in
+    let at = zip_at c.args.drawn.now.places.items c.args.proof.now.queries c.loop-i.i _ _ _ c.loop-i-test.true is_place (c.index-queries-i.is ∙ ap (λ t. get_or t c.loop-i.i c.index-queries-i.result) c.queries-queries.ensures)
+    _ _ c.min-i-end.ensures (c.len.ensures ∙ c.args.drawn.now.places.ok.0) (ap length c.queries-queries.ensures) in
+    let holds : QueryHolds fields hash target (c.index-place.result.now, c.index-queries-i.result) = subst (FindsQueryFault fields hash target (c.index-place.result.now, c.index-queries-i.result)) c.in_default.is c.in_ok-found.ensures in record {
+      holds = holds_step (QueryHolds fields hash target) queries c.loop-i.i _ at.0 at.1 holds c.loop-i.invariant.holds;
+      passed = λ fault. passed_with_step (QueryHolds fields hash target) (QueryFails fields hash target fault) queries c.loop-i.i _ at.0 at.1 holds (c.loop-i.invariant.passed fault);
     }
 
 pub returns : goal.returns

@@ -3,6 +3,7 @@ use Rattle.std.proofs.lemmas.Nat.{one_shl}
 use Rattle.stark_merkle.specs.Bytes.{pair_bytes_of, row_bytes_of}
 use Rattle.stark_merkle.specs.Tree.{digests_in}
 use Rattle.stark_fri.specs.Parts.{FriOps}
+use Rattle.stark_fri.proofs.Members.{fields_by, sponge_by}
 use Rattle.stark_fri_prover.specs.Commit.{data_seen}
 use Rattle.stark_fri_prover.specs.OwnClaims.{points_in}
 use Rattle.stark_fri_prover.proofs.MadeSteps.{is_made, seen_again}
@@ -11,34 +12,9 @@ use Rattle.stark_fri_prover.proofs.opening.proof_of.Goals as goal
 
 abbrev ops_of : (g : given.Over) → FriOps g.row.C.Denot g.row.F.Denot g.row.EF.Denot
 ops_of g = record {
-  fields = record {
-    adicity = g.F.TwoAdicField.TWO_ADICITY;
-    root = g.F.TwoAdicField.root;
-    generator = g.F.Field.GENERATOR;
-    base = g.F.Field.ring;
-    base_inverse = g.F.Field.inverse_of;
-    ring = g.EF.Field.ring;
-    inverse = g.EF.Field.inverse_of;
-    embed = g.EF.ExtensionField.embed;
-    row_bytes = row_bytes_of g.F.PrimeField64.number_of;
-    pair_bytes = pair_bytes_of g.F.PrimeField64.number_of g.EF.ExtensionField.coordinates;
-  };
+  fields = fields_by g.F.TwoAdicField g.F.Field g.F.PrimeField64 g.EF.Field g.EF.ExtensionField;
   hash = g.H.TreeHash.digest_of;
-  sponge = record {
-    zero = g.F.Field.ring.zero;
-    observing = record {
-      from_byte = g.F.PrimeField64.of_number;
-      coordinates = g.EF.ExtensionField.coordinates;
-      observe_element = g.C.CanObserve-1.after_observe;
-      observe_root = g.C.CanObserve-2.after_observe;
-    };
-    draw = g.C.CanSample-2.sample_of;
-    after_draw = g.C.CanSample-2.after_sample;
-    bits_of = g.C.CanSampleBits.bits_of;
-    after_bits = g.C.CanSampleBits.after_bits;
-    passes = g.C.GrindingChallenger.passes;
-    after_check = g.C.GrindingChallenger.after_check;
-  };
+  sponge = sponge_by g.F.Field g.F.PrimeField64 g.EF.ExtensionField g.C.CanObserve-1 g.C.CanObserve-2 g.C.CanSample-2 g.C.CanSampleBits g.C.GrindingChallenger;
 }
 
 pub returns : goal.returns

@@ -1,4 +1,4 @@
-use Rattle.std.proofs.Common.{ap, ◌∙◌}
+use Rattle.std.proofs.Common.{ap, refl, ◌∙◌}
 use Rattle.stark_support.specs.Operations.{ring_operations}
 use Rattle.stark_air.specs.Rows.{environment_of}
 use Rattle.stark_air.specs.Value.{constraint_values}
@@ -11,5 +11,5 @@ returns-clause-folded g c =
     let o = ring_operations ring g.SC.Challenge.ExtensionField.embed in
     let laws = g.met.SC.Challenge.Field in
     folded_rows laws.field_laws.of_ring c.args.alpha c.ZERO.result _
-    (λ r s t u. constraint_values o (environment_of o g.SC.Pcs.Domain.Val.Field.ring.zero ring.zero r s t u c.args.public_values.now c.args.periodic_values.now c.args.selectors.is_first_row c.args.selectors.is_last_row c.args.selectors.is_transition) (g.A.Air.constraints c.args.air.now))
-    (ap (λ s. s.accumulator) c.in_ok-eval.ensures.asserted) (c.ZERO.ensures ∙ laws.zero_is) c.new_row.ensures.values c.new_row-2.ensures.values c.from_two_rows.ensures.current c.from_two_rows.ensures.next
+    (λ r s t u. constraint_values o (environment_of o g.SC.Pcs.Domain.Val.Field.ring.zero ring.zero r s t u c.args.rows.public_values.now c.args.rows.periodic_values.now c.args.selectors.is_first_row c.args.selectors.is_last_row c.args.selectors.is_transition) (g.A.Air.constraints c.args.air.now))
+    (ap (λ s. s.accumulator) c.in_ok-eval.ensures.asserted) (c.ZERO.ensures ∙ laws.zero_is) c.new_row.ensures.values c.new_row-2.ensures.values refl refl

@@ -5,4 +5,4 @@ pub returns : goal.returns
 returns g c =
     let made = c.in_ok-builder.ensures in
     collected_degrees c.args.first c.args.second _ _ _ (g.A.Air.constraints c.args.air.now) made.fits.0 made.fits.1 c.in_ok-eval.ensures.asserted.appended made.nothing
-    (row_of_kinds c.args.first c.args.second c.in_ok-builder.builder _ _ made.column made.periodic made.boundary made.transition made.public_values made.periodic_values)
+    (row_of_kinds c.args.first c.args.second c.in_ok-builder.builder _ made.column made.periodic made.boundary made.transition made.periodic_values)

@@ -82,9 +82,10 @@ pub trait StarkChecked<A>: StarkGenericConfig {
     ghost accepted_if_sized: { Self → A → List Self.Pcs.Domain.Val → Option Held
         → RowMajorMatrix Self.Pcs.Domain.Val → Proof → Type 0 };
 
+    ghost Error: { Type 0 };
+
     ghost is_fault: { Bor Self → Bor A → Bor (List Self.Pcs.Domain.Val) → Option Held
-        → RowMajorMatrix Self.Pcs.Domain.Val
-        → CheckedProvingError Self.Pcs.Domain.Val Self.Pcs.ProverError → Type 0 };
+        → RowMajorMatrix Self.Pcs.Domain.Val → Error → Type 0 };
 }
 
 impl<SC, A> StarkChecked<A> for SC
@@ -111,6 +112,8 @@ where
         → IsAcceptedIfSetUp ⟦<SC as StarkOperations>⟧.operations
         (⟦<SC as StarkInstance<A>>⟧.instance config air public_values) (A.preprocessed_trace air)
         (option_copied held) height (proof_view proof) };
+
+    ghost Error = { CheckedProvingError SC.Pcs.Domain.Val SC.Pcs.ProverError };
 
     ghost is_fault = { λ config air public_values held trace. IsViolationOr
         (⟦<A as RowChecks<Val<SC>>>⟧.is_first_violation air.now (trace_of trace)

@@ -32,7 +32,7 @@ pub use stark_prover_folder::{
     ProverConstraintFolder, VectorizedChallenge, VectorizedConstraintFolder, VectorizedVal,
 };
 pub use stark_quotient::{
-    QUOTIENT_ILP, QuotientAir, QuotientOperations, folded_pairs, folded_row, quotient_values,
+    QUOTIENT_ILP, QuotientAir, Quotients, folded_pairs, folded_row, quotient_values,
 };
 pub use stark_security::{
     OpeningShape, StarkSecurityParams, num_batched_openings, ood_error_bound,

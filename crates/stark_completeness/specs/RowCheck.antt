@@ -1,6 +1,6 @@
 -- What a check of a trace's rows finds.
 use Rattle.std.specs.Option.{option_copied}
-use Rattle.std.specs.Prelude.{◌≡◌, ◌≢◌, ℕ, ◌*◌, ◌%◌, ◌^◌, ◌<◌, ◌≤◌, List, [], Option, None, Some, length, get_or, take, option_map}
+use Rattle.std.specs.Prelude.{◌≡◌, ◌≢◌, ℕ, ◌*◌, ◌%◌, ◌^◌, ◌<◌, ◌≤◌, IfErr, List, [], Option, None, Result, Some, length, get_or, take, option_map}
 use Rattle.std.specs.List.{AllByRecursion, slice_get}
 use Rattle.stark_support.specs.Ring.{RingOps}
 use Rattle.stark_support.specs.Operations.{ring_operations}
@@ -97,6 +97,10 @@ module _ {F : Type 0} (ring : RingOps F) (inverse : F → F) (root : ℕ → F) 
 abbrev pub IsRefusedOr : {F : Type 0} → (ConstraintViolation F → Type 0) → ConstraintCheckError F → Type 0
 IsRefusedOr holds OutOfMemory = Unit {0}
 IsRefusedOr holds (Violation violation) = holds violation
+
+-- Where a check finds a violation, this holds of it.
+abbrev pub IfViolation : {A F : Type 0} → Result A (ConstraintCheckError F) → (ConstraintViolation F → Type 0) → Type 0
+IfViolation result holds = IfErr result (IsRefusedOr holds)
 
 -- A matrix that may be there, without the law of its rows.
 abbrev pub trace_in : {F : Type 0} → Option (Bor (RowMajorMatrix F)) → Option (Trace F)

@@ -1,12 +1,12 @@
 //! Whether a trace satisfies an AIR, row by row.
-ghost use Rattle.std.specs.Prelude.{◌≡◌, ◌+◌, ◌*◌, ◌%◌, ◌^◌, ◌<◌, ℕ, IfErr, IfOk, length, map, option_map};
+ghost use Rattle.std.specs.Prelude.{◌≡◌, ◌+◌, ◌*◌, ◌%◌, ◌^◌, ◌<◌, ℕ, IfOk, length, map, option_map};
 ghost use Rattle.std.specs.Option.{option_copied};
 ghost use Rattle.std.specs.Vec.{vec_items};
 ghost use Rattle.stark_quotient.specs.PointwiseQuotient.{matrix_or_empty};
 ghost use Rattle.stark_completeness.specs.RowSelectors.{AreSelectorsIn};
 ghost use Rattle.stark_support.specs.Scheme.{matrix_row};
 ghost use Rattle.stark_completeness.specs.RowSatisfaction.{HoldsInEachRow, HoldsInRow};
-ghost use Rattle.stark_completeness.specs.RowCheck.{IsBrokenIn, IsFirstViolation, IsFoundIn, IsRefusedOr, entry_in_row, trace_of, values_in, trace_in};
+ghost use Rattle.stark_completeness.specs.RowCheck.{IsBrokenIn, IsFirstViolation, IfViolation, IsFoundIn, entry_in_row, trace_of, values_in, trace_in};
 ghost use Rattle.stark_completeness.specs.CheckedRows.{FitsLayout, checked_air, checked_rows};
 
 use crate::debug_builder::{RowLeaves, values_in_row};
@@ -161,9 +161,9 @@ fn check_row<F: TwoAdicField, A: Air<F>>(
     ensures holds { IfOk result (λ _. HoldsInRow
         (checked_air F.ring F.inverse_of F.root (A.constraints air.now) trace.now)
         (checked_rows trace.now) row) }
-    ensures broken { IfErr result (IsRefusedOr (IsBrokenIn
+    ensures broken { IfViolation result (IsBrokenIn
         (checked_air F.ring F.inverse_of F.root (A.constraints air.now) trace.now)
-        (checked_rows trace.now) row)) }
+        (checked_rows trace.now) row) }
 {
     let lent = mem::replace(&mut buffers.periodic_values, Vec::new(alloc));
     let periodic_values = periodic_entries(trace.periodic_columns, row, lent)?;
@@ -193,9 +193,9 @@ fn check_rows<F: TwoAdicField, A: Air<F>>(
     ensures holds { IfOk result (λ _. HoldsInEachRow
         (checked_air F.ring F.inverse_of F.root (A.constraints air.now) trace.now)
         (checked_rows trace.now)) }
-    ensures broken { IfErr result (IsRefusedOr (IsFirstViolation
+    ensures broken { IfViolation result (IsFirstViolation
         (checked_air F.ring F.inverse_of F.root (A.constraints air.now) trace.now)
-        (checked_rows trace.now))) }
+        (checked_rows trace.now)) }
 {
     let height = power_of_two(trace.log_height);
     let selectors = DomainSelectors::new(trace.log_height, height);
@@ -234,9 +234,8 @@ pub fn check_constraints<'a, F: TwoAdicField, A: Air<F>>(
     ensures satisfied { IfOk result (λ _. ⟦<A as RowChecks<F>>⟧.is_satisfied air.now
         (trace_of trace.now) (trace_in preprocessed.entry)
         public_values.now) }
-    ensures broken { IfErr result (IsRefusedOr (⟦<A as RowChecks<F>>⟧.is_first_violation air.now
-        (trace_of trace.now) (trace_in preprocessed.entry)
-        public_values.now)) }
+    ensures broken { IfViolation result (⟦<A as RowChecks<F>>⟧.is_first_violation air.now
+        (trace_of trace.now) (trace_in preprocessed.entry) public_values.now) }
 {
     let checked = CheckedTrace {
         main: RowMajorMatrixView::new(trace.values.as_slice(), trace.width),

@@ -1,7 +1,7 @@
 //! Whether a trace satisfies an AIR beside the preprocessed trace that the AIR declares.
-ghost use Rattle.std.specs.Prelude.{◌≡◌, ◌*◌, ◌^◌, ◌<◌, ℕ, IfErr, IfOk, length};
+ghost use Rattle.std.specs.Prelude.{◌≡◌, ◌*◌, ◌^◌, ◌<◌, ℕ, IfOk, length};
 ghost use Rattle.stark_protocol.specs.Preprocessing.{HasHeight};
-ghost use Rattle.stark_completeness.specs.RowCheck.{IsRefusedOr, trace_of};
+ghost use Rattle.stark_completeness.specs.RowCheck.{IfViolation, trace_of};
 
 use crate::check::check_constraints;
 use crate::findings::RowChecks;
@@ -27,8 +27,8 @@ pub fn check_declared<F: TwoAdicField, A: Air<F>>(
     requires publics { length public_values.now ≡ (A.layout air.now).publics }
     ensures satisfied { IfOk result (λ _. ⟦<A as RowChecks<F>>⟧.is_satisfied air.now
         (trace_of trace.now) (A.preprocessed_trace air.now) public_values.now) }
-    ensures broken { IfErr result (IsRefusedOr (⟦<A as RowChecks<F>>⟧.is_first_violation air.now
-        (trace_of trace.now) (A.preprocessed_trace air.now) public_values.now)) }
+    ensures broken { IfViolation result (⟦<A as RowChecks<F>>⟧.is_first_violation air.now
+        (trace_of trace.now) (A.preprocessed_trace air.now) public_values.now) }
 {
     if log_height_of(trace) > F::TWO_ADICITY {
         return Ok(());

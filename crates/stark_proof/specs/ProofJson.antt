@@ -279,6 +279,10 @@ object_of view alpha_pow_witness commitments opened_values opening_proof degree_
 abbrev pub Writes : {V : Type 0} → (V → Data) → Data → V → Type 0
 Writes view written value = view value ≡ written
 
+-- A value is what a proof is written as, by how its parts are written.
+abbrev pub WritesProof : {V K E P F : Type 0} → (V → Data) → (K → Data) → (E → Data) → (P → Data) → (F → Data) → (F → F → Bool) → F → Proof K E P F → V → Type 0
+WritesProof view commitment element argument witness same zero proof value = Writes view (proof_writing commitment element argument witness same zero (proof_view proof)) value
+
 -- It is read as the proof, or as the proof's own fault.
 abbrev pub ReadBack : {V K E P F : Type 0} → (V → Data) → (Data → Result (ProofView K E P F) ProofFault) → ProofView K E P F → V → Type 0
 ReadBack view reading p value = reading (view value) ≡ proof_read_back p

@@ -2,7 +2,7 @@
 ghost use Rattle.std.specs.Prelude.{◌≡◌, IfOk};
 ghost use Rattle.serde_json.specs.Data.{number, unsigned};
 ghost use Rattle.serde_json.specs.View.{members_view, view};
-ghost use Rattle.stark_proof.specs.ProofJson.{Decodes, degree_bits_at, openings_reading, proof_fault, proof_members, proof_object, proof_reading, proof_writing, within_openings, Writes, members_of, object_of, DecodesProof, ReadBack};
+ghost use Rattle.stark_proof.specs.ProofJson.{Decodes, degree_bits_at, openings_reading, proof_fault, proof_members, proof_object, proof_reading, within_openings, WritesProof, members_of, object_of, DecodesProof, ReadBack};
 ghost use Rattle.stark_proof.specs.ProofView.{openings_view, proof_view};
 
 use crate::error::{OpeningsDecodeError, ProofDecodeError};
@@ -141,9 +141,8 @@ impl<
     /// preprocessed rows: then that fault is found.
     #[tactic(auto, unfolding(crate::specs::ProofJson::proof_writing))]
     pub fn to_json(&self, alloc: Global) -> Result<Value, AllocError>
-        ensures written { IfOk result (Writes view
-            (proof_writing Com.writing Challenge.writing PcsProof.writing Val.writing Val.eq
-            Val.ring.zero (proof_view self.now))) }
+        ensures written { IfOk result (WritesProof view Com.writing Challenge.writing
+            PcsProof.writing Val.writing Val.eq Val.ring.zero self.now) }
         ensures read_back { IfOk result (ReadBack view
             (proof_reading Com.reading Challenge.reading PcsProof.reading Val.reading
             Val.ring.zero) (proof_view self.now)) }

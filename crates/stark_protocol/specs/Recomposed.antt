@@ -33,8 +33,8 @@ module _ {F E : Type 0} (fields : FieldsOps F E) where
         → AreChunksOf fields.ring (fields.embed (fields.root (common_log_size (map coset_of domains)))) (common_size (map coset_of domains)) fields.basis (shifts_of domains) chunks p
         → map (λ chunk. chunk.items) opened ≡ chunk_values fields.ring chunks zeta → quotient ≡ value fields.ring p zeta
 
-  -- What chunks on the 2 ^ log_chunks parts of a coset recompose to at a point.
-  abbrev pub quotient_of_parts : {A : Type 0} → TwoAdicCoset F → ℕ → List (Vec E A) → E → E
-  quotient_of_parts coset log_chunks chunks zeta =
-      recomposition fields.ring fields.ring (λ c. c) fields.inverse (2 ^ (coset.log_size - log_chunks)) fields.basis (chunk_shifts fields.base fields.root fields.embed coset log_chunks)
+  -- It is what chunks on the 2 ^ log_chunks parts of a coset recompose to at a point.
+  abbrev pub IsQuotientOfParts : {A : Type 0} → TwoAdicCoset F → ℕ → List (Vec E A) → E → E → Type 0
+  IsQuotientOfParts coset log_chunks chunks zeta quotient =
+      quotient ≡ recomposition fields.ring fields.ring (λ c. c) fields.inverse (2 ^ (coset.log_size - log_chunks)) fields.basis (chunk_shifts fields.base fields.root fields.embed coset log_chunks)
       (map (λ chunk. chunk.items) chunks) zeta

@@ -17,9 +17,9 @@ use stark_support::{GrindingChallenger, Opening, Pcs, Sponge};
 
 /// All that a configuration's types compute, in one record.
 pub trait StarkOperations: StarkGenericConfig {
-    ghost operations: { ProtocolOps Self.Pcs Self.Pcs.Domain.Val Self.Challenge Self.Challenger
-        Self.Pcs.Commitment Self.Pcs.ProverData Self.Pcs.Proof Self.Pcs.Error
-        Self.Pcs.ProverError };
+    ghost Operations: { Type 1 };
+
+    ghost operations: { Operations };
 }
 
 impl<SC> StarkOperations for SC
@@ -27,6 +27,9 @@ where
     SC: StarkGenericConfig,
     SC::Challenger: GrindingChallenger<Witness = Val<SC>>,
 {
+    ghost Operations = { ProtocolOps SC.Pcs SC.Pcs.Domain.Val SC.Challenge SC.Challenger
+        SC.Pcs.Commitment SC.Pcs.ProverData SC.Pcs.Proof SC.Pcs.Error SC.Pcs.ProverError };
+
     ghost operations = { record {
       opening = ⟦<SC::Pcs as Opening<SC::Challenge, SC::Challenger>>⟧.opening;
       sponge = ⟦<SC::Challenger as Sponge<Val<SC>, SC::Challenge, Com<SC>>>⟧.sponge;
@@ -35,9 +38,10 @@ where
 
 /// What a verifier is given besides a proof, in one record.
 pub trait StarkInstance<A>: StarkGenericConfig {
+    ghost Given: { Type 0 };
+
     ghost instance: { Self → A → List Self.Pcs.Domain.Val
-        → Option (PreprocessedVerifierKey Self.Pcs.Commitment)
-        → Instance Self.Pcs Self.Pcs.Domain.Val Self.Challenger Self.Pcs.Commitment };
+        → Option (PreprocessedVerifierKey Self.Pcs.Commitment) → Given };
 }
 
 impl<SC, A> StarkInstance<A> for SC
@@ -45,6 +49,8 @@ where
     SC: StarkGenericConfig,
     A: Air<Val<SC>>,
 {
+    ghost Given = { Instance SC.Pcs SC.Pcs.Domain.Val SC.Challenger SC.Pcs.Commitment };
+
     ghost instance = { λ config air public_values key. record {
       scheme = SC.config.scheme config;
       first_state = SC.config.first_state config;

@@ -5,9 +5,9 @@ ghost use Rattle.stark_support.specs.Extension.{basis_sum};
 ghost use Rattle.stark_support.specs.Powers.{squarings};
 ghost use Rattle.stark_support.specs.Recomposition.{common_log_size};
 ghost use Rattle.stark_protocol.specs.ChunkFactors.{IsCycle, difference_product, node_weight};
-ghost use Rattle.stark_protocol.specs.Recomposed.{AreApart, IsValueWhereChunksAre, quotient_of_chunks, quotient_of_parts, recomposed};
+ghost use Rattle.stark_protocol.specs.Recomposed.{AreApart, IsQuotientOfParts, IsValueWhereChunksAre, quotient_of_chunks, recomposed};
 
-use stark_parts::{Domain, StarkGenericConfig, Val};
+use stark_parts::{Domain, StarkFields, StarkGenericConfig};
 use stark_support::{
     DomainShape, Element, ExtensionField, Field, FieldPair, PolynomialSpace, log2_strict_usize,
     squared_times,
@@ -165,12 +165,12 @@ pub fn recompose_quotient_from_chunks<SC: StarkGenericConfig>(
     requires counts { length quotient_chunks_domains.now ≡ length quotient_chunks.now }
     requires dimensions { All (λ chunk. vec_len chunk
         ≡ SC.Challenge.DIMENSION) quotient_chunks.now }
-    requires disjoint { AreApart ⟦<SC::Challenge as FieldPair<Val<SC>>>⟧.fields
+    requires disjoint { AreApart ⟦<SC as StarkFields>⟧.fields
         SC.Pcs.Domain.coset_of quotient_chunks_domains.now }
     ensures recomposed { result ≡ quotient_of_chunks
-        ⟦<SC::Challenge as FieldPair<Val<SC>>>⟧.fields SC.Pcs.Domain.coset_of
+        ⟦<SC as StarkFields>⟧.fields SC.Pcs.Domain.coset_of
         quotient_chunks_domains.now quotient_chunks.now zeta }
-    ensures everywhere { IsValueWhereChunksAre ⟦<SC::Challenge as FieldPair<Val<SC>>>⟧.fields
+    ensures everywhere { IsValueWhereChunksAre ⟦<SC as StarkFields>⟧.fields
         SC.Pcs.Domain.coset_of quotient_chunks_domains.now quotient_chunks.now zeta result }
 {
     let log_size = common_log_size(quotient_chunks_domains);
@@ -193,8 +193,7 @@ pub fn quotient_at<SC: StarkGenericConfig>(
     requires number { length chunks.now ≡ 2 ^ log_chunks }
     requires within { log_chunks ≤ (SC.Pcs.Domain.coset_of quotient_domain.now).log_size }
     requires dimension { All (λ chunk. vec_len chunk ≡ SC.Challenge.DIMENSION) chunks.now }
-    ensures { IfOk result (λ quotient. quotient ≡ quotient_of_parts
-        ⟦<SC::Challenge as FieldPair<Val<SC>>>⟧.fields
+    ensures { IfOk result (IsQuotientOfParts ⟦<SC as StarkFields>⟧.fields
         (SC.Pcs.Domain.coset_of quotient_domain.now) log_chunks chunks.now zeta) }
 {
     let domains = quotient_domain.split_domains(alloc, chunks.len())?;

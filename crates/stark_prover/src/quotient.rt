@@ -9,7 +9,7 @@ use crate::domains::ProverDomains;
 use stark_air::{Air, AirLayout};
 use stark_parts::{Com, Domain, PcsProverError, StarkGenericConfig, Val};
 use stark_protocol::PcsProverData;
-use stark_quotient::{QuotientOperations, quotient_values};
+use stark_quotient::{Quotients, quotient_values};
 use stark_support::{
     ExtensionField, GrindingChallenger, PackedExtensionField, PackedField, Pcs, PolynomialSpace,
     RowMajorMatrix, UnivariateStarkPcs,

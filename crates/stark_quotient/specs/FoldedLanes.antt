@@ -1,5 +1,7 @@
 -- Why each lane of what the prover's folder answers is a folded sum.
 use Rattle.std.specs.Prelude.{◌≡◌, ◌<◌, ℕ, List, [], ◌∷◌, ◌++◌, map, slice_index_or, refl}
+use Rattle.std.specs.Vec.{vec_items}
+use Rattle.std.specs.declared.vec.Vec.{Vec}
 use Rattle.std.proofs.Common.{sym, ◌∙◌, ap, subst}
 use Rattle.std.proofs.lemmas.Simd.{map-map}
 use Rattle.stark_support.specs.ListFacts.{mapped_at}
@@ -14,13 +16,20 @@ use Rattle.stark_air.specs.Value.{Environment, value, constraint_values}
 use Rattle.stark_air.specs.LaneValues.{lane_environment, lane_value}
 use Rattle.stark_air.specs.CollectingBoth.{CollectedBoth, of_base, of_extension}
 use Rattle.stark_parts.specs.Folded.{folded}
-use Rattle.stark_prover_folder.specs.Finalized.{finalized, lane_values}
+use Rattle.stark_prover_folder.specs.Finalized.{PackingOps, finalized, lane_values}
 use Rattle.stark_quotient.specs.FoldedPlaces.{AreFoldingPowers, embedded, folded_places}
 
 -- In each lane below the width stands the folded sum of the constraints over that lane's row, embedded.
 abbrev pub AreFoldedLanes : {F E P : Type 0} → RingOps F → RingOps E → (F → E) → (P → List F) → ℕ → E → List (Constraint F) → Environment P → List E → Type 0
 AreFoldedLanes base ring embed lanes width a cs row sums =
     (i : ℕ) → i < width → slice_index_or sums i ring.zero ≡ folded ring a (constraint_values (ring_operations ring embed) (embedded embed (lane_environment lanes i base.zero row)) cs)
+
+-- Where the powers of an element fold these constraints, and are those that are held, each lane has the constraints' sum folded by
+-- that element, over the row there.
+abbrev pub FoldsRow : {F E P Q A : Type 0} → PackingOps F E P Q → Environment P → List (Vec F A) → List E → List (Constraint F) → Q → Type 0
+FoldsRow {E = E} packing row base_powers powers cs packed = (a : E)
+    → AreFoldingPowers packing.fields.ring packing.coordinates packing.fields.dimension a cs (map vec_items base_powers) powers
+    → AreFoldedLanes packing.fields.base packing.fields.ring packing.fields.embed packing.lanes packing.width a cs row (packing.lanes_above packed)
 
 module _ {F E P : Type 0} {base : RingOps F} {ring : RingOps E} {embed : F → E} (embeds : IsEmbedding base ring embed)
     {packed_base : RingOps F} {o : Operations F P} {width : ℕ} {lanes : P → List F} (same_base : packed_base ≡ base) (by_lane : IsLaneByLane packed_base o width lanes)

@@ -1,7 +1,7 @@
 -- Packed values of lists, of matrices and of tables, a point a lane.
 use Rattle.std.specs.Prelude.{◌≡◌, ◌+◌, ◌++◌, ◌^◌, ◌<◌, ℕ, List, Option, Some, length, slice_index_or}
 use Rattle.std.specs.List.{slice_get}
-use Rattle.stark_support.specs.Ring.{RingOps}
+use Rattle.stark_support.specs.FieldPair.{FieldsOps}
 use Rattle.stark_support.specs.PeriodicTable.{table_at}
 use Rattle.stark_support.specs.declared.periodic_table.PeriodicLdeTable.{PeriodicLdeTable}
 use Rattle.stark_air.specs.Declaration.{Trace}
@@ -34,9 +34,9 @@ abbrev pub GoesOnAlike : {F : Type 0} → PeriodicLdeTable F → ℕ → ℕ →
 GoesOnAlike table first second = (r c : ℕ) → said_by table (first + r) c ≡ said_by table (second + r) c
 
 -- Each lane of a packed value times that of another one, embedded.
-abbrev pub AreScaledBy : {F E P Q : Type 0} → RingOps E → (F → E) → F → (Q → List E) → (P → List F) → ℕ → Q → P → Q → Type 0
-AreScaledBy ring embed zero above lanes width sums factors scaled = (i : ℕ) → i < width
-    → slice_index_or (above scaled) i ring.zero ≡ ring.mul (slice_index_or (above sums) i ring.zero) (embed (slice_index_or (lanes factors) i zero))
+abbrev pub AreScaledBy : {F E P Q : Type 0} → FieldsOps F E → (Q → List E) → (P → List F) → ℕ → Q → P → Q → Type 0
+AreScaledBy fields above lanes width sums factors scaled = (i : ℕ) → i < width → slice_index_or (above scaled) i fields.ring.zero
+    ≡ fields.ring.mul (slice_index_or (above sums) i fields.ring.zero) (fields.embed (slice_index_or (lanes factors) i fields.base.zero))
 
 -- The lanes have a function's values at the places from one on, as far as there are so many.
 abbrev pub HasValuesAt : {E Q : Type 0} → (Q → List E) → ℕ → E → ℕ → ℕ → (ℕ → E) → Q → Type 0

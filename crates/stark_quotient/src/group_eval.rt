@@ -1,12 +1,12 @@
 //! How an AIR's constraints are evaluated at a group of points.
 ghost use Rattle.std.specs.Prelude.{◌≡◌, IfOk};
-ghost use Rattle.stark_quotient.specs.Groups.{AreFoldedBy, FitsLayout, FoldsGroup};
+ghost use Rattle.stark_quotient.specs.Groups.{AreFoldedBy, FitsLayout, Folds};
 ghost use Rattle.stark_support.specs.Lanes.{EmbedsLanes};
 
 use crate::plain_eval::GroupOf;
 use stark_air::Air;
-use stark_parts::{StarkGenericConfig, Val};
-use stark_support::{ExtensionField, Field, FieldPair, PackedValue};
+use stark_parts::{StarkFields, StarkGenericConfig, Val};
+use stark_support::{ExtensionField, Field, PackedValue};
 use std::alloc::{AllocError, Global};
 
 /// Evaluates an AIR's constraints at one group of points after the other, a point a lane, with one
@@ -32,9 +32,8 @@ pub(crate) trait GroupEval<SC: StarkGenericConfig, A: Air<Val<SC>>>: Drop {
         requires rows { FitsLayout group.now (A.layout air.now) }
         requires powers { AreFoldedBy SC.Challenge.ring SC.Challenge.coordinates
             SC.Challenge.DIMENSION (A.constraints air.now) group.now.powers.now }
-        ensures { IfOk result (FoldsGroup group.now ⟦<SC::Challenge as FieldPair<Val<SC>>>⟧.fields
-            Self.Packed.lanes Self.PackedAbove.lanes Self.PackedAbove.WIDTH
-            (A.constraints air.now)) };
+        ensures { IfOk result (Folds group.now ⟦<SC as StarkFields>⟧.fields Self.Packed.lanes
+            Self.PackedAbove.lanes Self.PackedAbove.WIDTH (A.constraints air.now)) };
 
     /// Packed values of the base field that are turned into some of the extension are each
     /// embedded.

@@ -9,6 +9,6 @@ mod quotient;
 mod row;
 mod vectorized_eval;
 
-pub use quotient::{QuotientAir, QuotientOperations, quotient_values};
-pub use row::folded_row;
+pub use quotient::{QuotientAir, Quotients, quotient_values};
+pub use row::{FoldedRow, folded_row};
 pub use vectorized_eval::{QUOTIENT_ILP, folded_pairs};

@@ -1,16 +1,15 @@
 //! An AIR's constraints at a group of points, by packed values that have a point in each lane.
 ghost use Rattle.std.specs.Prelude.{◌≡◌, ◌*◌, [], IfOk, length};
-ghost use Rattle.stark_quotient.specs.PointRows.{packed_environment};
-ghost use Rattle.stark_quotient.specs.Groups.{AreFoldedBy, FitsLayout, FoldsGroup, group_layout};
+ghost use Rattle.stark_quotient.specs.Groups.{AreFoldedBy, FitsLayout, FoldsPacked, ShowsGroup, group_layout};
 
 use crate::group_eval::GroupEval;
 use crate::row::folded_row;
 use stark_air::{Air, BaseAirBuilder, RowWindow};
 use stark_parts::{PackedChallenge, PackedVal, StarkGenericConfig, Val};
-use stark_prover_folder::ProverConstraintFolder;
+use stark_prover_folder::{ProverConstraintFolder, StarkPacking};
 use stark_support::{
-    Algebra, ExtensionField, Field, FieldPair, LagrangeSelectors, PackedExtensionField,
-    PackedField, PackedValue, RowMajorMatrixView,
+    Algebra, ExtensionField, Field, LagrangeSelectors, PackedExtensionField, PackedField,
+    PackedValue, RowMajorMatrixView,
 };
 use std::alloc::{AllocError, Global};
 use std::mem;
@@ -130,13 +129,8 @@ where
     requires main { length group.now.rows.now.main.items ≡ 2 * group.now.rows.now.main_width }
     requires preprocessed { length group.now.rows.now.preprocessed.items
         ≡ 2 * group.now.rows.now.preprocessed_width }
-    ensures environment { ⟦<ProverConstraintFolder<'a, SC> as BaseAirBuilder>⟧.environment result
-        ≡ packed_environment group.now.rows.now.main_width group.now.rows.now.preprocessed_width
-        group.now.rows.now.main.items group.now.rows.now.preprocessed.items
-        group.now.rows.now.periodic_values.items group.now.public_values.now
-        SC.Pcs.Domain.Val.Packing.operations SC.Pcs.Domain.Val.ring.zero
-        group.now.selectors.now.is_first_row group.now.selectors.now.is_last_row
-        group.now.selectors.now.is_transition }
+    ensures environment { ShowsGroup group.now ⟦<SC as StarkPacking>⟧.packing
+        (⟦<ProverConstraintFolder<'a, SC> as BaseAirBuilder>⟧.environment result) }
     ensures layout { ⟦<ProverConstraintFolder<'a, SC> as BaseAirBuilder>⟧.layout result
         ≡ group_layout group.now }
     ensures nothing_kept { result.base_constraints.items ≡ [] }
@@ -177,9 +171,8 @@ where
     requires rows { FitsLayout group.now (A.layout air.now) }
     requires powers { AreFoldedBy SC.Challenge.ring SC.Challenge.coordinates SC.Challenge.DIMENSION
         (A.constraints air.now) group.now.powers.now }
-    ensures { IfOk result (FoldsGroup group.now ⟦<SC::Challenge as FieldPair<Val<SC>>>⟧.fields
-        SC.Pcs.Domain.Val.Packing.lanes SC.Challenge.ExtensionPacking.lanes
-        SC.Challenge.ExtensionPacking.WIDTH (A.constraints air.now)) }
+    ensures { IfOk result (FoldsPacked group.now ⟦<SC as StarkPacking>⟧.packing
+        (A.constraints air.now)) }
 {
     let mut folder = folder_on::<SC>(alloc, group, kept);
     let packed = folded_row::<SC, A>(air, &mut folder)?;

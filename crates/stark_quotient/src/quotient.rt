@@ -2,13 +2,12 @@
 ghost use Rattle.std.specs.Prelude.{◌≡◌, ◌≢◌, ◌<◌, ◌≤◌, ◌/◌, ◌+◌, ◌*◌, ◌^◌, ℕ, All, IfOk, IfSome, OnOk, Some, List, length, map, option_map, slice_index_or};
 ghost use Rattle.stark_support.specs.Coset.{AreDisjoint, coset_size};
 ghost use Rattle.stark_support.specs.Periodic.{ColumnFits};
-ghost use Rattle.stark_air.specs.Declaration.{Trace};
 ghost use Rattle.stark_air.specs.Layout.{Covers};
 ghost use Rattle.stark_air.specs.SymbolicLayout.{symbolic_layout};
-ghost use Rattle.stark_security.specs.ConstraintPolynomial.{AirInstance};
-ghost use Rattle.stark_quotient.specs.PointwiseQuotient.{ArePointwiseQuotients, HasShape, RowsOnCoset, pointwise_quotient, rows_of_matrices, rows_in, rows_or_none};
-ghost use Rattle.stark_quotient.specs.Groups.{AreApart, AreFoldedBy, HoldPowers, IsPrepared, Tabulates};
-ghost use Rattle.stark_quotient.specs.PackedParts.{AreScaledBy, HasRowPairs, HaveColumnsFrom};
+ghost use Rattle.stark_quotient.specs.PointwiseQuotient.{HasShape, rows_of_matrices, rows_in, rows_or_none};
+ghost use Rattle.stark_quotient.specs.Groups.{AreFoldedBy, HoldPowers, IsPrepared, Tabulates};
+ghost use Rattle.stark_quotient.specs.PackedParts.{AreScaledBy, HaveColumnsFrom};
+ghost use Rattle.stark_quotient.specs.PreparedCoset.{AreQuotientsOn, FitsRows, HasMainPairs, HasPrepared, HasPreprocessedPairs, HasQuotients, HasQuotientsFrom, IsPlaced, QuotientOps};
 
 use crate::group_eval::GroupEval;
 use crate::packed_rows::{
@@ -17,11 +16,11 @@ use crate::packed_rows::{
 use crate::plain_eval::{AlphaPowers, PackedGroup, PackedRows, PlainEval};
 use crate::vectorized_eval::{QUOTIENT_ILP, VectorizedEval};
 use stark_air::{Air, AirLayout, BaseAir};
-use stark_parts::{Domain, StarkGenericConfig, Val};
+use stark_parts::{Domain, StarkFields, StarkGenericConfig, Val};
 use stark_support::{
-    DomainShape, ExtensionField, Field, FieldPair, LagrangeSelectors, PackedExtensionField,
-    PackedField, PackedValue, Pcs, PeriodicColumns, PeriodicLdeTable, PolynomialSpace,
-    RowMajorMatrix, TwoAdicField, UnivariateStarkPcs,
+    DomainShape, ExtensionField, Field, LagrangeSelectors, PackedExtensionField, PackedField,
+    PackedValue, Pcs, PeriodicColumns, PeriodicLdeTable, PolynomialSpace, RowMajorMatrix,
+    TwoAdicField, UnivariateStarkPcs,
 };
 use stark_symbolic::get_constraint_layout;
 use std::alloc::{AllocError, Global};
@@ -31,38 +30,35 @@ pub trait QuotientAir<SC: StarkGenericConfig>: Air<Val<SC>> {}
 
 impl<SC: StarkGenericConfig, A: Air<Val<SC>>> QuotientAir<SC> for A {}
 
-/// What the clauses on quotient values cite, in two records.
-pub trait QuotientOperations<A>: StarkGenericConfig {
-    /// The fields, the subgroup of the trace's rows, and what the AIR declares.
-    ghost air_over: { A → Self.Pcs.Domain → AirInstance Self.Pcs.Domain.Val Self.Challenge };
-
-    /// The points of the quotient's domain, the rows there of the main and the preprocessed matrix,
-    /// and the public values.
-    ghost rows_on: { Self.Pcs.Domain → Trace Self.Pcs.Domain.Val → Trace Self.Pcs.Domain.Val
-        → List Self.Pcs.Domain.Val → RowsOnCoset Self.Pcs.Domain.Val };
+/// What a quotient of an AIR is taken of, in one record: over a trace's domain the fields, the
+/// subgroup of its rows and what the AIR declares; on the quotient's domain its points, the rows
+/// there of the main and the preprocessed matrix, and the public values.
+pub trait Quotients<A>: StarkGenericConfig {
+    ghost over: { A → QuotientOps Self.Pcs.Domain Self.Pcs.Domain.Val Self.Challenge };
 }
 
-impl<SC, A> QuotientOperations<A> for SC
+impl<SC, A> Quotients<A> for SC
 where
     SC: StarkGenericConfig,
     A: Air<Val<SC>>,
 {
-    ghost air_over = { λ air domain. record {
-      base = SC.Pcs.Domain.Val.ring;
-      base_inverse = SC.Pcs.Domain.Val.inverse_of;
-      ring = SC.Challenge.ring;
-      inverse = SC.Challenge.inverse_of;
-      embed = SC.Challenge.embed;
-      basis = SC.Challenge.basis;
-      generator = SC.Pcs.Domain.Val.root (SC.Pcs.Domain.coset_of domain).log_size;
-      log_size = (SC.Pcs.Domain.coset_of domain).log_size;
-      constraints = A.constraints air;
-      periodic = A.periodic_columns air;
+    ghost over = { λ air. record {
+      air_over = λ domain. record {
+        base = SC.Pcs.Domain.Val.ring;
+        base_inverse = SC.Pcs.Domain.Val.inverse_of;
+        ring = SC.Challenge.ring;
+        inverse = SC.Challenge.inverse_of;
+        embed = SC.Challenge.embed;
+        basis = SC.Challenge.basis;
+        generator = SC.Pcs.Domain.Val.root (SC.Pcs.Domain.coset_of domain).log_size;
+        log_size = (SC.Pcs.Domain.coset_of domain).log_size;
+        constraints = A.constraints air;
+        periodic = A.periodic_columns air;
+      };
+      rows_on = λ domain main preprocessed public_values.
+          rows_of_matrices SC.Pcs.Domain.Val.ring SC.Pcs.Domain.Val.root
+          (SC.Pcs.Domain.coset_of domain) main preprocessed public_values;
     } };
-
-    ghost rows_on = { λ domain main preprocessed public_values.
-        rows_of_matrices SC.Pcs.Domain.Val.ring SC.Pcs.Domain.Val.root
-        (SC.Pcs.Domain.coset_of domain) main preprocessed public_values };
 }
 
 /// The powers of `alpha` that fold the AIR's constraints.
@@ -130,12 +126,12 @@ fn fill_rows<SC: StarkGenericConfig, P: PackedValue<Value = Val<SC>>>(
     ensures main_width { rows.new.main_width ≡ rows.old.main_width }
     ensures preprocessed_width { rows.new.preprocessed_width ≡ rows.old.preprocessed_width }
     ensures main_number { OnOk result (length rows.new.main.items ≡ 2 * on.now.main.now.width) }
-    ensures main { OnOk result (HasRowPairs P.lanes P.WIDTH SC.Pcs.Domain.Val.ring.zero
-        (rows_in on.now.main.now) start on.now.step rows.new.main.items) }
+    ensures main { OnOk result (HasMainPairs on.now P.lanes P.WIDTH SC.Pcs.Domain.Val.ring.zero
+        start rows.new.main.items) }
     ensures preprocessed_number { OnOk result (length rows.new.preprocessed.items
         ≡ 2 * (rows_or_none on.now.preprocessed).width) }
-    ensures preprocessed { OnOk result (HasRowPairs P.lanes P.WIDTH SC.Pcs.Domain.Val.ring.zero
-        (rows_or_none on.now.preprocessed) start on.now.step rows.new.preprocessed.items) }
+    ensures preprocessed { OnOk result (HasPreprocessedPairs on.now P.lanes P.WIDTH
+        SC.Pcs.Domain.Val.ring.zero start rows.new.preprocessed.items) }
     ensures periodic_number { OnOk result (length rows.new.periodic_values.items
         ≡ on.now.periodic.width) }
     ensures periodic { OnOk result (HaveColumnsFrom P.lanes P.WIDTH on.now.periodic start
@@ -164,8 +160,8 @@ fn over_vanishing<SC: StarkGenericConfig, A: Air<Val<SC>>, G: GroupEval<SC, A>>(
     sums: G::PackedAbove,
     inverses: G::Packed,
 ) -> G::PackedAbove
-    ensures { AreScaledBy SC.Challenge.ring SC.Challenge.embed SC.Pcs.Domain.Val.ring.zero
-        G.PackedAbove.lanes G.Packed.lanes G.PackedAbove.WIDTH sums inverses result }
+    ensures { AreScaledBy ⟦<SC as StarkFields>⟧.fields G.PackedAbove.lanes G.Packed.lanes
+        G.PackedAbove.WIDTH sums inverses result }
 {
     sums * G::PackedAbove::from(inverses)
 }
@@ -181,35 +177,17 @@ fn quotients_of_group<SC: StarkGenericConfig, A: Air<Val<SC>>, G: GroupEval<SC, 
 ) -> Result<G::PackedAbove, AllocError>
     requires main_width { rows.old.main_width ≡ (A.layout air.now).main }
     requires preprocessed_width { rows.old.preprocessed_width ≡ (A.layout air.now).preprocessed }
-    requires size { on.now.size ≡ coset_size (SC.Pcs.Domain.coset_of on.now.quotient_domain) }
-    requires step { on.now.step ≡ on.now.size / coset_size
-        (SC.Pcs.Domain.coset_of on.now.trace_domain) }
-    requires room { on.now.size ≤ 2 ^ 63 }
+    requires placed { IsPlaced on.now ⟦<SC as StarkFields>⟧.fields SC.Pcs.Domain.coset_of }
+    requires rows { FitsRows on.now (A.layout air.now) }
     requires within { start < on.now.size }
-    requires subgroup { (SC.Pcs.Domain.coset_of on.now.trace_domain).shift
-        ≡ SC.Pcs.Domain.Val.ring.one }
-    requires disjoint { AreApart SC.Pcs.Domain.Val.ring SC.Pcs.Domain.Val.root
-        SC.Pcs.Domain.coset_of on.now.trace_domain on.now.quotient_domain }
-    requires main { HasShape (A.layout air.now).main on.now.size
-        (rows_in on.now.main.now) }
-    requires preprocessed { HasShape (A.layout air.now).preprocessed on.now.size
-        (rows_or_none on.now.preprocessed) }
-    requires publics { length on.now.public_values.now ≡ (A.layout air.now).publics }
     requires powers { AreFoldedBy SC.Challenge.ring SC.Challenge.coordinates SC.Challenge.DIMENSION
         (A.constraints air.now) on.now.powers }
-    requires prepared { IsPrepared ⟦<SC::Challenge as FieldPair<Val<SC>>>⟧.fields
-        SC.Pcs.Domain.coset_of on.now.trace_domain on.now.quotient_domain
-        (A.periodic_columns air.now) (on.now.selectors, on.now.periodic) }
+    requires prepared { HasPrepared on.now ⟦<SC as StarkFields>⟧.fields SC.Pcs.Domain.coset_of
+        (A.periodic_columns air.now) }
     ensures main_width { rows.new.main_width ≡ rows.old.main_width }
     ensures preprocessed_width { rows.new.preprocessed_width ≡ rows.old.preprocessed_width }
-    ensures quotients { IfOk result (λ packed. (i : ℕ) → i < G.PackedAbove.WIDTH
-        → start + i < on.now.size → slice_index_or (G.PackedAbove.lanes packed) i
-        SC.Challenge.ring.zero ≡ pointwise_quotient
-        (⟦<SC as QuotientOperations<A>>⟧.air_over air.now on.now.trace_domain)
-        (⟦<SC as QuotientOperations<A>>⟧.rows_on on.now.quotient_domain
-        (rows_in on.now.main.now)
-        (rows_or_none on.now.preprocessed)
-        on.now.public_values.now) on.now.powers.alpha (start + i)) }
+    ensures quotients { IfOk result (HasQuotientsFrom on.now (⟦<SC as Quotients<A>>⟧.over air.now)
+        start G.PackedAbove.lanes G.PackedAbove.WIDTH) }
 {
     fill_rows::<SC, G::Packed>(on, start, rows)?;
     let selectors = packed_selectors(&on.selectors, start);
@@ -229,30 +207,13 @@ fn values_on<SC: StarkGenericConfig, A: Air<Val<SC>>, G: GroupEval<SC, A>>(
     air: &A,
     on: &OnCoset<'_, SC>,
 ) -> Result<Vec<SC::Challenge>, AllocError>
-    requires size { on.now.size ≡ coset_size (SC.Pcs.Domain.coset_of on.now.quotient_domain) }
-    requires step { on.now.step ≡ on.now.size / coset_size
-        (SC.Pcs.Domain.coset_of on.now.trace_domain) }
-    requires room { on.now.size ≤ 2 ^ 63 }
-    requires subgroup { (SC.Pcs.Domain.coset_of on.now.trace_domain).shift
-        ≡ SC.Pcs.Domain.Val.ring.one }
-    requires disjoint { AreApart SC.Pcs.Domain.Val.ring SC.Pcs.Domain.Val.root
-        SC.Pcs.Domain.coset_of on.now.trace_domain on.now.quotient_domain }
-    requires main { HasShape (A.layout air.now).main on.now.size
-        (rows_in on.now.main.now) }
-    requires preprocessed { HasShape (A.layout air.now).preprocessed on.now.size
-        (rows_or_none on.now.preprocessed) }
-    requires publics { length on.now.public_values.now ≡ (A.layout air.now).publics }
+    requires placed { IsPlaced on.now ⟦<SC as StarkFields>⟧.fields SC.Pcs.Domain.coset_of }
+    requires rows { FitsRows on.now (A.layout air.now) }
     requires powers { AreFoldedBy SC.Challenge.ring SC.Challenge.coordinates SC.Challenge.DIMENSION
         (A.constraints air.now) on.now.powers }
-    requires prepared { IsPrepared ⟦<SC::Challenge as FieldPair<Val<SC>>>⟧.fields
-        SC.Pcs.Domain.coset_of on.now.trace_domain on.now.quotient_domain
-        (A.periodic_columns air.now) (on.now.selectors, on.now.periodic) }
-    ensures { IfOk result (λ values. ArePointwiseQuotients
-        (⟦<SC as QuotientOperations<A>>⟧.air_over air.now on.now.trace_domain)
-        (⟦<SC as QuotientOperations<A>>⟧.rows_on on.now.quotient_domain
-        (rows_in on.now.main.now)
-        (rows_or_none on.now.preprocessed)
-        on.now.public_values.now) on.now.powers.alpha values.items) }
+    requires prepared { HasPrepared on.now ⟦<SC as StarkFields>⟧.fields SC.Pcs.Domain.coset_of
+        (A.periodic_columns air.now) }
+    ensures { IfOk result (HasQuotients on.now (⟦<SC as Quotients<A>>⟧.over air.now)) }
 {
     let mut eval = G::new(alloc);
     let mut rows = PackedRows::new(alloc, on.main.width, width_of(on.preprocessed));
@@ -298,7 +259,7 @@ fn periodic_table<SC: StarkGenericConfig, A: BaseAir<Val<SC>>>(
 ) -> Result<PeriodicLdeTable<Val<SC>>, AllocError>
     requires { All (λ column. ColumnFits (coset_size (SC.Pcs.Domain.coset_of trace_domain))
         (length column)) (A.periodic_columns air.now) }
-    ensures { IfOk result (Tabulates ⟦<SC::Challenge as FieldPair<Val<SC>>>⟧.fields
+    ensures { IfOk result (Tabulates ⟦<SC as StarkFields>⟧.fields
         SC.Pcs.Domain.coset_of trace_domain quotient_domain (A.periodic_columns air.now)) }
 {
     let columns = fitting_columns::<Val<SC>, A>(air, points_of(&trace_domain));
@@ -321,7 +282,7 @@ fn prepare<SC: StarkGenericConfig, A: BaseAir<Val<SC>>>(
     requires periodic { All (λ column.
         ColumnFits (coset_size (SC.Pcs.Domain.coset_of trace_domain)) (length column))
         (A.periodic_columns air.now) }
-    ensures { IfOk result (IsPrepared ⟦<SC::Challenge as FieldPair<Val<SC>>>⟧.fields
+    ensures { IfOk result (IsPrepared ⟦<SC as StarkFields>⟧.fields
         SC.Pcs.Domain.coset_of trace_domain quotient_domain (A.periodic_columns air.now)) }
 {
     let periodic = periodic_table::<SC, A>(alloc, pcs, air, trace_domain, quotient_domain)?;
@@ -352,8 +313,8 @@ pub fn quotient_values<SC: StarkGenericConfig, A: QuotientAir<SC>>(
     layout: AirLayout,
     trace_domain: Domain<SC>,
     quotient_domain: Domain<SC>,
-    trace_on_quotient_domain: &RowMajorMatrix<Val<SC>>,
-    preprocessed_on_quotient_domain: Option<&RowMajorMatrix<Val<SC>>>,
+    trace: &RowMajorMatrix<Val<SC>>,
+    preprocessed: Option<&RowMajorMatrix<Val<SC>>>,
     alpha: SC::Challenge,
 ) -> Result<Vec<SC::Challenge>, AllocError>
 where
@@ -364,21 +325,15 @@ where
     requires disjoint { AreDisjoint SC.Pcs.Domain.Val.ring SC.Pcs.Domain.Val.root
         (SC.Pcs.Domain.coset_of trace_domain) (SC.Pcs.Domain.coset_of quotient_domain) }
     requires trace { HasShape (A.layout air.now).main
-        (coset_size (SC.Pcs.Domain.coset_of quotient_domain))
-        (rows_in trace_on_quotient_domain.now) }
+        (coset_size (SC.Pcs.Domain.coset_of quotient_domain)) (rows_in trace.now) }
     requires preprocessed { HasShape (A.layout air.now).preprocessed
-        (coset_size (SC.Pcs.Domain.coset_of quotient_domain))
-        (rows_or_none preprocessed_on_quotient_domain) }
+        (coset_size (SC.Pcs.Domain.coset_of quotient_domain)) (rows_or_none preprocessed) }
     requires publics { length public_values.now ≡ (A.layout air.now).publics }
     requires periodic { All (λ column.
         ColumnFits (coset_size (SC.Pcs.Domain.coset_of trace_domain)) (length column))
         (A.periodic_columns air.now) }
-    ensures { IfOk result (λ values. ArePointwiseQuotients
-        (⟦<SC as QuotientOperations<A>>⟧.air_over air.now trace_domain)
-        (⟦<SC as QuotientOperations<A>>⟧.rows_on quotient_domain
-        (rows_in trace_on_quotient_domain.now)
-        (rows_or_none preprocessed_on_quotient_domain.entry) public_values.now) alpha
-        values.items) }
+    ensures { IfOk result (AreQuotientsOn (⟦<SC as Quotients<A>>⟧.over air.now) trace_domain
+        quotient_domain trace.now preprocessed.entry public_values.now alpha) }
 {
     let prepared = prepare::<SC, A>(alloc, pcs, air, trace_domain, quotient_domain)?;
     let (selectors, periodic) = prepared;
@@ -388,8 +343,8 @@ where
     let on = OnCoset {
         trace_domain,
         quotient_domain,
-        main: trace_on_quotient_domain,
-        preprocessed: preprocessed_on_quotient_domain,
+        main: trace,
+        preprocessed,
         public_values,
         selectors,
         periodic,

@@ -1,18 +1,37 @@
 //! One packed row's folded constraints.
-ghost use Rattle.std.specs.Prelude.{◌≡◌, [], IfOk, map};
-ghost use Rattle.std.specs.Vec.{vec_items};
+ghost use Rattle.std.specs.Prelude.{◌≡◌, [], IfOk, List};
 ghost use Rattle.stark_air.specs.Layout.{Covers};
-ghost use Rattle.stark_quotient.specs.FoldedPlaces.{AreFoldingPowers};
-ghost use Rattle.stark_quotient.specs.FoldedLanes.{AreFoldedLanes};
+ghost use Rattle.stark_air.specs.Tree.{Constraint};
+ghost use Rattle.stark_quotient.specs.FoldedLanes.{FoldsRow};
 ghost use Rattle.stark_quotient.specs.Groups.{HasPowers};
 
 use stark_air::{Air, BaseAirBuilder};
 use stark_parts::{PackedChallenge, StarkGenericConfig, Val};
-use stark_prover_folder::ProverConstraintFolder;
-use stark_support::{
-    ExtensionField, Field, FieldPair, PackedExtensionField, PackedField, PackedValue,
-};
+use stark_prover_folder::{ProverConstraintFolder, StarkPacking};
+use stark_support::{ExtensionField, Field, PackedExtensionField, PackedField, PackedValue};
 use std::alloc::AllocError;
+
+/// What constraints fold to over a folder's rows, with the powers of alpha that it holds.
+pub trait FoldedRow: BaseAirBuilder {
+    /// The packed values of the extension.
+    ghost Folded: { Type 0 };
+
+    /// In each lane it is the constraints' sum over the row there, folded by the element whose
+    /// powers the folder holds.
+    ghost folds: { Self → List (Constraint Self.F) → Folded → Type 0 };
+}
+
+impl<'a, SC: StarkGenericConfig> FoldedRow for ProverConstraintFolder<'a, SC>
+where
+    Val<SC>: PackedField,
+    SC::Challenge: PackedExtensionField<Val<SC>>,
+{
+    ghost Folded = { SC.Challenge.ExtensionPacking };
+
+    ghost folds = { λ folder. FoldsRow ⟦<SC as StarkPacking>⟧.packing
+        (⟦<ProverConstraintFolder<'a, SC> as BaseAirBuilder>⟧.environment folder)
+        folder.base_alpha_powers.now folder.ext_alpha_powers.now };
+}
 
 /// The constraints of an AIR over the folder's rows, folded with the powers of alpha that the
 /// folder holds: in each lane `alpha^(n - 1 - j)` times constraint `j` for each of the `n`. The
@@ -29,18 +48,10 @@ where
         folder.old) (A.layout air.now) }
     requires nothing_kept { folder.old.base_constraints.items ≡ [] }
     requires nothing_kept_above { folder.old.ext_constraints.items ≡ [] }
-    requires powers { HasPowers ⟦<SC::Challenge as FieldPair<Val<SC>>>⟧.fields
-        SC.Challenge.coordinates (A.constraints air.now) folder.old.base_alpha_powers.now
-        folder.old.ext_alpha_powers.now }
-    ensures { IfOk result (λ packed. (alpha : SC.Challenge)
-        → AreFoldingPowers SC.Challenge.ring SC.Challenge.coordinates SC.Challenge.DIMENSION alpha
-        (A.constraints air.now) (map vec_items folder.old.base_alpha_powers.now)
-        folder.old.ext_alpha_powers.now
-        → AreFoldedLanes SC.Pcs.Domain.Val.ring SC.Challenge.ring SC.Challenge.embed
-        SC.Pcs.Domain.Val.Packing.lanes SC.Challenge.ExtensionPacking.WIDTH alpha
-        (A.constraints air.now)
-        (⟦<ProverConstraintFolder<'a, SC> as BaseAirBuilder>⟧.environment folder.old)
-        (SC.Challenge.ExtensionPacking.lanes packed)) }
+    requires powers { HasPowers ⟦<SC as StarkPacking>⟧.packing (A.constraints air.now)
+        folder.old.base_alpha_powers.now folder.old.ext_alpha_powers.now }
+    ensures { IfOk result (⟦<ProverConstraintFolder<'a, SC> as FoldedRow>⟧.folds folder.old
+        (A.constraints air.now)) }
 {
     // What an evaluation leaves in a builder doesn't say that the powers stay, so they are put
     // back.

@@ -1,22 +1,24 @@
 //! An AIR's constraints at a group of points, two packed values at a time.
-ghost use Rattle.std.specs.Prelude.{◌≡◌, ◌*◌, [], IfOk, map, length};
-ghost use Rattle.std.specs.Vec.{vec_items};
+ghost use Rattle.std.specs.Prelude.{◌≡◌, ◌*◌, [], IfOk, length};
 ghost use Rattle.std.proofs.Common.{ap};
-ghost use Rattle.stark_support.specs.Pairs.{both_lanes, both_operations};
 ghost use Rattle.stark_air.specs.Layout.{Covers};
-ghost use Rattle.stark_quotient.specs.FoldedPlaces.{AreFoldingPowers};
-ghost use Rattle.stark_quotient.specs.FoldedLanes.{AreFoldedLanes};
-ghost use Rattle.stark_quotient.specs.PointRows.{packed_environment};
-ghost use Rattle.stark_quotient.specs.Groups.{AreFoldedBy, FitsLayout, FoldsGroup, HasPowers, group_layout};
+ghost use Rattle.stark_support.specs.declared.vectorized.OfExtension.{OfExtension};
+ghost use Rattle.stark_support.specs.declared.vectorized.PackedPair.{PackedPair};
+ghost use Rattle.stark_prover_folder.specs.Finalized.{in_pairs};
+ghost use Rattle.stark_quotient.specs.FoldedLanes.{FoldsRow};
+ghost use Rattle.stark_quotient.specs.Groups.{AreFoldedBy, FitsLayout, FoldsPacked, HasPowers, ShowsPairs, group_layout};
 
 use crate::group_eval::GroupEval;
 use crate::plain_eval::{GroupOf, KeptValues, emptied, views_of};
+use crate::row::FoldedRow;
 use stark_air::{Air, BaseAirBuilder, RowWindow};
 use stark_parts::{PackedVal, StarkGenericConfig, Val};
-use stark_prover_folder::{VectorizedChallenge, VectorizedConstraintFolder, VectorizedVal};
+use stark_prover_folder::{
+    StarkPacking, VectorizedChallenge, VectorizedConstraintFolder, VectorizedVal,
+};
 use stark_support::{
-    Algebra, ExtensionField, Field, FieldPair, LagrangeSelectors, PackedExtensionField,
-    PackedField, PackedValue, RowMajorMatrixView,
+    Algebra, ExtensionField, Field, LagrangeSelectors, PackedExtensionField, PackedField,
+    PackedValue, RowMajorMatrixView,
 };
 use std::alloc::{AllocError, Global};
 
@@ -47,13 +49,8 @@ where
     requires main { length group.now.rows.now.main.items ≡ 2 * group.now.rows.now.main_width }
     requires preprocessed { length group.now.rows.now.preprocessed.items
         ≡ 2 * group.now.rows.now.preprocessed_width }
-    ensures environment { ⟦<VectorizedConstraintFolder<'a, SC, 2> as BaseAirBuilder>⟧.environment
-        result ≡ packed_environment group.now.rows.now.main_width
-        group.now.rows.now.preprocessed_width group.now.rows.now.main.items
-        group.now.rows.now.preprocessed.items group.now.rows.now.periodic_values.items
-        group.now.public_values.now (both_operations SC.Pcs.Domain.Val.Packing.operations)
-        SC.Pcs.Domain.Val.ring.zero group.now.selectors.now.is_first_row
-        group.now.selectors.now.is_last_row group.now.selectors.now.is_transition }
+    ensures environment { ShowsPairs group.now ⟦<SC as StarkPacking>⟧.packing
+        (⟦<VectorizedConstraintFolder<'a, SC, 2> as BaseAirBuilder>⟧.environment result) }
     ensures layout { ⟦<VectorizedConstraintFolder<'a, SC, 2> as BaseAirBuilder>⟧.layout result
         ≡ group_layout group.now }
     ensures nothing_kept { result.base_constraints.items ≡ [] }
@@ -80,6 +77,18 @@ where
     }
 }
 
+impl<'a, SC: StarkGenericConfig> FoldedRow for VectorizedConstraintFolder<'a, SC, 2>
+where
+    Val<SC>: PackedField,
+    SC::Challenge: PackedExtensionField<Val<SC>>,
+{
+    ghost Folded = { PackedPair SC.Challenge SC.Challenge.ExtensionPacking OfExtension 2 };
+
+    ghost folds = { λ folder. FoldsRow (in_pairs ⟦<SC as StarkPacking>⟧.packing)
+        (⟦<VectorizedConstraintFolder<'a, SC, 2> as BaseAirBuilder>⟧.environment folder)
+        folder.base_alpha_powers.now folder.ext_alpha_powers.now };
+}
+
 /// The constraints of an AIR over the folder's rows, folded with the powers of alpha that the
 /// folder holds: in each lane `alpha^(n - 1 - j)` times constraint `j` for each of the `n`. The
 /// folder keeps no value yet, and its rows and values have at least the lengths that the AIR
@@ -96,18 +105,10 @@ where
         folder.old) (A.layout air.now) }
     requires nothing_kept { folder.old.base_constraints.items ≡ [] }
     requires nothing_kept_above { folder.old.ext_constraints.items ≡ [] }
-    requires powers { HasPowers ⟦<SC::Challenge as FieldPair<Val<SC>>>⟧.fields
-        SC.Challenge.coordinates (A.constraints air.now) folder.old.base_alpha_powers.now
-        folder.old.ext_alpha_powers.now }
-    ensures { IfOk result (λ packed. (alpha : SC.Challenge)
-        → AreFoldingPowers SC.Challenge.ring SC.Challenge.coordinates SC.Challenge.DIMENSION alpha
-        (A.constraints air.now) (map vec_items folder.old.base_alpha_powers.now)
-        folder.old.ext_alpha_powers.now
-        → AreFoldedLanes SC.Pcs.Domain.Val.ring SC.Challenge.ring SC.Challenge.embed
-        (both_lanes SC.Pcs.Domain.Val.Packing.lanes) (2 * SC.Challenge.ExtensionPacking.WIDTH)
-        alpha (A.constraints air.now)
-        (⟦<VectorizedConstraintFolder<'a, SC, 2> as BaseAirBuilder>⟧.environment folder.old)
-        (both_lanes SC.Challenge.ExtensionPacking.lanes packed)) }
+    requires powers { HasPowers ⟦<SC as StarkPacking>⟧.packing (A.constraints air.now)
+        folder.old.base_alpha_powers.now folder.old.ext_alpha_powers.now }
+    ensures { IfOk result (⟦<VectorizedConstraintFolder<'a, SC, 2> as FoldedRow>⟧.folds folder.old
+        (A.constraints air.now)) }
 {
     // What an evaluation leaves in a builder doesn't say that the powers stay, so they are put
     // back.
@@ -134,10 +135,8 @@ where
     requires rows { FitsLayout group.now (A.layout air.now) }
     requires powers { AreFoldedBy SC.Challenge.ring SC.Challenge.coordinates SC.Challenge.DIMENSION
         (A.constraints air.now) group.now.powers.now }
-    ensures { IfOk result (FoldsGroup group.now ⟦<SC::Challenge as FieldPair<Val<SC>>>⟧.fields
-        (both_lanes SC.Pcs.Domain.Val.Packing.lanes)
-        (both_lanes SC.Challenge.ExtensionPacking.lanes)
-        (2 * SC.Challenge.ExtensionPacking.WIDTH) (A.constraints air.now)) }
+    ensures { IfOk result (FoldsPacked group.now (in_pairs ⟦<SC as StarkPacking>⟧.packing)
+        (A.constraints air.now)) }
 {
     let mut folder = pairs_folder_on::<SC>(alloc, group, kept);
     let packed = folded_pairs::<SC, A>(air, &mut folder, scratch)?;

@@ -1,6 +1,6 @@
-use Rattle.std.proofs.Common.{◌≡◌, ◌∙◌, ◌<◌, ◌%◌, ◌+◌, ◌*◌, ◌/◌, ◌^◌, ap, arith, length, refl, slice_index_or, subst, sym, option_map}
+use Rattle.std.proofs.Common.{◌≡◌, ◌∙◌, ◌<◌, ◌%◌, ◌+◌, ◌*◌, ◌/◌, ◌^◌, ap, arith, length, refl, slice_index_or, subst, sym, option_map, Some}
 use Rattle.std.proofs.lemmas.List.{length-map}
-use Rattle.std.proofs.Math.Nat.{mod-eq_of_lt}
+use Rattle.std.proofs.Math.Nat.{div-le_self, mod-eq_of_lt}
 use Rattle.stark_support.specs.Coset.{coset_size}
 use Rattle.stark_support.specs.PeriodicTable.{table_at}
 use Rattle.stark_support.specs.Scheme.{matrix_row}
@@ -26,12 +26,12 @@ returns-clause-quotients g c = λ i below within.
     let coset = g.SC.Pcs.Domain.PolynomialSpace.coset_of on.quotient_domain in
     let narrow = subst (λ n. i < n) g.met.G.GroupEval.as_wide below in
     let wide : (p : g.row.G-Packed.Denot) → i < length (lanes p) = λ p. subst (λ n. i < n) (sym (g.met.G.Packed.PackedValue.lane_by_lane.as_many p)) narrow in
-    let inside = subst (λ n. k < n) c.requires.size within in
+    let inside = subst (λ n. k < n) c.requires.placed.size within in
     let main : Trace g.row.SC-Pcs-Domain-Val.Denot = record { width = on.main.now.width; values = on.main.now.values.items } in
     let fixed = matrix_or_empty (option_map (λ m. record { width = m.now.width; values = m.now.values.items }) on.preprocessed) in
     let next = (k + on.step) % on.size in
     let next_is : next ≡ (k + coset_size coset / coset_size trace) % coset_size coset =
-    ap (λ s. (k + s) % on.size) (c.requires.step ∙ ap (λ n. n / coset_size trace) c.requires.size) ∙ ap (λ n. (k + coset_size coset / coset_size trace) % n) c.requires.size in
+    ap (λ s. (k + s) % on.size) (c.requires.placed.step ∙ ap (λ n. n / coset_size trace) c.requires.placed.size) ∙ ap (λ n. (k + coset_size coset / coset_size trace) % n) c.requires.placed.size in
     let here : (start + i) % on.size ≡ k = mod-eq_of_lt within in
     let there : (start + on.step + i) % on.size ≡ next = ap (λ n. n % on.size) (let e : start + on.step + i ≡ k + on.step = omega arith in e) in
     let rows = c.fill_rows.new.rows in
@@ -56,20 +56,20 @@ returns-clause-quotients g c = λ i below within.
       transition = change;
     } in
     let stands : IsLaneRow lanes zero rows.main.items rows.preprocessed.items rows.periodic_values.items selectors.is_first_row selectors.is_last_row selectors.is_transition i row = record {
-      main_rows = two_round main on.size (start + i) (start + on.step + i) k next c.requires.main.number here there _ (filled.main i narrow);
-      preprocessed_rows = two_round fixed on.size (start + i) (start + on.step + i) k next c.requires.preprocessed.number here there _ (filled.preprocessed i narrow);
+      main_rows = two_round main on.size (start + i) (start + on.step + i) k next c.requires.rows.main.number here there _ (filled.main i narrow);
+      preprocessed_rows = two_round fixed on.size (start + i) (start + on.step + i) k next c.requires.rows.preprocessed.number here there _ (filled.preprocessed i narrow);
       periodic_row = refl;
       first_row = refl;
       last_row = refl;
       transition = refl;
     } in
-    let room : k < 2 ^ 64 = omega (arith, inside, c.requires.room) in
-    let number = row_number main.values main.width on.size k c.requires.main.number within ∙ c.requires.main.width_is ∙ sym c.requires.main_width ∙ sym c.fill_rows.ensures.main_width in
-    let fixed_number = row_number fixed.values fixed.width on.size k c.requires.preprocessed.number within ∙ c.requires.preprocessed.width_is ∙ sym c.requires.preprocessed_width ∙ sym c.fill_rows.ensures.preprocessed_width in
+    let room : k < 2 ^ 64 = omega (arith, inside, c.requires.placed.room) in
+    let number = row_number main.values main.width on.size k c.requires.rows.main.number within ∙ c.requires.rows.main.width_is ∙ sym c.requires.main_width ∙ sym c.fill_rows.ensures.main_width in
+    let fixed_number = row_number fixed.values fixed.width on.size k c.requires.rows.preprocessed.number within ∙ c.requires.rows.preprocessed.width_is ∙ sym c.requires.preprocessed_width ∙ sym c.fill_rows.ensures.preprocessed_width in
     let sum = c.in_ok-sums.ensures i below row stands number fixed_number refl in
     c.over_vanishing.ensures i below ∙
     quotient_of_rows val.Field.field_laws challenge.Field.field_laws challenge.ExtensionField.embeds _ g.SC.Pcs.Domain.Val.TwoAdicField.root _ val.TwoAdicField.two_adic trace coset
-    (g.met.SC.Pcs.Domain.PolynomialSpace.lawful on.trace_domain) c.requires.subgroup c.requires.disjoint field.basis (g.A.Air.constraints c.args.air.now) (g.A.BaseAir.periodic_columns c.args.air.now)
+    (g.met.SC.Pcs.Domain.PolynomialSpace.lawful on.trace_domain) c.requires.placed.subgroup c.requires.placed.disjoint field.basis (g.A.Air.constraints c.args.air.now) (g.A.BaseAir.periodic_columns c.args.air.now)
     prepared main fixed on.public_values.now k inside
     on.powers.alpha _ row.main_current row.main_next row.preprocessed_current row.preprocessed_next row.publics periodic first last change inverted
     sum refl refl (ap (matrix_row main.values main.width) next_is) refl (ap (matrix_row fixed.values fixed.width) next_is)
@@ -80,18 +80,29 @@ returns-clause-quotients g c = λ i below within.
     (sym (read.transition i narrow (subst (λ n. k < n) (sym prepared.transition.number) inside)) ∙ lane_read (lanes selectors.is_transition) i zero (wide selectors.is_transition))
     (sym (read.inv_vanishing i narrow (subst (λ n. k < n) (sym prepared.inv_vanishing.number) inside)) ∙ lane_read (lanes selectors.inv_vanishing) i zero (wide selectors.inv_vanishing))
 
+pub fill_rows-requires-clause-room : goal.fill_rows-requires-clause-room
+fill_rows-requires-clause-room g c =
+    let on = c.args.on.now in
+    omega (arith, c.requires.placed.step, c.requires.placed.room, c.requires.within, div-le_self on.size (coset_size (g.SC.Pcs.Domain.PolynomialSpace.coset_of on.trace_domain)))
+
+pub fill_rows-requires-clause-main : goal.fill_rows-requires-clause-main
+fill_rows-requires-clause-main g c =
+    let on = c.args.on.now in
+    let some : 0 < on.size = omega (arith, c.requires.within) in
+    rows_there (λ m. m.now) (λ m. record { width = m.width; values = m.values.items }) (g.A.BaseAir.layout c.args.air.now).main on.size (Some on.main) some c.requires.rows.main
+
 pub fill_rows-requires-clause-preprocessed : goal.fill_rows-requires-clause-preprocessed
 fill_rows-requires-clause-preprocessed g c =
     let on = c.args.on.now in
     let some : 0 < on.size = omega (arith, c.requires.within) in
-    rows_there (λ m. m.now) (λ m. record { width = m.width; values = m.values.items }) (g.A.BaseAir.layout c.args.air.now).preprocessed on.size on.preprocessed some c.requires.preprocessed
+    rows_there (λ m. m.now) (λ m. record { width = m.width; values = m.values.items }) (g.A.BaseAir.layout c.args.air.now).preprocessed on.size on.preprocessed some c.requires.rows.preprocessed
 
 pub fold-requires-clause-rows : goal.fold-requires-clause-rows
 fold-requires-clause-rows g c = record {
-  main = c.in_ok-fill_rows.ensures.main_number ∙ ap (λ n. 2 * n) (c.requires.main.width_is ∙ sym c.requires.main_width ∙ sym c.fill_rows.ensures.main_width);
+  main = c.in_ok-fill_rows.ensures.main_number ∙ ap (λ n. 2 * n) (c.requires.rows.main.width_is ∙ sym c.requires.main_width ∙ sym c.fill_rows.ensures.main_width);
   main_width = c.fill_rows.ensures.main_width ∙ c.requires.main_width;
-  preprocessed = c.in_ok-fill_rows.ensures.preprocessed_number ∙ ap (λ n. 2 * n) (c.requires.preprocessed.width_is ∙ sym c.requires.preprocessed_width ∙ sym c.fill_rows.ensures.preprocessed_width);
+  preprocessed = c.in_ok-fill_rows.ensures.preprocessed_number ∙ ap (λ n. 2 * n) (c.requires.rows.preprocessed.width_is ∙ sym c.requires.preprocessed_width ∙ sym c.fill_rows.ensures.preprocessed_width);
   preprocessed_width = c.fill_rows.ensures.preprocessed_width ∙ c.requires.preprocessed_width;
-  publics = c.requires.publics;
+  publics = c.requires.rows.publics;
   periodics = c.in_ok-fill_rows.ensures.periodic_number ∙ c.requires.prepared.periodic.count ∙ sym (g.met.A.BaseAir.as_declared c.args.air.now).periodic_columns;
 }

@@ -6,7 +6,7 @@ pub overflow_add-start : goal.overflow_add-start
 overflow_add-start g c =
     let packed = g.met.G.PackedAbove.PackedValue.lane_by_lane in
     let width = power_room c.WIDTH-start.result packed.exponent (c.WIDTH-start.ensures ∙ packed.power_of_two) (omega (arith, c.WIDTH-start.type_inv)) in
-    record { fits = omega (arith, width, c.requires.room, c.loop-start-test.true) }
+    record { fits = omega (arith, width, c.requires.placed.room, c.loop-start-test.true) }
 
 pub loop-start-smaller : goal.loop-start-smaller
 loop-start-smaller g c =
@@ -18,7 +18,7 @@ pub loop-start-preserved : goal.loop-start-preserved
 loop-start-preserved g c =
     let packed = g.met.G.PackedAbove.PackedValue.lane_by_lane in
     let coset = g.SC.Pcs.Domain.PolynomialSpace.coset_of c.args.on.now.quotient_domain in
-    let size = c.requires.size in
+    let size = c.requires.placed.size in
     let start = c.loop-start.start in
     let before = c.loop-start.values.items in
     let lanes = g.G.PackedAbove.PackedValue.lanes c.in_ok-packed.packed in

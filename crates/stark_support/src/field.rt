@@ -1,7 +1,7 @@
 //! Fields, and the algebras over them, with their laws.
 ghost use Rattle.std.specs.Prelude.{◌≡◌, ◌≢◌, ◌<◌, ◌≤◌, ◌^◌, ℕ, true, Bool, List, map, Option, Some, None, length, refl};
 ghost use Rattle.std.specs.List.{slice_get};
-ghost use Rattle.stark_support.specs.Ring.{RingOps, FieldLaws, IsQuarticConstant, difference};
+ghost use Rattle.stark_support.specs.Ring.{RingOps, FieldLaws, IsQuarticConstant, difference, four_products};
 ghost use Rattle.stark_support.specs.Operations.{AreExact, AreTotal, Operations, exact_binary, exact_unary, ring_operations};
 ghost use Rattle.stark_support.specs.Combination.{linear_combination};
 ghost use Rattle.stark_support.specs.Embedding.{IsEmbedding};
@@ -285,6 +285,17 @@ pub trait QuarticBase: Field {
     const QUARTIC_CONSTANT: Self;
 
     ghost quartic_constant: { IsQuarticConstant Self.ring QUARTIC_CONSTANT };
+
+    /// The sum of the products of four pairs: a coordinate of a product in the extension of degree
+    /// four. A field of residues reduces it once.
+    fn sum_of_products(
+        first: (Self, Self),
+        second: (Self, Self),
+        third: (Self, Self),
+        fourth: (Self, Self),
+    ) -> Self
+        ensures { result ≡ four_products Self.ring first.0 first.1 second.0 second.1 third.0 third.1
+            fourth.0 fourth.1 };
 }
 
 /// A field over a base field.

@@ -284,8 +284,6 @@ pub trait QuarticBase: Field {
 
     const QUARTIC_CONSTANT: Self;
 
-    ghost quartic_constant: { IsQuarticConstant Self.ring QUARTIC_CONSTANT };
-
     /// The sum of the products of four pairs: a coordinate of a product in the extension of degree
     /// four. A field of residues reduces it once.
     fn sum_of_products(
@@ -296,6 +294,8 @@ pub trait QuarticBase: Field {
     ) -> Self
         ensures { result ≡ four_products Self.ring first.0 first.1 second.0 second.1 third.0 third.1
             fourth.0 fourth.1 };
+
+    ghost quartic_constant: { IsQuarticConstant Self.ring QUARTIC_CONSTANT };
 }
 
 /// A field over a base field.

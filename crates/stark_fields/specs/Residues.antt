@@ -68,6 +68,10 @@ module _ {M K : Type 0} {G : Ghosts M} where
   pub residue_reduced : (n : ℕ) → residue {M = M} {K = K} {G = G} (n % G.MODULUS) ≡ residue n
   residue_reduced n = same_value _ _ (mod-mod n G.MODULUS)
 
+  -- a sum of four numbers that is reduced once
+  pub residue_of_four : (a b c d : ℕ) → residue {M = M} {K = K} {G = G} ((a + b) + (c + d)) ≡ residue (a % G.MODULUS + (b % G.MODULUS + (c % G.MODULUS + d % G.MODULUS) % G.MODULUS) % G.MODULUS)
+  residue_of_four a b c d = same_value _ _ (simp (mod-add-mod, add-mod-mod) (ap (λ n. n % G.MODULUS) (omega arith)))
+
   pub one_not_zero : residue {M = M} {K = K} {G = G} 1 ≢ residue 0
   one_not_zero e =
       let values : 1 % G.MODULUS ≡ 0 % G.MODULUS = ap (λ (x : Residue M K G). x.value) e in

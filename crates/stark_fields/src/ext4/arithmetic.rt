@@ -89,17 +89,24 @@ impl<F: QuarticBase> Mul for Ext4<F> {
 
     ghost mul_gives = { λ x y r. r ≡ (ext4_ring F.ring F.QUARTIC_CONSTANT).mul x y };
 
+    // Three products by the constant first, so that each coordinate is one sum of four products.
     fn mul(self, other: Ext4<F>) -> Ext4<F> {
         let w = F::QUARTIC_CONSTANT;
+        let w1 = w * other.c1;
+        let w2 = w * other.c2;
+        let w3 = w * other.c3;
+        let Ext4 {
+            c0: y0,
+            c1: y1,
+            c2: y2,
+            c3: y3,
+        } = other;
+        let Ext4 { c0, c1, c2, c3 } = self;
         Ext4 {
-            c0: self.c0 * other.c0
-                + w * (self.c1 * other.c3 + (self.c2 * other.c2 + self.c3 * other.c1)),
-            c1: (self.c0 * other.c1 + self.c1 * other.c0)
-                + w * (self.c2 * other.c3 + self.c3 * other.c2),
-            c2: (self.c0 * other.c2 + (self.c1 * other.c1 + self.c2 * other.c0))
-                + w * (self.c3 * other.c3),
-            c3: (self.c0 * other.c3 + self.c1 * other.c2)
-                + (self.c2 * other.c1 + self.c3 * other.c0),
+            c0: F::sum_of_products((c0, y0), (c1, w3), (c2, w2), (c3, w1)),
+            c1: F::sum_of_products((c0, y1), (c1, y0), (c2, w3), (c3, w2)),
+            c2: F::sum_of_products((c0, y2), (c1, y1), (c2, y0), (c3, w3)),
+            c3: F::sum_of_products((c0, y3), (c1, y2), (c2, y1), (c3, y0)),
         }
     }
 }

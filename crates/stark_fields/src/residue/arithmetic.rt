@@ -1,6 +1,6 @@
 //! The operations of a prime field.
 ghost use Rattle.std.specs.Prelude.{◌<◌, ◌≡◌, ◌==◌, zero, ◌*◌, ◌-◌, ◌^◌, refl, ⊤};
-ghost use Rattle.stark_support.specs.Ring.{difference};
+ghost use Rattle.stark_support.specs.Ring.{difference, four_products};
 ghost use Rattle.stark_support.specs.Powers.{power, squarings};
 ghost use Rattle.stark_support.specs.Lanes.{one_lane, alone_is_lane_by_lane};
 ghost use Rattle.stark_support.specs.Operations.{exact, total};
@@ -67,7 +67,7 @@ impl<M: Modulus, Kind> Residue<M, Kind> {
         }
     }
 
-    /// The residue of a product.
+    /// The residue of a product, or of a sum of four.
     fn of_product(number: u64) -> Residue<M, Kind>
         ensures { result ≡ residue number }
     {
@@ -76,6 +76,14 @@ impl<M: Modulus, Kind> Residue<M, Kind> {
             modulus: PhantomData,
             kind: PhantomData,
         }
+    }
+
+    /// The product of a pair's numbers, not reduced: below 2^62.
+    fn wide_product(pair: (Residue<M, Kind>, Residue<M, Kind>)) -> u64
+        ensures product { result ≡ pair.0.value * pair.1.value }
+        ensures short { result < 4611686018427387904 }
+    {
+        u64::from(pair.0.value) * u64::from(pair.1.value)
     }
 
     /// The residue squared `times` times.
@@ -353,6 +361,21 @@ impl<M: Modulus, Kind> QuarticBase for Residue<M, Kind> {
     };
 
     ghost quartic_constant = { quartic_constant _ _ };
+
+    // Four products of numbers below 2^31 have a sum that fits 64 bits.
+    fn sum_of_products(
+        first: (Residue<M, Kind>, Residue<M, Kind>),
+        second: (Residue<M, Kind>, Residue<M, Kind>),
+        third: (Residue<M, Kind>, Residue<M, Kind>),
+        fourth: (Residue<M, Kind>, Residue<M, Kind>),
+    ) -> Residue<M, Kind>
+        ensures { result ≡ four_products residue_ring first.0 first.1 second.0 second.1 third.0
+            third.1 fourth.0 fourth.1 }
+    {
+        let upper = Residue::wide_product(first) + Residue::wide_product(second);
+        let lower = Residue::wide_product(third) + Residue::wide_product(fourth);
+        Residue::of_product(upper + lower)
+    }
 }
 
 impl<M: Modulus, Kind> TwoAdicField for Residue<M, Kind> {

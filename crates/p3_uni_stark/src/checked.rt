@@ -88,11 +88,9 @@ pub trait StarkChecked<A>: StarkGenericConfig {
         → RowMajorMatrix Self.Pcs.Domain.Val → Error → Type 0 };
 }
 
-impl<SC, A> StarkChecked<A> for SC
+impl<SC: StarkGenericConfig, A: Air<Val<SC>>> StarkChecked<A> for SC
 where
-    SC: StarkGenericConfig,
     SC::Challenger: GrindingChallenger<Witness = Val<SC>>,
-    A: Air<Val<SC>>,
 {
     ghost Held = { Bor (PreprocessedProverData SC.Pcs.Commitment SC.Pcs.ProverData) };
 
@@ -132,7 +130,7 @@ where
 ///   constraint, with its value.
 /// - `Proving` with the error of `prove_with_preprocessed`; `OutOfMemory` also where the check was
 ///   refused memory.
-pub fn prove_checked<SC, A>(
+pub fn prove_checked<SC: StarkGenericConfig, A: Air<Val<SC>>>(
     alloc: Global,
     config: &SC,
     air: &A,
@@ -141,11 +139,9 @@ pub fn prove_checked<SC, A>(
     preprocessed: Option<&PreprocessedProverData<Com<SC>, PcsProverData<SC>>>,
 ) -> Result<StarkProof<SC>, CheckedProvingError<Val<SC>, PcsProverError<SC>>>
 where
-    SC: StarkGenericConfig,
     Val<SC>: PackedField,
     SC::Challenge: PackedExtensionField<Val<SC>>,
     SC::Challenger: GrindingChallenger<Witness = Val<SC>>,
-    A: Air<Val<SC>>,
     requires columns { 0 < trace.width }
     requires width { trace.width ≡ (A.layout air.now).main }
     requires height { FitsSchemeAsDeclared SC.Pcs.scheme (SC.config.scheme config.now) SC.Pcs.ZK

@@ -51,11 +51,9 @@ pub trait StarkCompleteness<A>: StarkGenericConfig {
     ghost has_sized_degrees: { Self → A → Type 0 };
 }
 
-impl<SC, A> StarkCompleteness<A> for SC
+impl<SC: StarkGenericConfig, A: Air<Val<SC>>> StarkCompleteness<A> for SC
 where
-    SC: StarkGenericConfig,
     SC::Challenger: GrindingChallenger<Witness = Val<SC>>,
-    A: Air<Val<SC>>,
 {
     ghost Held = { Bor (PreprocessedProverData SC.Pcs.Commitment SC.Pcs.ProverData) };
 
@@ -96,7 +94,7 @@ pub type VerifiedProof<SC> = (StarkProof<SC>, Result<(), VerificationError<PcsEr
 /// set-up (there is neither for an AIR without preprocessed columns), the trace satisfies the AIR,
 /// the constraints' degrees fit the quotient's domain, and the point that was drawn lies outside
 /// the trace's domain.
-pub fn prove_and_verify<SC, A>(
+pub fn prove_and_verify<SC: StarkGenericConfig, A: Air<Val<SC>>>(
     alloc: Global,
     config: &SC,
     air: &A,
@@ -106,11 +104,9 @@ pub fn prove_and_verify<SC, A>(
     key: Option<&PreprocessedVerifierKey<Com<SC>>>,
 ) -> Result<VerifiedProof<SC>, ProvingError<PcsProverError<SC>>>
 where
-    SC: StarkGenericConfig,
     Val<SC>: PackedField,
     SC::Challenge: PackedExtensionField<Val<SC>>,
     SC::Challenger: GrindingChallenger<Witness = Val<SC>>,
-    A: Air<Val<SC>>,
     requires columns { 0 < trace.width }
     requires width { trace.width ≡ (A.layout air.now).main }
     requires height { FitsSchemeBeside SC.Pcs.scheme (SC.config.scheme config.now) SC.Pcs.ZK

@@ -9,11 +9,9 @@ use stark_support::{GrindingChallenger, Pcs, PolynomialSpace};
 /// A law, with no code: where each term of each constraint has at most one transition factor and no
 /// degree multiple saturates, the constraints' degrees fit the quotient's domain, whatever the
 /// height. So of these AIRs an honest proof has no premise on degrees.
-pub fn degrees_fit_the_quotient<SC, A>(_config: &SC, _air: &A)
+pub fn degrees_fit_the_quotient<SC: StarkGenericConfig, A: Air<Val<SC>>>(_config: &SC, _air: &A)
 where
-    SC: StarkGenericConfig,
     SC::Challenger: GrindingChallenger<Witness = Val<SC>>,
-    A: Air<Val<SC>>,
     requires sizable { AreSizable (A.constraints _air.now) }
     ensures { ⟦<SC as StarkCompleteness<A>>⟧.has_sized_degrees _config.now _air.now }
 {}

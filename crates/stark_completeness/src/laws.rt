@@ -11,11 +11,13 @@ use stark_support::GrindingChallenger;
 /// A law, with no code: columns that take a trace's `2^log_height` rows satisfy an AIR exactly
 /// where each constraint's tree is zero in each row, beside the row after it, round the end. So a
 /// trace can be tested row by row.
-pub fn satisfaction_is_row_by_row<SC, A>(_config: &SC, _air: &A, log_height: usize)
+pub fn satisfaction_is_row_by_row<SC: StarkGenericConfig, A: Air<Val<SC>>>(
+    _config: &SC,
+    _air: &A,
+    log_height: usize,
+)
 where
-    SC: StarkGenericConfig,
     SC::Challenger: GrindingChallenger<Witness = Val<SC>>,
-    A: Air<Val<SC>>,
     requires within { log_height ≤ SC.Pcs.Domain.Val.TWO_ADICITY }
     requires fitting { All (λ column. ColumnFits (2 ^ log_height) (length column))
         (A.periodic_columns _air.now) }

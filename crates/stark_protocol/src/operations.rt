@@ -44,10 +44,8 @@ pub trait StarkInstance<A>: StarkGenericConfig {
         → Option (PreprocessedVerifierKey Self.Pcs.Commitment) → Given };
 }
 
-impl<SC, A> StarkInstance<A> for SC
+impl<SC: StarkGenericConfig, A: Air<Val<SC>>> StarkInstance<A> for SC
 where
-    SC: StarkGenericConfig,
-    A: Air<Val<SC>>,
 {
     ghost Given = { Instance SC.Pcs SC.Pcs.Domain.Val SC.Challenger SC.Pcs.Commitment };
 

@@ -77,11 +77,9 @@ pub trait StarkProving<A>: StarkGenericConfig {
     ghost fault: { Instance → Trace → ProvingError Self.Pcs.ProverError → Type 0 };
 }
 
-impl<SC, A> StarkProving<A> for SC
+impl<SC: StarkGenericConfig, A: Air<Val<SC>>> StarkProving<A> for SC
 where
-    SC: StarkGenericConfig,
     SC::Challenger: GrindingChallenger<Witness = Val<SC>>,
-    A: Air<Val<SC>>,
 {
     ghost Instance = { ProverInputs SC A SC.Pcs.Domain.Val SC.Pcs.Commitment SC.Pcs.ProverData };
 
@@ -118,11 +116,9 @@ pub trait StarkSizedProving<A>: StarkGenericConfig {
     ghost fault_at: { Instance → ℕ → Trace → ProvingError Self.Pcs.ProverError → Type 0 };
 }
 
-impl<SC, A> StarkSizedProving<A> for SC
+impl<SC: StarkGenericConfig, A: Air<Val<SC>>> StarkSizedProving<A> for SC
 where
-    SC: StarkGenericConfig,
     SC::Challenger: GrindingChallenger<Witness = Val<SC>>,
-    A: Air<Val<SC>>,
 {
     ghost Instance = { ProverInputs SC A SC.Pcs.Domain.Val SC.Pcs.Commitment SC.Pcs.ProverData };
 
@@ -152,11 +148,9 @@ pub trait StarkSizes<A>: StarkGenericConfig {
     ghost are_domains: { Instance → ProverDomains Self.Pcs.Domain → Type 0 };
 }
 
-impl<SC, A> StarkSizes<A> for SC
+impl<SC: StarkGenericConfig, A: Air<Val<SC>>> StarkSizes<A> for SC
 where
-    SC: StarkGenericConfig,
     SC::Challenger: GrindingChallenger<Witness = Val<SC>>,
-    A: Air<Val<SC>>,
 {
     ghost Instance = { ProverInputs SC A SC.Pcs.Domain.Val SC.Pcs.Commitment SC.Pcs.ProverData };
 
@@ -195,11 +189,9 @@ pub trait StarkRows<A>: StarkGenericConfig {
         → Self.Challenge → List Self.Challenge → Type 0 };
 }
 
-impl<SC, A> StarkRows<A> for SC
+impl<SC: StarkGenericConfig, A: Air<Val<SC>>> StarkRows<A> for SC
 where
-    SC: StarkGenericConfig,
     SC::Challenger: GrindingChallenger<Witness = Val<SC>>,
-    A: Air<Val<SC>>,
 {
     ghost Instance = { ProverInputs SC A SC.Pcs.Domain.Val SC.Pcs.Commitment SC.Pcs.ProverData };
 
@@ -254,11 +246,9 @@ pub trait StarkStages<A>: StarkGenericConfig {
     ghost is_fault_of: { Instance → ℕ → Committed → ProvingError Self.Pcs.ProverError → Type 0 };
 }
 
-impl<SC, A> StarkStages<A> for SC
+impl<SC: StarkGenericConfig, A: Air<Val<SC>>> StarkStages<A> for SC
 where
-    SC: StarkGenericConfig,
     SC::Challenger: GrindingChallenger<Witness = Val<SC>>,
-    A: Air<Val<SC>>,
 {
     ghost Instance = { ProverInputs SC A SC.Pcs.Domain.Val SC.Pcs.Commitment SC.Pcs.ProverData };
 

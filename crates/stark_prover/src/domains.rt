@@ -76,15 +76,13 @@ pub(crate) fn committed_domain<SC: StarkGenericConfig>(
 }
 
 /// The domains, where the quotient's fits.
-fn domains_of<SC, A>(
+fn domains_of<SC: StarkGenericConfig, A: Air<Val<SC>>>(
     alloc: Global,
     instance: &ProverInstance<'_, SC, A>,
     log_height: usize,
 ) -> Result<ProverDomains<Domain<SC>>, ProvingError<PcsProverError<SC>>>
 where
-    SC: StarkGenericConfig,
     SC::Challenger: GrindingChallenger<Witness = Val<SC>>,
-    A: Air<Val<SC>>,
     requires within { HasRoom SC.Pcs.scheme (SC.config.scheme instance.now.config.now) SC.Pcs.ZK
         log_height }
     ensures bits { IfOk result (λ domains. domains.degree_bits ≡ log_height + zk_bits SC.Pcs.ZK) }
@@ -114,15 +112,13 @@ where
 
 /// The domains of a proof of a trace of `2^log_height` rows, once the AIR's periodic columns and
 /// the size of the quotient's domain are tested.
-pub(crate) fn fitting_domains<SC, A>(
+pub(crate) fn fitting_domains<SC: StarkGenericConfig, A: Air<Val<SC>>>(
     alloc: Global,
     instance: &ProverInstance<'_, SC, A>,
     log_height: usize,
 ) -> Result<ProverDomains<Domain<SC>>, ProvingError<PcsProverError<SC>>>
 where
-    SC: StarkGenericConfig,
     SC::Challenger: GrindingChallenger<Witness = Val<SC>>,
-    A: Air<Val<SC>>,
     requires within { HasRoom SC.Pcs.scheme (SC.config.scheme instance.now.config.now) SC.Pcs.ZK
         log_height }
     ensures bits { IfOk result (λ domains. domains.degree_bits ≡ log_height + zk_bits SC.Pcs.ZK) }

@@ -32,7 +32,7 @@ use std::alloc::Global;
 
 /// A proof that a trace satisfies an AIR without preprocessed columns, with the conditions and the
 /// errors of `prove_with_preprocessed`.
-pub fn prove<'p, SC, A>(
+pub fn prove<'p, SC: StarkGenericConfig, A: Air<Val<SC>>>(
     alloc: Global,
     config: &'p SC,
     air: &A,
@@ -40,11 +40,9 @@ pub fn prove<'p, SC, A>(
     public_values: &[Val<SC>],
 ) -> Result<StarkProof<SC>, ProvingError<PcsProverError<SC>>>
 where
-    SC: StarkGenericConfig,
     Val<SC>: PackedField,
     SC::Challenge: PackedExtensionField<Val<SC>>,
     SC::Challenger: GrindingChallenger<Witness = Val<SC>>,
-    A: Air<Val<SC>>,
     requires columns { 0 < trace.width }
     requires width { trace.width ≡ (A.layout air.now).main }
     requires height { FitsScheme SC.Pcs.scheme (SC.config.scheme config.now) SC.Pcs.ZK trace }
@@ -81,7 +79,7 @@ where
 ///   `trace commitment` and before `quotient commitment`, or of that before zeta, which is done
 ///   before `opening`; it has the bits of the one that failed.
 /// - `OutOfMemory` only where a growth was refused.
-pub fn prove_with_preprocessed<SC, A>(
+pub fn prove_with_preprocessed<SC: StarkGenericConfig, A: Air<Val<SC>>>(
     alloc: Global,
     config: &SC,
     air: &A,
@@ -90,11 +88,9 @@ pub fn prove_with_preprocessed<SC, A>(
     preprocessed: Option<&PreprocessedProverData<Com<SC>, PcsProverData<SC>>>,
 ) -> Result<StarkProof<SC>, ProvingError<PcsProverError<SC>>>
 where
-    SC: StarkGenericConfig,
     Val<SC>: PackedField,
     SC::Challenge: PackedExtensionField<Val<SC>>,
     SC::Challenger: GrindingChallenger<Witness = Val<SC>>,
-    A: Air<Val<SC>>,
     requires columns { 0 < trace.width }
     requires width { trace.width ≡ (A.layout air.now).main }
     requires height { FitsSchemeBeside SC.Pcs.scheme (SC.config.scheme config.now) SC.Pcs.ZK

@@ -18,15 +18,13 @@ use stark_transcript::ProvingError;
 use std::alloc::{AllocError, Global};
 
 /// The values of the preprocessed columns on the quotient's domain, where there are any.
-fn preprocessed_values<SC, A>(
+fn preprocessed_values<SC: StarkGenericConfig, A: Air<Val<SC>>>(
     alloc: Global,
     instance: &ProverInstance<'_, SC, A>,
     quotient: Domain<SC>,
 ) -> Result<Option<RowMajorMatrix<Val<SC>>>, AllocError>
 where
-    SC: StarkGenericConfig,
     SC::Challenger: GrindingChallenger<Witness = Val<SC>>,
-    A: Air<Val<SC>>,
     ensures { IfOk result (⟦<SC as StarkRows<A>>⟧.are_fixed_rows instance.now quotient) }
 {
     match instance.preprocessed {
@@ -41,16 +39,14 @@ where
 }
 
 /// The values of the trace's columns on the quotient's domain.
-fn trace_values<SC, A>(
+fn trace_values<SC: StarkGenericConfig, A: Air<Val<SC>>>(
     alloc: Global,
     instance: &ProverInstance<'_, SC, A>,
     quotient: Domain<SC>,
     prover_data: &PcsProverData<SC>,
 ) -> Result<RowMajorMatrix<Val<SC>>, AllocError>
 where
-    SC: StarkGenericConfig,
     SC::Challenger: GrindingChallenger<Witness = Val<SC>>,
-    A: Air<Val<SC>>,
     ensures { IfOk result (⟦<SC as StarkRows<A>>⟧.are_trace_rows instance.now quotient
         prover_data.now) }
 {
@@ -60,7 +56,7 @@ where
 }
 
 /// The quotient's values on its domain, over the committed columns.
-fn quotient_on<SC, A>(
+fn quotient_on<SC: StarkGenericConfig, A: Air<Val<SC>>>(
     alloc: Global,
     instance: &ProverInstance<'_, SC, A>,
     domains: ProverDomains<Domain<SC>>,
@@ -68,11 +64,9 @@ fn quotient_on<SC, A>(
     alpha: SC::Challenge,
 ) -> Result<Vec<SC::Challenge>, AllocError>
 where
-    SC: StarkGenericConfig,
     Val<SC>: PackedField,
     SC::Challenge: PackedExtensionField<Val<SC>>,
     SC::Challenger: GrindingChallenger<Witness = Val<SC>>,
-    A: Air<Val<SC>>,
     requires domains { ⟦<SC as StarkSizes<A>>⟧.are_domains instance.now domains }
     requires main { ⟦<SC as StarkRows<A>>⟧.has_columns instance.now domains.degree_bits
         prover_data.now }

@@ -53,15 +53,13 @@ pub(crate) fn data_of<K, T>(held: Option<&PreprocessedProverData<K, T>>) -> Opti
 }
 
 /// The transcript's shape.
-pub(crate) fn describe<SC, A>(
+pub(crate) fn describe<SC: StarkGenericConfig, A: Air<Val<SC>>>(
     alloc: Global,
     instance: &ProverInstance<'_, SC, A>,
     degree_bits: usize,
     log_chunks: usize,
 ) -> Result<StarkShape, AllocError>
 where
-    SC: StarkGenericConfig,
-    A: Air<Val<SC>>,
     requires extended { zk_bits SC.Pcs.ZK ≤ degree_bits }
     requires few { log_chunks < 64 }
     ensures { IfOk result (λ shape. shape

@@ -37,10 +37,8 @@ pub trait Quotients<A>: StarkGenericConfig {
     ghost over: { A → QuotientOps Self.Pcs.Domain Self.Pcs.Domain.Val Self.Challenge };
 }
 
-impl<SC, A> Quotients<A> for SC
+impl<SC: StarkGenericConfig, A: Air<Val<SC>>> Quotients<A> for SC
 where
-    SC: StarkGenericConfig,
-    A: Air<Val<SC>>,
 {
     ghost over = { λ air. record {
       air_over = λ domain. record {

@@ -71,11 +71,9 @@ pub(crate) trait StarkChecks<A>: StarkGenericConfig {
     ghost balanced: { Given → Self.Challenge → Self.Challenge → Type 0 };
 }
 
-impl<SC, A> StarkChecks<A> for SC
+impl<SC: StarkGenericConfig, A: Air<Val<SC>>> StarkChecks<A> for SC
 where
-    SC: StarkGenericConfig,
     SC::Challenger: GrindingChallenger<Witness = Val<SC>>,
-    A: Air<Val<SC>>,
 {
     ghost Given = { VerifierInstance SC A SC.Pcs.Commitment SC.Challenge SC.Pcs.Proof
         SC.Pcs.Domain.Val };

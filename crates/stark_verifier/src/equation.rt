@@ -57,16 +57,14 @@ fn preprocessed_next<'a, EF>(
 
 /// The folded constraints against the quotient that the chunks recompose to:
 /// `OodEvaluationMismatch` where they differ.
-pub(crate) fn check_equation<SC, A>(
+pub(crate) fn check_equation<SC: StarkGenericConfig, A: Air<Val<SC>>>(
     alloc: Global,
     on: &InstanceOf<'_, SC, A>,
     domains: ProofDomains<Domain<SC>>,
     point: &SampledPoint<SC::Challenge>,
 ) -> Result<(), VerificationError<PcsError<SC>>>
 where
-    SC: StarkGenericConfig,
     SC::Challenger: GrindingChallenger<Witness = Val<SC>>,
-    A: Air<Val<SC>>,
     requires shaped { ⟦<SC as StarkChecks<A>>⟧.is_shaped on.now domains }
     requires sampled { ⟦<SC as StarkChecks<A>>⟧.is_sampled on.now domains point.now.zeta
         point.now.periodic_values.items }

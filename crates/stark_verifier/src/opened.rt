@@ -192,15 +192,13 @@ fn check_expected<EF>(
 }
 
 /// What the AIR and the configuration expect of a proof with `2^log_chunks` chunks.
-fn expected_openings<SC, A>(
+fn expected_openings<SC: StarkGenericConfig, A: Air<Val<SC>>>(
     alloc: Global,
     on: &InstanceOf<'_, SC, A>,
     log_chunks: usize,
 ) -> Result<ExpectedOpenings, AllocError>
 where
-    SC: StarkGenericConfig,
     SC::Challenger: GrindingChallenger<Witness = Val<SC>>,
-    A: Air<Val<SC>>,
     requires few { log_chunks < 64 }
     ensures { IfOk result (λ expected.
         expected ≡ ⟦<SC as StarkChecks<A>>⟧.expected_openings on.now log_chunks) }
@@ -219,15 +217,13 @@ where
 }
 
 /// The number of public values, the opened rows and the witnesses of a proof.
-pub(crate) fn check_opened<SC, A>(
+pub(crate) fn check_opened<SC: StarkGenericConfig, A: Air<Val<SC>>>(
     alloc: Global,
     on: &InstanceOf<'_, SC, A>,
     log_chunks: usize,
 ) -> Result<(), VerificationError<PcsError<SC>>>
 where
-    SC: StarkGenericConfig,
     SC::Challenger: GrindingChallenger<Witness = Val<SC>>,
-    A: Air<Val<SC>>,
     requires few { log_chunks < 64 }
     requires count { log_chunks ≡ ⟦<SC as StarkChecks<A>>⟧.log_chunks on.now }
     ensures clear { IfOk result (λ _. ⟦<SC as StarkChecks<A>>⟧.values_fault on.now ≡ None) }

@@ -36,7 +36,7 @@ fn ask_scheme<SC: StarkGenericConfig>(
 }
 
 /// The opening argument, with the transcript's challenger.
-pub(crate) fn check_openings<SC, A>(
+pub(crate) fn check_openings<SC: StarkGenericConfig, A: Air<Val<SC>>>(
     alloc: Global,
     on: &InstanceOf<'_, SC, A>,
     domains: ProofDomains<Domain<SC>>,
@@ -44,9 +44,7 @@ pub(crate) fn check_openings<SC, A>(
     transcript: &mut StarkVerifierTranscript<'_, SC::Challenger, Val<SC>, SC::Challenge>,
 ) -> Result<(), VerificationError<PcsError<SC>>>
 where
-    SC: StarkGenericConfig,
     SC::Challenger: GrindingChallenger<Witness = Val<SC>>,
-    A: Air<Val<SC>>,
     requires domains { ⟦<SC as StarkChecks<A>>⟧.are_domains on.now domains.trace domains.committed }
     requires phase { transcript.old.phase ≡ Drawn }
     ensures same_reference { transcript.new.challenger.ghost_name

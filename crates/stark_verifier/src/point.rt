@@ -56,16 +56,14 @@ fn fitting_columns<'c, F, X>(
 
 /// Tests that the sampled point lies outside the trace's domain, and that the periodic columns fit
 /// that domain; the answer is the periodic columns' values at the point.
-pub(crate) fn check_point<SC, A>(
+pub(crate) fn check_point<SC: StarkGenericConfig, A: Air<Val<SC>>>(
     alloc: Global,
     on: &InstanceOf<'_, SC, A>,
     domains: ProofDomains<Domain<SC>>,
     zeta: SC::Challenge,
 ) -> Result<Vec<SC::Challenge>, VerificationError<PcsError<SC>>>
 where
-    SC: StarkGenericConfig,
     SC::Challenger: GrindingChallenger<Witness = Val<SC>>,
-    A: Air<Val<SC>>,
     requires domains { ⟦<SC as StarkChecks<A>>⟧.are_domains on.now domains.trace domains.committed }
     ensures sampled { IfOk result (λ values.
         ⟦<SC as StarkChecks<A>>⟧.is_sampled on.now domains zeta values.items) }

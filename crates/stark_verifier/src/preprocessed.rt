@@ -167,14 +167,12 @@ fn check_rows_and_key<K, EF>(
 }
 
 /// The preprocessed rows and the key, beside what the AIR declares.
-pub(crate) fn check_preprocessed<SC, A>(
+pub(crate) fn check_preprocessed<SC: StarkGenericConfig, A: Air<Val<SC>>>(
     alloc: Global,
     on: &InstanceOf<'_, SC, A>,
 ) -> Result<(), VerificationError<PcsError<SC>>>
 where
-    SC: StarkGenericConfig,
     SC::Challenger: GrindingChallenger<Witness = Val<SC>>,
-    A: Air<Val<SC>>,
     ensures clear { IfOk result (λ _. ⟦<SC as StarkChecks<A>>⟧.key_fault on.now ≡ None) }
     ensures fault { IfErrMemoryAside result (λ error.
         of_shape (⟦<SC as StarkChecks<A>>⟧.key_fault on.now) ≡ Some error) }

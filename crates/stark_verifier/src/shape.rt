@@ -83,13 +83,11 @@ pub fn validate_degree_bits(
 
 /// The bits of the committed height, against the scheme's heights; the answer is the domain of the
 /// trace and that of the committed one.
-fn check_height<SC, A>(
+fn check_height<SC: StarkGenericConfig, A: Air<Val<SC>>>(
     on: &InstanceOf<'_, SC, A>,
 ) -> Result<(Domain<SC>, Domain<SC>), InvalidProofShapeError>
 where
-    SC: StarkGenericConfig,
     SC::Challenger: GrindingChallenger<Witness = Val<SC>>,
-    A: Air<Val<SC>>,
     ensures clear { IfOk result (λ _. ⟦<SC as StarkChecks<A>>⟧.height_fault on.now ≡ None) }
     ensures domains { IfOk result (λ found.
         ⟦<SC as StarkChecks<A>>⟧.are_domains on.now found.0 found.1) }
@@ -116,16 +114,14 @@ where
 
 /// The size of the quotient's domain, against what fits and what the field has; the answer is that
 /// domain, and the logarithm of the number of chunks.
-fn check_quotient<SC, A>(
+fn check_quotient<SC: StarkGenericConfig, A: Air<Val<SC>>>(
     alloc: Global,
     on: &InstanceOf<'_, SC, A>,
     trace: &Domain<SC>,
     committed: &Domain<SC>,
 ) -> Result<(Domain<SC>, usize), VerificationError<PcsError<SC>>>
 where
-    SC: StarkGenericConfig,
     SC::Challenger: GrindingChallenger<Witness = Val<SC>>,
-    A: Air<Val<SC>>,
     requires domains { ⟦<SC as StarkChecks<A>>⟧.are_domains on.now trace.now committed.now }
     requires fits { on.now.proof.now.degree_bits < 64 }
     ensures clear { IfOk result (λ _. ⟦<SC as StarkChecks<A>>⟧.domain_fault on.now ≡ None) }
@@ -144,14 +140,12 @@ where
 }
 
 /// The tests of the proof's shape, in their order; the answer is the proof's domains.
-pub(crate) fn check_shape<SC, A>(
+pub(crate) fn check_shape<SC: StarkGenericConfig, A: Air<Val<SC>>>(
     alloc: Global,
     on: &InstanceOf<'_, SC, A>,
 ) -> Result<ProofDomains<Domain<SC>>, VerificationError<PcsError<SC>>>
 where
-    SC: StarkGenericConfig,
     SC::Challenger: GrindingChallenger<Witness = Val<SC>>,
-    A: Air<Val<SC>>,
     ensures clear { IfOk result (λ _. ⟦<SC as StarkChecks<A>>⟧.shape_fault on.now ≡ None) }
     ensures shaped { IfOk result (λ domains. ⟦<SC as StarkChecks<A>>⟧.is_shaped on.now domains) }
     ensures fault { IfErrMemoryAside result (λ error.

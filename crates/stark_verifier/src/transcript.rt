@@ -43,15 +43,13 @@ fn commitment_of<K>(key: Option<&PreprocessedVerifierKey<K>>) -> Option<&K>
 }
 
 /// The shape of a proof's transcript.
-fn describe_transcript<SC, A>(
+fn describe_transcript<SC: StarkGenericConfig, A: Air<Val<SC>>>(
     alloc: Global,
     on: &InstanceOf<'_, SC, A>,
     domains: ProofDomains<Domain<SC>>,
 ) -> Result<StarkShape, AllocError>
 where
-    SC: StarkGenericConfig,
     SC::Challenger: GrindingChallenger<Witness = Val<SC>>,
-    A: Air<Val<SC>>,
     requires shaped { ⟦<SC as StarkChecks<A>>⟧.is_shaped on.now domains }
     ensures { IfOk result (λ shape. shape ≡ ⟦<SC as StarkChecks<A>>⟧.described on.now) }
 {
@@ -68,14 +66,12 @@ where
 }
 
 /// Alpha and zeta, drawn from the transcript of all that the prover sent before them.
-fn draw_challenges<SC, A>(
+fn draw_challenges<SC: StarkGenericConfig, A: Air<Val<SC>>>(
     on: &InstanceOf<'_, SC, A>,
     transcript: &mut StarkVerifierTranscript<'_, SC::Challenger, Val<SC>, SC::Challenge>,
 ) -> Result<(SC::Challenge, SC::Challenge), StarkTranscriptFailure>
 where
-    SC: StarkGenericConfig,
     SC::Challenger: GrindingChallenger<Witness = Val<SC>>,
-    A: Air<Val<SC>>,
     requires opened { ⟦<SC as StarkChecks<A>>⟧.is_opened on.now transcript.old.phase
         transcript.old.shape transcript.old.challenger.now }
     ensures same_reference { transcript.new.challenger.ghost_name
@@ -109,16 +105,14 @@ where
 }
 
 /// The challenges, the tests at zeta and the opening argument, over a transcript at its beginning.
-fn replay<SC, A>(
+fn replay<SC: StarkGenericConfig, A: Air<Val<SC>>>(
     alloc: Global,
     on: &InstanceOf<'_, SC, A>,
     domains: ProofDomains<Domain<SC>>,
     transcript: &mut StarkVerifierTranscript<'_, SC::Challenger, Val<SC>, SC::Challenge>,
 ) -> Result<SampledPoint<SC::Challenge>, VerificationError<PcsError<SC>>>
 where
-    SC: StarkGenericConfig,
     SC::Challenger: GrindingChallenger<Witness = Val<SC>>,
-    A: Air<Val<SC>>,
     requires shaped { ⟦<SC as StarkChecks<A>>⟧.is_shaped on.now domains }
     requires opened { ⟦<SC as StarkChecks<A>>⟧.is_opened on.now transcript.old.phase
         transcript.old.shape transcript.old.challenger.now }
@@ -144,15 +138,13 @@ where
 
 /// The replay of the transcript from the configuration's first state: the challenges, the tests at
 /// zeta, the opening argument.
-pub(crate) fn replay_transcript<SC, A>(
+pub(crate) fn replay_transcript<SC: StarkGenericConfig, A: Air<Val<SC>>>(
     alloc: Global,
     on: &InstanceOf<'_, SC, A>,
     domains: ProofDomains<Domain<SC>>,
 ) -> Result<SampledPoint<SC::Challenge>, VerificationError<PcsError<SC>>>
 where
-    SC: StarkGenericConfig,
     SC::Challenger: GrindingChallenger<Witness = Val<SC>>,
-    A: Air<Val<SC>>,
     requires shaped { ⟦<SC as StarkChecks<A>>⟧.is_shaped on.now domains }
     ensures holds { IfOk result (λ point.
         ⟦<SC as StarkChecks<A>>⟧.run_holds on.now point.alpha point.zeta) }

@@ -33,11 +33,9 @@ pub trait StarkVerdict<A>: StarkGenericConfig {
         Self.Pcs.Domain.Val (VerificationError Self.Pcs.Error → Type 0) };
 }
 
-impl<SC, A> StarkVerdict<A> for SC
+impl<SC: StarkGenericConfig, A: Air<Val<SC>>> StarkVerdict<A> for SC
 where
-    SC: StarkGenericConfig,
     SC::Challenger: GrindingChallenger<Witness = Val<SC>>,
-    A: Air<Val<SC>>,
 {
     ghost accepted = { of_arguments (Accepted ⟦<SC as StarkOperations>⟧.operations)
         ⟦<SC as StarkInstance<A>>⟧.instance };
@@ -72,7 +70,7 @@ where
 /// - the equation (`OodEvaluationMismatch`).
 ///
 /// `OutOfMemory` may come at any of them, only where memory was refused.
-pub fn verify_with_preprocessed<SC, A>(
+pub fn verify_with_preprocessed<SC: StarkGenericConfig, A: Air<Val<SC>>>(
     alloc: Global,
     config: &SC,
     air: &A,
@@ -81,9 +79,7 @@ pub fn verify_with_preprocessed<SC, A>(
     key: Option<&PreprocessedVerifierKey<Com<SC>>>,
 ) -> Result<(), VerificationError<PcsError<SC>>>
 where
-    SC: StarkGenericConfig,
     SC::Challenger: GrindingChallenger<Witness = Val<SC>>,
-    A: Air<Val<SC>>,
     ensures accepted { OnOk result (⟦<SC as StarkVerdict<A>>⟧.accepted config.now air.now proof.now
         public_values.now (option_copied key.entry)) }
     ensures sound { OnOk result (⟦<SC as StarkVerdict<A>>⟧.sound config.now air.now proof.now
@@ -116,7 +112,7 @@ where
 
 /// Whether a proof is one for an AIR without preprocessed columns: `verify_with_preprocessed`
 /// without a key.
-pub fn verify<'p, SC, A>(
+pub fn verify<'p, SC: StarkGenericConfig, A: Air<Val<SC>>>(
     alloc: Global,
     config: &SC,
     air: &A,
@@ -124,9 +120,7 @@ pub fn verify<'p, SC, A>(
     public_values: &[Val<SC>],
 ) -> Result<(), VerificationError<PcsError<SC>>>
 where
-    SC: StarkGenericConfig,
     SC::Challenger: GrindingChallenger<Witness = Val<SC>>,
-    A: Air<Val<SC>>,
     ensures accepted { OnOk result (⟦<SC as StarkVerdict<A>>⟧.accepted config.now air.now proof.now
         public_values.now None) }
     ensures sound { OnOk result (⟦<SC as StarkVerdict<A>>⟧.sound config.now air.now proof.now

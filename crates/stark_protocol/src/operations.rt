@@ -17,9 +17,9 @@ use stark_support::{GrindingChallenger, Opening, Pcs, Sponge};
 
 /// All that a configuration's types compute, in one record.
 pub trait StarkOperations: StarkGenericConfig {
-    ghost Operations: { Type 1 };
-
-    ghost operations: { Operations };
+    ghost operations: { ProtocolOps Self.Pcs Self.Pcs.Domain.Val Self.Challenge Self.Challenger
+        Self.Pcs.Commitment Self.Pcs.ProverData Self.Pcs.Proof Self.Pcs.Error
+        Self.Pcs.ProverError };
 }
 
 impl<SC> StarkOperations for SC
@@ -27,9 +27,6 @@ where
     SC: StarkGenericConfig,
     SC::Challenger: GrindingChallenger<Witness = Val<SC>>,
 {
-    ghost Operations = { ProtocolOps SC.Pcs SC.Pcs.Domain.Val SC.Challenge SC.Challenger
-        SC.Pcs.Commitment SC.Pcs.ProverData SC.Pcs.Proof SC.Pcs.Error SC.Pcs.ProverError };
-
     ghost operations = { record {
       opening = ⟦<SC::Pcs as Opening<SC::Challenge, SC::Challenger>>⟧.opening;
       sponge = ⟦<SC::Challenger as Sponge<Val<SC>, SC::Challenge, Com<SC>>>⟧.sponge;

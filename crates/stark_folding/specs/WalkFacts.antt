@@ -6,11 +6,12 @@ use Rattle.std.proofs.Math.Nat.{mod-eq_of_lt, mod-lt, mul_assoc}
 use Rattle.std.proofs.lemmas.Nat.{pow_pos}
 use Rattle.std.proofs.lemmas.Bool.Decides.{leb_tells}
 use Rattle.stark_support.specs.Ring.{RingOps, FieldLaws}
+use Rattle.stark_support.specs.FoldingFacts.{folded_length}
 use Rattle.stark_support.specs.Polynomial.{value, HasDegreeBelow}
 use Rattle.stark_support.specs.TwoAdic.{TwoAdicLaws}
 use Rattle.stark_support.specs.Coset.{TwoAdicCoset, IsTwoAdicCoset, coset_point, coset_size}
 use Rattle.stark_folding.specs.Fold.{folded, folded_pair, squared_coset}
-use Rattle.stark_folding.specs.FoldFacts.{folded_length, points_fold, squares_valid}
+use Rattle.stark_folding.specs.FoldFacts.{points_fold, squares_valid}
 use Rattle.stark_folding.specs.Walk.{folded_all, half_size, honest_steps, last_coset, last_place, next_value, opposite_place, walked}
 
 two_times : (k : ℕ) → 2 ^ suc k ≡ 2 * 2 ^ k

@@ -198,6 +198,11 @@ module _ {H A : Type 0} where
   pub layer_at : (layers : List (Vec H A)) (level : ℕ) (layer : Vec H A) → level < length layers → layer ≡ get_or layers level layer → layer.items ≡ get_or (digests_in layers) level []
   layer_at layers level layer below is = ap items_of is ∙ sym (get_or-map items_of layers level layer [] below)
 
+  -- Where all layers but the last are passed, the last one is told of.
+  pub last_layer : (layers : List (Vec H A)) (index level last place : ℕ) (layer : Vec H A) → last < length layers → layer ≡ get_or layers last layer → level ≡ last → IsToldFrom (digests_in layers) index level place
+      → (layer.items ≡ get_or (digests_in layers) last []) × IsToldFrom (digests_in layers) index last place
+  last_layer layers index level last place layer below is same told = (layer_at layers last layer below is, subst (λ n. IsToldFrom (digests_in layers) index n place) same told)
+
   pub none_without_layers : (layers : List (Vec H A)) (index : ℕ) → (1 ≤ length layers → ⊥) → HasPath (digests_in layers) index → ⊥
   unfolding HasPath
   none_without_layers [] index none has = has

@@ -1,7 +1,7 @@
 use Rattle.std.proofs.Common.{◌≡◌, ◌≤◌, ◌<◌, ◌++◌, arith, length, refl, subst, sym}
 use Rattle.std.proofs.lemmas.List.{length-map}
 use Rattle.stark_merkle.specs.Tree.{IsPathIn, digests_in, items_of, neighbour}
-use Rattle.stark_merkle.proofs.Steps.{IsToldFrom, layer_at, layer_more, neighbour_missing, none_without_layers, path_all, place_missing, told_all, told_more}
+use Rattle.stark_merkle.proofs.Steps.{last_layer, layer_at, layer_more, neighbour_missing, none_without_layers, path_all, place_missing, told_all, told_more}
 use Rattle.stark_merkle.proofs.tree.path_in.Goals as goal
 
 pub returns-in_default-clause-is_found : goal.returns-in_default-clause-is_found
@@ -66,11 +66,9 @@ returns-then-place-len-2-clause-is_found c =
     let last = c.in-Some.ensures in
     let layers = digests_in c.args.layers.now in
     let many : length layers ≡ length c.args.layers.now = length-map c.args.layers.now items_of in
-    let layer = layer_at c.args.layers.now c.in-Some.last c.index-layers-last.result (omega arith) c.index-layers-last.is in
-    let level : c.loop-level.level ≡ c.in-Some.last = omega arith in
-    let told = subst (λ n. IsToldFrom layers c.args.index n c.loop-level.place) level c.loop-level.invariant.1 in (
+    let at = last_layer c.args.layers.now c.args.index c.loop-level.level c.in-Some.last c.loop-level.place c.index-layers-last.result (omega arith) c.index-layers-last.is (omega arith) c.loop-level.invariant.1 in (
       λ e. cc e,
-      λ has. absurd (place_missing layers c.args.index c.in-Some.last c.loop-level.place c.index-layers-last.result.items (omega arith) layer (omega arith) told has),
+      λ has. absurd (place_missing layers c.args.index c.in-Some.last c.loop-level.place c.index-layers-last.result.items (omega arith) at.0 (omega arith) at.1 has),
     )
 
 pub returns-clause-path : goal.returns-clause-path
@@ -88,8 +86,6 @@ returns-clause-is_found c =
     let last = c.in-Some.ensures in
     let layers = digests_in c.args.layers.now in
     let many : length layers ≡ length c.args.layers.now = length-map c.args.layers.now items_of in
-    let layer = layer_at c.args.layers.now c.in-Some.last c.index-layers-last.result (omega arith) c.index-layers-last.is in
-    let level : c.loop-level.level ≡ c.in-Some.last = omega arith in
-    let told = subst (λ n. IsToldFrom layers c.args.index n c.loop-level.place) level c.loop-level.invariant.1 in
-    let has = told_all layers c.args.index c.in-Some.last c.loop-level.place c.index-layers-last.result.items (omega arith) layer (omega arith) told in
+    let at = last_layer c.args.layers.now c.args.index c.loop-level.level c.in-Some.last c.loop-level.place c.index-layers-last.result (omega arith) c.index-layers-last.is (omega arith) c.loop-level.invariant.1 in
+    let has = told_all layers c.args.index c.in-Some.last c.loop-level.place c.index-layers-last.result.items (omega arith) at.0 (omega arith) at.1 in
     (λ _. has, λ _. refl)

@@ -24,6 +24,20 @@ pub enum AnySampleAir<F> {
     Preprocessed(PreprocessedAir),
 }
 
+/// What a call answers of the AIR that is held.
+macro_rules! of_held {
+    ($any:expr, $air:ident => $call:expr) => {
+        match $any {
+            AnySampleAir::Counter($air) => $call,
+            AnySampleAir::Cubic($air) => $call,
+            AnySampleAir::Fibonacci($air) => $call,
+            AnySampleAir::Pair($air) => $call,
+            AnySampleAir::Periodic($air) => $call,
+            AnySampleAir::Preprocessed($air) => $call,
+        }
+    };
+}
+
 impl<F: PrimeField64> BaseAir<F> for AnySampleAir<F> {
     ghost layout = { any_layout };
 
@@ -40,85 +54,43 @@ impl<F: PrimeField64> BaseAir<F> for AnySampleAir<F> {
     ghost as_declared = { any_declared F.of_number };
 
     fn width(&self) -> usize {
-        match self {
-            AnySampleAir::Counter(air) => BaseAir::<F>::width(air),
-            AnySampleAir::Cubic(air) => BaseAir::<F>::width(air),
-            AnySampleAir::Fibonacci(air) => BaseAir::<F>::width(air),
-            AnySampleAir::Pair(air) => BaseAir::<F>::width(air),
-            AnySampleAir::Periodic(air) => BaseAir::<F>::width(air),
-            AnySampleAir::Preprocessed(air) => BaseAir::<F>::width(air),
-        }
+        of_held!(self, air => BaseAir::<F>::width(air))
     }
 
     fn preprocessed_width(&self) -> usize {
-        match self {
-            AnySampleAir::Counter(air) => BaseAir::<F>::preprocessed_width(air),
-            AnySampleAir::Cubic(air) => BaseAir::<F>::preprocessed_width(air),
-            AnySampleAir::Fibonacci(air) => BaseAir::<F>::preprocessed_width(air),
-            AnySampleAir::Pair(air) => BaseAir::<F>::preprocessed_width(air),
-            AnySampleAir::Periodic(air) => BaseAir::<F>::preprocessed_width(air),
-            AnySampleAir::Preprocessed(air) => BaseAir::<F>::preprocessed_width(air),
-        }
+        of_held!(self, air => BaseAir::<F>::preprocessed_width(air))
     }
 
     fn preprocessed_trace(&self, alloc: Global) -> Result<Option<RowMajorMatrix<F>>, AllocError> {
-        match self {
-            AnySampleAir::Counter(air) => air.preprocessed_trace(alloc),
-            AnySampleAir::Cubic(air) => air.preprocessed_trace(alloc),
-            AnySampleAir::Fibonacci(air) => air.preprocessed_trace(alloc),
-            AnySampleAir::Pair(air) => air.preprocessed_trace(alloc),
-            AnySampleAir::Periodic(air) => air.preprocessed_trace(alloc),
-            AnySampleAir::Preprocessed(air) => air.preprocessed_trace(alloc),
-        }
+        of_held!(self, air => air.preprocessed_trace(alloc))
     }
 
     fn num_public_values(&self) -> usize {
-        match self {
-            AnySampleAir::Counter(air) => BaseAir::<F>::num_public_values(air),
-            AnySampleAir::Cubic(air) => BaseAir::<F>::num_public_values(air),
-            AnySampleAir::Fibonacci(air) => BaseAir::<F>::num_public_values(air),
-            AnySampleAir::Pair(air) => BaseAir::<F>::num_public_values(air),
-            AnySampleAir::Periodic(air) => BaseAir::<F>::num_public_values(air),
-            AnySampleAir::Preprocessed(air) => BaseAir::<F>::num_public_values(air),
-        }
+        of_held!(self, air => BaseAir::<F>::num_public_values(air))
     }
 
     fn periodic_columns(&self) -> &[Vec<F>] {
-        match self {
-            AnySampleAir::Counter(air) => air.periodic_columns(),
-            AnySampleAir::Cubic(air) => air.periodic_columns(),
-            AnySampleAir::Fibonacci(air) => air.periodic_columns(),
-            AnySampleAir::Pair(air) => air.periodic_columns(),
-            AnySampleAir::Periodic(air) => air.periodic_columns(),
-            AnySampleAir::Preprocessed(air) => air.periodic_columns(),
-        }
+        of_held!(self, air => air.periodic_columns())
     }
 
     fn main_next_row_columns(&self, alloc: Global) -> Result<Vec<usize>, AllocError> {
-        match self {
-            AnySampleAir::Counter(air) => BaseAir::<F>::main_next_row_columns(air, alloc),
-            AnySampleAir::Cubic(air) => BaseAir::<F>::main_next_row_columns(air, alloc),
-            AnySampleAir::Fibonacci(air) => BaseAir::<F>::main_next_row_columns(air, alloc),
-            AnySampleAir::Pair(air) => BaseAir::<F>::main_next_row_columns(air, alloc),
-            AnySampleAir::Periodic(air) => BaseAir::<F>::main_next_row_columns(air, alloc),
-            AnySampleAir::Preprocessed(air) => BaseAir::<F>::main_next_row_columns(air, alloc),
-        }
+        of_held!(self, air => BaseAir::<F>::main_next_row_columns(air, alloc))
     }
 
     fn preprocessed_next_row_columns(&self, alloc: Global) -> Result<Vec<usize>, AllocError> {
-        Ok(Vec::new(alloc))
+        of_held!(self, air => BaseAir::<F>::preprocessed_next_row_columns(air, alloc))
     }
 
     fn max_constraint_degree(&self) -> Option<usize> {
-        None
+        of_held!(self, air => BaseAir::<F>::max_constraint_degree(air))
     }
 
     fn num_constraints(&self) -> Option<usize> {
-        None
+        of_held!(self, air => BaseAir::<F>::num_constraints(air))
     }
 
     fn public_boundary_io(&self) -> &[usize] {
-        &[]
+        of_held!(self, air => BaseAir::<F>::public_boundary_io(air))
     }
 }
 

@@ -1,15 +1,17 @@
 -- By which call a commitment in the clear was made: which masks its columns have.
-use Rattle.std.specs.Prelude.{◌≡◌, ℕ, ◌-◌, ◌/◌, ◌^◌, List, [], ◌∷◌, length, map}
+use Rattle.std.specs.Prelude.{◌≡◌, ℕ, ◌-◌, ◌/◌, ◌^◌, List, [], ◌∷◌, length, map, IfOk, IfSome, Option, Result}
 use Rattle.std.specs.List.{AllByRecursion}
 use Rattle.stark_support.specs.Ring.{RingOps}
 use Rattle.stark_support.specs.Coset.{TwoAdicCoset, coset_size}
 use Rattle.stark_support.specs.declared.matrix.RowMajorMatrix.{RowMajorMatrix}
 use Rattle.stark_support.specs.Polynomial.{value}
 use Rattle.stark_support.specs.Scheme.{CommittingCalls, matrix_row}
+use Rattle.stark_support.specs.SchemeClauses.{CommitsChunks, OpeningOps, ProvesTrueClaims}
 use Rattle.stark_columns.specs.ColumnPoints.{IsPolynomialBelow}
 use Rattle.stark_clear.specs.Masks.{AreMaskedBy, AreMaskedChunks, mask_lists, quotient_masks, chunk_columns, masked_chunks}
 use Rattle.stark_columns.specs.PlainChunks.{ArePlainChunks}
 use Rattle.stark_clear.specs.Stops.{MaskedPcs}
+use Rattle.std.specs.Borrow.{Bor}
 use Rattle.std.specs.declared.vec.Vec.{Vec}
 use Rattle.stark_columns.specs.Columns.{columns_list}
 
@@ -35,6 +37,9 @@ AreMaskedColumns field masks domain values width columns =
 
 abbrev pub AreMaskedRows : {F : Type 0} → RingOps F → List F → TwoAdicCoset F → List F → ℕ → List (List (List F)) → Type 0
 AreMaskedRows field masks domain values width matrices = AllByRecursion (AreMaskedColumns field masks domain values width) matrices
+
+abbrev pub IsMaskedMatrix : {F A B : Type 0} → RingOps F → List F → TwoAdicCoset F → RowMajorMatrix F → Vec (Vec F A) B → Type 0
+IsMaskedMatrix field masks domain matrix columns = AreMaskedColumns field masks domain matrix.values.items matrix.width (columns_list columns)
 
 abbrev pub IsMaskedCommitment : {F D : Type 0} → RingOps F → List F → TwoAdicCoset F → RowMajorMatrix F → List (List (List F)) × D → Type 0
 IsMaskedCommitment field masks domain matrix made = AreMaskedRows field masks domain matrix.values.items matrix.width made.0
@@ -77,3 +82,17 @@ MasksChunks field inverse parts plain masks chunks =
 -- Those of a quotient's values.
 abbrev pub IsMaskedOf : {F A B : Type 0} → RingOps F → (F → F) → (ℕ → F) → List F → TwoAdicCoset F → RowMajorMatrix F → ℕ → List (Vec (Vec F A) B) → Type 0
 IsMaskedOf field inverse root masks domain flat count chunks = AreMaskedChunksOf field inverse root masks domain flat.values.items flat.width count (map columns_list chunks)
+
+-- ---- of what a call answers
+
+-- What holds of what was made, where something was.
+abbrev pub IfMade : {T X : Type 0} → Result (Option T) X → (T → Type 0) → Type 0
+IfMade result holds = IfOk result (λ made. IfSome made holds)
+
+-- Where something was made of a quotient, it stands for its chunks.
+abbrev pub ChunksStand : {S F E C K T P X Y Z : Type 0} → OpeningOps S F E C K T P X Y → S → TwoAdicCoset F → RowMajorMatrix F → ℕ → Result (K × T) Z → Type 0
+ChunksStand ops s domain flat count result = IfOk result (CommitsChunks ops s domain flat count)
+
+-- A complete scheme accepts the true claims of the rounds by this proof.
+abbrev pub ProvesOpening : {S F E C K T P X Y A B G Q : Type 0} → OpeningOps S F E C K T P X Y → S → Vec (Bor T × Vec (Vec E A) B) G → C → Option ℕ → Q × P → Type 0
+ProvesOpening ops s rounds state index opened = ProvesTrueClaims ops.scheme ops.fields.ring ops.fields.embed s rounds state index opened

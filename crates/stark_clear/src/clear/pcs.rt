@@ -2,8 +2,9 @@
 ghost use Rattle.std.specs.Prelude.{◌≡◌, ◌≢◌, ◌≤◌, ◌↔◌, ◌/◌, ◌*◌, ◌^◌, IsTrue, None, false, length, Result, IfErr, IfOk};
 ghost use Rattle.std.specs.Int.{IsPowerOfTwo};
 ghost use Rattle.stark_support.specs.Claims.{IfRefusal, claims_view};
-ghost use Rattle.stark_support.specs.Coset.{coset_size, coset_from};
+ghost use Rattle.stark_support.specs.Coset.{coset_from};
 ghost use Rattle.stark_support.specs.Scheme.{zk_bits};
+ghost use Rattle.stark_columns.specs.ColumnPoints.{height_of};
 ghost use Rattle.stark_clear.specs.ClearFacts.{clear_laws};
 ghost use Rattle.stark_clear.specs.ClearCalls.{clear_calls, IsPlainCommitment, IsPlainQuotient};
 ghost use Rattle.stark_clear.specs.ClearScheme.{clear_pcs, clear_scheme, stopping_pcs, AcceptsTrue, RefusesClaims};
@@ -135,11 +136,9 @@ impl<F: TwoAdicField, EF: ExtensionField<F>, C> Pcs<EF, C> for ClearPcs<F> {
     }
 
     fn commit(&self, alloc: Global, domain: Coset<F>, matrix: RowMajorMatrix<F>) -> Committed<F>
-        requires power { IsPowerOfTwo (length matrix.values.items / matrix.width) }
-        requires within { coset_size (⟦<Coset<F> as PolynomialSpace>⟧.coset_of domain)
-            ≤ 2 ^ F.TWO_ADICITY }
-        requires room { length matrix.values.items / matrix.width
-            ≤ coset_size (⟦<Coset<F> as PolynomialSpace>⟧.coset_of domain) }
+        requires power { IsPowerOfTwo (height_of matrix) }
+        requires within { 2 ^ domain.log_size ≤ 2 ^ F.TWO_ADICITY }
+        requires room { height_of matrix ≤ 2 ^ domain.log_size }
         ensures stands { IfOk result (CommitsRows ⟦<ClearPcs<F> as Pcs<EF, C>>⟧.scheme F.ring F.root
             self.now (coset_from domain.shift domain.log_size) matrix) }
         ensures refused { IfRefusal result (λ _. StopsAt self.now.stops_at ClearCall.Commit) }
@@ -180,11 +179,9 @@ impl<F: TwoAdicField, EF: ExtensionField<F>, C> UnivariateStarkPcs<EF, C> for Cl
         domain: Coset<F>,
         matrix: RowMajorMatrix<F>,
     ) -> Committed<F>
-        requires power { IsPowerOfTwo (length matrix.values.items / matrix.width) }
-        requires within { coset_size (⟦<Coset<F> as PolynomialSpace>⟧.coset_of domain)
-            ≤ 2 ^ F.TWO_ADICITY }
-        requires room { length matrix.values.items / matrix.width
-            ≤ coset_size (⟦<Coset<F> as PolynomialSpace>⟧.coset_of domain) }
+        requires power { IsPowerOfTwo (height_of matrix) }
+        requires within { 2 ^ domain.log_size ≤ 2 ^ F.TWO_ADICITY }
+        requires room { height_of matrix ≤ 2 ^ domain.log_size }
         ensures stands { IfOk result (CommitsRows ⟦<ClearPcs<F> as Pcs<EF, C>>⟧.scheme F.ring F.root
             self.now (coset_from domain.shift domain.log_size) matrix) }
         ensures refused { IfRefusal result (λ _.
@@ -206,12 +203,10 @@ impl<F: TwoAdicField, EF: ExtensionField<F>, C> UnivariateStarkPcs<EF, C> for Cl
         flat: RowMajorMatrix<F>,
         num_chunks: usize,
     ) -> Committed<F>
-        requires height { length flat.values.items
-            ≡ coset_size (⟦<Coset<F> as PolynomialSpace>⟧.coset_of domain) * flat.width }
+        requires height { length flat.values.items ≡ 2 ^ domain.log_size * flat.width }
         requires power { IsPowerOfTwo num_chunks }
-        requires parts { num_chunks ≤ coset_size (⟦<Coset<F> as PolynomialSpace>⟧.coset_of domain) }
-        requires within { coset_size (⟦<Coset<F> as PolynomialSpace>⟧.coset_of domain) * 2 ^ zk_bits
-            false ≤ num_chunks * 2 ^ F.TWO_ADICITY }
+        requires parts { num_chunks ≤ 2 ^ domain.log_size }
+        requires within { 2 ^ domain.log_size * 2 ^ zk_bits false ≤ num_chunks * 2 ^ F.TWO_ADICITY }
         ensures stands { IfOk result (CommitsChunks
             ⟦<ClearPcs<F> as Opening<EF, C>>⟧.opening self.now
             (coset_from domain.shift domain.log_size) flat num_chunks) }
@@ -250,8 +245,7 @@ impl<F: TwoAdicField, EF: ExtensionField<F>, C> UnivariateStarkPcs<EF, C> for Cl
         trace_domain: Coset<F>,
         quotient_domain: Coset<F>,
     ) -> Result<PeriodicLdeTable<F>, AllocError>
-        requires { columns.now.trace_len ≡ coset_size
-            (⟦<Coset<F> as PolynomialSpace>⟧.coset_of trace_domain) }
+        requires { columns.now.trace_len ≡ 2 ^ trace_domain.log_size }
         ensures { IfOk result (IsTableOver F.ring F.inverse_of F.root
             ⟦<Coset<F> as PolynomialSpace>⟧.coset_of trace_domain quotient_domain columns.now) }
     {

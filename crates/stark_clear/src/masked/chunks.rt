@@ -8,7 +8,7 @@ ghost use Rattle.stark_clear.specs.Masks.{HasMaskAt, HasMasks, balancing_mask, b
 ghost use Rattle.stark_clear.specs.ClearCalls.{IsMaskedOf, MasksChunks};
 
 use crate::masked::columns::{masked_columns, take_off};
-use crate::masked::list::chunk_lists;
+use crate::masked::list::next_lists;
 use stark_bench::Coset;
 use stark_columns::chunks_of;
 use stark_support::{
@@ -64,9 +64,9 @@ fn balancing_masks<F: Field>(
     Ok(masks)
 }
 
-/// The masks of `count` chunks from the list, and those of the last chunk, which make the sum of
-/// each column's masks zero. The parts of one coset have equal weights in a recomposition, so that
-/// the weighted sum is zero too.
+/// The masks of `count` chunks, for each of them `width` lists of `size` numbers, from the list's
+/// start on; and those of the last chunk, which make the sum of each column's masks zero. The parts
+/// of one coset have equal weights in a recomposition, so that the weighted sum is zero too.
 fn quotient_masks<F: Field>(
     alloc: Global,
     masks: &[F],
@@ -78,7 +78,12 @@ fn quotient_masks<F: Field>(
     ensures { IfOk result (λ chunks. map columns_list chunks.items
         ≡ quotient_masks F.ring masks.now count width size) }
 {
-    let mut chunks = chunk_lists(alloc, masks, count, width, size)?;
+    let mut place = 0;
+    let mut chunks = Vec::new(alloc);
+    for _chunk in 0..count {
+        let lists = next_lists(alloc, masks, &mut place, width, size)?;
+        chunks.push(lists)?;
+    }
     let last = balancing_masks(alloc, &chunks, width, size)?;
     chunks.push(last)?;
     Ok(chunks)

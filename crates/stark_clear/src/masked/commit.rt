@@ -3,7 +3,7 @@ ghost use Rattle.std.specs.Prelude.{◌≤◌, ◌<◌, ◌-◌, ◌/◌, IfOk, 
 ghost use Rattle.std.specs.Int.{IsPowerOfTwo};
 ghost use Rattle.stark_support.specs.Coset.{coset_size, coset_from};
 ghost use Rattle.stark_columns.specs.Columns.{columns_list};
-ghost use Rattle.stark_clear.specs.ClearCalls.{AreMaskedColumns};
+ghost use Rattle.stark_clear.specs.ClearCalls.{IsMaskedMatrix};
 ghost use Rattle.stark_columns.specs.ColumnPoints.{AreFull, TakeMatrix};
 
 use crate::masked::columns::masked_columns;
@@ -33,9 +33,8 @@ pub fn masked_columns_of<F: TwoAdicField>(
         AreFull (coset_from domain.now.shift domain.now.log_size) (columns_list columns)) }
     ensures rows { IfOk result (λ columns.
         TakeMatrix F.ring F.root matrix.now (columns_list columns)) }
-    ensures masked { IfOk result (λ columns.
-        AreMaskedColumns F.ring masks.now (coset_from domain.now.shift domain.now.log_size)
-        matrix.now.values.items matrix.now.width (columns_list columns)) }
+    ensures masked { IfOk result (IsMaskedMatrix F.ring masks.now
+        (coset_from domain.now.shift domain.now.log_size) matrix.now) }
 {
     let natural = Coset::subgroup(log2_strict_usize(matrix.height()));
     let plain = columns_of(alloc, &natural, matrix)?;

@@ -1,7 +1,7 @@
 //! A list of masks, read round and round.
-ghost use Rattle.std.specs.Prelude.{◌≡◌, ◌<◌, ◌+◌, ◌*◌, ◌%◌, length, map, IfOk, OnOk};
+ghost use Rattle.std.specs.Prelude.{◌≡◌, ◌<◌, ◌+◌, ◌*◌, ◌%◌, length, IfOk, OnOk};
 ghost use Rattle.stark_columns.specs.Columns.{columns_list};
-ghost use Rattle.stark_clear.specs.Masks.{chunk_masks, mask_list, mask_lists};
+ghost use Rattle.stark_clear.specs.Masks.{mask_list, mask_lists};
 
 use stark_support::Field;
 use std::alloc::{AllocError, Global};
@@ -44,25 +44,4 @@ pub fn next_lists<F: Field>(
         lists.push(list)?;
     }
     Ok(lists)
-}
-
-/// From the list's start on, for each of `count` chunks `width` lists of `size` numbers.
-pub fn chunk_lists<F: Field>(
-    alloc: Global,
-    masks: &[F],
-    count: usize,
-    width: usize,
-    size: usize,
-) -> Result<Vec<Vec<Vec<F>>>, AllocError>
-    requires { 0 < length masks.now }
-    ensures { IfOk result (λ chunks. map columns_list chunks.items
-        ≡ chunk_masks F.ring masks.now 0 count width size) }
-{
-    let mut place = 0;
-    let mut chunks = Vec::new(alloc);
-    for _chunk in 0..count {
-        let lists = next_lists(alloc, masks, &mut place, width, size)?;
-        chunks.push(lists)?;
-    }
-    Ok(chunks)
 }

@@ -1,14 +1,15 @@
 //! The scheme in the clear with masks.
-ghost use Rattle.std.specs.Prelude.{◌≡◌, ◌≢◌, ◌≤◌, ◌<◌, ◌-◌, ◌/◌, ◌*◌, ◌^◌, true, None, Some, is_some, length, Result, IfErr, IfOk, IfSome};
+ghost use Rattle.std.specs.Prelude.{◌≡◌, ◌≢◌, ◌≤◌, ◌<◌, ◌-◌, ◌/◌, ◌*◌, ◌^◌, true, None, Some, is_some, length, Result, IfErr, IfOk};
 ghost use Rattle.std.specs.Int.{IsPowerOfTwo};
 ghost use Rattle.stark_support.specs.Claims.{IfRefusal, claims_view};
-ghost use Rattle.stark_support.specs.Coset.{coset_size, coset_from};
+ghost use Rattle.stark_support.specs.Coset.{coset_from};
 ghost use Rattle.stark_support.specs.Scheme.{zk_bits};
+ghost use Rattle.stark_columns.specs.ColumnPoints.{height_of};
 ghost use Rattle.stark_clear.specs.ClearFacts.{clear_laws};
-ghost use Rattle.stark_clear.specs.ClearCalls.{masked_calls, IsPlainCommitment, IsMaskedCommitment, IsMaskedQuotient, AreMasks};
+ghost use Rattle.stark_clear.specs.ClearCalls.{masked_calls, IsPlainCommitment, IsMaskedCommitment, IsMaskedQuotient, AreMasks, ChunksStand, IfMade, ProvesOpening};
 ghost use Rattle.stark_clear.specs.ClearScheme.{clear_scheme, AcceptsTrue, RefusesClaims};
 ghost use Rattle.stark_clear.specs.Stops.{StopsAt};
-ghost use Rattle.stark_support.specs.SchemeClauses.{CommitsChunks, CommitsRows, OpensTrueValues, ProvesTrueClaims, CommitsColumns};
+ghost use Rattle.stark_support.specs.SchemeClauses.{CommitsRows, OpensTrueValues, CommitsColumns};
 
 use crate::clear::{
     ClearCall, ClearError, ClearPcs, ClearProof, ClearProverError, Committed, committed,
@@ -105,11 +106,9 @@ impl<F: TwoAdicField, EF: ExtensionField<F>, C> Pcs<EF, C> for MaskedClearPcs<F>
     }
 
     fn commit(&self, alloc: Global, domain: Coset<F>, matrix: RowMajorMatrix<F>) -> Committed<F>
-        requires power { IsPowerOfTwo (length matrix.values.items / matrix.width) }
-        requires within { coset_size (⟦<Coset<F> as PolynomialSpace>⟧.coset_of domain)
-            ≤ 2 ^ F.TWO_ADICITY }
-        requires room { length matrix.values.items / matrix.width
-            ≤ coset_size (⟦<Coset<F> as PolynomialSpace>⟧.coset_of domain) }
+        requires power { IsPowerOfTwo (height_of matrix) }
+        requires within { 2 ^ domain.log_size ≤ 2 ^ F.TWO_ADICITY }
+        requires room { height_of matrix ≤ 2 ^ domain.log_size }
         ensures stands { IfOk result (CommitsRows ⟦<MaskedClearPcs<F> as Pcs<EF, C>>⟧.scheme F.ring
             F.root self.now (coset_from domain.shift domain.log_size) matrix) }
         ensures refused { IfRefusal result (λ _. StopsAt self.now.stops_at ClearCall.Commit) }
@@ -157,11 +156,9 @@ impl<F: TwoAdicField, EF: ExtensionField<F>, C> UnivariateStarkPcs<EF, C> for Ma
         domain: Coset<F>,
         matrix: RowMajorMatrix<F>,
     ) -> Committed<F>
-        requires power { IsPowerOfTwo (length matrix.values.items / matrix.width) }
-        requires within { coset_size (⟦<Coset<F> as PolynomialSpace>⟧.coset_of domain)
-            ≤ 2 ^ F.TWO_ADICITY }
-        requires room { length matrix.values.items / matrix.width
-            ≤ coset_size (⟦<Coset<F> as PolynomialSpace>⟧.coset_of domain) }
+        requires power { IsPowerOfTwo (height_of matrix) }
+        requires within { 2 ^ domain.log_size ≤ 2 ^ F.TWO_ADICITY }
+        requires room { height_of matrix ≤ 2 ^ domain.log_size }
         ensures stands { IfOk result (CommitsRows ⟦<MaskedClearPcs<F> as Pcs<EF, C>>⟧.scheme F.ring
             F.root self.now (coset_from domain.shift domain.log_size) matrix) }
         ensures refused { IfRefusal result (λ _.
@@ -185,15 +182,12 @@ impl<F: TwoAdicField, EF: ExtensionField<F>, C> UnivariateStarkPcs<EF, C> for Ma
         flat: RowMajorMatrix<F>,
         num_chunks: usize,
     ) -> Committed<F>
-        requires height { length flat.values.items
-            ≡ coset_size (⟦<Coset<F> as PolynomialSpace>⟧.coset_of domain) * flat.width }
+        requires height { length flat.values.items ≡ 2 ^ domain.log_size * flat.width }
         requires power { IsPowerOfTwo num_chunks }
-        requires parts { num_chunks ≤ coset_size (⟦<Coset<F> as PolynomialSpace>⟧.coset_of domain) }
-        requires within { coset_size (⟦<Coset<F> as PolynomialSpace>⟧.coset_of domain) * 2 ^ zk_bits
-            true ≤ num_chunks * 2 ^ F.TWO_ADICITY }
-        ensures stands { IfOk result (CommitsChunks
-            ⟦<MaskedClearPcs<F> as Opening<EF, C>>⟧.opening self.now
-            (coset_from domain.shift domain.log_size) flat num_chunks) }
+        requires parts { num_chunks ≤ 2 ^ domain.log_size }
+        requires within { 2 ^ domain.log_size * 2 ^ zk_bits true ≤ num_chunks * 2 ^ F.TWO_ADICITY }
+        ensures stands { ChunksStand ⟦<MaskedClearPcs<F> as Opening<EF, C>>⟧.opening self.now
+            (coset_from domain.shift domain.log_size) flat num_chunks result }
         ensures refused { IfRefusal result (λ _.
             StopsAt self.now.stops_at ClearCall.CommitQuotient) }
         ensures made { IfOk result (IsMaskedQuotient F.ring F.inverse_of F.root self.now.masks
@@ -213,17 +207,15 @@ impl<F: TwoAdicField, EF: ExtensionField<F>, C> UnivariateStarkPcs<EF, C> for Ma
         alloc: Global,
         domain: Coset<F>,
     ) -> Result<Option<(ClearCommitment<F>, ClearCommitment<F>)>, SchemeFault<ClearProverError>>
-        requires within { coset_size (⟦<Coset<F> as PolynomialSpace>⟧.coset_of domain)
-            ≤ 2 ^ F.TWO_ADICITY }
+        requires within { 2 ^ domain.log_size ≤ 2 ^ F.TWO_ADICITY }
         ensures there { IfOk result (λ made. is_some made ≡ true) }
-        ensures stands { IfOk result (λ made.
-            IfSome made (CommitsColumns ⟦<MaskedClearPcs<F> as Pcs<EF, C>>⟧.scheme self.now
-            (coset_from domain.shift domain.log_size) EF.DIMENSION)) }
+        ensures stands { IfMade result (CommitsColumns
+            ⟦<MaskedClearPcs<F> as Pcs<EF, C>>⟧.scheme self.now
+            (coset_from domain.shift domain.log_size) EF.DIMENSION) }
         ensures refused { IfRefusal result (λ _.
             StopsAt self.now.stops_at ClearCall.Randomization) }
-        ensures made { IfOk result (λ made.
-            IfSome made (AreMasks F.ring self.now.masks EF.DIMENSION
-            (coset_from domain.shift domain.log_size))) }
+        ensures made { IfMade result (AreMasks F.ring self.now.masks EF.DIMENSION
+            (coset_from domain.shift domain.log_size)) }
         ensures stops { StopsAt self.now.stops_at ClearCall.Randomization → result
             ≡ Result.Err (SchemeFault.Refused ClearProverError.Stopped) }
     {
@@ -261,8 +253,8 @@ impl<F: TwoAdicField, EF: ExtensionField<F>, C> UnivariateStarkPcs<EF, C> for Ma
         ensures true_values { IfOk result
             (OpensTrueValues ⟦<MaskedClearPcs<F> as Pcs<EF, C>>⟧.scheme EF.ring EF.embed
             self.now rounds.entry) }
-        ensures whole { IfOk result (ProvesTrueClaims ⟦<MaskedClearPcs<F> as Pcs<EF, C>>⟧.scheme
-            EF.ring EF.embed self.now rounds.entry challenger.old preprocessed_index) }
+        ensures whole { IfOk result (ProvesOpening ⟦<MaskedClearPcs<F> as Opening<EF, C>>⟧.opening
+            self.now rounds.entry challenger.old preprocessed_index) }
         ensures refused { IfRefusal result (λ _. StopsAt self.now.stops_at ClearCall.Open) }
         ensures stops { StopsAt self.now.stops_at ClearCall.Open → result
             ≡ Result.Err (SchemeFault.Refused ClearProverError.Stopped) }

@@ -11,10 +11,8 @@ use Rattle.stark_clear.proofs.masked.commit.masked_columns_of.Goals as goal
 
 pub subgroup-natural-requires : goal.subgroup-natural-requires
 subgroup-natural-requires g c =
-    let at_most : c.log2_strict_usize.result ≤ c.args.domain.now.log_size =
-    exponent_at_most c.log2_strict_usize.result c.args.domain.now.log_size (omega (arith, c.log2_strict_usize.ensures, c.height.ensures, c.requires.room)) in
-    let within = c.args.domain.now.within in
-    omega (arith, at_most, within)
+    let height = c.log2_strict_usize.ensures ∙ c.height.ensures in
+    omega (arith, exponent_at_most c.log2_strict_usize.result c.args.domain.now.log_size (omega (arith, height, c.requires.room)), c.args.domain.now.within)
 
 pub returns-clause-full : goal.returns-clause-full
 returns-clause-full g c =

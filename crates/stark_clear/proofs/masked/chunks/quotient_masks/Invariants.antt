@@ -1,7 +1,7 @@
 use Rattle.std.proofs.Common.{◌≡◌, ◌+◌, ◌*◌, ◌%◌, length, map}
 use Rattle.stark_columns.specs.Columns.{columns_list}
 use Rattle.stark_clear.specs.Masks.{chunk_masks}
-use Rattle.stark_clear.proofs.masked.list.chunk_lists.Given as goal
+use Rattle.stark_clear.proofs.masked.chunks.quotient_masks.Given as goal
 
 abbrev pub invariant-loop-chunk : goal.invariant-loop-chunk
 invariant-loop-chunk g l =

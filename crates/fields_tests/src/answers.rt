@@ -1,8 +1,10 @@
 //! The answers to rows, over any of the fields.
-use crate::rows::{apart, read_all};
 use crate::{challengers, cosets, fields};
-use stark_bench::{BabyBearField, Ext4, KoalaBearField, ScriptChallenger, Sha256Challenger};
-use stark_support::{ExtensionField, NeverNull, PrimeField64, TwoAdicField};
+use stark_bench::{
+    BabyBearField, Ext4, KoalaBearField, S12289, ScriptChallenger, Sha256Challenger,
+};
+use stark_support::{ExtensionField, JsonCodec, NeverNull, PrimeField64, TwoAdicField};
+use stark_test_rows::{apart, read_all, script_of};
 use std::alloc::Global;
 use std::fmt::Debug;
 use std::test::Fail;
@@ -33,24 +35,50 @@ pub fn koala_bear(alloc: Global, row: &str) -> Result<String, Fail> {
     of_fields::<KoalaBearField, Ext4<KoalaBearField>>(alloc, row)
 }
 
+pub fn of_12289(alloc: Global, row: &str) -> Result<String, Fail> {
+    of_fields::<S12289, Ext4<S12289>>(alloc, row)
+}
+
+/// The challenger that hands out the elements behind the word `script`; none where a row names
+/// another.
+fn script<F: JsonCodec + Drop>(
+    alloc: Global,
+    name: &str,
+) -> Result<Option<ScriptChallenger<F>>, Fail> {
+    let Some(list) = name.strip_prefix("script ") else {
+        return Ok(None);
+    };
+    Ok(Some(script_of(read_all::<F>(alloc, list)?)?))
+}
+
 /// The answer of the challenger that a row's first word names.
 pub fn drawn(alloc: Global, row: &str) -> Result<String, Fail> {
     let (name, steps) = apart(row)?;
-    let Some(list) = name.strip_prefix("script ") else {
-        let challenger: Sha256Challenger<BabyBearField> = Sha256Challenger::new();
-        return challengers::answer::<
+    match script::<BabyBearField>(alloc, name)? {
+        Some(challenger) => challengers::answer::<
+            BabyBearField,
+            Ext4<BabyBearField>,
+            ScriptChallenger<BabyBearField>,
+        >(alloc, challenger, steps),
+        None => challengers::answer::<
             BabyBearField,
             Ext4<BabyBearField>,
             Sha256Challenger<BabyBearField>,
-        >(alloc, challenger, steps);
-    };
-    let elements = read_all::<BabyBearField>(alloc, list)?;
-    if elements.is_empty() {
-        return Err(Fail::new("a script of no elements"));
+        >(alloc, Sha256Challenger::new(), steps),
     }
-    challengers::answer::<BabyBearField, Ext4<BabyBearField>, ScriptChallenger<BabyBearField>>(
-        alloc,
-        ScriptChallenger::new(elements),
-        steps,
-    )
+}
+
+/// The same over the field of 12289.
+pub fn drawn_of_12289(alloc: Global, row: &str) -> Result<String, Fail> {
+    let (name, steps) = apart(row)?;
+    match script::<S12289>(alloc, name)? {
+        Some(challenger) => challengers::answer::<S12289, Ext4<S12289>, ScriptChallenger<S12289>>(
+            alloc, challenger, steps,
+        ),
+        None => challengers::answer::<S12289, Ext4<S12289>, Sha256Challenger<S12289>>(
+            alloc,
+            Sha256Challenger::new(),
+            steps,
+        ),
+    }
 }

@@ -1,11 +1,11 @@
-//! Both challengers over a field of 31 bits. The draws after SHA-256 were computed in Python, by
-//! its hashlib.
-use crate::rows::{read, shown, word_and_rest};
+//! Both challengers over a field of 31 bits and over the field of 12289. The draws after SHA-256
+//! were computed in Python, by its hashlib, and for 12289 by another implementation of it.
 use stark_bench::ClearCommitment;
 use stark_merkle::Root;
 use stark_support::{
     CanObserve, CanSample, CanSampleBits, FieldChallenger, GrindingChallenger, JsonCodec,
 };
+use stark_test_rows::{read, shown, word_and_rest};
 use std::alloc::Global;
 use std::fmt::Debug;
 use std::test::Fail;
@@ -33,6 +33,35 @@ script [4] | grind 0; grind 16 => Some(0) Some(65535)
 script [4] | check 31 2013265920; check 20 1048575; check 64 0 => false true false
 "#;
 
+// The same of 12289.
+pub const OVER_12289: &str = r#"
+# Elements from digests, bits from digests, and an element of the extension, whose coordinates are drawn in turn.
+sha256 | draw; draw => 9721 571
+sha256 | observe 5; draw; bits 10; bits 63 => observed 1315 822 9148466495236240315
+sha256 | above => Ext4 { c0: 9721, c1: 571, c2: 8937, c3: 1088 }
+
+# A commitment to two matrices.
+sha256 | commit [[[1,2],[3,4]],[[5]]]; draw => 2 4562
+
+# Work: the witness that is found, and the next draw after it.
+sha256 | grind 0; draw => Some(0) 9721
+sha256 | grind 1; draw => Some(1) 3954
+sha256 | grind 8; draw => Some(166) 497
+sha256 | grind 12; draw => Some(166) 497
+sha256 | grind 20; draw => None 9721
+
+# The next draw, and that of a copy.
+sha256 | observe 5; copy => observed (1315, 1315)
+script [4,3] | draw; copy => 4 (3, 3)
+
+# A script hands out its numbers round and round, whatever is observed.
+script [4,0,0,0,3,0,0,0] | observe 7; above; bits 1; above; above => observed Ext4 { c0: 4, c1: 0, c2: 0, c3: 0 } 1 Ext4 { c0: 0, c1: 0, c2: 0, c3: 4 } Ext4 { c0: 0, c1: 0, c2: 0, c3: 3 }
+
+# Work over a script, and the bits and the number of a witness that passes or doesn't. The script stays where it was.
+script [4,3] | grind 0; grind 1; grind 13; grind 14; grind 64; draw => Some(0) Some(1) Some(8191) None None 4
+script [4,3] | check 0 5; check 3 7; check 3 8; check 64 0; draw => true true false false 4
+"#;
+
 /// The answers to a row's steps.
 pub fn answer<F, EF, C>(alloc: Global, mut challenger: C, text: &str) -> Result<String, Fail>
 where
@@ -45,39 +74,26 @@ where
         + GrindingChallenger<Witness = F>,
 {
     let mut answers = String::new(alloc);
-    for one in text.split("; ") {
-        let answer = step::<F, EF, C>(alloc, &mut challenger, one)?;
+    for step in text.split("; ") {
+        let (name, given) = step.split_once(' ').unwrap_or((step, ""));
+        let answer = match name {
+            "draw" => draw::<F, C>(alloc, &mut challenger),
+            "above" => draw::<EF, C>(alloc, &mut challenger),
+            "observe" => observe::<F, C>(alloc, &mut challenger, given),
+            "root" => observe::<Root, C>(alloc, &mut challenger, given),
+            "commit" => commit::<F, C>(alloc, &mut challenger, given),
+            "bits" => bits(alloc, &mut challenger, given),
+            "grind" => grind::<F, C>(alloc, &mut challenger, given),
+            "check" => check::<F, C>(alloc, &mut challenger, given),
+            "copy" => copy::<F, C>(alloc, &mut challenger),
+            _ => Err(Fail::new("no such step")),
+        }?;
         if !answers.is_empty() {
             answers.push_str(" ")?;
         }
         answers.push_str(&answer)?;
     }
     Ok(answers)
-}
-
-/// The answer to one step.
-fn step<F, EF, C>(alloc: Global, challenger: &mut C, text: &str) -> Result<String, Fail>
-where
-    F: JsonCodec + Debug + Drop,
-    EF: Debug + Drop,
-    C: FieldChallenger<F>
-        + CanObserve<ClearCommitment<F>>
-        + CanObserve<Root>
-        + CanSample<EF>
-        + GrindingChallenger<Witness = F>,
-{
-    let (name, given) = text.split_once(' ').unwrap_or((text, ""));
-    match name {
-        "draw" => draw::<F, C>(alloc, challenger),
-        "above" => draw::<EF, C>(alloc, challenger),
-        "observe" => observe::<F, C>(alloc, challenger, given),
-        "root" => observe::<Root, C>(alloc, challenger, given),
-        "commit" => commit::<F, C>(alloc, challenger, given),
-        "bits" => bits(alloc, challenger, given),
-        "grind" => grind::<F, C>(alloc, challenger, given),
-        "check" => check::<F, C>(alloc, challenger, given),
-        _ => Err(Fail::new("no such step")),
-    }
 }
 
 /// The next draw of any challenger.
@@ -142,4 +158,14 @@ fn check<F: JsonCodec, C: GrindingChallenger<Witness = F>>(
     let witness: F = read(alloc, witness)?;
     let passes = challenger.check_witness(number.parse::<usize>()?, witness);
     Ok(format!(in alloc; "{passes}")?)
+}
+
+/// The next draw of any challenger, and that of its copy.
+fn copy<F: Debug + Drop, C: FieldChallenger<F>>(
+    alloc: Global,
+    challenger: &mut C,
+) -> Result<String, Fail> {
+    let mut copy = challenger.duplicate(alloc)?;
+    let found = (challenger.sample(), copy.sample());
+    shown(alloc, &found)
 }

@@ -1,9 +1,10 @@
-//! Cosets of a field of 31 bits. The numbers were computed in Python, the selectors by quotients.
-use crate::rows::{apart, read, shown, word_and_rest};
+//! Cosets of a field of 31 bits and of the field of 12289. The numbers of the first were computed
+//! in Python, the selectors by quotients.
 use stark_bench::Coset;
 use stark_support::{
     DomainShape, ExtensionField, JsonCodec, LagrangeSelectors, PolynomialSpace, TwoAdicField,
 };
+use stark_test_rows::{apart, read, shown, word_and_rest};
 use std::alloc::{AllocError, Global};
 use std::fmt::Debug;
 use std::test::Fail;
@@ -20,6 +21,9 @@ coset next | 27 [3,1,4,159265359] => Some(Ext4 { c0: 1321692867, c1: 440564289, 
 # A shift and the logarithm of a coset's size: its first point and its two parts.
 coset parts | 123456789 3 => 123456789 [(123456789, 2), (619218242, 2)]
 
+# How many points a subgroup has, and its degree multiple of the transition.
+coset size | 27 => 134217728 0
+
 # How many points a domain beside the subgroup of two has at least: its shift and its logarithm.
 coset disjoint | 67108865 => Some((31, 27))
 coset disjoint | 134217728 => Some((31, 27))
@@ -29,7 +33,30 @@ coset disjoint | 134217729 => None
 coset beside | 2 => [30784, 1625973710, 2013237061, 387290291] [1676082105, 935479437, 1676022585, 612768004] [1728404544, 950764549, 1728404482, 492778556] [1301714455, 1301714455, 1301714455, 1301714455]
 "#;
 
-/// The answer to a row of this table.
+// The same of 12289.
+pub const OVER_12289: &str = r#"
+coset vanishing | 1 [12288,0,0,0] => Some(Ext4 { c0: 0, c1: 0, c2: 0, c3: 0 })
+coset vanishing | 1 [3,0,0,0] => Some(Ext4 { c0: 8, c1: 0, c2: 0, c3: 0 })
+
+coset size | 1 => 2 0
+
+# Of the subgroup of two points, at 11 and -11.
+coset beside | 1 => [12, 12279] [10, 12277] [12, 12279] [7271, 7271]
+
+coset parts | 11 2 => 11 [(11, 1), (3980, 1)]
+
+coset disjoint | 0 => Some((11, 0))
+coset disjoint | 1 => Some((11, 0))
+coset disjoint | 2 => Some((11, 1))
+coset disjoint | 3 => Some((11, 2))
+coset disjoint | 4096 => Some((11, 12))
+coset disjoint | 4097 => None
+
+# On the subgroup of two points the row after 3 is at -3.
+coset next | 1 [3,0,0,0] => Some(Ext4 { c0: 12286, c1: 0, c2: 0, c3: 0 })
+"#;
+
+/// The answer to a row of these tables.
 pub fn answer<F, EF>(alloc: Global, name: &str, text: &str) -> Result<String, Fail>
 where
     F: TwoAdicField + JsonCodec + Debug,
@@ -39,6 +66,7 @@ where
         "coset vanishing" => vanishing::<F, EF>(alloc, text),
         "coset next" => next::<F, EF>(alloc, text),
         "coset parts" => parts::<F>(alloc, text),
+        "coset size" => size::<F>(alloc, text),
         "coset disjoint" => disjoint::<F>(alloc, text),
         "coset beside" => beside::<F>(alloc, text),
         _ => Err(Fail::new("no such table")),
@@ -77,6 +105,12 @@ where
     let domain = subgroup::<F>(log_size.parse::<usize>()?).ok_or("no such group")?;
     let found: Option<EF> = domain.next_point(point);
     shown(alloc, &found)
+}
+
+fn size<F: TwoAdicField>(alloc: Global, text: &str) -> Result<String, Fail> {
+    let domain = subgroup::<F>(text.parse::<usize>()?).ok_or("no such group")?;
+    let (size, multiple) = (domain.size(), domain.transition_degree_multiple());
+    Ok(format!(in alloc; "{size} {multiple}")?)
 }
 
 /// The coset with this shift of `2^log_size` points; none where there is no such coset.

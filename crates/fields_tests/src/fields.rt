@@ -1,8 +1,8 @@
 //! The prime fields of 31 bits and their extensions of degree four. The numbers were computed in
 //! Python: whole numbers modulo the prime, products of polynomials of which X^4 is replaced, and of
 //! the extension's inverse the power that it is.
-use crate::rows::{apart, read, read_all, shown, spelled, word_and_rest};
 use stark_support::{Field, JsonCodec, NeverNull, TwoAdicField, power_of};
+use stark_test_rows::{apart, computed, read, read_all, shown, spelled, word_and_rest};
 use std::alloc::Global;
 use std::fmt::Debug;
 use std::test::Fail;
@@ -123,18 +123,6 @@ json above | [1,2,3,2130706433] => Invalid: the JSON value is refused
 json above | [2130706433,2,3,4] => Invalid: the JSON value is refused
 json above | [1,2,3] => Invalid: the JSON value is refused
 "#;
-
-/// What an operation gives of one element or of two; none of the inverse of zero.
-fn computed<F: Field>(name: &str, x: F, y: F) -> Option<F> {
-    match name {
-        "sum" => Some(x + y),
-        "difference" => Some(x - y),
-        "product" => Some(x * y),
-        "negative" => Some(-x),
-        "inverse" if x != F::ZERO => Some(x.inverse()),
-        _ => None,
-    }
-}
 
 pub fn operation<F: Field + JsonCodec + Debug>(alloc: Global, text: &str) -> Result<String, Fail> {
     let (name, elements) = apart(text)?;

@@ -1,6 +1,6 @@
-//! Worked rows of the prime fields of 31 bits, and of cosets and challengers over one of them. Each
-//! number was computed apart from this code. The crate has nothing but tests. The rows are text,
-//! and what answers them is generic.
+//! Worked rows of the prime fields of 31 bits, and of cosets and challengers over one of them and
+//! over the field of 12289. Each number was computed apart from this code. The crate has nothing
+//! but tests. The rows are text, and what answers them is generic.
 #![tactic(auto)]
 
 #[cfg(test)]
@@ -11,7 +11,5 @@ mod challengers;
 mod cosets;
 #[cfg(test)]
 mod fields;
-#[cfg(test)]
-mod rows;
 #[cfg(test)]
 mod tests;

@@ -1,0 +1,37 @@
+use Rattle.std.proofs.Common.{◌≡◌, [], ap, is_some, refl, sym, ◌∙◌, IfSome, Option, None, Some, subst}
+use Rattle.stark_protocol.proofs.Carried.{on_ok}
+use Rattle.stark_prover.specs.SetUpFacts.{held_of_set_up, no_columns, same_columns, width_of}
+use Rattle.stark_test_proofs.proofs.Judged.{judged}
+use Rattle.stark_test_proofs.proofs.made.made_by.Goals as goal
+
+at_some : {A : Type 0} (P : A → Type 0) (o : Option A) (a : A) → o ≡ Some a → IfSome o P → P a
+at_some P (Some b) a is holds = subst P (let same : b ≡ a = cc in same) holds
+at_some P None a is holds = absurd (cc)
+
+pub prove_and_verify-requires-clause-there : goal.prove_and_verify-requires-clause-there
+prove_and_verify-requires-clause-there g c =
+    sym (ap is_some c.in-Some.is) ∙ c.in_ok-keys.ensures.there ∙ same_columns (g.A.BaseAir.preprocessed_trace c.args.air.now) _ (g.met.A.BaseAir.as_declared c.args.air.now).preprocessed_width
+
+pub prove_and_verify-requires-clause-stands : goal.prove_and_verify-requires-clause-stands
+prove_and_verify-requires-clause-stands g c =
+    let made = at_some _ _ _ c.in-Some.is c.in_ok-keys.ensures.set_up in
+    let held = held_of_set_up made.2 in
+    (held.0, held.1, held.2 ∙ sym (width_of (g.A.BaseAir.preprocessed_trace c.args.air.now) made.0 _ (g.met.A.BaseAir.as_declared c.args.air.now).preprocessed_width made.1))
+
+pub prove_and_verify-requires-in-None-clause-there : goal.prove_and_verify-requires-in-None-clause-there
+prove_and_verify-requires-in-None-clause-there g c =
+    sym (ap is_some c.in-None.is) ∙ c.in_ok-keys.ensures.there ∙ same_columns (g.A.BaseAir.preprocessed_trace c.args.air.now) _ (g.met.A.BaseAir.as_declared c.args.air.now).preprocessed_width
+
+pub prove_and_verify-requires-in-None-clause-stands : goal.prove_and_verify-requires-in-None-clause-stands
+prove_and_verify-requires-in-None-clause-stands g c =
+    ([], refl, sym (no_columns (g.A.BaseAir.preprocessed_trace c.args.air.now) _ (g.met.A.BaseAir.as_declared c.args.air.now).preprocessed_width (sym c.in_ok-keys.ensures.there ∙ ap is_some c.in-None.is)))
+
+pub returns-in-Some : goal.returns-in-Some
+returns-in-Some g c =
+    let set_up = at_some _ _ _ c.in-Some.is c.in_ok-keys.ensures.set_up in
+    on_ok _ _ c.prove_and_verify.result (λ made complete. judged _ _ _ c.args.log_height _ _ _ (Some c.in-Some.data) (Some c.in-Some.key) set_up set_up c.requires.height complete) c.prove_and_verify.ensures.complete
+
+pub returns-in-None : goal.returns-in-None
+returns-in-None g c =
+    let none = sym c.in_ok-keys.ensures.there ∙ ap is_some c.in-None.is in
+    on_ok _ _ c.prove_and_verify-in-None.result (λ made complete. judged _ _ _ c.args.log_height _ _ _ None None none none c.requires.height complete) c.prove_and_verify-in-None.ensures.complete

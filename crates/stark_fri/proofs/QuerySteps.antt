@@ -9,7 +9,7 @@ use Rattle.stark_fri_proof.specs.declared.proof.LayerOpening.{LayerOpening}
 use Rattle.stark_fri_proof.specs.declared.proof.Phase.{Phase}
 use Rattle.stark_fri.specs.Claims.{RoundRead}
 use Rattle.stark_fri.specs.Found.{FindsInputFault, target_by}
-use Rattle.stark_fri.specs.Fours.{EndsAt, IsWalkIn}
+use Rattle.stark_fri.specs.Fours.{EndsAt, IsQueryWalk}
 use Rattle.stark_fri.specs.Parts.{FriFields}
 use Rattle.stark_fri.specs.Query.{Fits, InputsLead, PairLeads, QueryFails, QueryFits, QueryHolds, batched_at, extension_coset, last_point, phase_root, query_pairs}
 use Rattle.stark_fri.specs.Walks.{FindsLayerFault, openings_of}
@@ -28,7 +28,7 @@ module _ {F E : Type 0} (fields : FriFields F E) (hash : List ℕ → List ℕ) 
     inputs_lead : InputsLead fields hash (target_by rounds bits drawn proof) (place, query)
     inputs_lead = subst (λ t. FindsInputFault fields hash bits place rounds t None) is_inputs lead
 
-    module _ (walk : FoldWalk E) (is_walk : IsWalkIn fields rounds bits drawn proof place query walk) (layers : List (LayerOpening E)) (is_layers : layers ≡ query.layers)
+    module _ (walk : FoldWalk E) (is_walk : IsQueryWalk fields (target_by rounds bits drawn proof) place query walk) (layers : List (LayerOpening E)) (is_layers : layers ≡ query.layers)
         (pairs : List (Pair E)) (is_pairs : pairs ≡ walk.pairs.items) where
       opened : openings_of fields bits (map phase_root phases) layers pairs ≡ query_pairs fields hash (target_by rounds bits drawn proof) (place, query)
       opened =

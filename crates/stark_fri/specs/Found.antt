@@ -7,10 +7,10 @@ use Rattle.stark_support.specs.declared.scheme.SchemeFault.{SchemeFault}
 use Rattle.stark_support.specs.Coset.{TwoAdicCoset}
 use Rattle.stark_fri_proof.specs.declared.proof.Phase.{Phase}
 use Rattle.stark_support.specs.Faults.{FindsFirstFault, IsFirstFault, IsFirstFaultWith}
-use Rattle.stark_fri_proof.specs.Parts.{FriProofView, InputOpening, QueryProof}
+use Rattle.stark_fri_proof.specs.Parts.{FriProofView, InputOpening}
 use Rattle.stark_fri_proof.specs.declared.parameters.FriParameters.{FriParameters}
 use Rattle.stark_fri.specs.Accept.{HasFolds, HasLength, HasQueryCount, Refused, Accepted}
-use Rattle.stark_fri.specs.Claims.{ClaimsFault, ClaimsFit, RoundRead, height_of, rounds_in, matrices_in}
+use Rattle.stark_fri.specs.Claims.{ClaimsFault, ClaimsFit, RoundRead, height_of, matrices_in}
 use Rattle.stark_fri.specs.Parts.{FriFields, FriOps, SpongeCalls}
 use Rattle.stark_fri.specs.Query.{InputLeads, QueryAt, QueryFails, QueryHolds, Target, phase_root, rows_seen}
 use Rattle.stark_folding.specs.Reduce.{Seen}
@@ -19,7 +19,7 @@ use Rattle.stark_fri.specs.declared.replay.Drawn.{Drawn}
 use Rattle.stark_fri.specs.declared.error.FriError.{FriError}
 use Rattle.stark_fri.specs.declared.error.FriError.TheVariants.{NoClaims, MixedHeights, TooHigh, Widths, PointOnCoset, CommitPhases, FinalPolynomial, Queries, CommitWork, QueryWork, Query}
 use Rattle.stark_fri.specs.declared.error.QueryFault.{QueryFault}
-use Rattle.stark_fri.specs.Scheme.{asked_of, claimed_by}
+use Rattle.stark_fri.specs.Scheme.{claimed_by}
 use Rattle.std.specs.Borrow.{Bor}
 use Rattle.stark_merkle.specs.declared.root.Root.{Root}
 use Rattle.stark_merkle.specs.Tree.{items_of}
@@ -100,16 +100,6 @@ ShapeFits s k proof (Err (CommitWork phase)) = ⊥
 ShapeFits s k proof (Err QueryWork) = ⊥
 ShapeFits s k proof (Err (Query query fault)) = ⊥
 
--- The same of what was drawn in memory: of a query, and of all.
-abbrev pub FindsFaultAt : {F E : Type 0} → FriFields F E → (List ℕ → List ℕ) → List (RoundRead E) → ℕ → Drawn E → FriProofView F E → ℕ → QueryProof F E
-    → Option QueryFault → Type 0
-FindsFaultAt fields hash rounds bits drawn proof place query found = FindsQueryFault fields hash (target_by rounds bits drawn proof) (place, query) found
-
-abbrev pub FindsFirstQuery : {F E : Type 0} → FriFields F E → (List ℕ → List ℕ) → List (RoundRead E) → ℕ → Drawn E → FriProofView F E
-    → Option (ℕ × QueryFault) → Type 0
-FindsFirstQuery fields hash rounds bits drawn proof found =
-    FindsFault fields hash (target_by rounds bits drawn proof) (zip drawn.places.items proof.queries) found
-
 -- What holds of a refusal: it is the first fault.
 abbrev pub IsRefused : {C F E : Type 0} → FriOps C F E → Instance C F E → SchemeFault FriError → Type 0
 IsRefused ops i fault = IfRefused fault (Refused ops i)
@@ -117,23 +107,12 @@ IsRefused ops i fault = IfRefused fault (Refused ops i)
 -- ---- of claims as they stand in memory
 
 module _ {C F E : Type 0} (ops : FriOps C F E) {D A B : Type 0} (coset_of : D → TwoAdicCoset F) (s : FriParameters) (claims : List (Bor Root × Vec (D × Vec (E × Bor (List E)) A) B)) where
-  -- By what is read of them a proof is accepted, or refused; and by the claims.
-  abbrev pub AcceptsRounds : C → FriProofView F E → Type 0
-  AcceptsRounds state proof = Accepted ops (asked_of coset_of s claims proof state)
-
-  abbrev pub RefusesRounds : C → FriProofView F E → SchemeFault FriError → Type 0
-  RefusesRounds state proof fault = IsRefused ops (asked_of coset_of s claims proof state) fault
-
+  -- By them a proof is accepted, or refused.
   abbrev pub AcceptsClaimed : C → FriProofView F E → Type 0
   AcceptsClaimed state proof = Accepted ops (claimed_by coset_of s claims proof state)
 
   abbrev pub RefusesClaimed : C → FriProofView F E → SchemeFault FriError → Type 0
   RefusesClaimed state proof fault = IsRefused ops (claimed_by coset_of s claims proof state) fault
-
--- The first fault of a query, by what is read of the claims.
-abbrev pub FindsFaultIn : {F E D A B : Type 0} → FriFields F E → (List ℕ → List ℕ) → (D → TwoAdicCoset F) → List (Bor Root × Vec (D × Vec (E × Bor (List E)) A) B) → ℕ → Drawn E
-    → FriProofView F E → ℕ → QueryProof F E → Option QueryFault → Type 0
-FindsFaultIn fields hash coset_of claims bits drawn proof place query found = FindsFaultAt fields hash (rounds_in coset_of claims) bits drawn proof place query found
 
 -- What rows are worth at the claims' points.
 abbrev pub seen_in : {F E D A B : Type 0} → FriFields F E → (D → TwoAdicCoset F) → List (D × Vec (E × Bor (List E)) A) → List (Vec F B) → List (Seen E)

@@ -12,13 +12,11 @@ use Rattle.stark_fri_proof.specs.Paths.{digests_of}
 use Rattle.stark_fri_proof.specs.declared.proof.LayerOpening.{LayerOpening}
 use Rattle.stark_fri_proof.specs.declared.proof.Phase.{Phase}
 use Rattle.stark_fri.specs.Claims.{RoundRead, rounds_in}
-use Rattle.stark_fri.specs.Found.{target_by}
 use Rattle.stark_fri.specs.Parts.{FriFields}
-use Rattle.stark_fri.specs.Query.{InputLeads, PairLeads, QueryFits, QueryHolds, Target, batched_at, extension_coset, last_point, phase_root}
+use Rattle.stark_fri.specs.Query.{InputLeads, PairLeads, QueryFits, Target, batched_at, extension_coset, last_point, phase_root}
 use Rattle.stark_fri.specs.Walks.{IsWalk, opening_of, openings_of}
 use Rattle.stark_fri.specs.declared.folds.FoldWalk.{FoldWalk}
 use Rattle.stark_fri.specs.declared.folds.Pair.{Pair}
-use Rattle.stark_fri.specs.declared.replay.Drawn.{Drawn}
 
 -- What holds of each of four elements, and of those at the same place of two lists.
 module _ {A : Type 0} (P : A → Type 0) (xs : List A) where
@@ -75,10 +73,6 @@ module _ {F E : Type 0} (fields : FriFields F E) (target : Target E) where
   AreWalks places queries walks = (length walks ≡ 4) × ((walk : FoldWalk E) (j : ℕ) → j < 4 → walk ≡ slice_index_or walks j walk
       → (place : ℕ) (query : QueryProof F E) → place ≡ slice_index_or places j place → query ≡ slice_index_or queries j query → IsQueryWalk place query walk)
 
--- Of what was drawn in memory: a query's walk, and the last value.
-abbrev pub IsWalkIn : {F E : Type 0} → FriFields F E → List (RoundRead E) → ℕ → Drawn E → FriProofView F E → ℕ → QueryProof F E → FoldWalk E → Type 0
-IsWalkIn fields rounds bits drawn proof place query walk = IsQueryWalk fields (target_by rounds bits drawn proof) place query walk
-
 -- The folds lead to the final polynomial's value.
 abbrev pub EndsAt : {F E : Type 0} → FriFields F E → FriProofView F E → ℕ → ℕ → FoldWalk E → Type 0
 EndsAt fields proof bits place walk = walk.reached ≡ value fields.ring proof.final_polynomial (last_point fields (length proof.phases) (extension_coset fields bits) place)
@@ -86,25 +80,9 @@ EndsAt fields proof bits place walk = walk.reached ≡ value fields.ring proof.f
 abbrev pub FourEnd : {F E : Type 0} → FriFields F E → FriProofView F E → ℕ → List ℕ → List (FoldWalk E) → Type 0
 FourEnd fields proof bits places walks = InBothFour (EndsAt fields proof bits) places walks
 
--- So many of the first queries hold, and there are as many.
-abbrev pub FirstHold : {F E : Type 0} → FriFields F E → List (RoundRead E) → ℕ → Drawn E → FriProofView F E → (List ℕ → List ℕ) → ℕ → Type 0
-FirstHold fields rounds bits drawn proof hash n = (n ≤ length (zip drawn.places.items proof.queries))
-    × AllByRecursion (QueryHolds fields hash (target_by rounds bits drawn proof)) (take n (zip drawn.places.items proof.queries))
-
 -- ---- of claims as they stand in memory
 
 module _ {F E D A B : Type 0} (fields : FriFields F E) where
   -- Where it is true, all that the four open of the rounds leads to the roots.
   abbrev pub FourLeadIf : (List ℕ → List ℕ) → (D → TwoAdicCoset F) → List (Bor Root × Vec (D × Vec (E × Bor (List E)) A) B) → ℕ → List ℕ → List (QueryProof F E) → Bool → Type 0
   FourLeadIf hash coset_of claims bits places queries lead = IsTrue lead → FourInputsLead fields hash bits (rounds_in coset_of claims) places queries
-
-  -- Where it is true, the four hold.
-  abbrev pub FourHoldIf : (List ℕ → List ℕ) → (D → TwoAdicCoset F) → List (Bor Root × Vec (D × Vec (E × Bor (List E)) A) B) → ℕ → Drawn E → FriProofView F E
-      → List ℕ → List (QueryProof F E) → Bool → Type 0
-  FourHoldIf hash coset_of claims bits drawn proof places queries hold =
-      IsTrue hold → AllByRecursion (QueryHolds fields hash (target_by (rounds_in coset_of claims) bits drawn proof)) (zip places queries)
-
--- The ways of the four through the folds.
-abbrev pub FindsFourWalks : {F E D A B C : Type 0} → FriFields F E → (D → TwoAdicCoset F) → List (Bor Root × Vec (D × Vec (E × Bor (List E)) A) B) → ℕ → Drawn E → FriProofView F E
-    → List ℕ → List (QueryProof F E) → Vec (FoldWalk E) C → Type 0
-FindsFourWalks fields coset_of claims bits drawn proof places queries walks = AreWalks fields (target_by (rounds_in coset_of claims) bits drawn proof) places queries walks.items

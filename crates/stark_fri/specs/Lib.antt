@@ -4,6 +4,7 @@ pub mod Found
 pub mod Fours
 pub mod Parts
 pub mod Query
+pub mod Replayed
 pub mod Scheme
 pub mod SchemeFacts
 pub mod Transcript

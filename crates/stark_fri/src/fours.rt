@@ -1,12 +1,13 @@
 //! Queries taken four at a time, whose paths are hashed side by side.
 ghost use Rattle.std.specs.Prelude.{◌≡◌, ◌<◌, ◌*◌, ◌≤◌, IfOk, IsTrue, length};
-ghost use Rattle.stark_fri.specs.Claims.{AreOff, rounds_in};
-ghost use Rattle.stark_fri.specs.Fours.{FourHoldIf, FourLeadIf, FindsFourWalks, FirstHold, FourEnd, FourFit, FourLayersLead, HavePairs, InFour, OpenLayers, OpenRounds, PairsLead, RowsLead};
+ghost use Rattle.stark_fri.specs.Claims.{rounds_in};
+ghost use Rattle.stark_fri.specs.Replayed.{FindsFourWalks, FirstHold, FourHoldIf, IsCheckable};
+ghost use Rattle.stark_fri.specs.Fours.{FourLeadIf, FourEnd, FourFit, FourLayersLead, HavePairs, InFour, OpenLayers, OpenRounds, PairsLead, RowsLead};
 
 use crate::fields::FoldingFields;
 use crate::folds::FoldWalk;
 use crate::query::{ends_well, query_fits, query_walk};
-use crate::replay::Drawn;
+use crate::replay::ReplayedProof;
 use stark_fri_proof::{FriProof, Phase, QueryProof};
 use stark_merkle::{Root, TreeHash, four_lead, pair_bytes, row_bytes};
 use stark_support::{ExtensionField, OpeningClaim, PolynomialSpace, PrimeField64, TwoAdicField};
@@ -30,7 +31,7 @@ fn four_fit<EF, D: PolynomialSpace>(
 }
 
 /// Whether what each of four queries opens of a round leads to its root.
-fn four_rows_lead<F, EF, H>(
+fn four_rows_lead<F: TwoAdicField + PrimeField64, EF: ExtensionField<F>, H: TreeHash>(
     alloc: Global,
     root: &Root,
     bits: usize,
@@ -38,10 +39,6 @@ fn four_rows_lead<F, EF, H>(
     places: &[usize],
     queries: &[QueryProof<F, EF>],
 ) -> Result<bool, AllocError>
-where
-    F: TwoAdicField + PrimeField64,
-    EF: ExtensionField<F>,
-    H: TreeHash,
     requires places { length places.now ≡ 4 }
     requires queries { length queries.now ≡ 4 }
     requires within { InFour (λ query. round < length query.inputs) queries.now }
@@ -98,7 +95,7 @@ where
 }
 
 /// Whether the pair that each of four queries opens of a layer leads to its root.
-fn four_pairs_lead<F, EF, H>(
+fn four_pairs_lead<F: TwoAdicField + PrimeField64, EF: ExtensionField<F>, H: TreeHash>(
     alloc: Global,
     root: &Root,
     depth: usize,
@@ -106,10 +103,6 @@ fn four_pairs_lead<F, EF, H>(
     queries: &[QueryProof<F, EF>],
     walks: &[FoldWalk<EF>],
 ) -> Result<bool, AllocError>
-where
-    F: TwoAdicField + PrimeField64,
-    EF: ExtensionField<F>,
-    H: TreeHash,
     requires queries { length queries.now ≡ 4 }
     requires walks { length walks.now ≡ 4 }
     requires layers { InFour (λ query. layer < length query.layers) queries.now }
@@ -140,17 +133,13 @@ where
 }
 
 /// Whether the pairs that each of four queries opens lead to the layers' roots.
-fn four_layers_lead<F, EF, H>(
+fn four_layers_lead<F: TwoAdicField + PrimeField64, EF: ExtensionField<F>, H: TreeHash>(
     alloc: Global,
     phases: &[Phase<F>],
     bits: usize,
     queries: &[QueryProof<F, EF>],
     walks: &[FoldWalk<EF>],
 ) -> Result<bool, AllocError>
-where
-    F: TwoAdicField + PrimeField64,
-    EF: ExtensionField<F>,
-    H: TreeHash,
     requires queries { length queries.now ≡ 4 }
     requires walks { length walks.now ≡ 4 }
     requires layers { OpenLayers (length phases.now) queries.now }
@@ -171,10 +160,7 @@ where
 /// The way of each of four queries through the folds.
 fn four_walks<EF, D>(
     alloc: Global,
-    claims: &[OpeningClaim<'_, EF, Root, D>],
-    proof: &FriProof<D::Val, EF>,
-    drawn: &Drawn<EF>,
-    bits: usize,
+    replayed: &ReplayedProof<'_, D::Val, EF, D>,
     places: &[usize],
     queries: &[QueryProof<D::Val, EF>],
 ) -> Result<Vec<FoldWalk<EF>>, AllocError>
@@ -183,19 +169,17 @@ where
     EF: ExtensionField<D::Val>,
     requires places { length places.now ≡ 4 }
     requires queries { length queries.now ≡ 4 }
-    requires layers { OpenLayers (length drawn.now.betas.items) queries.now }
-    requires folds { length drawn.now.betas.items ≤ bits }
-    requires within { bits ≤ D.Val.TWO_ADICITY }
-    requires off { AreOff ⟦<EF as FoldingFields<D::Val>>⟧.folding bits (rounds_in D.coset_of
-        claims.now) }
+    requires layers { OpenLayers (length replayed.now.drawn.now.betas.items) queries.now }
+    requires checkable { IsCheckable ⟦<EF as FoldingFields<D::Val>>⟧.folding D.coset_of
+        replayed.now }
     ensures { IfOk result (FindsFourWalks ⟦<EF as FoldingFields<D::Val>>⟧.folding D.coset_of
-        claims.now bits drawn.now proof.now places.now queries.now) }
+        replayed.now places.now queries.now) }
 {
     let mut walks = Vec::with_capacity(alloc, 4)?;
     for i in 0..4 {
         let place = places[i];
         let query = &queries[i];
-        walks.push(query_walk::<EF, D>(alloc, claims, proof, drawn, bits, place, query)?)?;
+        walks.push(query_walk::<EF, D>(alloc, replayed, place, query)?)?;
     }
     Ok(walks)
 }
@@ -224,29 +208,22 @@ fn four_end<F: TwoAdicField + PrimeField64, EF: ExtensionField<F>>(
 
 /// Whether four queries hold at their places: where it is true, they do. Where it is false, which
 /// one is at fault is for them one by one to tell.
-fn four_hold<EF, D, H>(
+fn four_hold<EF: ExtensionField<D::Val>, D: PolynomialSpace<Val: PrimeField64>, H: TreeHash>(
     alloc: Global,
-    claims: &[OpeningClaim<'_, EF, Root, D>],
-    proof: &FriProof<D::Val, EF>,
-    drawn: &Drawn<EF>,
-    bits: usize,
+    replayed: &ReplayedProof<'_, D::Val, EF, D>,
     places: &[usize],
     queries: &[QueryProof<D::Val, EF>],
 ) -> Result<bool, AllocError>
-where
-    D: PolynomialSpace<Val: PrimeField64>,
-    EF: ExtensionField<D::Val>,
-    H: TreeHash,
     requires places { length places.now ≡ 4 }
     requires queries { length queries.now ≡ 4 }
-    requires betas { length drawn.now.betas.items ≡ length proof.now.phases }
-    requires folds { length proof.now.phases ≤ bits }
-    requires within { bits ≤ D.Val.TWO_ADICITY }
-    requires off { AreOff ⟦<EF as FoldingFields<D::Val>>⟧.folding bits (rounds_in D.coset_of
-        claims.now) }
-    ensures { IfOk result (FourHoldIf ⟦<EF as FoldingFields<D::Val>>⟧.folding H.digest_of
-        D.coset_of claims.now bits drawn.now proof.now places.now queries.now) }
+    requires checkable { IsCheckable ⟦<EF as FoldingFields<D::Val>>⟧.folding D.coset_of
+        replayed.now }
+    ensures { IfOk result (FourHoldIf ⟦<EF as FoldingFields<D::Val>>⟧.folding D.coset_of
+        replayed.now H.digest_of places.now queries.now) }
 {
+    let claims = replayed.claims;
+    let proof = replayed.proof;
+    let bits = replayed.bits;
     let phases = proof.phases();
     if !four_fit::<EF, D>(claims, phases.len(), queries) {
         return Ok(false);
@@ -254,7 +231,7 @@ where
     if !four_inputs_lead::<EF, D, H>(alloc, claims, bits, places, queries)? {
         return Ok(false);
     }
-    let walks = four_walks::<EF, D>(alloc, claims, proof, drawn, bits, places, queries)?;
+    let walks = four_walks::<EF, D>(alloc, replayed, places, queries)?;
     if !four_layers_lead::<D::Val, EF, H>(alloc, phases, bits, queries, &walks)? {
         return Ok(false);
     }
@@ -265,30 +242,24 @@ where
 /// that isn't found to hold, or those of all groups. No path of these needs to be hashed again.
 pub(crate) fn held_by_fours<EF, D, H>(
     alloc: Global,
-    claims: &[OpeningClaim<'_, EF, Root, D>],
-    proof: &FriProof<D::Val, EF>,
-    drawn: &Drawn<EF>,
-    bits: usize,
+    replayed: &ReplayedProof<'_, D::Val, EF, D>,
 ) -> Result<usize, AllocError>
 where
     D: PolynomialSpace<Val: PrimeField64>,
     EF: ExtensionField<D::Val>,
     H: TreeHash,
-    requires betas { length drawn.now.betas.items ≡ length proof.now.phases }
-    requires folds { length proof.now.phases ≤ bits }
-    requires within { bits ≤ D.Val.TWO_ADICITY }
-    requires off { AreOff ⟦<EF as FoldingFields<D::Val>>⟧.folding bits (rounds_in D.coset_of
-        claims.now) }
-    ensures { IfOk result (λ held. FirstHold ⟦<EF as FoldingFields<D::Val>>⟧.folding (rounds_in
-        D.coset_of claims.now) bits drawn.now proof.now H.digest_of held) }
+    requires { IsCheckable ⟦<EF as FoldingFields<D::Val>>⟧.folding D.coset_of replayed.now }
+    ensures { IfOk result (FirstHold ⟦<EF as FoldingFields<D::Val>>⟧.folding D.coset_of
+        replayed.now H.digest_of) }
 {
-    let queries = proof.queries();
+    let queries = replayed.proof.queries();
+    let drawn = replayed.drawn;
     let groups = drawn.places.len().min(queries.len()) / 4;
     for group in 0..groups {
         let at = 4 * group;
         let four = &queries[at..at + 4];
         let places = &drawn.places[at..at + 4];
-        if !four_hold::<EF, D, H>(alloc, claims, proof, drawn, bits, places, four)? {
+        if !four_hold::<EF, D, H>(alloc, replayed, places, four)? {
             return Ok(at);
         }
     }

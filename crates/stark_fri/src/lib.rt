@@ -21,6 +21,6 @@ pub use error::{FriError, FriProverError, QueryFault};
 pub use fields::FoldingFields;
 pub use laws::{no_claim_is_both, own_claims_are_enough};
 pub use replay::draw_places;
-pub use sponge::{FriCalls, FriObserving, FriSponge};
+pub use sponge::{FriCalls, FriChallenger, FriObserving, FriSponge};
 pub use transcript::{observe_claims, observe_parameters, observe_values};
 pub use verify::verify_openings;

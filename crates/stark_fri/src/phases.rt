@@ -3,12 +3,10 @@ ghost use Rattle.std.specs.Prelude.{◌≡◌, ◌↔◌, IfOk, IsTrue};
 ghost use Rattle.stark_fri.specs.Found.{PlaysTo};
 ghost use Rattle.stark_fri.specs.Transcript.{Passes};
 
-use crate::sponge::FriSponge;
+use crate::sponge::{FriChallenger, FriSponge};
 use stark_fri_proof::Phase;
 use stark_merkle::Root;
-use stark_support::{
-    CanObserve, CanSample, CanSampleBits, ExtensionField, GrindingChallenger, PrimeField64,
-};
+use stark_support::{CanObserve, CanSample, ExtensionField, GrindingChallenger, PrimeField64};
 use std::alloc::{AllocError, Global};
 
 /// Checks a witness of so many bits of work. Where none is asked for it has to be zero, since the
@@ -17,11 +15,7 @@ pub(crate) fn witness_passes<C, F, EF>(challenger: &mut C, bits: usize, witness:
 where
     F: PrimeField64,
     EF: ExtensionField<F>,
-    C: CanObserve<F>
-        + CanObserve<Root>
-        + CanSample<EF>
-        + CanSampleBits<usize>
-        + GrindingChallenger<Witness = F>,
+    C: FriChallenger<F, EF>,
     ensures answer { IsTrue result ↔
         Passes ⟦<C as FriSponge<F, EF>>⟧.sponge_calls bits (challenger.old, witness) }
     ensures state { challenger.new ≡
@@ -45,11 +39,7 @@ pub(crate) fn play_phases<C, F, EF>(
 where
     F: PrimeField64,
     EF: ExtensionField<F>,
-    C: CanObserve<F>
-        + CanObserve<Root>
-        + CanSample<EF>
-        + CanSampleBits<usize>
-        + GrindingChallenger<Witness = F>,
+    C: FriChallenger<F, EF>,
     ensures { IfOk result (PlaysTo ⟦<C as FriSponge<F, EF>>⟧.sponge_calls
         bits challenger.old phases.now challenger.new) }
 {

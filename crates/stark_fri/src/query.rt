@@ -5,16 +5,17 @@ ghost use Rattle.stark_support.specs.Polynomial.{value};
 ghost use Rattle.stark_merkle.specs.Bytes.{row_bytes_of};
 ghost use Rattle.stark_merkle.specs.Tree.{LeadsTo, items_of};
 ghost use Rattle.stark_fri_proof.specs.Paths.{digests_of};
-ghost use Rattle.stark_fri.specs.Claims.{AreOff, matrices_in, rounds_in};
-ghost use Rattle.stark_fri.specs.Found.{FindsInputFault, FindsFaultIn};
-ghost use Rattle.stark_fri.specs.Fours.{EndsAt, IsWalkIn};
+ghost use Rattle.stark_fri.specs.Claims.{matrices_in, rounds_in};
+ghost use Rattle.stark_fri.specs.Found.{FindsInputFault};
+ghost use Rattle.stark_fri.specs.Fours.{EndsAt};
+ghost use Rattle.stark_fri.specs.Replayed.{FindsFaultIn, IsCheckable, IsWalkIn};
 ghost use Rattle.stark_fri.specs.Query.{QueryFits, RowFits, extension_coset, last_point};
 
 use crate::claims::points_have_count;
 use crate::error::QueryFault;
 use crate::fields::FoldingFields;
 use crate::folds::{FoldWalk, first_layer_fault, half_size, point_at, walk_folds};
-use crate::replay::Drawn;
+use crate::replay::ReplayedProof;
 use crate::seen::batched_value;
 use stark_fri_proof::{FriProof, InputOpening, QueryProof};
 use stark_merkle::{Root, TreeHash, is_path_to, row_bytes};
@@ -134,24 +135,22 @@ fn last_point<F: TwoAdicField + PrimeField64, EF: ExtensionField<F>>(
 /// the rounds' roots.
 pub(crate) fn query_walk<EF, D>(
     alloc: Global,
-    claims: &[OpeningClaim<'_, EF, Root, D>],
-    proof: &FriProof<D::Val, EF>,
-    drawn: &Drawn<EF>,
-    bits: usize,
+    replayed: &ReplayedProof<'_, D::Val, EF, D>,
     place: usize,
     query: &QueryProof<D::Val, EF>,
 ) -> Result<FoldWalk<EF>, AllocError>
 where
     D: PolynomialSpace<Val: PrimeField64>,
     EF: ExtensionField<D::Val>,
-    requires layers { length query.now.layers ≡ length drawn.now.betas.items }
-    requires folds { length drawn.now.betas.items ≤ bits }
-    requires within { bits ≤ D.Val.TWO_ADICITY }
-    requires off { AreOff ⟦<EF as FoldingFields<D::Val>>⟧.folding bits (rounds_in D.coset_of
-        claims.now) }
-    ensures { IfOk result (IsWalkIn ⟦<EF as FoldingFields<D::Val>>⟧.folding (rounds_in D.coset_of
-        claims.now) bits drawn.now proof.now place query.now) }
+    requires layers { length query.now.layers ≡ length replayed.now.drawn.now.betas.items }
+    requires checkable { IsCheckable ⟦<EF as FoldingFields<D::Val>>⟧.folding D.coset_of
+        replayed.now }
+    ensures { IfOk result (IsWalkIn ⟦<EF as FoldingFields<D::Val>>⟧.folding D.coset_of
+        replayed.now place query.now) }
 {
+    let claims = replayed.claims;
+    let drawn = replayed.drawn;
+    let bits = replayed.bits;
     let value = batched_value::<EF, D>(alloc, claims, query.inputs(), drawn.alpha, bits, place)?;
     walk_folds::<D::Val, EF>(alloc, &drawn.betas, query.layers(), bits, place, value)
 }
@@ -176,10 +175,7 @@ pub(crate) fn ends_well<F: TwoAdicField + PrimeField64, EF: ExtensionField<F>>(
 /// rounds' rows, then of the folds' pairs, then of the value at the end. None where it holds.
 pub(crate) fn query_fault<EF, D, H>(
     alloc: Global,
-    claims: &[OpeningClaim<'_, EF, Root, D>],
-    proof: &FriProof<D::Val, EF>,
-    drawn: &Drawn<EF>,
-    bits: usize,
+    replayed: &ReplayedProof<'_, D::Val, EF, D>,
     place: usize,
     query: &QueryProof<D::Val, EF>,
 ) -> Result<Option<QueryFault>, AllocError>
@@ -187,14 +183,13 @@ where
     D: PolynomialSpace<Val: PrimeField64>,
     EF: ExtensionField<D::Val>,
     H: TreeHash,
-    requires betas { length drawn.now.betas.items ≡ length proof.now.phases }
-    requires folds { length proof.now.phases ≤ bits }
-    requires within { bits ≤ D.Val.TWO_ADICITY }
-    requires off { AreOff ⟦<EF as FoldingFields<D::Val>>⟧.folding bits (rounds_in D.coset_of
-        claims.now) }
-    ensures { IfOk result (FindsFaultIn ⟦<EF as FoldingFields<D::Val>>⟧.folding H.digest_of
-        D.coset_of claims.now bits drawn.now proof.now place query.now) }
+    requires { IsCheckable ⟦<EF as FoldingFields<D::Val>>⟧.folding D.coset_of replayed.now }
+    ensures { IfOk result (FindsFaultIn ⟦<EF as FoldingFields<D::Val>>⟧.folding D.coset_of
+        replayed.now H.digest_of place query.now) }
 {
+    let claims = replayed.claims;
+    let proof = replayed.proof;
+    let bits = replayed.bits;
     let phases = proof.phases();
     if !query_fits::<EF, D>(claims, phases.len(), query) {
         return Ok(Some(QueryFault::Shape));
@@ -203,7 +198,7 @@ where
     if let Some(round) = first_input_fault::<EF, D, H>(alloc, claims, inputs, bits, place)? {
         return Ok(Some(QueryFault::Input { round }));
     }
-    let walk = query_walk::<EF, D>(alloc, claims, proof, drawn, bits, place, query)?;
+    let walk = query_walk::<EF, D>(alloc, replayed, place, query)?;
     let layers = query.layers();
     let fault = first_layer_fault::<D::Val, EF, H>(alloc, phases, bits, layers, &walk.pairs)?;
     if let Some(layer) = fault {

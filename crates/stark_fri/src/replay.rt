@@ -6,13 +6,12 @@ ghost use Rattle.stark_fri.specs.Transcript.{index_of, places_from};
 
 use crate::error::FriError;
 use crate::phases::{play_phases, witness_passes};
-use crate::sponge::FriSponge;
+use crate::sponge::{FriChallenger, FriSponge};
 use crate::transcript::{observe_claims, observe_parameters, observe_values};
 use stark_fri_proof::{FriParameters, FriProof};
 use stark_merkle::Root;
 use stark_support::{
-    CanObserve, CanSample, CanSampleBits, ExtensionField, GrindingChallenger, OpeningClaim,
-    PolynomialSpace, PrimeField64,
+    CanSample, CanSampleBits, ExtensionField, OpeningClaim, PolynomialSpace, PrimeField64,
 };
 use std::alloc::{AllocError, Global};
 
@@ -25,16 +24,22 @@ pub(crate) struct Drawn<EF> {
     pub(crate) places: Vec<usize>,
 }
 
+/// A replayed proof: the claims that it is of, what it draws, and the logarithm of the number of
+/// extended rows.
+#[derive(Drop)]
+pub(crate) struct ReplayedProof<'a, F, EF, D> {
+    pub(crate) claims: &'a [OpeningClaim<'a, EF, Root, D>],
+    pub(crate) proof: &'a FriProof<F, EF>,
+    pub(crate) drawn: &'a Drawn<EF>,
+    pub(crate) bits: usize,
+}
+
 /// The next number below `2^bits`.
 fn draw_index<C, F, EF>(challenger: &mut C, bits: usize) -> usize
 where
     F: PrimeField64,
     EF: ExtensionField<F>,
-    C: CanObserve<F>
-        + CanObserve<Root>
-        + CanSample<EF>
-        + CanSampleBits<usize>
-        + GrindingChallenger<Witness = F>,
+    C: FriChallenger<F, EF>,
     requires { bits < 64 }
     ensures answer { result ≡
         index_of ⟦<C as FriSponge<F, EF>>⟧.sponge_calls bits challenger.old }
@@ -54,11 +59,7 @@ pub fn draw_places<C, F, EF>(
 where
     F: PrimeField64,
     EF: ExtensionField<F>,
-    C: CanObserve<F>
-        + CanObserve<Root>
-        + CanSample<EF>
-        + CanSampleBits<usize>
-        + GrindingChallenger<Witness = F>,
+    C: FriChallenger<F, EF>,
     requires { bits < 64 }
     ensures { IfOk result (λ places. places.items ≡
         places_from ⟦<C as FriSponge<F, EF>>⟧.sponge_calls bits count challenger.old) }
@@ -84,11 +85,7 @@ pub(crate) fn replay_proof<C, EF, D>(
 where
     D: PolynomialSpace<Val: PrimeField64>,
     EF: ExtensionField<D::Val>,
-    C: CanObserve<D::Val>
-        + CanObserve<Root>
-        + CanSample<EF>
-        + CanSampleBits<usize>
-        + GrindingChallenger<Witness = D::Val>,
+    C: FriChallenger<D::Val, EF>,
     requires { bits < 64 }
     ensures { IfOk result (Replays ⟦<C as FriSponge<D::Val, EF>>⟧.sponge_calls
         (asked_of D.coset_of parameters.now claims.now proof.now challenger.old) bits) }

@@ -8,7 +8,26 @@ use stark_support::{
     TwoAdicField,
 };
 
-/// A challenger that elements of a field and roots are observed into.
+/// A challenger that elements of a field and roots are observed into, and that elements of an
+/// extension, places and work are drawn from. Every type with these traits has the name.
+pub trait FriChallenger<F: PrimeField64, EF: ExtensionField<F>>: CanObserve<F>
+    + CanObserve<Root>
+    + CanSample<EF>
+    + CanSampleBits<usize>
+    + GrindingChallenger<Witness = F> {}
+
+impl<F, EF, C> FriChallenger<F, EF> for C
+where
+    F: PrimeField64,
+    EF: ExtensionField<F>,
+    C: CanObserve<F>
+        + CanObserve<Root>
+        + CanSample<EF>
+        + CanSampleBits<usize>
+        + GrindingChallenger<Witness = F>,
+{}
+
+/// What is done to a challenger that elements of a field and roots are observed into.
 pub trait FriObserving<F, EF> {
     ghost observing: { ObservingCalls Self F EF };
 }
@@ -27,7 +46,7 @@ where
     } };
 }
 
-/// A challenger that elements of an extension, places and work are drawn from, too.
+/// What is done to one that elements of an extension, places and work are drawn from, too.
 pub trait FriSponge<F, EF> {
     ghost sponge_calls: { SpongeCalls Self F EF };
 }
@@ -36,11 +55,7 @@ impl<F, EF, C> FriSponge<F, EF> for C
 where
     F: PrimeField64,
     EF: ExtensionField<F>,
-    C: CanObserve<F>
-        + CanObserve<Root>
-        + CanSample<EF>
-        + CanSampleBits<usize>
-        + GrindingChallenger<Witness = F>,
+    C: FriChallenger<F, EF>,
 {
     ghost sponge_calls = { record {
       zero = F.ring.zero;
@@ -64,11 +79,7 @@ where
     F: TwoAdicField + PrimeField64,
     EF: ExtensionField<F>,
     H: TreeHash,
-    C: CanObserve<F>
-        + CanObserve<Root>
-        + CanSample<EF>
-        + CanSampleBits<usize>
-        + GrindingChallenger<Witness = F>,
+    C: FriChallenger<F, EF>,
 {
     ghost fri_ops = { record {
       fields = ⟦<EF as FoldingFields<F>>⟧.folding;

@@ -1,22 +1,19 @@
 //! Whether claims hold by a proof.
 ghost use Rattle.std.specs.Prelude.{◌≡◌, ◌≤◌, IfErr, IfOk, length};
 ghost use Rattle.stark_fri.specs.Accept.{log_final};
-ghost use Rattle.stark_fri.specs.Claims.{AreOff, rounds_in};
-ghost use Rattle.stark_fri.specs.Found.{FindsFirstQuery, ShapeFits, AcceptsClaimed, AcceptsRounds, RefusesClaimed, RefusesRounds};
+ghost use Rattle.stark_fri.specs.Found.{AcceptsClaimed, RefusesClaimed, ShapeFits};
+ghost use Rattle.stark_fri.specs.Replayed.{FindsFirstQuery, IsCheckable};
 
 use crate::claims::check_claims;
 use crate::error::{FriError, QueryFault};
 use crate::fields::FoldingFields;
 use crate::fours::held_by_fours;
 use crate::query::query_fault;
-use crate::replay::{Drawn, replay_proof};
-use crate::sponge::FriCalls;
+use crate::replay::{ReplayedProof, replay_proof};
+use crate::sponge::{FriCalls, FriChallenger};
 use stark_fri_proof::{FriParameters, FriProof};
 use stark_merkle::{Root, TreeHash};
-use stark_support::{
-    CanObserve, CanSample, CanSampleBits, ExtensionField, GrindingChallenger, OpeningClaim,
-    PolynomialSpace, PrimeField64, SchemeFault, TwoAdicField,
-};
+use stark_support::{ExtensionField, OpeningClaim, PolynomialSpace, PrimeField64, SchemeFault};
 use std::alloc::{AllocError, Global};
 
 /// The logarithm of the final polynomial's length at a height.
@@ -53,78 +50,28 @@ fn check_shape<F, EF>(
 /// these hold, and then one by one.
 fn first_query_fault<EF, D, H>(
     alloc: Global,
-    claims: &[OpeningClaim<'_, EF, Root, D>],
-    proof: &FriProof<D::Val, EF>,
-    drawn: &Drawn<EF>,
-    bits: usize,
+    replayed: &ReplayedProof<'_, D::Val, EF, D>,
 ) -> Result<Option<(usize, QueryFault)>, AllocError>
 where
     D: PolynomialSpace<Val: PrimeField64>,
     EF: ExtensionField<D::Val>,
     H: TreeHash,
-    requires betas { length drawn.now.betas.items ≡ length proof.now.phases }
-    requires folds { length proof.now.phases ≤ bits }
-    requires within { bits ≤ D.Val.TWO_ADICITY }
-    requires off { AreOff ⟦<EF as FoldingFields<D::Val>>⟧.folding bits (rounds_in D.coset_of
-        claims.now) }
-    ensures { IfOk result (FindsFirstQuery ⟦<EF as FoldingFields<D::Val>>⟧.folding H.digest_of
-        (rounds_in D.coset_of claims.now) bits drawn.now proof.now) }
+    requires { IsCheckable ⟦<EF as FoldingFields<D::Val>>⟧.folding D.coset_of replayed.now }
+    ensures { IfOk result (FindsFirstQuery ⟦<EF as FoldingFields<D::Val>>⟧.folding D.coset_of
+        replayed.now H.digest_of) }
 {
-    let queries = proof.queries();
-    let held = held_by_fours::<EF, D, H>(alloc, claims, proof, drawn, bits)?;
+    let queries = replayed.proof.queries();
+    let drawn = replayed.drawn;
+    let held = held_by_fours::<EF, D, H>(alloc, replayed)?;
     for i in held..drawn.places.len().min(queries.len()) {
         let place = drawn.places[i];
         let query = &queries[i];
-        let found = query_fault::<EF, D, H>(alloc, claims, proof, drawn, bits, place, query)?;
+        let found = query_fault::<EF, D, H>(alloc, replayed, place, query)?;
         if let Some(fault) = found {
             return Ok(Some((i, fault)));
         }
     }
     Ok(None)
-}
-
-/// Whether claims hold by a proof: its steps, in the order of the faults.
-fn check<C, EF, D, H>(
-    alloc: Global,
-    parameters: &FriParameters,
-    claims: &[OpeningClaim<'_, EF, Root, D>],
-    proof: &FriProof<D::Val, EF>,
-    challenger: &mut C,
-) -> Result<(), SchemeFault<FriError>>
-where
-    D: PolynomialSpace<Val: PrimeField64>,
-    EF: ExtensionField<D::Val>,
-    H: TreeHash,
-    C: CanObserve<D::Val>
-        + CanObserve<Root>
-        + CanSample<EF>
-        + CanSampleBits<usize>
-        + GrindingChallenger<Witness = D::Val>,
-    ensures accepted { IfOk result (λ _.
-        AcceptsRounds ⟦<C as FriCalls<D::Val, EF, H>>⟧.fri_ops D.coset_of parameters.now
-        claims.now challenger.old proof.now) }
-    ensures refused { IfErr result (RefusesRounds ⟦<C as FriCalls<D::Val, EF, H>>⟧.fri_ops
-        D.coset_of parameters.now claims.now challenger.old proof.now) }
-{
-    let log_height = match check_claims::<EF, D>(parameters, claims) {
-        Ok(log_height) => log_height,
-        Err(error) => return Err(SchemeFault::Refused(error)),
-    };
-    if let Err(error) = check_shape(parameters, log_height, proof) {
-        return Err(SchemeFault::Refused(error));
-    }
-    // No more than the field's adicity, as the claims' check says.
-    let bits = log_height + parameters.log_blowup();
-    let drawn = match replay_proof::<C, EF, D>(
-        alloc, parameters, claims, proof, bits, challenger,
-    )? {
-        Ok(drawn) => drawn,
-        Err(error) => return Err(SchemeFault::Refused(error)),
-    };
-    match first_query_fault::<EF, D, H>(alloc, claims, proof, &drawn, bits)? {
-        Some((query, fault)) => Err(SchemeFault::Refused(FriError::Query { query, fault })),
-        None => Ok(()),
-    }
 }
 
 /// Whether claims hold by a proof, from the challenger's state: Ok exactly where they do. Otherwise
@@ -142,16 +89,36 @@ where
     D: PolynomialSpace<Val: PrimeField64>,
     EF: ExtensionField<D::Val>,
     H: TreeHash,
-    C: CanObserve<D::Val>
-        + CanObserve<Root>
-        + CanSample<EF>
-        + CanSampleBits<usize>
-        + GrindingChallenger<Witness = D::Val>,
+    C: FriChallenger<D::Val, EF>,
     ensures accepted { IfOk result (λ _.
         AcceptsClaimed ⟦<C as FriCalls<D::Val, EF, H>>⟧.fri_ops D.coset_of parameters.now
         claims.now challenger.old proof.now) }
     ensures refused { IfErr result (RefusesClaimed ⟦<C as FriCalls<D::Val, EF, H>>⟧.fri_ops
         D.coset_of parameters.now claims.now challenger.old proof.now) }
 {
-    check::<C, EF, D, H>(alloc, parameters, claims, proof, challenger)
+    let log_height = match check_claims::<EF, D>(parameters, claims) {
+        Ok(log_height) => log_height,
+        Err(error) => return Err(SchemeFault::Refused(error)),
+    };
+    if let Err(error) = check_shape(parameters, log_height, proof) {
+        return Err(SchemeFault::Refused(error));
+    }
+    // No more than the field's adicity, as the claims' check says.
+    let bits = log_height + parameters.log_blowup();
+    let drawn = match replay_proof::<C, EF, D>(
+        alloc, parameters, claims, proof, bits, challenger,
+    )? {
+        Ok(drawn) => drawn,
+        Err(error) => return Err(SchemeFault::Refused(error)),
+    };
+    let replayed = ReplayedProof {
+        claims,
+        proof,
+        drawn: &drawn,
+        bits,
+    };
+    match first_query_fault::<EF, D, H>(alloc, &replayed)? {
+        Some((query, fault)) => Err(SchemeFault::Refused(FriError::Query { query, fault })),
+        None => Ok(()),
+    }
 }

@@ -20,14 +20,14 @@ pub four_inputs_lead-requires-clause-rounds : goal.four_inputs_lead-requires-cla
 four_inputs_lead-requires-clause-rounds g c = λ j query low is_query.
     let seen = round_seen g.D.PolynomialSpace.coset_of in
     let fits = c.four_fit.ensures c.if-not-four_fit.false j query low is_query in
-    placed_length _ (map seen c.args.claims.now) query.inputs fits.0 ∙ length-map c.args.claims.now seen
+    placed_length _ (map seen c.args.replayed.now.claims.now) query.inputs fits.0 ∙ length-map c.args.replayed.now.claims.now seen
 
 pub four_layers_lead-requires-clause-pairs : goal.four_layers_lead-requires-clause-pairs
 four_layers_lead-requires-clause-pairs g c = λ j walk low is_walk.
     let fields = fields_of g in
-    let bits = c.args.bits in
-    let drawn = c.args.drawn.now in
-    let rounds = map (round_seen g.D.PolynomialSpace.coset_of) c.args.claims.now in
+    let bits = c.args.replayed.now.bits in
+    let drawn = c.args.replayed.now.drawn.now in
+    let rounds = map (round_seen g.D.PolynomialSpace.coset_of) c.args.replayed.now.claims.now in
     let places = c.args.places.now in
     let queries = c.args.queries.now in
     let betas = drawn.betas.items in
@@ -36,7 +36,7 @@ four_layers_lead-requires-clause-pairs g c = λ j walk low is_walk.
     let place = slice_index_or places j 0 in
     let query = some_at queries j in_queries in
     let fits = c.four_fit.ensures c.if-not-four_fit.false j query.0 low query.1 in
-    let phases : length c.phases-phases.result.now ≡ length betas = ap length c.phases-phases.ensures ∙ sym c.requires.betas in
+    let phases : length c.phases-phases.result.now ≡ length betas = ap length c.phases-phases.ensures ∙ sym c.requires.checkable.betas in
     let at : walk ≡ slice_index_or c.in_ok-walks.walks.items j walk = is_walk ∙ ap (λ t. slice_index_or t j walk) c.deref.ensures.value in
     let is = c.in_ok-walks.ensures.1 walk j low at place query.0 (at_itself places j 0 in_places) query.1 in
     ap length is.0 ∙ pairs_count fields (extension_coset fields bits) place (batched_at fields drawn.alpha bits rounds place query.0.inputs) betas query.0.layers (fits.1 ∙ phases) ∙ sym phases
@@ -45,10 +45,10 @@ pub returns : goal.returns
 returns g c = λ yes.
     let fields = fields_of g in
     let hash = g.H.TreeHash.digest_of in
-    let bits = c.args.bits in
-    let drawn = c.args.drawn.now in
-    let proof = c.args.proof.now in
-    let rounds = map (round_seen g.D.PolynomialSpace.coset_of) c.args.claims.now in
+    let bits = c.args.replayed.now.bits in
+    let drawn = c.args.replayed.now.drawn.now in
+    let proof = c.args.replayed.now.proof.now in
+    let rounds = map (round_seen g.D.PolynomialSpace.coset_of) c.args.replayed.now.claims.now in
     let target = target_by rounds bits drawn proof in
     let places = c.args.places.now in
     let queries = c.args.queries.now in

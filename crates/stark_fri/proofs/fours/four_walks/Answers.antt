@@ -1,7 +1,6 @@
-use Rattle.std.proofs.Common.{◌≡◌, ◌∙◌, ◌+◌, ◌<◌, ℕ, [], ◌∷◌, ap, arith, length, length-append, map, slice_index_or, subst, sym}
+use Rattle.std.proofs.Common.{◌≡◌, ◌∙◌, ◌+◌, ◌<◌, ℕ, [], ◌∷◌, ap, arith, length, length-append, slice_index_or, subst, sym}
 use Rattle.stark_fri_proof.specs.Parts.{QueryProof}
-use Rattle.stark_fri.specs.Claims.{round_seen}
-use Rattle.stark_fri.specs.Fours.{IsWalkIn}
+use Rattle.stark_fri.specs.Replayed.{IsWalkIn}
 use Rattle.stark_fri.specs.declared.folds.FoldWalk.{FoldWalk}
 use Rattle.stark_fri.proofs.FourSteps.{at_itself, pushed_more, same_at}
 use Rattle.stark_fri.proofs.fours.four_walks.Invariants.{fields_of}
@@ -9,7 +8,6 @@ use Rattle.stark_fri.proofs.fours.four_walks.Goals as goal
 
 pub loop-i-preserved : goal.loop-i-preserved
 loop-i-preserved g c =
-    let rounds = map (round_seen g.D.PolynomialSpace.coset_of) c.args.claims.now in
     let places = c.args.places.now in
     let queries = c.args.queries.now in
     let i = c.loop-i.i in
@@ -20,7 +18,7 @@ loop-i-preserved g c =
     let walk = c.in_ok-query_walk.field-0 in
     let count = c.loop-i.invariant.count in
     let pushed = c.in_ok-push.ensures.items in
-    let is_walk = IsWalkIn (fields_of g) rounds c.args.bits c.args.drawn.now c.args.proof.now in
+    let is_walk = IsWalkIn (fields_of g) g.D.PolynomialSpace.coset_of c.args.replayed.now in
     let at_place = λ (j : ℕ) (w : FoldWalk g.row.EF.Denot). (place : ℕ) (query : QueryProof g.row.D-Val.Denot g.row.EF.Denot)
     → place ≡ slice_index_or places j place → query ≡ slice_index_or queries j query → is_walk place query w in
     let here : at_place i walk = λ place query is_place is_query.

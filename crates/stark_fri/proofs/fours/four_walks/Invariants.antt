@@ -1,8 +1,7 @@
-use Rattle.std.proofs.Common.{◌≡◌, ◌<◌, ℕ, length, map, slice_index_or}
+use Rattle.std.proofs.Common.{◌≡◌, ◌<◌, ℕ, length, slice_index_or}
 use Rattle.stark_fri_proof.specs.Parts.{QueryProof}
-use Rattle.stark_fri.specs.Claims.{round_seen}
-use Rattle.stark_fri.specs.Fours.{IsWalkIn}
 use Rattle.stark_fri.specs.Parts.{FriFields}
+use Rattle.stark_fri.specs.Replayed.{IsWalkIn}
 use Rattle.stark_fri.specs.declared.folds.FoldWalk.{FoldWalk}
 use Rattle.stark_fri.proofs.Members.{fields_by}
 use Rattle.stark_fri.proofs.fours.four_walks.Given as goal
@@ -12,9 +11,9 @@ fields_of g = fields_by g.D.Val.TwoAdicField g.D.Val.Field g.D.Val.PrimeField64 
 
 abbrev pub invariant-loop-i : goal.invariant-loop-i
 invariant-loop-i g l =
-    let rounds = map (round_seen g.D.PolynomialSpace.coset_of) l.claims in record {
+    record {
       count : length l.walks.items ≡ l.i;
       are : (walk : FoldWalk g.row.EF.Denot) (j : ℕ) → j < l.i → walk ≡ slice_index_or l.walks.items j walk
           → (place : ℕ) (query : QueryProof g.row.D-Val.Denot g.row.EF.Denot) → place ≡ slice_index_or l.places j place → query ≡ slice_index_or l.queries j query
-          → IsWalkIn (fields_of g) rounds l.bits l.drawn l.proof place query walk;
+          → IsWalkIn (fields_of g) g.D.PolynomialSpace.coset_of l.replayed place query walk;
     }

@@ -1,18 +1,17 @@
-use Rattle.std.proofs.Common.{◌≡◌, ◌∙◌, ◌≤◌, ◌+◌, ◌-◌, ◌*◌, ◌/◌, ℕ, List, ap, arith, drop, length, map, subst, sym, take}
+use Rattle.std.proofs.Common.{◌≡◌, ◌∙◌, ◌≤◌, ◌+◌, ◌-◌, ◌*◌, ◌/◌, ℕ, List, ap, arith, drop, length, subst, sym, take}
 use Rattle.std.specs.List.{AllByRecursion, zip}
 use Rattle.std.proofs.lemmas.Slice.Zip.{length-zip}
 use Rattle.stark_fri_proof.specs.Parts.{QueryProof}
-use Rattle.stark_fri.specs.Claims.{round_seen}
-use Rattle.stark_fri.specs.Found.{target_by}
 use Rattle.stark_fri.specs.Query.{QueryHolds}
+use Rattle.stark_fri.specs.Replayed.{target_of}
 use Rattle.stark_fri.proofs.FourSteps.{held_more}
 use Rattle.stark_fri.proofs.fours.held_by_fours.Invariants.{fields_of}
 use Rattle.stark_fri.proofs.fours.held_by_fours.Goals as goal
 
 pub returns-then-not-branch : goal.returns-then-not-branch
 returns-then-not-branch g c =
-    let places = c.args.drawn.now.places in
-    let queries = c.args.proof.now.queries in
+    let places = c.args.replayed.now.drawn.now.places in
+    let queries = c.args.replayed.now.proof.now.queries in
     let turn = c.loop-group-test.true in
     let least = c.min-groups.ensures in
     let n : c.len.result ≡ length places.items = c.len.ensures ∙ places.ok.0 in
@@ -21,10 +20,10 @@ returns-then-not-branch g c =
 
 pub loop-group-preserved : goal.loop-group-preserved
 loop-group-preserved g c =
-    let target = target_by (map (round_seen g.D.PolynomialSpace.coset_of) c.args.claims.now) c.args.bits c.args.drawn.now c.args.proof.now in
+    let target = target_of (fields_of g) g.D.PolynomialSpace.coset_of c.args.replayed.now in
     let holds = QueryHolds (fields_of g) g.H.TreeHash.digest_of target in
-    let places = c.args.drawn.now.places.items in
-    let queries = c.args.proof.now.queries in
+    let places = c.args.replayed.now.drawn.now.places.items in
+    let queries = c.args.replayed.now.proof.now.queries in
     let at = 4 * c.loop-group.group in
     let next : at + 4 ≡ 4 * (c.loop-group.group + 1) = omega arith in
     let size : at + 4 - at ≡ 4 = omega arith in
@@ -36,9 +35,9 @@ loop-group-preserved g c =
 
 pub returns : goal.returns
 returns g c =
-    let places = c.args.drawn.now.places in
-    let queries = c.args.proof.now.queries in
-    let target = target_by (map (round_seen g.D.PolynomialSpace.coset_of) c.args.claims.now) c.args.bits c.args.drawn.now c.args.proof.now in
+    let places = c.args.replayed.now.drawn.now.places in
+    let queries = c.args.replayed.now.proof.now.queries in
+    let target = target_of (fields_of g) g.D.PolynomialSpace.coset_of c.args.replayed.now in
     let holds = QueryHolds (fields_of g) g.H.TreeHash.digest_of target in
     let ended = c.loop-group-test.false in
     let upto = c.loop-group.auto.group-end in

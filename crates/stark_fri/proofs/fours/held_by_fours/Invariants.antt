@@ -1,9 +1,8 @@
-use Rattle.std.proofs.Common.{◌*◌, map, take}
+use Rattle.std.proofs.Common.{◌*◌, take}
 use Rattle.std.specs.List.{AllByRecursion, zip}
-use Rattle.stark_fri.specs.Claims.{round_seen}
-use Rattle.stark_fri.specs.Found.{target_by}
 use Rattle.stark_fri.specs.Parts.{FriFields}
 use Rattle.stark_fri.specs.Query.{QueryHolds}
+use Rattle.stark_fri.specs.Replayed.{target_of}
 use Rattle.stark_fri.proofs.Members.{fields_by}
 use Rattle.stark_fri.proofs.fours.held_by_fours.Given as goal
 
@@ -12,5 +11,5 @@ fields_of g = fields_by g.D.Val.TwoAdicField g.D.Val.Field g.D.Val.PrimeField64 
 
 abbrev pub invariant-loop-group : goal.invariant-loop-group
 invariant-loop-group g l =
-    let target = target_by (map (round_seen g.D.PolynomialSpace.coset_of) l.claims) l.bits l.drawn l.proof in
-    AllByRecursion (QueryHolds (fields_of g) g.H.TreeHash.digest_of target) (take (4 * l.group) (zip l.drawn.places.items l.proof.queries))
+    let target = target_of (fields_of g) g.D.PolynomialSpace.coset_of l.replayed in
+    AllByRecursion (QueryHolds (fields_of g) g.H.TreeHash.digest_of target) (take (4 * l.group) (zip l.replayed.drawn.now.places.items l.replayed.proof.now.queries))

@@ -1,8 +1,8 @@
-use Rattle.std.proofs.Common.{rules, ◌≡◌, ◌∙◌, ap, arith, get_or, length, map, subst}
+use Rattle.std.proofs.Common.{rules, ◌≡◌, ◌∙◌, ap, arith, get_or, length, subst}
 use Rattle.std.specs.List.{zip}
-use Rattle.stark_fri.specs.Claims.{round_seen}
-use Rattle.stark_fri.specs.Found.{FindsQueryFault, target_by}
+use Rattle.stark_fri.specs.Found.{FindsQueryFault}
 use Rattle.stark_fri.specs.Query.{QueryFails, QueryHolds}
+use Rattle.stark_fri.specs.Replayed.{target_of}
 use Rattle.stark_fri.proofs.FourSteps.{first_hold, first_passed}
 use Rattle.stark_fri.proofs.ListSteps.{holds_end, holds_step, passed_with_step, passed_with_stop, zip_at, zip_ended}
 use Rattle.stark_fri.proofs.verify.first_query_fault.Invariants.{fields_of}
@@ -12,8 +12,8 @@ pub loop-i-init : goal.loop-i-init
 loop-i-init g c =
     let fields = fields_of g in
     let hash = g.H.TreeHash.digest_of in
-    let target = target_by (map (round_seen g.D.PolynomialSpace.coset_of) c.args.claims.now) c.args.bits c.args.drawn.now c.args.proof.now in
-    let queries = zip c.args.drawn.now.places.items c.args.proof.now.queries in
+    let target = target_of (fields_of g) g.D.PolynomialSpace.coset_of c.args.replayed.now in
+    let queries = zip c.args.replayed.now.drawn.now.places.items c.args.replayed.now.proof.now.queries in
     let held = c.in_ok-held.ensures in record {
       holds = first_hold (QueryHolds fields hash target) queries c.in_ok-held.held held.1;
       passed = λ fault. first_passed (QueryHolds fields hash target) (QueryFails fields hash target fault) queries c.in_ok-held.held held.0 held.1;
@@ -21,11 +21,11 @@ loop-i-init g c =
 
 pub returns-in-Some : goal.returns-in-Some
 returns-in-Some g c =
-    let target = target_by (map (round_seen g.D.PolynomialSpace.coset_of) c.args.claims.now) c.args.bits c.args.drawn.now c.args.proof.now in
-    let queries = zip c.args.drawn.now.places.items c.args.proof.now.queries in
-    let is_place : c.index-place.result.now ≡ get_or c.args.drawn.now.places.items c.loop-i.i c.index-place.result.now = search rules in
-    let at = zip_at c.args.drawn.now.places.items c.args.proof.now.queries c.loop-i.i _ _ _ c.loop-i-test.true is_place (c.index-queries-i.is ∙ ap (λ t. get_or t c.loop-i.i c.index-queries-i.result) c.queries-queries.ensures)
-    _ _ c.min-i-end.ensures (c.len.ensures ∙ c.args.drawn.now.places.ok.0) (ap length c.queries-queries.ensures) in
+    let target = target_of (fields_of g) g.D.PolynomialSpace.coset_of c.args.replayed.now in
+    let queries = zip c.args.replayed.now.drawn.now.places.items c.args.replayed.now.proof.now.queries in
+    let is_place : c.index-place.result.now ≡ get_or c.args.replayed.now.drawn.now.places.items c.loop-i.i c.index-place.result.now = search rules in
+    let at = zip_at c.args.replayed.now.drawn.now.places.items c.args.replayed.now.proof.now.queries c.loop-i.i _ _ _ c.loop-i-test.true is_place (c.index-queries-i.is ∙ ap (λ t. get_or t c.loop-i.i c.index-queries-i.result) c.queries-queries.ensures)
+    _ _ c.min-i-end.ensures (c.len.ensures ∙ c.args.replayed.now.drawn.now.places.ok.0) (ap length c.queries-queries.ensures) in
     let holds = QueryHolds (fields_of g) g.H.TreeHash.digest_of target in
     passed_with_stop holds (QueryFails (fields_of g) g.H.TreeHash.digest_of target c.in-Some.fault) queries c.loop-i.i _ at.0 at.1
     (subst (FindsQueryFault (fields_of g) g.H.TreeHash.digest_of target (c.index-place.result.now, c.index-queries-i.result)) c.in-Some.is c.in_ok-found.ensures) (c.loop-i.invariant.passed c.in-Some.fault)
@@ -34,11 +34,11 @@ pub loop-i-preserved : goal.loop-i-preserved
 loop-i-preserved g c =
     let fields = fields_of g in
     let hash = g.H.TreeHash.digest_of in
-    let target = target_by (map (round_seen g.D.PolynomialSpace.coset_of) c.args.claims.now) c.args.bits c.args.drawn.now c.args.proof.now in
-    let queries = zip c.args.drawn.now.places.items c.args.proof.now.queries in
-    let is_place : c.index-place.result.now ≡ get_or c.args.drawn.now.places.items c.loop-i.i c.index-place.result.now = search rules in
-    let at = zip_at c.args.drawn.now.places.items c.args.proof.now.queries c.loop-i.i _ _ _ c.loop-i-test.true is_place (c.index-queries-i.is ∙ ap (λ t. get_or t c.loop-i.i c.index-queries-i.result) c.queries-queries.ensures)
-    _ _ c.min-i-end.ensures (c.len.ensures ∙ c.args.drawn.now.places.ok.0) (ap length c.queries-queries.ensures) in
+    let target = target_of (fields_of g) g.D.PolynomialSpace.coset_of c.args.replayed.now in
+    let queries = zip c.args.replayed.now.drawn.now.places.items c.args.replayed.now.proof.now.queries in
+    let is_place : c.index-place.result.now ≡ get_or c.args.replayed.now.drawn.now.places.items c.loop-i.i c.index-place.result.now = search rules in
+    let at = zip_at c.args.replayed.now.drawn.now.places.items c.args.replayed.now.proof.now.queries c.loop-i.i _ _ _ c.loop-i-test.true is_place (c.index-queries-i.is ∙ ap (λ t. get_or t c.loop-i.i c.index-queries-i.result) c.queries-queries.ensures)
+    _ _ c.min-i-end.ensures (c.len.ensures ∙ c.args.replayed.now.drawn.now.places.ok.0) (ap length c.queries-queries.ensures) in
     let holds : QueryHolds fields hash target (c.index-place.result.now, c.index-queries-i.result) = subst (FindsQueryFault fields hash target (c.index-place.result.now, c.index-queries-i.result)) c.in_default.is c.in_ok-found.ensures in record {
       holds = holds_step (QueryHolds fields hash target) queries c.loop-i.i _ at.0 at.1 holds c.loop-i.invariant.holds;
       passed = λ fault. passed_with_step (QueryHolds fields hash target) (QueryFails fields hash target fault) queries c.loop-i.i _ at.0 at.1 holds (c.loop-i.invariant.passed fault);
@@ -48,9 +48,9 @@ pub returns : goal.returns
 returns g c =
     let fields = fields_of g in
     let hash = g.H.TreeHash.digest_of in
-    let target = target_by (map (round_seen g.D.PolynomialSpace.coset_of) c.args.claims.now) c.args.bits c.args.drawn.now c.args.proof.now in
-    let places = c.args.drawn.now.places in
-    let queries = c.args.proof.now.queries in
+    let target = target_of (fields_of g) g.D.PolynomialSpace.coset_of c.args.replayed.now in
+    let places = c.args.replayed.now.drawn.now.places in
+    let queries = c.args.replayed.now.proof.now.queries in
     let ended = c.loop-i-test.false in
     let end = c.min-i-end.ensures in
     let n : c.len.result ≡ length places.items = c.len.ensures ∙ places.ok.0 in

@@ -1,9 +1,7 @@
-use Rattle.std.proofs.Common.{map}
 use Rattle.std.specs.List.{zip}
-use Rattle.stark_fri.specs.Claims.{round_seen}
-use Rattle.stark_fri.specs.Found.{target_by}
 use Rattle.stark_fri.specs.Parts.{FriFields}
 use Rattle.stark_fri.specs.Query.{QueryFails, QueryHolds}
+use Rattle.stark_fri.specs.Replayed.{target_of}
 use Rattle.stark_fri.specs.declared.error.QueryFault.{QueryFault}
 use Rattle.stark_fri.proofs.Members.{fields_by}
 use Rattle.stark_fri.proofs.ListSteps.{HoldsSoFar, PassedWith}
@@ -16,8 +14,8 @@ abbrev pub invariant-loop-i : goal.invariant-loop-i
 invariant-loop-i g l =
     let fields = fields_of g in
     let hash = g.H.TreeHash.digest_of in
-    let target = target_by (map (round_seen g.D.PolynomialSpace.coset_of) l.claims) l.bits l.drawn l.proof in
-    let queries = zip l.drawn.places.items l.proof.queries in record {
+    let target = target_of (fields_of g) g.D.PolynomialSpace.coset_of l.replayed in
+    let queries = zip l.replayed.drawn.now.places.items l.replayed.proof.now.queries in record {
       holds : HoldsSoFar (QueryHolds fields hash target) queries l.i;
       passed : (fault : QueryFault) → PassedWith (QueryHolds fields hash target) (QueryFails fields hash target fault) queries l.i;
     }

@@ -1,2 +1,3 @@
 pub mod ConjecturedBits
 pub mod FieldBits
+pub mod Regime

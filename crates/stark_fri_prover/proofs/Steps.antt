@@ -1,5 +1,5 @@
 -- Lists that grow place by place.
-use Rattle.std.proofs.Common.{◌≡◌, ℕ, ◌+◌, ◌<◌, ◌≤◌, List, [], ◌∷◌, ◌++◌, drop, ap, arith, get_or, length, map, refl, subst, sym, take, ◌∙◌}
+use Rattle.std.proofs.Common.{◌≡◌, ℕ, ◌+◌, ◌*◌, ◌<◌, ◌≤◌, List, [], ◌∷◌, ◌++◌, drop, ap, arith, get_or, length, map, refl, subst, sym, take, ◌∙◌}
 use Rattle.std.specs.List.{AllByRecursion, range_with_len, slice_get}
 use Rattle.std.specs.Prelude.{Some}
 use Rattle.std.proofs.lemmas.List.{take_all, take_more}
@@ -59,3 +59,10 @@ pub place_more : {A : Type 0} (f : ℕ → A) (n : ℕ) (x : A) (before after : 
 place_more f n x before after pushed so_far is =
     pushed ∙ ap (λ t. t ++ x ∷ []) so_far ∙ ap (λ t. map f (range_with_len 0 n) ++ t ∷ []) is
     ∙ sym (map-range_with_len_more f 0 n n (omega arith))
+
+-- one more of a group of four
+pub lane_more : {A : Type 0} (f : ℕ → A) (group j : ℕ) (x : A) (before after : List A) → after ≡ before ++ x ∷ []
+    → before ≡ map f (range_with_len 0 (4 * group + j)) → x ≡ f (4 * group + j) → after ≡ map f (range_with_len 0 (4 * group + (j + 1)))
+lane_more f group j x before after pushed so_far is =
+    let next : 4 * group + j + 1 ≡ 4 * group + (j + 1) = omega arith in
+    subst (λ n. after ≡ map f (range_with_len 0 n)) next (place_more f (4 * group + j) x before after pushed so_far is)

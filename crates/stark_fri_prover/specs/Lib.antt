@@ -1,4 +1,5 @@
 pub mod Batch
+pub mod Calls
 pub mod Commit
 pub mod CommitFacts
 pub mod Folds

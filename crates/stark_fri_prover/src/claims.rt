@@ -24,8 +24,7 @@ pub(crate) fn open_rounds<F: TwoAdicField, EF: ExtensionField<F>>(
 {
     let mut opened = Vec::new(alloc);
     for round in rounds {
-        let data = round.0;
-        let matrices = matrices_at::<F, EF>(alloc, data.matrices(), &round.1)?;
+        let matrices = matrices_at::<F, EF>(alloc, round.0.matrices(), &round.1)?;
         opened.push(matrices)?;
     }
     Ok(opened)

@@ -3,6 +3,7 @@
 #![tactic(auto)]
 
 mod batch;
+mod calls;
 mod claims;
 mod commit;
 mod layers;

@@ -4,21 +4,20 @@ ghost use Rattle.std.specs.List.{AllByRecursion};
 ghost use Rattle.stark_support.specs.Claims.{IfRefusal, opened_view, round_view};
 ghost use Rattle.stark_columns.specs.Columns.{columns_list};
 ghost use Rattle.stark_merkle.specs.Tree.{digests_in};
-ghost use Rattle.stark_fri_prover.specs.Commit.{data_seen};
+ghost use Rattle.stark_fri_prover.specs.Calls.{FitRounds, IsProofOf, RefusesOpening};
 ghost use Rattle.stark_fri_prover.specs.Folds.{IfMade};
-ghost use Rattle.stark_fri_prover.specs.HonestOpening.{IsMade};
 ghost use Rattle.stark_fri_prover.specs.Layers.{OpensEach, OpensRows, OpensWay};
-ghost use Rattle.stark_fri_prover.specs.OwnClaims.{AreFitting, RefusesRounds, opened_rounds, points_in};
+ghost use Rattle.stark_fri_prover.specs.OwnClaims.{opened_rounds};
 
 use crate::batch::batched;
+use crate::calls::Proving;
 use crate::claims::{open_rounds, own_claims};
 use crate::commit::FriData;
 use crate::layers::{Layer, open_layers};
 use crate::phases::{find_witness, fold_all};
 use stark_bench::Coset;
 use stark_fri::{
-    FriCalls, FriProverError, check_claims, draw_places, observe_claims, observe_parameters,
-    observe_values,
+    FriProverError, check_claims, draw_places, observe_claims, observe_parameters, observe_values,
 };
 use stark_fri_proof::{FriParameters, FriProof, QueryProof};
 use stark_merkle::{Root, TreeHash};
@@ -102,13 +101,10 @@ where
     EF: ExtensionField<F>,
     H: TreeHash,
     C: FieldChallenger<F> + CanObserve<Root> + CanSample<EF> + GrindingChallenger<Witness = F>,
-    requires { AreFitting ⟦<C as FriCalls<F, EF, H>>⟧.fri_ops
-        ⟦<Coset<F> as PolynomialSpace>⟧.coset_of
-        (λ d. data_seen d.root d.domain.log_size d.matrices d.extended) parameters.now rounds.now
-        claims.now log_height }
-    ensures { IfMade result (IsMade ⟦<C as FriCalls<F, EF, H>>⟧.fri_ops F.number_of EF.coordinates
-        (λ d. data_seen d.root d.domain.log_size d.matrices d.extended)
-        (λ d. digests_in d.layers.items) points_in parameters.now rounds.now challenger.old) }
+    requires { FitRounds ⟦<FriData<F> as Proving<F, EF, C, H, Coset<F>>>⟧.calls parameters.now
+        rounds.now claims.now log_height }
+    ensures { IfMade result (IsProofOf ⟦<FriData<F> as Proving<F, EF, C, H, Coset<F>>>⟧.calls
+        parameters.now rounds.now challenger.old) }
 {
     let bits = log_height + parameters.log_blowup();
     observe_parameters::<C, F, EF>(&mut *challenger, parameters);
@@ -174,12 +170,11 @@ where
     ensures values { IfOk result (λ m. opened_view m.0
         ≡ opened_rounds EF.ring EF.embed (λ d. map columns_list d.matrices.items)
         (map round_view rounds.now)) }
-    ensures made { IfOk result (λ made. IsMade ⟦<C as FriCalls<F, EF, H>>⟧.fri_ops F.number_of
-        EF.coordinates (λ d. data_seen d.root d.domain.log_size d.matrices d.extended)
-        (λ d. digests_in d.layers.items) points_in parameters.now rounds.now challenger.old
-        made.1) }
-    ensures refused { IfRefusal result (RefusesRounds ⟦<C as FriCalls<F, EF, H>>⟧.fri_ops
-        (λ d. data_seen d.root d.domain.log_size d.matrices d.extended) parameters.now rounds.now) }
+    ensures made { IfOk result (λ made. IsProofOf
+        ⟦<FriData<F> as Proving<F, EF, C, H, Coset<F>>>⟧.calls parameters.now rounds.now
+        challenger.old made.1) }
+    ensures refused { IfRefusal result (RefusesOpening
+        ⟦<FriData<F> as Proving<F, EF, C, H, Coset<F>>>⟧.calls parameters.now rounds.now) }
 {
     if !have_points(rounds) {
         return Err(SchemeFault::Refused(FriProverError::Points));

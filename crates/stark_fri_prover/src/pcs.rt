@@ -1,20 +1,20 @@
 //! The scheme.
 ghost use Rattle.std.specs.Prelude.{◌≡◌, ◌≤◌, ◌+◌, ◌-◌, ◌*◌, ◌^◌, ⊤, false, ◌∷◌, [], map, length, IfErr, IfOk, IsTrue};
 ghost use Rattle.std.specs.Int.{IsPowerOfTwo};
-ghost use Rattle.stark_support.specs.Claims.{IfRefusal, rounds_view};
+ghost use Rattle.stark_support.specs.Claims.{IfRefusal};
 ghost use Rattle.stark_support.specs.Scheme.{zk_bits};
 ghost use Rattle.stark_support.specs.Coset.{coset_from};
 ghost use Rattle.stark_columns.specs.ColumnPoints.{height_of};
 ghost use Rattle.stark_columns.specs.Columns.{columns_list};
-ghost use Rattle.stark_fri.specs.Accept.{Accepted};
-ghost use Rattle.stark_fri.specs.Found.{IsRefused};
-ghost use Rattle.stark_fri.specs.Scheme.{ArePlain, claimed_of, claims_in, fri_calls};
+ghost use Rattle.stark_fri.specs.Scheme.{ArePlain, fri_calls};
 ghost use Rattle.stark_merkle.specs.Tree.{digests_in};
+ghost use Rattle.stark_fri_prover.specs.Calls.{Accepts, CommitsQuotient, Refuses, RefusesRoundsIn};
 ghost use Rattle.stark_fri_prover.specs.Commit.{AreLayersOver, data_seen, extension_of, IsKept, IsTopOf};
 ghost use Rattle.stark_fri_prover.specs.HonestFactsScheme.{kept_laws};
 ghost use Rattle.stark_fri_prover.specs.HonestOpening.{kept_scheme};
 ghost use Rattle.stark_support.specs.SchemeClauses.{CommitsChunks, CommitsRows, OpensTrueValues, ProvesTrueClaims, IsTableOver};
 
+use crate::calls::Proving;
 use crate::commit::{FriData, commit_columns};
 use crate::opening::open;
 use stark_bench::Coset;
@@ -232,9 +232,8 @@ where
         ensures stands { IfOk result (CommitsChunks
             ⟦<FriPcs<F, H> as Opening<EF, C>>⟧.opening self.now
             (coset_from domain.shift domain.log_size) flat num_chunks) }
-        ensures made { IfOk result (⟦<FriPcs<F, H> as Pcs<EF, C>>⟧.scheme.calls.CommitsQuotient
-            self.now (coset_from domain.shift domain.log_size) flat.values.items flat.width
-            num_chunks) }
+        ensures made { IfOk result (CommitsQuotient ⟦<FriPcs<F, H> as Pcs<EF, C>>⟧.scheme self.now
+            (coset_from domain.shift domain.log_size) flat num_chunks) }
         ensures refused { IfRefusal result (λ _. ⊥) }
     {
         let chunks = chunks_of(alloc, &domain, &flat, num_chunks)?;
@@ -278,8 +277,8 @@ where
             EF.ring EF.embed self.now rounds.entry) }
         ensures whole { IfOk result (ProvesTrueClaims ⟦<FriPcs<F, H> as Pcs<EF, C>>⟧.scheme EF.ring
             EF.embed self.now rounds.entry challenger.old _preprocessed_index) }
-        ensures refused { IfRefusal result (⟦<FriPcs<F, H> as Pcs<EF, C>>⟧.scheme.RefusesOpening
-            self.now (rounds_view rounds.entry) challenger.old _preprocessed_index) }
+        ensures refused { IfRefusal result (RefusesRoundsIn ⟦<FriPcs<F, H> as Pcs<EF, C>>⟧.scheme
+            self.now rounds.entry challenger.old _preprocessed_index) }
     {
         match open::<C, F, EF, H>(alloc, &self.parameters, &rounds, challenger) {
             Ok(opened) => Ok(opened),
@@ -295,14 +294,12 @@ where
         challenger: &mut C,
         _preprocessed_index: Option<usize>,
     ) -> Result<(), SchemeFault<FriError>>
-        ensures accepted { IfOk result (λ _. Accepted ⟦<C as FriCalls<F, EF, H>>⟧.fri_ops
-            (claimed_of self.now.parameters
-            (claims_in ⟦<Coset<F> as PolynomialSpace>⟧.coset_of claims.entry.items) proof.now
-            challenger.old)) }
-        ensures refused { IfErr result (IsRefused ⟦<C as FriCalls<F, EF, H>>⟧.fri_ops
-            (claimed_of self.now.parameters
-            (claims_in ⟦<Coset<F> as PolynomialSpace>⟧.coset_of claims.entry.items) proof.now
-            challenger.old)) }
+        ensures accepted { IfOk result (λ _. Accepts
+            ⟦<FriData<F> as Proving<F, EF, C, H, Coset<F>>>⟧.calls self.now.parameters
+            claims.entry challenger.old proof.now) }
+        ensures refused { IfErr result (Refuses
+            ⟦<FriData<F> as Proving<F, EF, C, H, Coset<F>>>⟧.calls self.now.parameters
+            claims.entry challenger.old proof.now) }
     {
         verify_openings::<C, EF, Coset<F>, H>(alloc, &self.parameters, &claims, proof, challenger)
     }

@@ -6,12 +6,11 @@ ghost use Rattle.stark_fri_prover.specs.Words.{IsWordIn};
 use crate::layers::{Layer, layer_of, values_of};
 use stark_bench::Coset;
 use stark_folding::{fold_codeword_in, fold_coefficients};
-use stark_fri::FriSponge;
+use stark_fri::{FriChallenger, FriSponge};
 use stark_fri_proof::Phase;
 use stark_merkle::{Root, TreeHash};
 use stark_support::{
-    CanObserve, CanSample, CanSampleBits, ExtensionField, GrindingChallenger, PrimeField64,
-    TwoAdicField,
+    CanObserve, CanSample, ExtensionField, GrindingChallenger, PrimeField64, TwoAdicField,
 };
 use std::alloc::{AllocError, Global};
 
@@ -69,11 +68,7 @@ where
     F: TwoAdicField + PrimeField64,
     EF: ExtensionField<F>,
     H: TreeHash,
-    C: CanObserve<F>
-        + CanObserve<Root>
-        + CanSample<EF>
-        + CanSampleBits<usize>
-        + GrindingChallenger<Witness = F>,
+    C: FriChallenger<F, EF>,
     requires some { 1 ≤ domain.now.log_size }
     requires word { IsWordIn EF.ring EF.embed F.root domain.now.shift domain.now.log_size
         polynomial.now word.items }
@@ -116,11 +111,7 @@ where
     F: TwoAdicField + PrimeField64,
     EF: ExtensionField<F>,
     H: TreeHash,
-    C: CanObserve<F>
-        + CanObserve<Root>
-        + CanSample<EF>
-        + CanSampleBits<usize>
-        + GrindingChallenger<Witness = F>,
+    C: FriChallenger<F, EF>,
     requires { count ≤ domain.log_size }
     ensures folded { IfMade result (MakesFolds ⟦<C as FriSponge<F, EF>>⟧.sponge_calls EF.ring bits
         count challenger.old challenger.new polynomial.items) }

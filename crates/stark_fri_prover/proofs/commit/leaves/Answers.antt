@@ -1,16 +1,13 @@
-use Rattle.std.proofs.Common.{◌≡◌, ◌∙◌, ◌+◌, ◌*◌, ap, arith}
+use Rattle.std.proofs.Common.{◌∙◌, ap, arith}
 use Rattle.stark_merkle.specs.Tree.{leaf_of}
 use Rattle.stark_fri_prover.specs.Commit.{leaf_at}
-use Rattle.stark_fri_prover.proofs.Steps.{place_more}
+use Rattle.stark_fri_prover.proofs.Steps.{lane_more, place_more}
 use Rattle.stark_fri_prover.proofs.commit.leaves.Goals as goal
 
 pub loop-j-preserved : goal.loop-j-preserved
 loop-j-preserved g c =
-    let leaf = leaf_at g.H.TreeHash.digest_of g.F.PrimeField64.number_of c.args.extended.now in
-    let place = 4 * c.loop-group.group + c.loop-j.j in
-    let next : 4 * c.loop-group.group + (c.loop-j.j + 1) ≡ place + 1 = omega arith in
-    rw next (place_more leaf place _ c.loop-j.leaves.items _ c.in_ok-push.ensures.items c.loop-j.invariant
-    (c.in_ok-four.ensures c.loop-j.j (omega arith)))
+    lane_more (leaf_at g.H.TreeHash.digest_of g.F.PrimeField64.number_of c.args.extended.now) c.loop-group.group c.loop-j.j _ c.loop-j.leaves.items _
+    c.in_ok-push.ensures.items c.loop-j.invariant (c.in_ok-four.ensures c.loop-j.j (omega arith))
 
 pub loop-place-preserved : goal.loop-place-preserved
 loop-place-preserved g c =

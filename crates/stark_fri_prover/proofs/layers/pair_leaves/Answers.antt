@@ -1,17 +1,14 @@
-use Rattle.std.proofs.Common.{◌≡◌, ◌∙◌, ◌+◌, ◌*◌, ◌/◌, ap, arith, length}
+use Rattle.std.proofs.Common.{◌∙◌, ◌/◌, ap, arith, length}
 use Rattle.stark_merkle.specs.Tree.{leaf_of}
 use Rattle.stark_fri_prover.specs.Layers.{pair_leaf}
-use Rattle.stark_fri_prover.proofs.Steps.{place_more}
+use Rattle.stark_fri_prover.proofs.Steps.{lane_more, place_more}
 use Rattle.stark_fri_prover.proofs.layers.pair_leaves.Goals as goal
 
 pub loop-j-preserved : goal.loop-j-preserved
 loop-j-preserved g c =
     let hash = g.H.TreeHash.digest_of in
     let leaf = pair_leaf g.F.PrimeField64.number_of g.EF.ExtensionField.coordinates g.EF.Field.ring.zero hash c.args.values.now (length c.args.values.now / 2) in
-    let place = 4 * c.loop-group.group + c.loop-j.j in
-    let next : 4 * c.loop-group.group + (c.loop-j.j + 1) ≡ place + 1 = omega arith in
-    rw next (place_more leaf place _ c.loop-j.leaves.items _ c.in_ok-push.ensures.items c.loop-j.invariant
-    (c.in_ok-four.ensures c.loop-j.j (omega arith)))
+    lane_more leaf c.loop-group.group c.loop-j.j _ c.loop-j.leaves.items _ c.in_ok-push.ensures.items c.loop-j.invariant (c.in_ok-four.ensures c.loop-j.j (omega arith))
 
 pub loop-place-preserved : goal.loop-place-preserved
 loop-place-preserved g c =

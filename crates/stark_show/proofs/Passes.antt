@@ -1,6 +1,6 @@
 -- One node after the other, and one constraint after the other.
-use Rattle.std.proofs.Common.{◌≡◌, ◌∙◌, ℕ, zero, suc, ◌+◌, ◌<◌, ◌≤◌, List, [], ◌∷◌, ◌++◌, length, drop, get_or, refl, sym, ap, subst, arith, append_assoc, IfOk, Result}
-use Rattle.std.proofs.lemmas.List.{append-nil, drop_all, drop_more}
+use Rattle.std.proofs.Common.{◌≡◌, ◌∙◌, ℕ, zero, suc, ◌+◌, ◌<◌, ◌≤◌, List, [], ◌∷◌, ◌++◌, length, map, drop, get_or, refl, sym, ap, subst, arith, append_assoc, IfOk, Result}
+use Rattle.std.proofs.lemmas.List.{append-nil, drop_all, drop_more, length-map}
 use Rattle.stark_tree_air.proofs.NeededSteps.{place_fits}
 use Rattle.stark_tree_air.specs.Needed.{NodesBelow, OperandsBelow, constraint_place}
 use Rattle.stark_tree_air.specs.Nodes.{ConstraintsFit}
@@ -126,6 +126,14 @@ shown_length number ks ws (n ∷ ns) =
     let rest = shown_length number ks (ws ++ shown ∷ []) ns in
     let longer = one_longer ws shown in
     omega (arith, rest, longer)
+
+-- There are as many phrases as nodes that they show.
+pub as_many_shown : {F A : Type 0} (number : F → ℕ) (ks : List F) (ns nodes : List TreeNode) (view : A → Written) (ps shown : List A) → ps ≡ shown → map view shown ≡ shown_nodes number ks ns → ns ≡ nodes → length ps ≡ length nodes
+as_many_shown number ks ns nodes view ps shown are shows same =
+    let many : length (map view shown) ≡ length (shown_nodes number ks ns) = ap length shows in
+    let each : length (map view shown) ≡ length shown = length-map shown view in
+    let all = shown_length number ks [] ns in
+    ap length are ∙ (let count : length shown ≡ length ns = omega (arith, many, each, all) in count) ∙ ap length same
 
 pub degrees_length : (ds : List ℕ) (ns : List TreeNode) → length (degrees_after ds ns) ≡ length ds + length ns
 degrees_length ds [] = omega arith

@@ -1,5 +1,4 @@
 use Rattle.std.proofs.Common.{◌≡◌, ◌∙◌, [], ap, arith, length, map, string_bytes, sym, subst}
-use Rattle.std.proofs.lemmas.List.{length-map}
 use Rattle.stark_symbolic.specs.Degree.{degree}
 use Rattle.stark_tree_air.specs.Needed.{NodesBelow}
 use Rattle.stark_tree_air.specs.Nodes.{nodes_trees}
@@ -8,7 +7,7 @@ use Rattle.stark_show.specs.NodeDegrees.{degrees_after}
 use Rattle.stark_show.specs.ShownNodes.{shown_nodes}
 use Rattle.stark_show.proofs.DegreeLaw.{degrees_are}
 use Rattle.stark_show.proofs.Fitting.{nodes_below}
-use Rattle.stark_show.proofs.Passes.{degrees_length, same_line, shown_length}
+use Rattle.stark_show.proofs.Passes.{as_many_shown, degrees_length, same_line}
 use Rattle.stark_show.proofs.text.equation_of.Goals as goal
 
 pub node_degrees-requires : goal.node_degrees-requires
@@ -16,15 +15,8 @@ node_degrees-requires g c = subst (λ ns. NodesBelow 0 ns) (sym c.deref-3.ensure
 
 pub numbered_line-requires-clause-phrases : goal.numbered_line-requires-clause-phrases
 numbered_line-requires-clause-phrases g c =
-    let number = g.F.PrimeField64.number_of in
-    let ps = c.deref-4.result.now in
-    let ns = c.deref-2.result.now in
-    let shown : map phrase_view ps ≡ shown_nodes number c.deref.result.now ns = ap (map phrase_view) c.deref-4.ensures.value ∙ c.in_ok-shown.ensures.phrases in
-    let many : length (map phrase_view ps) ≡ length (shown_nodes number c.deref.result.now ns) = ap length shown in
-    let each : length (map phrase_view ps) ≡ length ps = length-map ps phrase_view in
-    let all = shown_length number c.deref.result.now [] ns in
-    let same : length ns ≡ length c.args.list.now.nodes.items = ap length c.deref-2.ensures.value in
-    omega (arith, many, each, all, same, c.requires.place)
+    let many = as_many_shown g.F.PrimeField64.number_of _ _ c.args.list.now.nodes.items phrase_view c.deref-4.result.now _ c.deref-4.ensures.value c.in_ok-shown.ensures.phrases c.deref-2.ensures.value in
+    omega (arith, many, c.requires.place)
 
 pub numbered_line-requires-clause-degrees : goal.numbered_line-requires-clause-degrees
 numbered_line-requires-clause-degrees g c =

@@ -1,7 +1,7 @@
 //! What a prover that checks first answers, and the verifier's verdict on its proof.
 ghost use Rattle.std.specs.Prelude.{None};
 
-use crate::checking::{Rows, elements, fits, matrix_of, spelled};
+use crate::checking::{Rows, spelled};
 use p3_uni_stark::{
     CheckedProvingError, PreprocessedProverData, StarkConfig, prove_checked, verify,
 };
@@ -11,6 +11,8 @@ use stark_clear::ClearPcs;
 use stark_fields::{Ext4, F12289};
 use stark_parts::Com;
 use stark_protocol::PcsProverData;
+use stark_test_proofs::{is_trace_of, matrix_of};
+use stark_test_rows::read_all;
 use std::alloc::Global;
 use std::test::Fail;
 
@@ -25,9 +27,9 @@ pub fn configuration() -> Config {
 /// `accepted` or `refused`; or the row, the constraint and its value for which there is none.
 pub fn proved<'p>(alloc: Global, config: &'p Config, rows: &Rows) -> Result<String, Fail> {
     let air = spelled(alloc, rows.air)?;
-    let trace = matrix_of(&air, elements(alloc, rows.trace)?)?;
-    let publics = elements(alloc, rows.public_values)?;
-    if !fits(&air, rows.log_height, &trace, &publics) || air.preprocessed_width() != 0 {
+    let trace = matrix_of(&air, read_all::<F12289>(alloc, rows.trace)?)?;
+    let publics = read_all::<F12289>(alloc, rows.public_values)?;
+    if !is_trace_of(&air, rows.log_height, &trace, &publics) || air.preprocessed_width() != 0 {
         return Err(Fail::new("other rows"));
     }
     let held: Option<&'p PreprocessedProverData<Com<Config>, PcsProverData<Config>>> = None;

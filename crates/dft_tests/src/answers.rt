@@ -1,8 +1,9 @@
 //! The rows, and their answers over any field.
 use crate::agreement::compared;
 use crate::calls::{Places, columns_of_values, values_of_columns};
-use crate::rows::{apart, element, elements_in, lists_in, numbers_in};
+use crate::rows::lists_in;
 use stark_support::{PrimeField64, TwoAdicField};
+use stark_test_rows::{apart, element, elements_in, numbers_in};
 use std::alloc::Global;
 use std::fmt::Debug;
 use std::test::Fail;
@@ -61,7 +62,7 @@ pub fn answer<F: PrimeField64 + TwoAdicField + Debug>(
 /// The shift and the logarithm that a text names.
 fn coset_in<F: PrimeField64>(text: &str) -> Result<(F, usize), Fail> {
     let [shift, log_size] = numbers_in::<2>(text)?;
-    Ok((element(shift), log_size))
+    Ok((element(shift), log_size as usize))
 }
 
 fn values<F: PrimeField64 + TwoAdicField + Debug>(
@@ -84,7 +85,12 @@ fn columns<F: PrimeField64 + TwoAdicField + Debug>(
     let (shift, log_size) = coset_in::<F>(coset)?;
     let [first, step, width, size] = numbers_in::<4>(places)?;
     let values = elements_in::<F>(alloc, values)?;
-    let places = Places { first, step, width };
+    let places = Places {
+        first: first as usize,
+        step: step as usize,
+        width: width as usize,
+    };
+    let size = size as usize;
     let found = columns_of_values(alloc, shift, log_size, &values, &places, size)?.ok_or(
         "a row isn't there",
     )?;
@@ -93,6 +99,7 @@ fn columns<F: PrimeField64 + TwoAdicField + Debug>(
 
 fn agrees<F: PrimeField64 + TwoAdicField>(alloc: Global, text: &str) -> Result<String, Fail> {
     let [log_size, step] = numbers_in::<2>(text)?;
+    let (log_size, step) = (log_size as usize, step as usize);
     let mut count: usize = 0;
     for shift in [1, 11, 4097] {
         for width in [0, 1, 16] {

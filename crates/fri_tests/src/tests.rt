@@ -1,12 +1,13 @@
 //! Verdicts over three fields.
 use crate::checked::prove_over_baby_bear;
-use crate::proving::{Rows, fits, proved};
+use crate::proving::{Rows, proved};
 use crate::service::{Config, configuration, counted};
 use p3_uni_stark::{CheckedProvingError, StarkProof, prove, verify};
 use stark_bench::Sha256Challenger;
 use stark_fields::{BabyBearField, Ext4, F12289, KoalaBearField};
 use stark_samples::CounterAir;
 use stark_support::{PrimeField64, RowMajorMatrix};
+use stark_test_proofs::fits;
 use std::alloc::Global;
 use std::test::Fail;
 

@@ -13,6 +13,4 @@ mod commitments;
 #[cfg(test)]
 mod edits;
 #[cfg(test)]
-mod rows;
-#[cfg(test)]
 mod tests;

@@ -1,15 +1,8 @@
 //! Checks, proofs and verdicts of the machine's traces.
-ghost use Rattle.std.specs.Prelude.{◌≡◌, ◌+◌, ◌*◌, ◌^◌, ◌<◌, ◌≤◌, IfOk, IsTrue, length};
-ghost use Rattle.stark_protocol.specs.Preprocessing.{HasHeight};
-ghost use Rattle.stark_support.specs.Scheme.{zk_bits};
-
 use crate::interpreter::trace_of;
 use crate::programs::ProgramRow;
-use p3_uni_stark::{
-    ConstraintCheckError, StarkConfig, StarkGenericConfig, Val, check_declared, prove_and_verify,
-    setup_preprocessed,
-};
-use stark_air::{Air, BaseAir};
+use p3_uni_stark::{ConstraintCheckError, StarkConfig, check_declared};
+use stark_air::Air;
 use stark_bench::Sha256Challenger;
 use stark_fields::{BabyBearField, Ext4};
 use stark_fri_proof::FriParameters;
@@ -17,9 +10,10 @@ use stark_fri_prover::FriPcs;
 use stark_machine::MachineAir;
 use stark_merkle::Sha256Tree;
 use stark_protocol::power_of_two;
-use stark_support::{PrimeField64, RowMajorMatrix, UnivariateStarkPcs};
+use stark_support::{PrimeField64, RowMajorMatrix};
+use stark_test_proofs::{fits, made_by, stands_at};
 use stark_tree_air::TreeAir;
-use std::alloc::{AllocError, Global};
+use std::alloc::Global;
 use std::test::Fail;
 
 type F = BabyBearField;
@@ -90,45 +84,6 @@ fn publics_of(run: &Run) -> [F; 3] {
     ]
 }
 
-/// Whether a trace of `2^log_height` rows and these public values are of an AIR's widths and
-/// counts, and the configuration has room for such a trace.
-fn fits<SC: StarkGenericConfig, A: BaseAir<Val<SC>>>(
-    config: &SC,
-    air: &A,
-    log_height: usize,
-    trace: &RowMajorMatrix<Val<SC>>,
-    publics: &[Val<SC>],
-) -> bool
-    ensures columns { IsTrue result → 0 < trace.now.width }
-    ensures width { IsTrue result → trace.now.width ≡ (A.layout air.now).main }
-    ensures height { IsTrue result
-        → length trace.now.values.items ≡ 2 ^ log_height * trace.now.width }
-    ensures within { IsTrue result → log_height + zk_bits SC.Pcs.ZK
-        ≤ SC.Pcs.scheme.log_max_trace_height (SC.config.scheme config.now) }
-    ensures publics { IsTrue result → length publics.now ≡ (A.layout air.now).publics }
-    ensures bounded { IsTrue result → log_height ≤ 12 }
-{
-    if log_height > 12 || log_height + config.is_zk() > config.pcs().log_max_trace_height() {
-        return false;
-    }
-    trace.width > 0
-        && trace.width == air.width()
-        && Some(trace.values.len()) == power_of_two(log_height).checked_mul(trace.width)
-        && publics.len() == air.num_public_values()
-}
-
-/// Whether an AIR's preprocessed columns stand at `2^log_height` rows.
-fn stands_at<A: BaseAir<F>>(alloc: Global, air: &A, log_height: usize) -> Result<bool, AllocError>
-    requires { log_height ≤ 12 }
-    ensures { IfOk result (λ stands.
-        IsTrue stands → HasHeight log_height (A.preprocessed_trace air.now)) }
-{
-    let Some(trace) = air.preprocessed_trace(alloc)? else {
-        return Ok(true);
-    };
-    Ok(Some(trace.values.len()) == power_of_two(log_height).checked_mul(trace.width))
-}
-
 /// What a check finds of a run's trace with one cell changed where one is named: `satisfied`, or
 /// the row and the constraint.
 pub fn found(alloc: Global, run: &Run, change: Option<(usize, usize, u8)>) -> Result<String, Fail> {
@@ -161,18 +116,7 @@ fn proof_of<A: Air<F>>(alloc: Global, air: &A, run: &Run) -> Result<String, Fail
     {
         return Err(Fail::new("other rows"));
     }
-    let Ok(Some((data, key))) = setup_preprocessed(alloc, &config, air, run.log_rows) else {
-        return Err(Fail::new("not set up"));
-    };
-    match prove_and_verify(
-        alloc,
-        &config,
-        air,
-        trace,
-        &publics,
-        Some(&data),
-        Some(&key),
-    ) {
+    match made_by(alloc, &config, air, run.log_rows, trace, &publics) {
         Ok((proof, Ok(()))) => Ok(proof.to_json(alloc)?.to_string(alloc)?),
         _ => Err(Fail::new("no proof that is accepted")),
     }

@@ -1,13 +1,13 @@
 //! The answers to rows: over two fields, and over each packing of the smaller where they ask for
 //! lanes.
-use crate::elements::elements_in;
-use crate::{challengers, clear_scheme, fields, lanes, numbers, polynomials, seeds, transcripts};
+use crate::{clear_scheme, fields, lanes, numbers, polynomials, seeds, transcripts};
 use stark_bench::{
     BabyBearField, ClearCommitment, Ext4, F12289, P12289, S12289, ScriptChallenger,
     Sha256Challenger,
 };
 use stark_parts::StarkChallenger;
 use stark_support::{NeverNull, PackedExtensionField, PackedField, PrimeField64, TwoAdicField};
+use stark_test_rows::{apart, elements_in, script_of};
 use std::alloc::Global;
 use std::fmt::Debug;
 use std::test::Fail;
@@ -26,6 +26,21 @@ where
     }
 }
 
+/// The answer to a row of a table that asks for no challenger.
+fn answer_of_fields<F, EF>(alloc: Global, subject: &str, row: &str) -> Result<String, Fail>
+where
+    F: PrimeField64 + TwoAdicField + PackedField + Debug,
+    EF: PackedExtensionField<F> + Debug,
+{
+    let (table, text) = apart(row)?;
+    match subject {
+        "numbers" => numbers::answer::<F, EF>(alloc, table, text),
+        "polynomials" => polynomials::answer::<F, EF>(alloc, table, text),
+        "seeds" => seeds::answer::<F, EF>(alloc, table, text),
+        _ => Err(Fail::new("no such subject")),
+    }
+}
+
 /// The answer to a subject's row, with a challenger that no other row has seen. What asks for no
 /// lanes is asked over fields of one lane.
 fn answer<F, EF, C>(alloc: Global, challenger: C, subject: &str, row: &str) -> Result<String, Fail>
@@ -35,11 +50,8 @@ where
     C: StarkChallenger<F, EF, ClearCommitment<F>>,
 {
     match subject {
-        "challengers" => challengers::answer::<F, EF, C>(alloc, challenger, row),
         "clear scheme" => clear_scheme::answer::<F, EF, C>(alloc, challenger, row),
-        "numbers" => numbers::answer::<F, EF>(alloc, row),
-        "polynomials" => polynomials::answer::<F, EF>(alloc, row),
-        "seeds" => seeds::answer::<F, EF>(alloc, row),
+        "numbers" | "polynomials" | "seeds" => answer_of_fields::<F, EF>(alloc, subject, row),
         "transcripts" => transcripts::answer::<F, EF, C>(alloc, challenger, row),
         _ => answer_in_lanes::<F, EF, C>(alloc, subject, row),
     }
@@ -51,41 +63,37 @@ fn script<F: PrimeField64>(alloc: Global, row: &str) -> Result<Option<ScriptChal
         return Ok(None);
     };
     let (numbers, _rest) = rest.split_once(" | ").ok_or("no bar")?;
-    let elements = elements_in::<F>(alloc, numbers)?;
-    if elements.is_empty() {
-        return Err(Fail::new("a script of no elements"));
+    Ok(Some(script_of(elements_in::<F>(alloc, numbers)?)?))
+}
+
+/// The answer to a subject's row, with the challenger of a script where the row names one, and else
+/// with one that hashes.
+fn answer_over<F, EF, C>(
+    alloc: Global,
+    hashing: C,
+    subject: &str,
+    row: &str,
+) -> Result<String, Fail>
+where
+    F: PrimeField64 + TwoAdicField + PackedField + NeverNull + Debug,
+    EF: PackedExtensionField<F> + TwoAdicField + NeverNull + Debug,
+    C: StarkChallenger<F, EF, ClearCommitment<F>>,
+    ScriptChallenger<F>: StarkChallenger<F, EF, ClearCommitment<F>>,
+{
+    match script::<F>(alloc, row)? {
+        Some(script) => answer::<F, EF, ScriptChallenger<F>>(alloc, script, subject, row),
+        None => answer::<F, EF, C>(alloc, hashing, subject, row),
     }
-    Ok(Some(ScriptChallenger::new(elements)))
 }
 
 pub fn scalar(alloc: Global, subject: &str, row: &str) -> Result<String, Fail> {
-    match script::<S12289>(alloc, row)? {
-        Some(challenger) => answer::<S12289, Ext4<S12289>, ScriptChallenger<S12289>>(
-            alloc, challenger, subject, row,
-        ),
-        None => answer::<S12289, Ext4<S12289>, Sha256Challenger<S12289>>(
-            alloc,
-            Sha256Challenger::new(),
-            subject,
-            row,
-        ),
-    }
+    let hashing = Sha256Challenger::<S12289>::new();
+    answer_over::<S12289, Ext4<S12289>, _>(alloc, hashing, subject, row)
 }
 
 pub fn baby_bear(alloc: Global, subject: &str, row: &str) -> Result<String, Fail> {
-    match script::<BabyBearField>(alloc, row)? {
-        Some(challenger) => answer::<
-            BabyBearField,
-            Ext4<BabyBearField>,
-            ScriptChallenger<BabyBearField>,
-        >(alloc, challenger, subject, row),
-        None => answer::<BabyBearField, Ext4<BabyBearField>, Sha256Challenger<BabyBearField>>(
-            alloc,
-            Sha256Challenger::new(),
-            subject,
-            row,
-        ),
-    }
+    let hashing = Sha256Challenger::<BabyBearField>::new();
+    answer_over::<BabyBearField, Ext4<BabyBearField>, _>(alloc, hashing, subject, row)
 }
 
 pub fn packed(alloc: Global, subject: &str, row: &str) -> Result<String, Fail> {

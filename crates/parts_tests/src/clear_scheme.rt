@@ -1,12 +1,10 @@
 //! The scheme in the clear: what it commits to and opens, what it refuses, and a configuration that
 //! has it.
-ghost use Rattle.std.specs.Prelude.{◌≡◌, ◌≤◌, ◌<◌, ◌^◌, ◌/◌, ℕ, IfErr, IfOk, length, map};
+ghost use Rattle.std.specs.Prelude.{◌≤◌, ◌^◌, ◌/◌, IfErr, IfOk, length, map};
 ghost use Rattle.std.specs.Int.{IsPowerOfTwo};
 ghost use Rattle.stark_support.specs.Claims.{IfRefused, claim_view};
-ghost use Rattle.stark_support.specs.Scheme.{matrix_row};
+ghost use Rattle.parts_tests.specs.Matrices.{HasRowsOf};
 
-use crate::elements::{above, all_above_in, elements_in};
-use crate::rows::{apart, numbers_in, shown};
 use stark_bench::{ClearCommitment, Coset};
 use stark_clear::{ClearCall, ClearError, ClearPcs, ClearProof};
 use stark_parts::{StarkConfig, StarkGenericConfig, Val};
@@ -16,6 +14,7 @@ use stark_support::{
     PolynomialSpace, PrimeField64, RowMajorMatrix, SchemeFault, TwoAdicField, UnivariateStarkPcs,
     value_from_bytes,
 };
+use stark_test_rows::{above, all_above_in, apart, elements_in, numbers_in, shown};
 use std::alloc::{AllocError, Global};
 use std::fmt::Debug;
 use std::test::Fail;
@@ -440,9 +439,7 @@ where
     requires power { IsPowerOfTwo (length matrix.values.items / matrix.width) }
     requires within { length matrix.values.items / matrix.width ≤ 2 ^ P.scheme.log_max_trace_height
         scheme.now }
-    ensures { IfOk result (λ rows. (r : ℕ) → r < length matrix.values.items / matrix.width
-        → matrix_row rows.values.items rows.width r
-        ≡ matrix_row matrix.values.items matrix.width r) }
+    ensures { IfOk result (λ rows. HasRowsOf rows matrix) }
 {
     let domain = scheme.natural_domain_for_degree(matrix.height());
     let (_commitment, prover_data) = scheme.commit(alloc, domain, matrix)?;

@@ -1,10 +1,11 @@
 //! A field and its extension of degree four.
-use crate::elements::{above_in, all_above_in, element, elements_in};
-use crate::rows::{apart, both_shown, numbers_in, shown};
 use stark_support::{
     ExtensionField, Field, JsonFault, NeverNull, PackedExtensionField, PackedField, PackedValue,
     PrimeField64, TwoAdicField, batch_multiplicative_inverse, packed_from_fn, power_of,
     squared_times, value_from_bytes,
+};
+use stark_test_rows::{
+    above_in, all_above_in, apart, computed, element, elements_in, numbers_in, shown,
 };
 use std::alloc::{AllocError, Global};
 use std::fmt::Debug;
@@ -120,16 +121,9 @@ where
     }
 }
 
-/// What an operation gives of one element or of two; none of the inverse of zero.
-fn computed<F: Field>(name: &str, x: F, y: F) -> Option<F> {
-    match name {
-        "sum" => Some(x + y),
-        "difference" => Some(x - y),
-        "product" => Some(x * y),
-        "negative" => Some(-x),
-        "inverse" if x != F::ZERO => Some(x.inverse()),
-        _ => None,
-    }
+/// Two values in words.
+fn both_shown<T: Debug, U: Debug>(alloc: Global, first: &T, second: &U) -> Result<String, Fail> {
+    Ok(format!(in alloc; "{first:?} {second:?}")?)
 }
 
 fn base_operation<F: PrimeField64 + Debug>(alloc: Global, text: &str) -> Result<String, Fail> {

@@ -1,8 +1,8 @@
 //! Elements in lanes: each lane computes what the field does of the element in it, and so does the
 //! prover's folder.
-use crate::elements::{all_above_in, elements_in};
+ghost use Rattle.std.specs.Prelude.{◌≡◌, All, IsTrue, length};
+
 use crate::lockstep;
-use crate::rows::apart;
 use stark_air::{BaseAirBuilder, ExtensionBuilder, RowWindow};
 use stark_bench::ClearCommitment;
 use stark_clear::ClearPcs;
@@ -10,8 +10,9 @@ use stark_parts::{PackedChallenge, PackedVal, StarkConfig, StarkGenericConfig, V
 use stark_prover_folder::ProverConstraintFolder;
 use stark_support::{
     CanObserve, ExtensionChallenger, ExtensionField, Field, FieldChallenger, PackedExtensionField,
-    PackedField, PackedValue, PrimeField64, RowMajorMatrixView, TwoAdicField,
+    PackedField, PackedValue, Pcs, PolynomialSpace, PrimeField64, RowMajorMatrixView, TwoAdicField,
 };
+use stark_test_rows::{all_above_in, apart, elements_in};
 use std::alloc::{AllocError, Global};
 use std::fmt::Debug;
 use std::test::Fail;
@@ -91,6 +92,18 @@ where
     true
 }
 
+/// A configuration over fields that have lanes.
+pub trait LaneConfig: StarkGenericConfig<
+    Pcs: Pcs<Self::Challenge, Self::Challenger, Domain: PolynomialSpace<Val: PackedField>>,
+    Challenge: PackedExtensionField<Val<Self>>,
+> {}
+
+impl<SC: StarkGenericConfig> LaneConfig for SC
+where
+    Val<SC>: PackedField,
+    SC::Challenge: PackedExtensionField<Val<SC>>,
+{}
+
 /// The powers of alpha, 4, of the first and the last of three constraints, which are over the base
 /// field: for each coordinate of the extension its own.
 pub(crate) fn base_powers<F: PrimeField64>(
@@ -114,18 +127,14 @@ pub(crate) fn base_powers<F: PrimeField64>(
 
 /// The prover's folder over a main column of these values and no other, which keeps nothing yet;
 /// none where they are not two.
-fn folder_on<'a, SC: StarkGenericConfig>(
+fn folder_on<'a, SC: LaneConfig>(
     alloc: Global,
     x: PackedVal<SC>,
     column: &'a [PackedVal<SC>],
     publics: &'a [Val<SC>],
     base_alpha_powers: &'a [Vec<Val<SC>>],
     ext_alpha_powers: &'a [SC::Challenge],
-) -> Option<ProverConstraintFolder<'a, SC>>
-where
-    Val<SC>: PackedField,
-    SC::Challenge: PackedExtensionField<Val<SC>>,
-{
+) -> Option<ProverConstraintFolder<'a, SC>> {
     if column.len() != 2 {
         return None;
     }
@@ -149,38 +158,26 @@ where
 }
 
 /// Asserts that x is 1, that x is 2, over the extension, and that x is 3.
-fn assert_all<SC: StarkGenericConfig>(
+fn assert_all<SC: LaneConfig>(
     folder: &mut ProverConstraintFolder<'_, SC>,
     x: PackedVal<SC>,
-) -> Result<(), AllocError>
-where
-    Val<SC>: PackedField,
-    SC::Challenge: PackedExtensionField<Val<SC>>,
-{
+) -> Result<(), AllocError> {
     folder.assert_zero(x - in_lanes::<SC>(1))?;
     folder.assert_zero_ext(PackedChallenge::<SC>::from(x - in_lanes::<SC>(2)))?;
     folder.assert_zero(x - in_lanes::<SC>(3))
 }
 
 /// A number in each lane.
-fn in_lanes<SC: StarkGenericConfig>(number: u8) -> PackedVal<SC>
-where
-    Val<SC>: PackedField,
-    SC::Challenge: PackedExtensionField<Val<SC>>,
-{
+fn in_lanes<SC: LaneConfig>(number: u8) -> PackedVal<SC> {
     PackedVal::<SC>::from(Val::<SC>::from_u8(number))
 }
 
 /// What the prover's folder makes of those assertions with alpha 4; none where there are not as
 /// many elements as lanes.
-fn folded<SC: StarkGenericConfig>(
+fn folded<SC: LaneConfig>(
     alloc: Global,
     elements: &[Val<SC>],
-) -> Result<Option<PackedChallenge<SC>>, AllocError>
-where
-    Val<SC>: PackedField,
-    SC::Challenge: PackedExtensionField<Val<SC>>,
-{
+) -> Result<Option<PackedChallenge<SC>>, AllocError> {
     if elements.len() != PackedVal::<SC>::WIDTH {
         return Ok(None);
     }
@@ -199,20 +196,22 @@ where
     Ok(finalized(&folder))
 }
 
-/// The folded sum; none where the powers are not as many as the kept values.
-fn finalized<SC: StarkGenericConfig>(
-    folder: &ProverConstraintFolder<'_, SC>,
-) -> Option<PackedChallenge<SC>>
-where
-    Val<SC>: PackedField,
-    SC::Challenge: PackedExtensionField<Val<SC>>,
+/// Whether powers have so many rows, and each has so many.
+pub(crate) fn are_powers<F>(rows: &[Vec<F>], dimension: usize, count: usize) -> bool
+    ensures dimension { IsTrue result → length rows.now ≡ dimension }
+    ensures rows { IsTrue result → All (λ row. length row.items ≡ count) rows.now }
 {
+    rows.len() == dimension && rows.iter().all(|row| row.len() == count)
+}
+
+/// The folded sum; none where the powers are not as many as the kept values.
+fn finalized<SC: LaneConfig>(
+    folder: &ProverConstraintFolder<'_, SC>,
+) -> Option<PackedChallenge<SC>> {
     let count = folder.base_constraints.len();
-    let rows = folder.base_alpha_powers;
-    let fits = rows.len() == SC::Challenge::DIMENSION
-        && rows.iter().all(|row| row.len() == count)
-        && folder.ext_constraints.len() == folder.ext_alpha_powers.len();
-    if fits {
+    if are_powers(folder.base_alpha_powers, SC::Challenge::DIMENSION, count)
+        && folder.ext_constraints.len() == folder.ext_alpha_powers.len()
+    {
         Some(folder.finalize_constraints())
     } else {
         None
@@ -228,10 +227,9 @@ pub fn lanes_of<P: PackedValue>(alloc: Global, pack: P) -> Result<Vec<P::Value>,
     Ok(values)
 }
 
-fn folded_text<SC: StarkGenericConfig>(alloc: Global, text: &str) -> Result<String, Fail>
+fn folded_text<SC: LaneConfig>(alloc: Global, text: &str) -> Result<String, Fail>
 where
-    Val<SC>: PackedField,
-    SC::Challenge: PackedExtensionField<Val<SC>> + Debug,
+    SC::Challenge: Debug,
 {
     let elements = elements_in::<Val<SC>>(alloc, text)?;
     let found = match folded::<SC>(alloc, &elements)? {

@@ -8,13 +8,9 @@
 #[cfg(test)]
 mod answers;
 #[cfg(test)]
-mod challengers;
-#[cfg(test)]
 mod clear_scheme;
 #[cfg(test)]
 mod configurations;
-#[cfg(test)]
-mod elements;
 #[cfg(test)]
 mod fields;
 #[cfg(test)]
@@ -25,8 +21,6 @@ mod lockstep;
 mod numbers;
 #[cfg(test)]
 mod polynomials;
-#[cfg(test)]
-mod rows;
 #[cfg(test)]
 mod seeds;
 #[cfg(test)]

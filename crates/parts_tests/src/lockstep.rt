@@ -1,8 +1,6 @@
 //! Two packed values at a time: each lane computes what the field does of the element in it, and so
 //! does the lockstep folder.
-use crate::elements::elements_in;
-use crate::lanes::{base_powers, lanes_agree, lanes_of};
-use crate::rows::{apart, numbers_in};
+use crate::lanes::{LaneConfig, are_powers, base_powers, lanes_agree, lanes_of};
 use stark_air::{BaseAirBuilder, ExtensionBuilder, RowWindow};
 use stark_parts::{PackedVal, StarkGenericConfig, Val};
 use stark_prover_folder::{VectorizedChallenge, VectorizedConstraintFolder, VectorizedVal};
@@ -10,6 +8,7 @@ use stark_support::{
     Algebra, ExtensionField, PackedExtensionField, PackedField, PackedValue, PrimeField64,
     RowMajorMatrixView, Vectorized,
 };
+use stark_test_rows::{apart, elements_in, numbers_in};
 use std::alloc::{AllocError, Global};
 use std::fmt::Debug;
 use std::test::Fail;
@@ -32,34 +31,24 @@ where
 }
 
 /// Asserts that x is 1, that x is 2, over the extension, and that x is 3.
-fn assert_pairs<SC: StarkGenericConfig>(
+fn assert_pairs<SC: LaneConfig>(
     folder: &mut VectorizedConstraintFolder<'_, SC, 2>,
     x: VectorizedVal<SC, 2>,
-) -> Result<(), AllocError>
-where
-    Val<SC>: PackedField,
-    SC::Challenge: PackedExtensionField<Val<SC>>,
-{
+) -> Result<(), AllocError> {
     folder.assert_zero(x - in_pairs::<SC>(1))?;
     folder.assert_zero_ext(VectorizedChallenge::<SC, 2>::from(x - in_pairs::<SC>(2)))?;
     folder.assert_zero(x - in_pairs::<SC>(3))
 }
 
 /// The folded sum; none where the powers are not as many as the kept values.
-fn finalized<SC: StarkGenericConfig>(
+fn finalized<SC: LaneConfig>(
     folder: &VectorizedConstraintFolder<'_, SC, 2>,
     scratch: &mut Vec<PackedVal<SC>>,
-) -> Result<Option<VectorizedChallenge<SC, 2>>, AllocError>
-where
-    Val<SC>: PackedField,
-    SC::Challenge: PackedExtensionField<Val<SC>>,
-{
+) -> Result<Option<VectorizedChallenge<SC, 2>>, AllocError> {
     let count = folder.base_constraints.len();
-    let rows = folder.base_alpha_powers;
-    let fits = rows.len() == SC::Challenge::DIMENSION
-        && rows.iter().all(|row| row.len() == count)
-        && folder.ext_constraints.len() == folder.ext_alpha_powers.len();
-    if fits {
+    if are_powers(folder.base_alpha_powers, SC::Challenge::DIMENSION, count)
+        && folder.ext_constraints.len() == folder.ext_alpha_powers.len()
+    {
         Ok(Some(folder.finalize_constraints(scratch)?))
     } else {
         Ok(None)
@@ -68,18 +57,14 @@ where
 
 /// The lockstep folder over a main column of these values and no other, which keeps nothing yet;
 /// none where they are not two.
-fn folder_on<'a, SC: StarkGenericConfig>(
+fn folder_on<'a, SC: LaneConfig>(
     alloc: Global,
     x: &VectorizedVal<SC, 2>,
     column: &'a [VectorizedVal<SC, 2>],
     publics: &'a [Val<SC>],
     base_alpha_powers: &'a [Vec<Val<SC>>],
     ext_alpha_powers: &'a [SC::Challenge],
-) -> Option<VectorizedConstraintFolder<'a, SC, 2>>
-where
-    Val<SC>: PackedField,
-    SC::Challenge: PackedExtensionField<Val<SC>>,
-{
+) -> Option<VectorizedConstraintFolder<'a, SC, 2>> {
     if column.len() != 2 {
         return None;
     }
@@ -104,15 +89,11 @@ where
 
 /// What the lockstep folder makes of those assertions with alpha 4; none where there are not as
 /// many elements as lanes.
-fn folded<SC: StarkGenericConfig>(
+fn folded<SC: LaneConfig>(
     alloc: Global,
     elements: &[Val<SC>],
     scratch: &mut Vec<PackedVal<SC>>,
-) -> Result<Option<VectorizedChallenge<SC, 2>>, AllocError>
-where
-    Val<SC>: PackedField,
-    SC::Challenge: PackedExtensionField<Val<SC>>,
-{
+) -> Result<Option<VectorizedChallenge<SC, 2>>, AllocError> {
     if elements.len() != VectorizedVal::<SC, 2>::WIDTH {
         return Ok(None);
     }
@@ -132,10 +113,9 @@ where
 }
 
 /// What is folded of elements in lanes, with a scratch vector that held so many other values.
-pub fn folded_text<SC: StarkGenericConfig>(alloc: Global, text: &str) -> Result<String, Fail>
+pub fn folded_text<SC: LaneConfig>(alloc: Global, text: &str) -> Result<String, Fail>
 where
-    Val<SC>: PackedField,
-    SC::Challenge: PackedExtensionField<Val<SC>> + Debug,
+    SC::Challenge: Debug,
 {
     let (held, elements) = apart(text)?;
     let [held] = numbers_in::<1>(held)?;

@@ -1,11 +1,10 @@
 //! Logarithms, powers of two, sums of products, matrices and row views.
-use crate::elements::{all_above_in, elements_in};
-use crate::rows::{apart, numbers_in, shown};
 use stark_support::{
     Algebra, ExtensionField, Field, PackedExtensionField, PackedField, PackedValue, PrimeField64,
     RowMajorMatrix, RowMajorMatrixView, VerticalPair, ViewPair, batched_linear_combination,
     checked_log_size_sum, checked_pow2, log2_ceil_usize, log2_strict_usize,
 };
+use stark_test_rows::{all_above_in, apart, elements_in, numbers_in, shown};
 use std::alloc::{AllocError, Global};
 use std::fmt::Debug;
 use std::test::Fail;
@@ -28,12 +27,11 @@ packed rows | 1 2 3 4 | 3 => [[3, 4], [3, 4]]
 "#;
 
 /// The answer to a row of these tables.
-pub fn answer<F, EF>(alloc: Global, row: &str) -> Result<String, Fail>
+pub fn answer<F, EF>(alloc: Global, table: &str, text: &str) -> Result<String, Fail>
 where
     F: PrimeField64 + PackedField + Debug,
     EF: PackedExtensionField<F> + Debug,
 {
-    let (table, text) = apart(row)?;
     match table {
         "sums" => sums::<F>(alloc, text),
         "sums above" => sums_above::<F, EF>(alloc, text),

@@ -1,12 +1,11 @@
 //! Polynomials: values, interpolation, and the laws on roots at a field.
-use crate::elements::{above_in, element, elements_in};
-use crate::rows::{apart, numbers_in, shown};
 use stark_bench::{Coset, S12289};
 use stark_support::{
     ExtensionField, Field, PolynomialSpace, PrimeField64, TwoAdicField, all_roots_are_few,
     interpolate, interpolation_is_unique, is_zero, points_differ, polynomial_value,
     polynomial_value_in, roots_are_few, vanishing_is_constant,
 };
+use stark_test_rows::{above_in, apart, element, elements_in, numbers_in, shown};
 use std::alloc::{AllocError, Global};
 use std::fmt::Debug;
 use std::test::Fail;
@@ -35,12 +34,11 @@ subgroup | 10 1024 => its laws are called
 "#;
 
 /// The answer to a row of these tables.
-pub fn answer<F, EF>(alloc: Global, row: &str) -> Result<String, Fail>
+pub fn answer<F, EF>(alloc: Global, table: &str, text: &str) -> Result<String, Fail>
 where
     F: PrimeField64 + TwoAdicField + Debug,
     EF: ExtensionField<F> + Debug,
 {
-    let (table, text) = apart(row)?;
     match table {
         "value" => value::<F>(alloc, text),
         "value above" => value_above::<F, EF>(alloc, text),

@@ -3,9 +3,9 @@
 ghost use Rattle.std.specs.Prelude.{◌≡◌, [], IfOk, None, Some, length, map, refl};
 ghost use Rattle.stark_air.specs.Declaration.{next_width, read_columns};
 
-use crate::rows::{apart, numbers_in, shown};
 use stark_air::{BaseAir, every_column};
 use stark_support::{DomainSeparator, ExtensionField, Field, RowMajorMatrix};
+use stark_test_rows::{apart, numbers_in, shown};
 use stark_transcript::StarkShape;
 use std::alloc::{AllocError, Global};
 use std::test::Fail;
@@ -44,8 +44,11 @@ seed of an air | 1 0 0 0 0 0 | 0 0 0 1 0 0 0 => 443 bytes, 17590433122777902483
 "#;
 
 /// The answer to a row of these tables.
-pub fn answer<F: Field, EF: ExtensionField<F>>(alloc: Global, row: &str) -> Result<String, Fail> {
-    let (table, text) = apart(row)?;
+pub fn answer<F: Field, EF: ExtensionField<F>>(
+    alloc: Global,
+    table: &str,
+    text: &str,
+) -> Result<String, Fail> {
     match table {
         "seed" => first_bytes::<F, EF>(alloc, text),
         "length" => length::<F, EF>(alloc, text),

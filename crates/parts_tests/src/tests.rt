@@ -1,46 +1,45 @@
 //! The rows of all subjects; those of fields and lanes over each field.
 use crate::answers::{baby_bear, lockstep, packed, scalar};
-use crate::rows::all_rows;
-use crate::{challengers, clear_scheme, fields, lanes, numbers, polynomials, seeds, transcripts};
+use crate::{clear_scheme, fields, lanes, numbers, polynomials, seeds, transcripts};
 use stark_bench::S12289;
 use stark_support::{Algebra, PrimeField64};
+use stark_test_rows::all_rows_of;
 use std::test::Fail;
 
 #[test]
 fn all_parts(rt: HostRuntime) -> Result<(), Fail> {
     for (subject, rows) in [
-        ("challengers", challengers::ROWS),
         ("clear scheme", clear_scheme::ROWS),
         ("numbers", numbers::ROWS),
         ("polynomials", polynomials::ROWS),
         ("seeds", seeds::ROWS),
         ("transcripts", transcripts::ROWS),
     ] {
-        all_rows(&rt, rt.alloc(), subject, rows, scalar)?;
+        all_rows_of(rt.alloc(), subject, rows, scalar)?;
     }
     Ok(())
 }
 
 #[test]
 fn over_one_lane(rt: HostRuntime) -> Result<(), Fail> {
-    all_rows(&rt, rt.alloc(), "fields", fields::ROWS, scalar)?;
-    all_rows(&rt, rt.alloc(), "fields", fields::SCALAR_ROWS, scalar)?;
-    all_rows(&rt, rt.alloc(), "fields", fields::ONE_LANE_ROWS, scalar)?;
-    all_rows(&rt, rt.alloc(), "lanes", lanes::SCALAR_ROWS, scalar)
+    all_rows_of(rt.alloc(), "fields", fields::ROWS, scalar)?;
+    all_rows_of(rt.alloc(), "fields", fields::SCALAR_ROWS, scalar)?;
+    all_rows_of(rt.alloc(), "fields", fields::ONE_LANE_ROWS, scalar)?;
+    all_rows_of(rt.alloc(), "lanes", lanes::SCALAR_ROWS, scalar)
 }
 
 #[test]
 fn over_four_lanes(rt: HostRuntime) -> Result<(), Fail> {
-    all_rows(&rt, rt.alloc(), "fields", fields::ROWS, packed)?;
-    all_rows(&rt, rt.alloc(), "fields", fields::PACKED_ROWS, packed)?;
-    all_rows(&rt, rt.alloc(), "lanes", lanes::WIDE_ROWS, packed)
+    all_rows_of(rt.alloc(), "fields", fields::ROWS, packed)?;
+    all_rows_of(rt.alloc(), "fields", fields::PACKED_ROWS, packed)?;
+    all_rows_of(rt.alloc(), "lanes", lanes::WIDE_ROWS, packed)
 }
 
 #[test]
 fn over_lanes_in_lockstep(rt: HostRuntime) -> Result<(), Fail> {
-    all_rows(&rt, rt.alloc(), "fields", fields::ROWS, lockstep)?;
-    all_rows(&rt, rt.alloc(), "fields", fields::LOCKSTEP_ROWS, lockstep)?;
-    all_rows(&rt, rt.alloc(), "lanes", lanes::WIDE_ROWS, lockstep)
+    all_rows_of(rt.alloc(), "fields", fields::ROWS, lockstep)?;
+    all_rows_of(rt.alloc(), "fields", fields::LOCKSTEP_ROWS, lockstep)?;
+    all_rows_of(rt.alloc(), "lanes", lanes::WIDE_ROWS, lockstep)
 }
 
 // What is said of no field in particular is asked again: packs of one lane, and transcripts.
@@ -54,7 +53,7 @@ fn over_baby_bear(rt: HostRuntime) -> Result<(), Fail> {
         ("polynomials", polynomials::OVER_BABY_BEAR),
         ("transcripts", transcripts::ROWS),
     ] {
-        all_rows(&rt, rt.alloc(), subject, rows, baby_bear)?;
+        all_rows_of(rt.alloc(), subject, rows, baby_bear)?;
     }
     Ok(())
 }

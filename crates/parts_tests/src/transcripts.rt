@@ -1,11 +1,10 @@
 //! Transcripts of both sides, over any challenger.
 ghost use Rattle.std.specs.Prelude.{◌≡◌, IfOk, length};
 
-use crate::elements::element;
-use crate::rows::{apart, numbers_in, shown};
 use stark_bench::ClearCommitment;
 use stark_parts::StarkChallenger;
 use stark_support::{ExtensionField, Field, PrimeField64};
+use stark_test_rows::{apart, element, numbers_in, shown};
 use stark_transcript::{
     StarkProverTranscript, StarkShape, StarkTranscriptFailure, StarkVerifierTranscript,
     alpha_without_work,

@@ -1,4 +1,4 @@
 pub mod SizedAirs
 pub mod DeclaringAirs
 pub mod NamedAirs
-pub mod MadeProofs
+pub mod Reads

@@ -11,7 +11,7 @@ use Rattle.stark_tree_air.specs.Faults.{main_next_column, preprocessed_next_colu
 use Rattle.stark_tree_air.specs.FaultFacts.{tree_air_declared, tree_air_within}
 use Rattle.stark_tree_air.specs.Nodes.{spelled}
 use Rattle.stark_tree_air.specs.Traces.{declared_trace}
-use Rattle.protocol_tests.specs.DeclaringAirs.{column_if, counting_if, counting_within, declaring, declaring_layout, trace_if}
+use Rattle.protocol_tests.specs.DeclaringAirs.{column_if, counting_if, counting_within, declaring, declaring_layout, trace_of_width}
 use Rattle.protocol_tests.specs.declared.kinds.NamedAir.{NamedAir}
 use Rattle.protocol_tests.specs.declared.kinds.NamedAir.TheVariants.{Sample, Small, Bounded, Declaring, Tree}
 
@@ -26,14 +26,14 @@ abbrev pub named_layout : {F : Type 0} → NamedAir F → Layout
 named_layout (Sample air) = any_layout air
 named_layout (Small _) = column_layout
 named_layout (Bounded _) = column_layout
-named_layout (Declaring air) = declaring_layout air.reads_next air.has_fixed air.reads_fixed_next (length (map (λ column. column.items) air.periodic.items))
+named_layout (Declaring air) = declaring_layout air.reads_next air.fixed air.reads_fixed_next (length (map (λ column. column.items) air.periodic.items))
 named_layout (Tree air) = tree_layout air.declaration.columns air.list.nodes.items
 
 abbrev pub named_preprocessed_trace : {F : Type 0} → (ℕ → F) → NamedAir F → Option (Trace F)
 named_preprocessed_trace of_number (Sample air) = any_preprocessed_trace of_number air
 named_preprocessed_trace of_number (Small _) = None
 named_preprocessed_trace of_number (Bounded _) = None
-named_preprocessed_trace of_number (Declaring air) = trace_if air.has_fixed
+named_preprocessed_trace of_number (Declaring air) = trace_of_width air.fixed
 named_preprocessed_trace of_number (Tree air) = declared_trace air.declaration.columns.preprocessed_trace
 
 abbrev pub named_next_columns : {F : Type 0} → NamedAir F → List ℕ
@@ -69,7 +69,7 @@ pub named_declared : {F : Type 0} (of_number : ℕ → F) (air : NamedAir F)
 named_declared of_number (Sample air) = any_declared of_number air
 named_declared of_number (Small _) = record { preprocessed_width = refl; periodic_columns = refl; main_next_row = refl; preprocessed_next_row = refl }
 named_declared of_number (Bounded _) = record { preprocessed_width = refl; periodic_columns = refl; main_next_row = refl; preprocessed_next_row = refl }
-named_declared of_number (Declaring air) = declaring air.reads_next air.has_fixed air.reads_fixed_next _
+named_declared of_number (Declaring air) = declaring air.reads_next air.fixed air.reads_fixed_next _
 named_declared of_number (Tree air) = tree_air_declared air.declaration.columns air.list.nodes.items
 
 abbrev pub named_constraints : {F : Type 0} → F → (ℕ → F) → NamedAir F → List (Constraint F)
@@ -83,5 +83,5 @@ pub named_within : {F : Type 0} (one : F) (of_number : ℕ → F) (air : NamedAi
 named_within one of_number (Sample air) = any_within one air
 named_within one of_number (Small air) = asked_within one of_number air.asked
 named_within one of_number (Bounded _) = (((omega arith, omega arith), omega arith), tt)
-named_within {F = F} one of_number (Declaring air) = counting_within F one air.reads_next air.has_fixed air.reads_fixed_next _
+named_within {F = F} one of_number (Declaring air) = counting_within F one air.reads_next air.fixed air.reads_fixed_next _
 named_within one of_number (Tree air) = tree_air_within air.declaration.columns air.list.constants.items air.list.nodes.items air.list.constraints.items air.without_fault

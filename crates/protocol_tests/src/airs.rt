@@ -1,16 +1,14 @@
 //! The sample AIRs: what they declare, and their constraints folded at 3 over the subgroup of two
 //! points with alpha 4. The selectors there are 4 for the first row, 2 for the last and 4 for the
 //! transition.
-ghost use Rattle.std.specs.Prelude.{◌≡◌, [], IfOk, IsTrue};
+ghost use Rattle.std.specs.Prelude.{◌≡◌, IfOk, IsTrue};
 ghost use Rattle.stark_air.specs.Declaration.{next_width};
 ghost use Rattle.stark_air.specs.Layout.{Covers};
-ghost use Rattle.stark_air.specs.Rows.{layout_of};
+ghost use Rattle.protocol_tests.specs.Reads.{layout_read};
 
 use crate::calls::{self, reads_of_a_part, selectors_at};
-use crate::elements::{above, elements_in};
-use crate::kinds::NamedAir;
+use crate::kinds::{NamedAir, ReadRows};
 use crate::named_air::named_air;
-use crate::rows::{apart, list_in, numbers_in, shown};
 use stark_air::{Air, BaseAir, every_column};
 use stark_bench::{ClearCommitment, S12289};
 use stark_samples::PreprocessedAir;
@@ -18,6 +16,7 @@ use stark_support::{
     CanObserve, ExtensionChallenger, ExtensionField, FieldChallenger, PrimeField64, RowMajorMatrix,
     TwoAdicField,
 };
+use stark_test_rows::{above, apart, elements_in, list_in, numbers_in, shown};
 use std::alloc::{AllocError, Global};
 use std::fmt::Debug;
 use std::test::Fail;
@@ -133,24 +132,19 @@ fn next_widths<F, A: BaseAir<F>>(alloc: Global, air: &A) -> Result<(usize, usize
 fn are_covered<F, EF, A: BaseAir<F>>(
     air: &A,
     next_widths: (usize, usize),
-    local: &[EF],
-    next: &[EF],
-    fixed: &[EF],
-    periodic: &[EF],
-    publics: &[F],
+    read: &ReadRows<'_, F, EF>,
 ) -> bool
     requires main { next_widths.0 ≡ (A.layout air.now).main_next }
     requires preprocessed { next_widths.1 ≡ (A.layout air.now).preprocessed_next }
-    ensures { IsTrue result → Covers (layout_of local.now next.now fixed.now [] publics.now
-        periodic.now) (A.layout air.now) }
+    ensures { IsTrue result → Covers (layout_read read.now) (A.layout air.now) }
 {
     let (main_next, fixed_next) = next_widths;
-    local.len() >= air.width()
-        && next.len() >= main_next
-        && fixed.len() >= air.preprocessed_width()
+    read.local.len() >= air.width()
+        && read.next.len() >= main_next
+        && read.fixed.len() >= air.preprocessed_width()
         && fixed_next == 0
-        && publics.len() >= air.num_public_values()
-        && periodic.len() >= air.num_periodic_columns()
+        && read.publics.len() >= air.num_public_values()
+        && read.periodic.len() >= air.num_periodic_columns()
 }
 
 /// Whether rows have at least what an AIR reads of them, and it reads nothing of a preprocessed row
@@ -158,18 +152,13 @@ fn are_covered<F, EF, A: BaseAir<F>>(
 fn covers<F, EF, A: BaseAir<F>>(
     alloc: Global,
     air: &A,
-    local: &[EF],
-    next: &[EF],
-    fixed: &[EF],
-    periodic: &[EF],
-    publics: &[F],
+    read: &ReadRows<'_, F, EF>,
 ) -> Result<bool, AllocError>
     ensures { IfOk result (λ covers. IsTrue covers
-        → Covers (layout_of local.now next.now fixed.now [] publics.now periodic.now)
-        (A.layout air.now)) }
+        → Covers (layout_read read.now) (A.layout air.now)) }
 {
     let widths = next_widths(alloc, air)?;
-    Ok(are_covered(air, widths, local, next, fixed, periodic, publics))
+    Ok(are_covered(air, widths, read))
 }
 
 /// The folded sum: the main row | the one after it | the preprocessed row | the periodic values |
@@ -190,31 +179,30 @@ where
     let fixed = row_in::<F, EF>(alloc, fixed)?;
     let periodic = row_in::<F, EF>(alloc, periodic)?;
     let publics = elements_in::<F>(alloc, publics)?;
-    let sum = folded_of::<F, EF, C, A>(alloc, air, &local, &next, &fixed, &periodic, &publics)?;
+    let read = ReadRows {
+        local: &local,
+        next: &next,
+        fixed: &fixed,
+        periodic: &periodic,
+        publics: &publics,
+    };
+    let sum = folded_of::<F, EF, C, A>(alloc, air, &read)?;
     shown(alloc, &sum)
 }
 
-fn folded_of<F, EF, C, A>(
-    alloc: Global,
-    air: &A,
-    local: &[EF],
-    next: &[EF],
-    fixed: &[EF],
-    periodic: &[EF],
-    publics: &[F],
-) -> Result<EF, Fail>
+fn folded_of<F, EF, C, A>(alloc: Global, air: &A, read: &ReadRows<'_, F, EF>) -> Result<EF, Fail>
 where
     F: PrimeField64 + TwoAdicField,
     EF: ExtensionField<F>,
     C: FieldChallenger<F> + CanObserve<ClearCommitment<F>> + ExtensionChallenger<F, EF> + Clone,
     A: Air<F>,
 {
-    if !covers(alloc, air, local, next, fixed, periodic, publics)? {
+    if !covers(alloc, air, read)? {
         return Err(Fail::new("a short row"));
     }
     let (zeta, alpha) = (above::<F, EF>(3), above::<F, EF>(4));
     let selectors = selectors_at::<F, EF>(1, zeta).ok_or("3 lies in the domain")?;
-    Ok(calls::folded::<F, EF, C, A>(air, local, next, fixed, periodic, publics, selectors, alpha)?)
+    Ok(calls::folded::<F, EF, C, A>(air, read, selectors, alpha)?)
 }
 
 fn folded_by_name<F, EF, C>(alloc: Global, text: &str) -> Result<String, Fail>

@@ -1,7 +1,5 @@
 //! The answers to rows: over two fields, and over each packing of the smaller where they ask for
 //! lanes.
-use crate::elements::elements_in;
-use crate::rows::apart;
 use crate::{
     airs, chains, constraints, domains, hostile_inputs, preprocessing, proofs, provers, quotients,
     security, sizing, trees, verdicts,
@@ -12,8 +10,10 @@ use stark_bench::{
 };
 use stark_parts::StarkChallenger;
 use stark_support::{
-    NeverNull, PackedExtensionField, PackedField, PrimeField64, QuarticBase, TwoAdicField,
+    ExtensionField, NeverNull, PackedExtensionField, PackedField, PrimeField64, QuarticBase,
+    TwoAdicField,
 };
+use stark_test_rows::{apart, elements_in, script_of};
 use std::alloc::Global;
 use std::fmt::Debug;
 use std::test::Fail;
@@ -38,6 +38,22 @@ where
     }
 }
 
+/// The answer to a row of a table that asks for no challenger's state.
+fn answer_of_table<F, EF, C>(alloc: Global, subject: &str, row: &str) -> Result<String, Fail>
+where
+    F: PrimeField64 + TwoAdicField + NeverNull + Debug,
+    EF: ExtensionField<F> + NeverNull + Debug,
+    C: StarkChallenger<F, EF, ClearCommitment<F>>,
+{
+    let (table, text) = apart(row)?;
+    match subject {
+        "domains" => domains::answer::<F, EF, C>(alloc, table, text),
+        "proofs" => proofs::answer::<F, EF>(alloc, table, text),
+        "sizing" => sizing::answer::<F, EF>(alloc, table, text),
+        _ => Err(Fail::new("no such subject")),
+    }
+}
+
 /// The same of each subject. What asks for no lanes is asked over fields of one lane.
 fn answer<F, EF, C>(alloc: Global, challenger: C, subject: &str, row: &str) -> Result<String, Fail>
 where
@@ -49,12 +65,10 @@ where
         "airs" => airs::answer::<F, EF, C>(alloc, row),
         "chains" => chains::answer::<F, EF>(alloc, row),
         "constraints" => constraints::answer::<F, EF, C>(alloc, row),
-        "domains" => domains::answer::<F, EF, C>(alloc, row),
         "hostile inputs" => hostile_inputs::answer::<F, EF, C>(alloc, challenger, row),
         "preprocessing" => preprocessing::answer::<F, EF, C>(alloc, challenger, row),
-        "proofs" => proofs::answer::<F, EF>(alloc, row),
         "security" => security::answer::<F, EF, C>(alloc, row),
-        "sizing" => sizing::answer::<F, EF>(alloc, row),
+        "domains" | "proofs" | "sizing" => answer_of_table::<F, EF, C>(alloc, subject, row),
         "trees" => trees::answer::<F, EF, C>(alloc, challenger, row),
         "verdicts" => verdicts::answer::<F, EF, C>(alloc, challenger, row),
         _ => answer_in_lanes::<F, EF, C>(alloc, challenger, subject, row),
@@ -74,11 +88,7 @@ fn script<F: PrimeField64>(alloc: Global, row: &str) -> Result<Option<ScriptChal
         Some(rest) => apart(rest)?.0,
         None => NUMBERS,
     };
-    let elements = elements_in::<F>(alloc, numbers)?;
-    if elements.is_empty() {
-        return Err(Fail::new("a script of no elements"));
-    }
-    Ok(Some(ScriptChallenger::new(elements)))
+    Ok(Some(script_of(elements_in::<F>(alloc, numbers)?)?))
 }
 
 pub fn scalar(alloc: Global, subject: &str, row: &str) -> Result<String, Fail> {

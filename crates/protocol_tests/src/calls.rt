@@ -3,9 +3,11 @@
 ghost use Rattle.std.specs.Prelude.{◌≡◌, ◌↔◌, ◌+◌, ◌^◌, ◌≤◌, ◌<◌, All, IfOk, IsTrue, [], length, vec_len};
 ghost use Rattle.stark_air.specs.Layout.{Covers};
 ghost use Rattle.stark_air.specs.Rows.{layout_of};
-ghost use Rattle.stark_support.specs.Coset.{coset_size, coset_vanishing};
+ghost use Rattle.stark_support.specs.Coset.{vanishing_at};
 ghost use Rattle.stark_protocol.specs.Preprocessing.{HasHeight, IsCommittedWithin};
+ghost use Rattle.protocol_tests.specs.Reads.{layout_read};
 
+use crate::kinds::ReadRows;
 use p3_uni_stark::{
     PreprocessedProverData, PreprocessedVerifierKey, Proof, StarkProof,
     recompose_quotient_from_chunks, setup_preprocessed, verify, verify_constraints,
@@ -33,15 +35,10 @@ use std::marker::PhantomData;
 /// The configuration with the scheme in the clear.
 pub type ClearConfig<F, EF, C> = StarkConfig<ClearPcs<F>, EF, C>;
 
-/// The folded sum over a main row and the one after it, a preprocessed row, periodic values and
-/// public values.
+/// The folded sum over rows.
 pub fn folded<F, EF, C, A>(
     air: &A,
-    local: &[EF],
-    next: &[EF],
-    fixed: &[EF],
-    periodic: &[EF],
-    publics: &[F],
+    read: &ReadRows<'_, F, EF>,
     selectors: LagrangeSelectors<EF>,
     alpha: EF,
 ) -> Result<EF, AllocError>
@@ -50,33 +47,31 @@ where
     EF: ExtensionField<F>,
     C: FieldChallenger<F> + CanObserve<ClearCommitment<F>> + ExtensionChallenger<F, EF> + Clone,
     A: Air<F>,
-    requires { Covers (layout_of local.now next.now fixed.now [] publics.now periodic.now)
-        (A.layout air.now) }
+    requires { Covers (layout_read read.now) (A.layout air.now) }
 {
     let main = RowWindow {
-        current: local,
-        next,
+        current: read.local,
+        next: read.next,
         of: PhantomData,
     };
     let preprocessed = RowWindow {
-        current: fixed,
-        next: &local[..0],
+        current: read.fixed,
+        next: &read.local[..0],
         of: PhantomData,
     };
     let rows = RowsAtPoint {
         main,
         preprocessed,
-        periodic_values: periodic,
-        public_values: publics,
+        periodic_values: read.periodic,
+        public_values: read.publics,
     };
     fold_constraints::<ClearConfig<F, EF, C>, A>(air, rows, selectors, alpha)
 }
 
 /// Whether a domain's vanishing value at a point is zero.
 fn vanishes_at<D: PolynomialSpace, EF: ExtensionField<D::Val>>(domain: &D, point: EF) -> bool
-    ensures { IsTrue result ↔ (coset_vanishing EF.ring (λ c. c) EF.inverse_of
-        (coset_size (D.coset_of domain.now)) (EF.embed (D.coset_of domain.now).shift) point
-        ≡ EF.ring.zero) }
+    ensures { IsTrue result ↔ (vanishing_at EF.ring EF.inverse_of EF.embed
+        (D.coset_of domain.now) point ≡ EF.ring.zero) }
 {
     domain.vanishing_poly_at_point(point) == EF::ZERO
 }
@@ -128,24 +123,6 @@ fn chunk<X: Copy + Drop>(alloc: Global, x: X, zero: X) -> Result<Vec<X>, AllocEr
     Ok(values)
 }
 
-fn recomposed_alone<F, EF, C>(
-    alloc: Global,
-    domain: Coset<F>,
-    chunk: Vec<EF>,
-    zeta: EF,
-) -> Result<EF, AllocError>
-where
-    F: TwoAdicField + PrimeField64,
-    EF: ExtensionField<F>,
-    C: FieldChallenger<F> + CanObserve<ClearCommitment<F>> + ExtensionChallenger<F, EF> + Clone,
-    requires dimension { vec_len chunk ≡ EF.DIMENSION }
-{
-    let mut domains = Vec::new(alloc);
-    domains.push(domain)?;
-    let chunks = vec![in alloc; chunk]?;
-    Ok(recompose_quotient_from_chunks::<ClearConfig<F, EF, C>>(&domains, &chunks, zeta))
-}
-
 /// The value recomposed from one chunk, whose first coordinate is given and the others zero; none
 /// where the extension has another degree than four.
 pub fn recomposed_of_one<F, EF, C>(
@@ -162,8 +139,10 @@ where
     if EF::DIMENSION != 4 {
         return Ok(None);
     }
-    let chunk = chunk(alloc, first, EF::ZERO)?;
-    let value = recomposed_alone::<F, EF, C>(alloc, domain, chunk, zeta)?;
+    let mut domains = Vec::new(alloc);
+    domains.push(domain)?;
+    let chunks = vec![in alloc; chunk(alloc, first, EF::ZERO)?]?;
+    let value = recompose_quotient_from_chunks::<ClearConfig<F, EF, C>>(&domains, &chunks, zeta);
     Ok(Some(value))
 }
 
@@ -346,7 +325,7 @@ pub type Keys<F> = (
 );
 
 /// What is set up for an AIR at a height; nothing where it was refused.
-pub fn set_up<F, EF, C, A>(
+pub fn set_up<F, EF, C, A: BaseAir<F>>(
     alloc: Global,
     config: &ClearConfig<F, EF, C>,
     air: &A,
@@ -356,7 +335,6 @@ where
     F: TwoAdicField + PrimeField64,
     EF: ExtensionField<F>,
     C: FieldChallenger<F> + CanObserve<ClearCommitment<F>> + ExtensionChallenger<F, EF> + Clone,
-    A: BaseAir<F>,
     requires height { HasHeight degree_bits (A.preprocessed_trace air.now) }
     requires within { IsCommittedWithin degree_bits F.TWO_ADICITY (A.preprocessed_trace air.now) }
 {

@@ -1,7 +1,6 @@
 //! AIRs with long chains of nodes, sized by numbers alone: on trees a chain of doublings would take
 //! all memory, and a longer one the stack.
 use crate::named_air::tree_of;
-use crate::rows::{apart, numbers_in};
 use p3_uni_stark::ood_error_bound;
 use stark_air::AirLayout;
 use stark_parts::{get_log_num_quotient_chunks_for_degree, get_log_quotient_degree_extension};
@@ -9,6 +8,7 @@ use stark_support::{ExtensionField, Field, JsonCodec};
 use stark_symbolic::{
     LeafDegrees, get_constraint_layout, get_max_constraint_degree_extension, greatest_degrees,
 };
+use stark_test_rows::{apart, numbers_in};
 use stark_tree_air::{TreeAir, TreeColumns, TreeDeclaration, TreeList, TreeNode};
 use std::alloc::Global;
 use std::test::Fail;

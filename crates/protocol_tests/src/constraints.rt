@@ -1,13 +1,12 @@
 //! The test of the counter's constraints over the subgroup of two points, at zeta 3 and alpha 4.
 use crate::airs::row_in;
 use crate::calls::equation;
-use crate::elements::{above, elements_in};
-use crate::rows::{apart, numbers_in, shown};
 use stark_bench::ClearCommitment;
 use stark_samples::CounterAir;
 use stark_support::{
     CanObserve, ExtensionChallenger, ExtensionField, FieldChallenger, PrimeField64, TwoAdicField,
 };
+use stark_test_rows::{above, apart, elements_in, numbers_in, shown};
 use std::alloc::Global;
 use std::fmt::Debug;
 use std::test::Fail;

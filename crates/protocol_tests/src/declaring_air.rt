@@ -1,6 +1,6 @@
 //! The counter under declarations of every kind.
 ghost use Rattle.std.specs.Prelude.{◌≡◌, IfOk, length, map};
-ghost use Rattle.protocol_tests.specs.DeclaringAirs.{column_if, counting_if, counting_within, declaring, declaring_layout, trace_if};
+ghost use Rattle.protocol_tests.specs.DeclaringAirs.{column_if, counting_if, counting_within, declaring, declaring_layout, trace_of_width};
 
 use crate::kinds::DeclaringAir;
 use stark_air::{Air, BaseAir, ExtensionBuilder, every_column};
@@ -20,10 +20,10 @@ fn column_if(alloc: Global, read: bool) -> Result<Vec<usize>, AllocError>
 }
 
 impl<F> BaseAir<F> for DeclaringAir<F> {
-    ghost layout = { λ air. declaring_layout air.reads_next air.has_fixed air.reads_fixed_next
+    ghost layout = { λ air. declaring_layout air.reads_next air.fixed air.reads_fixed_next
         (length (map (λ column. column.items) air.periodic.items)) };
 
-    ghost preprocessed_trace = { λ air. trace_if air.has_fixed };
+    ghost preprocessed_trace = { λ air. trace_of_width air.fixed };
 
     ghost periodic_columns = { λ air. map (λ column. column.items) air.periodic.items };
 
@@ -33,24 +33,27 @@ impl<F> BaseAir<F> for DeclaringAir<F> {
 
     ghost degree_hint = { λ air. air.hint };
 
-    ghost as_declared = { λ air. declaring air.reads_next air.has_fixed air.reads_fixed_next _ };
+    ghost as_declared = { λ air. declaring air.reads_next air.fixed air.reads_fixed_next _ };
 
     fn width(&self) -> usize {
         1
     }
 
     fn preprocessed_width(&self) -> usize {
-        if self.has_fixed { 1 } else { 0 }
+        match self.fixed {
+            Some(width) => width,
+            None => 0,
+        }
     }
 
     fn preprocessed_trace(&self, alloc: Global) -> Result<Option<RowMajorMatrix<F>>, AllocError> {
-        if !self.has_fixed {
-            return Ok(None);
+        match self.fixed {
+            Some(width) => Ok(Some(RowMajorMatrix {
+                values: Vec::new(alloc),
+                width,
+            })),
+            None => Ok(None),
         }
-        Ok(Some(RowMajorMatrix {
-            values: Vec::new(alloc),
-            width: 1,
-        }))
     }
 
     fn num_public_values(&self) -> usize {
@@ -85,7 +88,7 @@ impl<F> BaseAir<F> for DeclaringAir<F> {
 impl<F: Field> Air<F> for DeclaringAir<F> {
     ghost constraints = { λ air. counting_if F.ONE air.reads_next };
 
-    ghost leaves_within = { λ air. counting_within _ F.ONE air.reads_next air.has_fixed
+    ghost leaves_within = { λ air. counting_within _ F.ONE air.reads_next air.fixed
         air.reads_fixed_next _ };
 
     fn eval<AB: ExtensionBuilder<F = F>>(&self, builder: &mut AB) -> Result<(), AllocError> {

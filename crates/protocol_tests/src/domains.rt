@@ -1,46 +1,21 @@
-//! Cosets, their parts and selectors, and the recomposition of a quotient.
+//! Selectors of a coset, periodic columns beside it, and the recomposition of a quotient. What
+//! needs the fields alone stands in `fields_tests`.
 use crate::calls::{recomposed_on_parts, selectors_at};
-use crate::elements::{above, element, elements_in};
-use crate::rows::{apart, list_in, numbers_in, shown};
-use stark_bench::{CircleShape, ClearCommitment, Coset, S12289};
+use stark_bench::{ClearCommitment, Coset};
 use stark_protocol::power_of_two;
 use stark_support::{
     CanObserve, DomainShape, ExtensionChallenger, ExtensionField, Field, FieldChallenger,
-    LagrangeSelectors, PeriodicColumnShapeError, PeriodicColumns, PolynomialSpace, PrimeField64,
-    TwoAdicField,
+    PeriodicColumnShapeError, PeriodicColumns, PolynomialSpace, PrimeField64, TwoAdicField,
 };
+use stark_test_rows::{above, apart, elements_in, list_in, numbers_in, shown};
 use std::alloc::{AllocError, Global};
 use std::fmt::Debug;
 use std::test::Fail;
 
 // A table's name | what is given.
 pub const ROWS: &str = r#"
-# The logarithm of a subgroup's size, and a point: the vanishing value there.
-vanishing | 1 12288 => Some(Ext4 { c0: 0, c1: 0, c2: 0, c3: 0 })
-vanishing | 1 3 => Some(Ext4 { c0: 8, c1: 0, c2: 0, c3: 0 })
-
 # The selectors of a subgroup at a point. At 3 on the subgroup of two points they are 4, 2 and 4, and the vanishing value is 8.
 selectors | 1 3 => Ext4 { c0: 4, c1: 0, c2: 0, c3: 0 } Ext4 { c0: 2, c1: 0, c2: 0, c3: 0 } Ext4 { c0: 4, c1: 0, c2: 0, c3: 0 } Ext4 { c0: 10753, c1: 0, c2: 0, c3: 0 }
-
-# How many points a subgroup has, and its degree multiple of the transition.
-size | 1 => 2 0
-
-# The selectors of a subgroup at a coset beside it of as many points: of the subgroup of two points, at 11 and -11.
-beside | 1 => [12, 12279] [10, 12277] [12, 12279] [7271, 7271]
-
-# The shift and the logarithm of the size of a coset: its first point and its two parts, by theirs.
-parts | 11 2 => 11 [(11, 1), (3980, 1)]
-
-# The size of a domain beside the subgroup of two points: its shift and its size's logarithm.
-disjoint | 0 => Some((11, 0))
-disjoint | 1 => Some((11, 0))
-disjoint | 2 => Some((11, 1))
-disjoint | 3 => Some((11, 2))
-disjoint | 4096 => Some((11, 12))
-disjoint | 4097 => None
-
-# On the subgroup of two points the row after 3 is at -3.
-next | 1 3 => Some(Ext4 { c0: 12286, c1: 0, c2: 0, c3: 0 })
 
 # The lengths of columns beside a trace of four rows: whether they fit, or what is wrong.
 fitting | 0 => Err(Empty { column: 0 })
@@ -63,8 +38,6 @@ recomposed | 3 2 | 9603 9340 9340 9340, 6903 5345 5345 5345, 2720 2941 2941 2941
 // the columns by Lagrange's interpolation, the chunks' weights as products of quotients, on parts
 // of the coset of 31. What else there is of cosets over this field stands in `fields_tests`.
 pub const OVER_BABY_BEAR: &str = r#"
-size | 27 => 134217728 0
-
 selectors | 1 3 => Ext4 { c0: 4, c1: 0, c2: 0, c3: 0 } Ext4 { c0: 2, c1: 0, c2: 0, c3: 0 } Ext4 { c0: 4, c1: 0, c2: 0, c3: 0 } Ext4 { c0: 1761607681, c1: 0, c2: 0, c3: 0 }
 selectors | 3 2013265918 => Ext4 { c0: 2013264281, c1: 0, c2: 0, c3: 0 } Ext4 { c0: 98267453, c1: 0, c2: 0, c3: 0 } Ext4 { c0: 211723191, c1: 0, c2: 0, c3: 0 } Ext4 { c0: 1914750927, c1: 0, c2: 0, c3: 0 }
 selectors | 10 1234567890 => Ext4 { c0: 1782665506, c1: 0, c2: 0, c3: 0 } Ext4 { c0: 1794706478, c1: 0, c2: 0, c3: 0 } Ext4 { c0: 460054628, c1: 0, c2: 0, c3: 0 } Ext4 { c0: 111510941, c1: 0, c2: 0, c3: 0 }
@@ -81,34 +54,19 @@ recomposed | 4 0 | 2013265920 1234567890 987654321 2000000000 => Some(Ext4 { c0:
 "#;
 
 /// The answer to a row of these tables.
-pub fn answer<F, EF, C>(alloc: Global, row: &str) -> Result<String, Fail>
+pub fn answer<F, EF, C>(alloc: Global, table: &str, text: &str) -> Result<String, Fail>
 where
     F: PrimeField64 + TwoAdicField + Debug,
     EF: ExtensionField<F> + Debug,
     C: FieldChallenger<F> + CanObserve<ClearCommitment<F>> + ExtensionChallenger<F, EF> + Clone,
 {
-    let (table, text) = apart(row)?;
     match table {
-        "vanishing" => vanishing::<F, EF>(alloc, text),
         "selectors" => selectors::<F, EF>(alloc, text),
-        "size" => size::<F>(alloc, text),
-        "beside" => beside::<F>(alloc, text),
-        "parts" => parts::<F>(alloc, text),
-        "disjoint" => disjoint::<F>(alloc, text),
-        "next" => next::<F, EF>(alloc, text),
         "fitting" => fitting::<F>(alloc, text),
         "periodic" => periodic::<F, EF>(alloc, text),
         "recomposed" => recomposed::<F, EF, C>(alloc, text),
         _ => Err(Fail::new("no such table")),
     }
-}
-
-/// The subgroup of `2^log_size` points; none where there is no such group.
-fn subgroup<F: TwoAdicField>(log_size: usize) -> Option<Coset<F>> {
-    if log_size > F::TWO_ADICITY {
-        return None;
-    }
-    Some(Coset::subgroup(log_size))
 }
 
 /// The coset with this shift of `2^log_size` points; none where there is no such coset.
@@ -117,19 +75,6 @@ fn coset<F: TwoAdicField>(shift: F, log_size: usize) -> Option<Coset<F>> {
         return None;
     }
     Some(Coset::new(shift, log_size))
-}
-
-fn vanishing<F, EF>(alloc: Global, text: &str) -> Result<String, Fail>
-where
-    F: PrimeField64 + TwoAdicField,
-    EF: ExtensionField<F> + Debug,
-{
-    let [log_size, point] = numbers_in::<2>(text)?;
-    let found: Option<EF> = match subgroup::<F>(log_size as usize) {
-        Some(domain) => Some(domain.vanishing_poly_at_point(above::<F, EF>(point))),
-        None => None,
-    };
-    shown(alloc, &found)
 }
 
 fn selectors<F, EF>(alloc: Global, text: &str) -> Result<String, Fail>
@@ -144,86 +89,6 @@ where
         "{:?} {:?} {:?} {:?}",
         found.is_first_row, found.is_last_row, found.is_transition, found.inv_vanishing
     )?)
-}
-
-fn size<F: TwoAdicField>(alloc: Global, text: &str) -> Result<String, Fail> {
-    let [log_size] = numbers_in::<1>(text)?;
-    let domain = subgroup::<F>(log_size as usize).ok_or("no such group")?;
-    let (size, multiple) = (domain.size(), domain.transition_degree_multiple());
-    Ok(format!(in alloc; "{size} {multiple}")?)
-}
-
-/// The selectors of the subgroup of `2^log_size` points at a coset beside it of as many points.
-fn selectors_beside<F: TwoAdicField>(
-    alloc: Global,
-    log_size: usize,
-) -> Result<Option<LagrangeSelectors<Vec<F>>>, AllocError> {
-    if log_size > F::TWO_ADICITY {
-        return Ok(None);
-    }
-    let domain: Coset<F> = Coset::subgroup(log_size);
-    match domain.try_create_disjoint_domain(domain.size()) {
-        Some(apart) => Ok(Some(domain.selectors_on_coset(alloc, &apart)?)),
-        None => Ok(None),
-    }
-}
-
-fn beside<F: TwoAdicField + Debug>(alloc: Global, text: &str) -> Result<String, Fail> {
-    let [log_size] = numbers_in::<1>(text)?;
-    let found = selectors_beside::<F>(alloc, log_size as usize)?.ok_or("no coset")?;
-    Ok(format!(in alloc;
-        "{:?} {:?} {:?} {:?}",
-        found.is_first_row, found.is_last_row, found.is_transition, found.inv_vanishing
-    )?)
-}
-
-/// The two parts of a coset, by their shifts and their sizes' logarithms.
-fn parts_of<F: TwoAdicField>(
-    alloc: Global,
-    domain: &Coset<F>,
-) -> Result<Vec<Coset<F>>, AllocError> {
-    if domain.size() < 2 {
-        return Ok(Vec::new(alloc));
-    }
-    domain.split_domains(alloc, 2)
-}
-
-fn parts<F: PrimeField64 + TwoAdicField + Debug>(
-    alloc: Global,
-    text: &str,
-) -> Result<String, Fail> {
-    let [shift, log_size] = numbers_in::<2>(text)?;
-    let domain = coset::<F>(element(shift), log_size as usize).ok_or("no such coset")?;
-    let mut found = Vec::new(alloc);
-    for part in parts_of(alloc, &domain)? {
-        found.push((part.shift, part.log_size))?;
-    }
-    Ok(format!(in alloc; "{:?} {found:?}", domain.first_point())?)
-}
-
-/// The domain beside the subgroup of two points that has at least so many.
-fn disjoint_of<F: TwoAdicField>(size: usize) -> Option<Coset<F>> {
-    subgroup::<F>(1)?.try_create_disjoint_domain(size)
-}
-
-fn disjoint<F: TwoAdicField + Debug>(alloc: Global, text: &str) -> Result<String, Fail> {
-    let [size] = numbers_in::<1>(text)?;
-    let found = match disjoint_of::<F>(size as usize) {
-        Some(other) => Some((other.shift, other.log_size)),
-        None => None,
-    };
-    shown(alloc, &found)
-}
-
-fn next<F, EF>(alloc: Global, text: &str) -> Result<String, Fail>
-where
-    F: PrimeField64 + TwoAdicField,
-    EF: ExtensionField<F> + Debug,
-{
-    let [log_size, point] = numbers_in::<2>(text)?;
-    let domain = subgroup::<F>(log_size as usize).ok_or("no such group")?;
-    let found: Option<EF> = domain.next_point(above::<F, EF>(point));
-    shown(alloc, &found)
 }
 
 /// Whether columns fit a trace of four rows, or what is wrong.
@@ -328,20 +193,4 @@ where
     }
     let found = recomposed_at::<F, EF, C>(alloc, log_size as usize, log_chunks as usize, &chunks)?;
     shown(alloc, &found)
-}
-
-#[test]
-fn circle_shapes(rt: HostRuntime) -> Result<(), Fail> {
-    let shape = CircleShape { size: 8 };
-    assert_eq!(rt; shape.size(), 8);
-    assert_eq!(rt; shape.transition_degree_multiple(), 1);
-    Ok(())
-}
-
-#[test]
-fn a_domain_that_is_there(rt: HostRuntime) -> Result<(), Fail> {
-    let domain: Coset<S12289> = Coset::subgroup(1);
-    let other = domain.create_disjoint_domain(3);
-    assert_eq!(rt; (other.shift.value(), other.log_size), (11, 2));
-    Ok(())
 }

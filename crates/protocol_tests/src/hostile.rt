@@ -2,7 +2,7 @@
 //! each. A fault is a few edits of an honest input's text: ` > ` stands between what is taken out
 //! and what is put in its place, ` & ` between two edits.
 use crate::answers::scalar;
-use crate::rows::apart;
+use stark_test_rows::apart;
 use std::alloc::Global;
 use std::process::Abort;
 use std::test::Fail;

@@ -6,7 +6,6 @@ use crate::calls::ClearConfig;
 use crate::kinds::{DeclaringAir, NamedAir};
 use crate::proofs::value_of;
 use crate::proving::{MaskedConfig, masked};
-use crate::rows::{apart, shown};
 use p3_uni_stark::{
     PcsProof, PreprocessedOpenedValues, PreprocessedVerifierKey, Proof, verify_with_preprocessed,
 };
@@ -18,6 +17,7 @@ use stark_support::{
     ExtensionField, Field, GrindingChallenger, JsonCodec, NeverNull, PrimeField64, TwoAdicField,
     list_from_json, lists_from_json,
 };
+use stark_test_rows::{apart, shown};
 use std::alloc::Global;
 use std::fmt::Debug;
 use std::test::Fail;
@@ -40,7 +40,11 @@ fn air_of<F: JsonCodec + Drop>(alloc: Global, value: &Value) -> Result<NamedAir<
     let periodic = value.get("periodic").ok_or("no columns")?;
     Ok(NamedAir::Declaring(DeclaringAir {
         reads_next: flag_at(value, "next")?,
-        has_fixed: flag_at(value, "fixed")?,
+        fixed: if flag_at(value, "fixed")? {
+            Some(1)
+        } else {
+            None
+        },
         reads_fixed_next: flag_at(value, "fixed_next")?,
         periodic: lists_from_json(alloc, periodic)
             .ok()

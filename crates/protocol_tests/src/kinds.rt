@@ -1,4 +1,4 @@
-//! The AIRs of the rows, as types.
+//! The AIRs of the rows, and what one reads, as types.
 use stark_samples::{AnySampleAir, SmallAir};
 use stark_tree_air::TreeAir;
 
@@ -39,8 +39,8 @@ pub struct BoundedCubic {
 pub struct DeclaringAir<F> {
     /// Whether the next row is read.
     pub reads_next: bool,
-    /// Whether there is a preprocessed column.
-    pub has_fixed: bool,
+    /// The width of the preprocessed trace, which has no rows; none without one.
+    pub fixed: Option<usize>,
     /// Whether the preprocessed column's next row is read.
     pub reads_fixed_next: bool,
     /// The periodic columns.
@@ -58,4 +58,14 @@ pub enum NamedAir<F> {
     Bounded(BoundedCubic),
     Declaring(DeclaringAir<F>),
     Tree(TreeAir<F>),
+}
+
+/// A main row and the one after it, a preprocessed row, periodic values and public values.
+#[derive(Clone, Copy)]
+pub struct ReadRows<'a, F, EF> {
+    pub local: &'a [EF],
+    pub next: &'a [EF],
+    pub fixed: &'a [EF],
+    pub periodic: &'a [EF],
+    pub publics: &'a [F],
 }

@@ -18,10 +18,6 @@ mod declaring_air;
 #[cfg(test)]
 mod domains;
 #[cfg(test)]
-mod elements;
-#[cfg(test)]
-mod empty_trace;
-#[cfg(test)]
 mod hostile;
 #[cfg(test)]
 mod hostile_inputs;

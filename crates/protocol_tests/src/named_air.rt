@@ -215,7 +215,7 @@ pub fn named_air<F: PrimeField64>(alloc: Global, name: &str) -> Result<NamedAir<
     Ok(NamedAir::Declaring(DeclaringAir {
         hint: Some(name.parse::<usize>()?),
         reads_next: true,
-        has_fixed: false,
+        fixed: None,
         reads_fixed_next: false,
         periodic: Vec::new(alloc),
     }))

@@ -4,9 +4,8 @@ ghost use Rattle.std.specs.Prelude.{◌+◌};
 ghost use Rattle.stark_protocol.specs.Preprocessing.{HasHeight, IsCommittedWithin};
 
 use crate::calls::{ClearConfig, set_up};
-use crate::empty_trace::EmptyTraceAir;
+use crate::kinds::DeclaringAir;
 use crate::proving::{MaskedConfig, masked};
-use crate::rows::{apart, numbers_in, shown};
 use p3_uni_stark::setup_preprocessed;
 use stark_air::BaseAir;
 use stark_bench::ClearCommitment;
@@ -16,6 +15,7 @@ use stark_samples::{CounterAir, PreprocessedAir};
 use stark_support::{
     CanObserve, ExtensionChallenger, ExtensionField, FieldChallenger, PrimeField64, TwoAdicField,
 };
+use stark_test_rows::{apart, numbers_in, shown};
 use std::alloc::Global;
 use std::fmt::Debug;
 use std::test::Fail;
@@ -66,13 +66,23 @@ where
     let config: ClearConfig<F, EF, C> = StarkConfig::new(ClearPcs::new(), challenger);
     match name {
         "preprocessed" => set_up_text(alloc, &config, &PreprocessedAir, 2),
-        "empty trace" => set_up_text(alloc, &config, &EmptyTraceAir, height as usize),
+        "empty trace" => {
+            // A preprocessed trace is declared, without columns.
+            let air: DeclaringAir<F> = DeclaringAir {
+                reads_next: false,
+                fixed: Some(0),
+                reads_fixed_next: false,
+                periodic: Vec::new(alloc),
+                hint: None,
+            };
+            set_up_text(alloc, &config, &air, height as usize)
+        }
         _ => set_up_text(alloc, &config, &CounterAir, height as usize),
     }
 }
 
 /// What is set up for an AIR at a height.
-fn set_up_text<F, EF, C, A>(
+fn set_up_text<F, EF, C, A: BaseAir<F>>(
     alloc: Global,
     config: &ClearConfig<F, EF, C>,
     air: &A,
@@ -82,7 +92,6 @@ where
     F: TwoAdicField + PrimeField64 + Debug,
     EF: ExtensionField<F>,
     C: FieldChallenger<F> + CanObserve<ClearCommitment<F>> + ExtensionChallenger<F, EF> + Clone,
-    A: BaseAir<F>,
     requires height { HasHeight degree_bits (A.preprocessed_trace air.now) }
     requires within { IsCommittedWithin degree_bits F.TWO_ADICITY (A.preprocessed_trace air.now) }
 {
@@ -102,7 +111,7 @@ where
 }
 
 /// The width and the logarithm of the committed height of a key over the masked scheme.
-fn masked_sizes<F, EF, C, A>(
+fn masked_sizes<F, EF, C, A: BaseAir<F>>(
     alloc: Global,
     config: &MaskedConfig<F, EF, C>,
     air: &A,
@@ -112,7 +121,6 @@ where
     F: TwoAdicField + PrimeField64,
     EF: ExtensionField<F>,
     C: FieldChallenger<F> + CanObserve<ClearCommitment<F>> + ExtensionChallenger<F, EF> + Clone,
-    A: BaseAir<F>,
     requires height { HasHeight degree_bits (A.preprocessed_trace air.now) }
     requires within { IsCommittedWithin (degree_bits + 1) F.TWO_ADICITY
         (A.preprocessed_trace air.now) }

@@ -1,8 +1,9 @@
 //! Proofs and their parts in JSON, and the test of a proof's height.
-use crate::rows::{apart, numbers_in, option_in, shown};
+use crate::rows::option_in;
 use p3_uni_stark::{Commitments, OpenedValues, Proof, validate_degree_bits};
 use serde_json::Value;
 use stark_support::{Field, JsonCodec, NeverNull};
+use stark_test_rows::{apart, numbers_in, shown};
 use std::alloc::Global;
 use std::fmt::Debug;
 use std::test::Fail;
@@ -98,12 +99,11 @@ height | none | 64 0 0 100 => Err(DegreeBitsTooLarge { air: None, maximum: 63, g
 "#;
 
 /// The answer to a row of these tables.
-pub fn answer<F, EF>(alloc: Global, row: &str) -> Result<String, Fail>
+pub fn answer<F, EF>(alloc: Global, table: &str, text: &str) -> Result<String, Fail>
 where
     F: Field + NeverNull + Debug,
     EF: JsonCodec + Drop,
 {
-    let (table, text) = apart(row)?;
     match table {
         "openings" => openings::<F>(alloc, text),
         "commitments" => commitments::<F>(alloc, text),

@@ -4,11 +4,9 @@
 //! the height | the trace, row after row | the public values.
 
 use crate::calls::ClearConfig;
-use crate::elements::elements_in;
 use crate::kinds::NamedAir;
 use crate::named_air::{air_in, named_air};
 use crate::proving::{MaskedConfig, TraceProver, masked, masked_reread};
-use crate::rows::{apart, numbers_in};
 use stark_air::Air;
 use stark_bench::ClearCommitment;
 use stark_clear::{ClearCall, ClearPcs, MaskedClearPcs};
@@ -17,6 +15,7 @@ use stark_support::{
     JsonCodec, NeverNull, PackedExtensionField, PackedField, PrimeField64, RowMajorMatrix,
     TwoAdicField,
 };
+use stark_test_rows::{apart, elements_in, numbers_in};
 use std::alloc::Global;
 use std::test::Fail;
 

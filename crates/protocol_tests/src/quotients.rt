@@ -3,10 +3,8 @@ ghost use Rattle.std.specs.Prelude.{IfSome};
 ghost use Rattle.stark_quotient.specs.PointwiseQuotient.{HasShape};
 
 use crate::calls::ClearConfig;
-use crate::elements::{above, elements_in};
 use crate::kinds::NamedAir;
 use crate::named_air::named_air;
-use crate::rows::{apart, numbers_in, shown};
 use p3_uni_stark::quotient_values;
 use stark_air::{Air, AirLayout, BaseAir};
 use stark_bench::ClearCommitment;
@@ -17,6 +15,7 @@ use stark_support::{
     CanObserve, DomainShape, ExtensionChallenger, Field, FieldChallenger, PackedExtensionField,
     PackedField, PolynomialSpace, PrimeField64, RowMajorMatrix, TwoAdicField, UnivariateStarkPcs,
 };
+use stark_test_rows::{above, apart, elements_in, numbers_in, shown};
 use std::alloc::{AllocError, Global};
 use std::fmt::Debug;
 use std::test::Fail;

@@ -3,10 +3,9 @@ ghost use Rattle.std.specs.Prelude.{◌≡◌, ◌≤◌, unwrap_or};
 ghost use Rattle.stark_security.specs.Openings.{random_columns};
 
 use crate::calls::{folded, recomposed_of_one};
-use crate::elements::{above, element};
-use crate::kinds::{Kind, NamedAir, SizedAir};
+use crate::kinds::{Kind, NamedAir, ReadRows, SizedAir};
 use crate::named_air::named_air;
-use crate::rows::{apart, numbers_in, option_in, shown};
+use crate::rows::option_in;
 use crate::sizing::kind_in;
 use p3_uni_stark::{OpeningShape, StarkSecurityParams, num_batched_openings, ood_error_bound};
 use stark_air::{Air, AirLayout};
@@ -16,6 +15,7 @@ use stark_support::{
     CanObserve, ExtensionChallenger, ExtensionField, Field, FieldChallenger, FriRegime,
     GrindingSites, LagrangeSelectors, PolynomialSpace, PrimeField64, QuarticBase, TwoAdicField,
 };
+use stark_test_rows::{above, apart, element, numbers_in, shown};
 use std::alloc::{AllocError, Global};
 use std::test::Fail;
 
@@ -289,17 +289,14 @@ where
         is_transition: point + one,
         inv_vanishing: EF::ZERO,
     };
-    let sum = folded::<F, EF, C, CounterAir>(
-        &CounterAir,
+    let read = ReadRows {
         local,
         next,
-        none,
-        none,
-        &publics,
-        selectors,
-        alpha,
-    )?;
-    Ok(sum)
+        fixed: none,
+        periodic: none,
+        publics: &publics,
+    };
+    Ok(folded::<F, EF, C, CounterAir>(&CounterAir, &read, selectors, alpha)?)
 }
 
 /// Whether the equation of the counter's false trace 5, 7 holds at zeta; the column is 6 - X.

@@ -1,9 +1,8 @@
 //! How many chunks quotients have, and which powers fold the constraints at which places.
 ghost use Rattle.std.specs.Prelude.{◌≤◌};
 
-use crate::elements::above;
 use crate::kinds::{Kind, SizedAir};
-use crate::rows::{apart, numbers_in, option_in, shown};
+use crate::rows::option_in;
 use stark_air::{AirLayout, BaseAirBuilder, ExtensionBuilder};
 use stark_bench::{CircleShape, Coset};
 use stark_parts::{
@@ -17,6 +16,7 @@ use stark_symbolic::{
     get_all_symbolic_constraints, get_constraint_layout, get_max_constraint_degree_extension,
     get_symbolic_constraints,
 };
+use stark_test_rows::{above, apart, numbers_in, shown};
 use std::alloc::{AllocError, Global};
 use std::fmt::Debug;
 use std::test::Fail;
@@ -59,12 +59,11 @@ refused | all => ([true, true, true], 0, 1)
 "#;
 
 /// The answer to a row of these tables.
-pub fn answer<F, EF>(alloc: Global, row: &str) -> Result<String, Fail>
+pub fn answer<F, EF>(alloc: Global, table: &str, text: &str) -> Result<String, Fail>
 where
     F: PrimeField64 + TwoAdicField + Debug,
     EF: ExtensionField<F> + Debug,
 {
-    let (table, text) = apart(row)?;
     match table {
         "sizes" => sizes_text::<F, EF>(alloc, text),
         "places" => places::<F, EF>(alloc, text),

@@ -1,10 +1,11 @@
 //! The rows of all subjects; those of quotients and of proofs over each field.
 use crate::answers::{baby_bear, lockstep, packed, scalar};
-use crate::rows::{agreeing_rows, all_rows, proof_rows};
+use crate::rows::{agreeing_rows, proof_rows};
 use crate::{
     airs, chains, constraints, domains, preprocessing, proofs, provers, quotients, security,
     sizing, trees, verdicts,
 };
+use stark_test_rows::all_rows_of;
 use std::test::Fail;
 
 #[test]
@@ -18,50 +19,44 @@ fn all_parts(rt: HostRuntime) -> Result<(), Fail> {
         ("security", security::ROWS),
         ("sizing", sizing::ROWS),
     ] {
-        all_rows(&rt, rt.alloc(), subject, rows, scalar)?;
+        all_rows_of(rt.alloc(), subject, rows, scalar)?;
     }
     Ok(())
 }
 
 #[test]
 fn long_chains(rt: HostRuntime) -> Result<(), Fail> {
-    all_rows(&rt, rt.alloc(), "chains", chains::ROWS, scalar)?;
-    all_rows(&rt, rt.alloc(), "chains", chains::ROWS, baby_bear)
+    all_rows_of(rt.alloc(), "chains", chains::ROWS, scalar)?;
+    all_rows_of(rt.alloc(), "chains", chains::ROWS, baby_bear)
 }
 
 #[test]
 fn quotients_over_each_field(rt: HostRuntime) -> Result<(), Fail> {
-    all_rows(&rt, rt.alloc(), "quotients", quotients::ROWS, scalar)?;
-    all_rows(&rt, rt.alloc(), "quotients", quotients::ROWS, packed)?;
-    all_rows(&rt, rt.alloc(), "quotients", quotients::ROWS, lockstep)
+    all_rows_of(rt.alloc(), "quotients", quotients::ROWS, scalar)?;
+    all_rows_of(rt.alloc(), "quotients", quotients::ROWS, packed)?;
+    all_rows_of(rt.alloc(), "quotients", quotients::ROWS, lockstep)
 }
 
 #[test]
 fn bad_draws_of_false_traces(rt: HostRuntime) -> Result<(), Fail> {
-    all_rows(&rt, rt.alloc(), "security", security::BAD_ZETAS, scalar)?;
-    all_rows(&rt, rt.alloc(), "security", security::BAD_ALPHAS, scalar)
+    all_rows_of(rt.alloc(), "security", security::BAD_ZETAS, scalar)?;
+    all_rows_of(rt.alloc(), "security", security::BAD_ALPHAS, scalar)
 }
 
 #[test]
 fn airs_as_data(rt: HostRuntime) -> Result<(), Fail> {
-    all_rows(&rt, rt.alloc(), "trees", trees::ROWS, scalar)?;
-    all_rows(
-        &rt,
-        rt.alloc(),
-        "trees",
-        trees::BY_NAME,
-        trees::json_by_name,
-    )
+    all_rows_of(rt.alloc(), "trees", trees::ROWS, scalar)?;
+    all_rows_of(rt.alloc(), "trees", trees::BY_NAME, trees::json_by_name)
 }
 
 #[test]
 fn verdicts_on_proofs(rt: HostRuntime) -> Result<(), Fail> {
-    all_rows(&rt, rt.alloc(), "verdicts", verdicts::ROWS, scalar)
+    all_rows_of(rt.alloc(), "verdicts", verdicts::ROWS, scalar)
 }
 
 #[test]
 fn refusals(rt: HostRuntime) -> Result<(), Fail> {
-    all_rows(&rt, rt.alloc(), "provers", provers::REFUSED, scalar)
+    all_rows_of(rt.alloc(), "provers", provers::REFUSED, scalar)
 }
 
 #[test]
@@ -109,7 +104,7 @@ fn over_baby_bear(rt: HostRuntime) -> Result<(), Fail> {
         ("trees", trees::OVER_BABY_BEAR),
         ("verdicts", verdicts::OVER_BABY_BEAR),
     ] {
-        all_rows(&rt, alloc, subject, rows, baby_bear)?;
+        all_rows_of(alloc, subject, rows, baby_bear)?;
     }
     proof_rows(&rt, alloc, "", provers::OVER_BABY_BEAR, baby_bear)?;
     let front = "sha256 | made | clear | 0 | ";

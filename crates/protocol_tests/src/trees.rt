@@ -14,7 +14,6 @@ use crate::named_air::{named_air, tree_of};
 use crate::proofs::value_of;
 use crate::provers::text_at;
 use crate::proving::TraceProver;
-use crate::rows::{apart, numbers_in};
 use stark_air::{Air, BaseAir};
 use stark_bench::{ClearCommitment, S12289};
 use stark_clear::ClearPcs;
@@ -25,6 +24,7 @@ use stark_support::{
     NeverNull, PackedExtensionField, PackedField, PrimeField64, TwoAdicField,
 };
 use stark_symbolic::{BaseEntry, SymbolicConstraint, SymbolicExpression, SymbolicVariable};
+use stark_test_rows::{apart, numbers_in};
 use stark_tree_air::{
     NamedConstraint, TreeAir, TreeAirError, TreeColumns, TreeConstraint, TreeDeclaration,
     TreeExpressionError, TreeList, TreeNode,

@@ -5,10 +5,8 @@
 //! preprocessed row | the next one.
 use crate::airs::row_in;
 use crate::calls::{self, ClearConfig, ClearShown};
-use crate::elements::{above, element, elements_in};
 use crate::kinds::NamedAir;
 use crate::named_air::named_air;
-use crate::rows::{apart, numbers_in};
 use p3_uni_stark::{
     Commitments, OpenedValues, PreprocessedOpenedValues, PreprocessedVerifierKey, Proof,
 };
@@ -17,6 +15,7 @@ use stark_bench::ClearCommitment;
 use stark_clear::{ClearPcs, ClearProof};
 use stark_parts::{StarkChallenger, StarkConfig};
 use stark_support::{ExtensionField, PrimeField64, TwoAdicField};
+use stark_test_rows::{above, apart, element, elements_in, numbers_in};
 use std::alloc::{AllocError, Global};
 use std::test::Fail;
 

@@ -36,9 +36,9 @@ if_ok P Q (Err e) each holds = tt
 same_log : (j k n : ℕ) → IsCeilingOfLog j n → IsCeilingOfLog k n → j ≡ k
 same_log j k n first second = omega (arith, first.least k second.covers, second.least j first.covers)
 
-pub if_both_ok : {X Y : Type 0} (P Q R : X → Type 0) (r : Result X Y) → ((x : X) → P x → Q x → R x) → IfOk r P → IfOk r Q → IfOk r R
-if_both_ok P Q R (Ok x) each first second = each x first second
-if_both_ok P Q R (Err e) each first second = tt
+pub if_three_ok : {X Y : Type 0} (P Q R S : X → Type 0) (r : Result X Y) → ((x : X) → P x → Q x → R x → S x) → IfOk r P → IfOk r Q → IfOk r R → IfOk r S
+if_three_ok P Q R S (Ok x) each first second third = each x first second third
+if_three_ok P Q R S (Err e) each first second third = tt
 
 -- What a test says.
 pub tested : (b : Bool) (P : Type 0) → IsTrue b ↔ P → b ≡ true → P

@@ -1,7 +1,7 @@
 use Rattle.std.proofs.Common.{ap}
 use Rattle.stark_statement.specs.Configuration.{fri_numbers}
 use Rattle.stark_security.specs.Params.{params_are}
-use Rattle.stark_service.proofs.SecuritySteps.{if_both_ok, tree_batched, tree_degree, tree_params, tree_sized}
+use Rattle.stark_service.proofs.SecuritySteps.{if_three_ok, tree_batched, tree_degree, tree_params, tree_sized}
 use Rattle.stark_service.proofs.security.params_of.Goals as goal
 
 pub from_air-requires-2-clause-degree : goal.from_air-requires-2-clause-degree
@@ -17,6 +17,5 @@ pub returns : goal.returns
 returns g c =
     let air = c.args.air.now in
     let layout = c.from_air.ensures in
-    if_both_ok _ _ _ c.from_air-2.result (λ params chunks both. tree_params air _ c.args.parameters.now c.fri_regime.result c.field_bits.result c.order.result c.DIMENSION.result c.args.ood_bits c.from_air.result params c.fri_regime.ensures c.order.ensures c.DIMENSION.ensures c.field_bits.ensures
-    layout.main_width layout.preprocessed_width chunks (params_are both.0 both.1)) c.from_air-2.ensures.chunks
-    (if_both_ok _ _ _ c.from_air-2.result (λ params given counted. (given, counted)) c.from_air-2.ensures.given c.from_air-2.ensures.counted)
+    if_three_ok _ _ _ _ c.from_air-2.result (λ params chunks given counted. tree_params air _ c.args.parameters.now c.fri_regime.result c.field_bits.result c.order.result c.DIMENSION.result c.args.ood_bits c.from_air.result params c.fri_regime.ensures c.order.ensures c.DIMENSION.ensures c.field_bits.ensures
+    layout.main_width layout.preprocessed_width chunks (params_are given counted)) c.from_air-2.ensures.chunks c.from_air-2.ensures.given c.from_air-2.ensures.counted

@@ -3,6 +3,7 @@ ghost use Rattle.std.specs.Prelude.{◌≡◌, ◌≤◌, IfOk, option_map};
 ghost use Rattle.serde_json.specs.View.{members_view, view};
 ghost use Rattle.stark_statement.specs.Configuration.{IsWithinField, configuration_view, fri_numbers, two_adicity};
 ghost use Rattle.stark_statement.specs.ConfigurationJson.{Reads, all_are_members, configuration_at, configuration_members, field_at, field_named, fri_at, given_at, is_member, no_numbers, not_given, number_at, numbers_at, scheme_at, scheme_named};
+ghost use Rattle.stark_statement.specs.StatementApart.{data_of};
 ghost use Rattle.stark_statement.specs.StatementJson.{Decodes, configuration_reading};
 
 use crate::configuration::{Configuration, FieldName, SchemeChoice};
@@ -11,6 +12,7 @@ use crate::error::StatementError;
 use crate::fields::check_members;
 use serde_json::{Map, Value};
 use stark_fri_proof::FriParameters;
+use stark_json::Document;
 
 /// The schemes by name.
 #[derive(Clone, Copy)]
@@ -244,5 +246,14 @@ impl Configuration {
             Ok(configuration) => Ok(configuration),
             Err(error) => Err(StatementError::Config(error)),
         }
+    }
+
+    /// The same of a document.
+    pub fn from_document(document: &Document) -> Result<Configuration, StatementError>
+        ensures decoded { Decodes configuration_view result
+            (configuration_reading (data_of document.now)) }
+        ensures fits { IfOk result IsWithinField }
+    {
+        Configuration::from_statement(&document.value)
     }
 }

@@ -3,10 +3,13 @@ ghost use Rattle.std.specs.Prelude.{◌≡◌, ok_or};
 ghost use Rattle.serde_json.specs.Find.{get};
 ghost use Rattle.serde_json.specs.View.{members_view, view};
 ghost use Rattle.stark_tree_air.specs.TreeJson.{air_view};
-ghost use Rattle.stark_statement.specs.StatementJson.{Decodes, air_at, all_known, bits_at, is_known, list_at, missing_field, required, statement_members};
+ghost use Rattle.stark_json.specs.Apart.{rows_apart};
+ghost use Rattle.stark_statement.specs.StatementApart.{air_joined};
+ghost use Rattle.stark_statement.specs.StatementJson.{Decodes, all_known, bits_at, is_known, list_at, missing_field, required, statement_members};
 
 use crate::error::StatementError;
 use serde_json::{Map, Value};
+use stark_json::NumberRows;
 use stark_support::{Field, JsonCodec, JsonFault, list_from_json};
 use stark_tree_air::{TreeAir, TreeJsonError};
 use std::alloc::Global;
@@ -64,28 +67,33 @@ fn required<'a>(value: &'a Value, field: &'static str) -> Result<&'a Value, Stat
     }
 }
 
-fn air_at<F: Field + JsonCodec>(alloc: Global, value: &Value) -> Result<TreeAir<F>, StatementError>
+fn air_at<F: Field + JsonCodec>(
+    alloc: Global,
+    value: &Value,
+    rows: &Option<NumberRows>,
+) -> Result<TreeAir<F>, StatementError>
     ensures { Decodes (λ air. air_view air.declaration air.list) result
-        (air_at F.reading (view value.now)) }
+        (air_joined F.reading (rows_apart rows.now) (view value.now)) }
 {
-    match TreeAir::from_json(alloc, value) {
+    match TreeAir::from_parts(alloc, value, rows) {
         Ok(air) => Ok(air),
         Err(TreeJsonError::OutOfMemory) => Err(StatementError::OutOfMemory),
         Err(fault) => Err(StatementError::Air(fault)),
     }
 }
 
-/// The AIR under a required name.
+/// The AIR under a required name, whose rows may be apart.
 pub(crate) fn required_air<F: Field + JsonCodec>(
     alloc: Global,
     value: &Value,
     field: &'static str,
+    rows: &Option<NumberRows>,
 ) -> Result<TreeAir<F>, StatementError>
     ensures { Decodes (λ air. air_view air.declaration air.list) result
-        (required field.now (air_at F.reading) (view value.now)) }
+        (required field.now (air_joined F.reading (rows_apart rows.now)) (view value.now)) }
 {
     let found = required(value, field)?;
-    air_at(alloc, found)
+    air_at(alloc, found, rows)
 }
 
 fn list_at<F: JsonCodec + Copy>(

@@ -20,4 +20,4 @@ pub use configuration::{Configuration, FieldName, SchemeChoice};
 pub use configuration_error::{ConfigurationError, ConfigurationMember};
 pub use error::StatementError;
 pub use limits::{AirLimits, AirTooLarge};
-pub use statement::Statement;
+pub use statement::{Statement, statement_document};

@@ -1,7 +1,10 @@
 //! Statements.
 ghost use Rattle.std.specs.Prelude.{◌≡◌, IfOk};
 ghost use Rattle.serde_json.specs.View.{view};
+ghost use Rattle.stark_support.specs.Json.{Gives, json_of};
+ghost use Rattle.stark_json.specs.Apart.{joined, rows_apart};
 ghost use Rattle.stark_statement.specs.Configuration.{IsWithinField};
+ghost use Rattle.stark_statement.specs.StatementApart.{statement_apart, data_of, statement_path};
 ghost use Rattle.stark_statement.specs.StatementJson.{Decodes, statement_in, statement_reading};
 ghost use Rattle.stark_statement.specs.StatementView.{statement_view};
 
@@ -9,7 +12,8 @@ use crate::configuration::Configuration;
 use crate::error::StatementError;
 use crate::fields::{bits_at, required_air, required_list};
 use serde_json::Value;
-use stark_support::{Field, JsonCodec, JsonFault, value_from_bytes};
+use stark_json::{Document, NumberRows, document_from_bytes};
+use stark_support::{Field, JsonCodec, JsonFault};
 use stark_tree_air::TreeAir;
 use std::alloc::Global;
 
@@ -26,6 +30,56 @@ pub struct Statement<F> {
     pub alpha_bits: usize,
     /// How many bits of work are asked for before the out-of-domain point is drawn, 0 for none.
     pub ood_bits: usize,
+}
+
+/// The JSON of a statement, with the rows of its preprocessed columns apart where they can be.
+pub fn statement_document(alloc: Global, bytes: &[u8]) -> Result<Document, JsonFault>
+    ensures { Gives data_of result (json_of bytes.now) }
+{
+    document_from_bytes(alloc, bytes, &["air", "preprocessed", "rows"])
+}
+
+/// The statement that an object spells whose rows may be apart.
+#[tactic(auto, unfolding(crate::specs::StatementApart::statement_apart))]
+fn statement_of_parts<F: Field + JsonCodec>(
+    alloc: Global,
+    value: &Value,
+    rows: &Option<NumberRows>,
+) -> Result<Statement<F>, StatementError>
+    ensures decoded { Decodes statement_view result
+        (statement_apart F.reading (rows_apart rows.now) (view value.now)) }
+    ensures fits { IfOk result (λ statement. IsWithinField statement.config) }
+{
+    let config = Configuration::from_statement(value)?;
+    let air = required_air::<F>(alloc, value, "air", rows)?;
+    let public_values = required_list(alloc, value, "public_values")?;
+    let alpha_bits = bits_at(value, "alpha_bits")?;
+    let ood_bits = bits_at(value, "ood_bits")?;
+    let expected = air.declaration.columns.num_public_values;
+    let got = public_values.len();
+    if got != expected {
+        return Err(StatementError::PublicValuesCount { expected, got });
+    }
+    Ok(Statement {
+        config,
+        air,
+        public_values,
+        alpha_bits,
+        ood_bits,
+    })
+}
+
+/// The same of the whole value, with the rows in their place.
+fn statement_from_parts<F: Field + JsonCodec>(
+    alloc: Global,
+    value: &Value,
+    rows: &Option<NumberRows>,
+) -> Result<Statement<F>, StatementError>
+    ensures decoded { Decodes statement_view result (statement_reading F.reading
+        (joined statement_path (rows_apart rows.now) (view value.now))) }
+    ensures fits { IfOk result (λ statement. IsWithinField statement.config) }
+{
+    statement_of_parts(alloc, value, rows)
 }
 
 impl<F: Field + JsonCodec> Statement<F> {
@@ -46,29 +100,21 @@ impl<F: Field + JsonCodec> Statement<F> {
     /// - `PublicValuesCount` after all fields, where the AIR declares another number of public
     ///   values.
     /// - `OutOfMemory` wherever a growth was refused.
-    #[tactic(auto, unfolding(crate::specs::StatementJson::statement_reading))]
     pub fn from_json(alloc: Global, value: &Value) -> Result<Statement<F>, StatementError>
         ensures decoded { Decodes statement_view result
             (statement_reading F.reading (view value.now)) }
         ensures fits { IfOk result (λ statement. IsWithinField statement.config) }
     {
-        let config = Configuration::from_statement(value)?;
-        let air = required_air::<F>(alloc, value, "air")?;
-        let public_values = required_list(alloc, value, "public_values")?;
-        let alpha_bits = bits_at(value, "alpha_bits")?;
-        let ood_bits = bits_at(value, "ood_bits")?;
-        let expected = air.declaration.columns.num_public_values;
-        let got = public_values.len();
-        if got != expected {
-            return Err(StatementError::PublicValuesCount { expected, got });
-        }
-        Ok(Statement {
-            config,
-            air,
-            public_values,
-            alpha_bits,
-            ood_bits,
-        })
+        statement_from_parts(alloc, value, &None)
+    }
+
+    /// The statement that a document spells, as `from_json` says it of the whole value.
+    pub fn from_document(alloc: Global, document: &Document) -> Result<Statement<F>, StatementError>
+        ensures decoded { Decodes statement_view result
+            (statement_reading F.reading (data_of document.now)) }
+        ensures fits { IfOk result (λ statement. IsWithinField statement.config) }
+    {
+        statement_from_parts(alloc, &document.value, &document.rows)
     }
 
     /// The statement that the JSON text of the bytes spells, or its first fault: `NotJson` where
@@ -77,8 +123,8 @@ impl<F: Field + JsonCodec> Statement<F> {
     pub fn from_slice(alloc: Global, bytes: &[u8]) -> Result<Statement<F>, StatementError>
         ensures decoded { Decodes statement_view result (statement_in F.reading bytes.now) }
     {
-        match value_from_bytes(alloc, bytes) {
-            Ok(value) => Statement::from_json(alloc, &value),
+        match statement_document(alloc, bytes) {
+            Ok(document) => Statement::from_document(alloc, &document),
             Err(JsonFault::Invalid) => Err(StatementError::NotJson),
             Err(JsonFault::OutOfMemory) => Err(StatementError::OutOfMemory),
         }

@@ -6,3 +6,4 @@ pub mod WrittenConstraints
 pub mod WrittenFaults
 pub mod JsonSteps
 pub mod JsonReadBack
+pub mod ApartSteps

@@ -9,3 +9,4 @@ pub mod Named
 pub mod NodeJson
 pub mod NodeJsonFacts
 pub mod TreeJson
+pub mod TreeApart

@@ -1,29 +1,52 @@
 //! AIRs that are data, in JSON.
-ghost use Rattle.std.specs.Prelude.{◌≡◌, IfOk, Ok, OnOk};
+ghost use Rattle.std.specs.Prelude.{◌≡◌, IfOk, Ok, OnOk, map};
 ghost use Rattle.serde_json.specs.View.{members_view, view};
 ghost use Rattle.stark_support.specs.JsonFacts.{list_written};
-ghost use Rattle.stark_tree_air.specs.TreeJson.{Decodes, air_reading, air_view, air_writing, columns_at, columns_view, columns_writing, list_reading, list_view, list_writing, optional, trace_at, trace_or_null, trace_rows, trace_writing};
+ghost use Rattle.stark_json.specs.Apart.{joined, rows_apart};
+ghost use Rattle.stark_tree_air.specs.TreeApart.{air_apart, columns_apart, lists_apart, trace_apart, trace_path};
+ghost use Rattle.stark_tree_air.specs.TreeJson.{Decodes, air_reading, air_view, air_writing, columns_view, columns_writing, list_reading, list_view, list_writing, optional, trace_or_null, trace_rows, trace_writing};
 ghost use Rattle.stark_tree_air.specs.Traces.{declared_trace, matrix_trace};
 
 use crate::air::TreeAir;
 use crate::columns::{TreeColumns, TreeDeclaration};
 use crate::json_error::TreeJsonError;
 use crate::json_fields::{
-    joined_rows, list_to_json, lists_to_json, optional_number, put_number, required_list,
-    required_lists, required_number,
+    given_lists, joined_rows, list_to_json, lists_to_json, optional_number, put_number, required,
+    required_list, required_lists, required_number,
 };
 use crate::list::TreeList;
 use serde_json::{Map, Value, put};
+use stark_json::NumberRows;
 use stark_support::{Field, JsonCodec, RowMajorMatrix};
 use std::alloc::{AllocError, Global};
 
-/// The matrix of a width and rows.
-#[tactic(auto, unfolding(crate::specs::TreeJson::trace_at))]
+/// The lists under the name `rows`, which may be apart.
+fn rows_from_json<F: JsonCodec + Copy>(
+    alloc: Global,
+    value: &Value,
+    rows: &Option<NumberRows>,
+) -> Result<Vec<Vec<F>>, TreeJsonError>
+    ensures { Decodes (λ v. map (λ list. list.items) v.items) result
+        (lists_apart F.reading (rows_apart rows.now) (view value.now)) }
+{
+    match rows {
+        Some(rows) => match required(value, "rows") {
+            Ok(_) => given_lists(alloc, rows, "rows"),
+            Err(fault) => Err(fault),
+        },
+        None => required_lists(alloc, value, "rows"),
+    }
+}
+
+/// The matrix of a width and rows, which may be apart.
+#[tactic(auto, unfolding(crate::specs::TreeApart::trace_apart))]
 fn trace_from_json<F: JsonCodec + Copy>(
     alloc: Global,
     value: &Value,
+    rows: &Option<NumberRows>,
 ) -> Result<RowMajorMatrix<F>, TreeJsonError>
-    ensures { Decodes matrix_trace result (trace_at F.reading (view value.now)) }
+    ensures { Decodes matrix_trace result
+        (trace_apart F.reading (rows_apart rows.now) (view value.now)) }
 {
     if !value.is_object() {
         return Err(TreeJsonError::WrongKind {
@@ -31,7 +54,7 @@ fn trace_from_json<F: JsonCodec + Copy>(
         });
     }
     let width = required_number(value, "width")?;
-    let rows = required_lists(alloc, value, "rows")?;
+    let rows = rows_from_json(alloc, value, rows)?;
     let values = joined_rows(alloc, width, &rows)?;
     Ok(RowMajorMatrix::new(values, width))
 }
@@ -41,9 +64,10 @@ fn optional_trace<F: JsonCodec + Copy>(
     alloc: Global,
     value: &Value,
     field: &'static str,
+    rows: &Option<NumberRows>,
 ) -> Result<Option<RowMajorMatrix<F>>, TreeJsonError>
     ensures { Decodes declared_trace result
-        (optional field.now (trace_at F.reading) (view value.now)) }
+        (optional field.now (trace_apart F.reading (rows_apart rows.now)) (view value.now)) }
 {
     let Some(found) = value.get(field) else {
         return Ok(None);
@@ -51,21 +75,23 @@ fn optional_trace<F: JsonCodec + Copy>(
     if found.is_null() {
         return Ok(None);
     }
-    let trace = trace_from_json(alloc, found)?;
+    let trace = trace_from_json(alloc, found, rows)?;
     Ok(Some(trace))
 }
 
-#[tactic(auto, unfolding(crate::specs::TreeJson::columns_at))]
+#[tactic(auto, unfolding(crate::specs::TreeApart::columns_apart))]
 fn columns_from_json<F: JsonCodec + Copy>(
     alloc: Global,
     value: &Value,
+    rows: &Option<NumberRows>,
 ) -> Result<TreeColumns<F>, TreeJsonError>
-    ensures { Decodes columns_view result (columns_at F.reading (view value.now)) }
+    ensures { Decodes columns_view result
+        (columns_apart F.reading (rows_apart rows.now) (view value.now)) }
 {
     let width = required_number(value, "width")?;
     let num_public_values = required_number(value, "publics")?;
     let periodic_columns = required_lists(alloc, value, "periodic")?;
-    let preprocessed_trace = optional_trace(alloc, value, "preprocessed")?;
+    let preprocessed_trace = optional_trace(alloc, value, "preprocessed", rows)?;
     Ok(TreeColumns {
         width,
         num_public_values,
@@ -168,6 +194,34 @@ fn put_list<F: JsonCodec>(
     put(&mut *map, alloc, "constraints", constraints)
 }
 
+/// The AIR that an object spells whose preprocessed rows may be apart.
+#[tactic(auto, unfolding(crate::specs::TreeApart::air_apart))]
+fn air_from_json<F: Field + JsonCodec>(
+    alloc: Global,
+    value: &Value,
+    rows: &Option<NumberRows>,
+) -> Result<TreeAir<F>, TreeJsonError>
+    ensures { Decodes (λ air. air_view air.declaration air.list) result
+        (air_apart F.reading (rows_apart rows.now) (view value.now)) }
+{
+    if !value.is_object() {
+        return Err(TreeJsonError::WrongKind { field: "" });
+    }
+    let columns = columns_from_json(alloc, value, rows)?;
+    let max_constraint_degree = optional_number(value, "max_constraint_degree")?;
+    let num_constraints = optional_number(value, "num_constraints")?;
+    let list = tree_list_from_json(alloc, value)?;
+    let declaration = TreeDeclaration {
+        columns,
+        max_constraint_degree,
+        num_constraints,
+    };
+    match TreeAir::new(alloc, declaration, list) {
+        Ok(air) => Ok(air),
+        Err(fault) => Err(TreeJsonError::Air(fault)),
+    }
+}
+
 impl<F: Field + JsonCodec> TreeAir<F> {
     /// The AIR that an object spells. Its fields are read in the order `width`, `publics`,
     /// `periodic`, `preprocessed`, `max_constraint_degree`, `num_constraints`, `constants`,
@@ -183,27 +237,24 @@ impl<F: Field + JsonCodec> TreeAir<F> {
     /// - `RowWidth` where a row of the preprocessed trace has another width.
     /// - `Air` after all fields, where the nodes or the constraints have a fault.
     /// - `OutOfMemory` wherever a growth was refused.
-    #[tactic(auto, unfolding(crate::specs::TreeJson::air_reading))]
     pub fn from_json(alloc: Global, value: &Value) -> Result<TreeAir<F>, TreeJsonError>
         ensures decoded { Decodes (λ air. air_view air.declaration air.list) result
             (air_reading F.reading (view value.now)) }
     {
-        if !value.is_object() {
-            return Err(TreeJsonError::WrongKind { field: "" });
-        }
-        let columns = columns_from_json(alloc, value)?;
-        let max_constraint_degree = optional_number(value, "max_constraint_degree")?;
-        let num_constraints = optional_number(value, "num_constraints")?;
-        let list = tree_list_from_json(alloc, value)?;
-        let declaration = TreeDeclaration {
-            columns,
-            max_constraint_degree,
-            num_constraints,
-        };
-        match TreeAir::new(alloc, declaration, list) {
-            Ok(air) => Ok(air),
-            Err(fault) => Err(TreeJsonError::Air(fault)),
-        }
+        TreeAir::from_parts(alloc, value, &None)
+    }
+
+    /// The AIR that an object spells with these rows, if there are any apart, in its preprocessed
+    /// trace, in place of what stands there; or the first fault, as `from_json` says it.
+    pub fn from_parts(
+        alloc: Global,
+        value: &Value,
+        rows: &Option<NumberRows>,
+    ) -> Result<TreeAir<F>, TreeJsonError>
+        ensures decoded { Decodes (λ air. air_view air.declaration air.list) result
+            (air_reading F.reading (joined trace_path (rows_apart rows.now) (view value.now))) }
+    {
+        air_from_json(alloc, value, rows)
     }
 
     /// An object with the keys of the columns, the lists and the hints that there are; without a

@@ -4,11 +4,13 @@ ghost use Rattle.serde_json.specs.Find.{get};
 ghost use Rattle.serde_json.specs.View.{members_view, view};
 ghost use Rattle.stark_support.specs.Json.{array_at};
 ghost use Rattle.stark_support.specs.JsonFacts.{list_written};
+ghost use Rattle.stark_json.specs.Apart.{lists_of, rows_data};
 ghost use Rattle.stark_tree_air.specs.TreeJson.{Decodes, joined_rows, list_at, lists_at, missing_field, number_at, optional, required, with_number};
 
 use crate::json_error::TreeJsonError;
 use crate::node_json::whole;
 use serde_json::{Map, Value, put};
+use stark_json::{NumberRows, lists_of_numbers};
 use stark_support::{JsonCodec, JsonFault, list_from_json, lists_from_json};
 use std::alloc::{AllocError, Global};
 
@@ -119,6 +121,22 @@ pub(crate) fn required_lists<T: JsonCodec + Drop>(
 {
     let found = required(value, field)?;
     lists_at(alloc, found, field)
+}
+
+/// The lists that were given in place of an array of arrays.
+pub(crate) fn given_lists<T: JsonCodec + Drop>(
+    alloc: Global,
+    rows: &NumberRows,
+    field: &'static str,
+) -> Result<Vec<Vec<T>>, TreeJsonError>
+    ensures { Decodes (λ v. map (λ list. list.items) v.items) result
+        (lists_at T.reading field.now (rows_data (lists_of rows.now))) }
+{
+    match lists_of_numbers(alloc, rows) {
+        Ok(lists) => Ok(lists),
+        Err(JsonFault::Invalid) => Err(TreeJsonError::Element { field }),
+        Err(JsonFault::OutOfMemory) => Err(TreeJsonError::OutOfMemory),
+    }
 }
 
 /// Rows of this width, one after the other.

@@ -1,0 +1,5 @@
+pub mod Changed
+pub mod Kept
+pub mod Parted
+pub mod SoFar
+pub mod Turns

@@ -1,11 +1,11 @@
 -- What is said by the scheme and over the field that a configuration names.
 use Rattle.std.specs.Prelude.{◌≡◌, ◌⊎◌, ℕ, ◌≤◌, List, Option, None, Some, Result, Ok, Err, ⊤}
 use Rattle.serde_json.specs.Data.{Data}
-use Rattle.serde_json.specs.View.{view}
-use Rattle.serde_json.specs.declared.value.Value.{Value}
 use Rattle.stark_support.specs.Json.{json_of}
+use Rattle.stark_json.specs.declared.document.Document.{Document}
 use Rattle.stark_fri_proof.specs.declared.parameters.FriParameters.{FriParameters}
 use Rattle.stark_statement.specs.Configuration.{ConfigurationView, FriNumbers, IsWithinField, configuration_view, fri_numbers}
+use Rattle.stark_statement.specs.StatementApart.{data_of}
 use Rattle.stark_statement.specs.StatementJson.{configuration_reading}
 use Rattle.stark_statement.specs.declared.configuration.Configuration.{Configuration}
 use Rattle.stark_statement.specs.declared.configuration.FieldName.{FieldName}
@@ -71,6 +71,6 @@ IsUnconfigured None = ⊤
 IsUnconfigured (Some d) = (c : ConfigurationView) → configuration_reading d ≡ Ok c → ⊥
 
 -- A statement's JSON and its configuration were read, which fits its field; or the report says why not: there is none, or memory was wanting.
-abbrev pub ReadsConfigured : Result (Value × Configuration) (Report Verdict) → List ℕ → Type 0
-ReadsConfigured (Ok read) bytes = (json_of bytes ≡ Some (view read.0)) × (configuration_reading (view read.0) ≡ Ok (configuration_view read.1)) × IsWithinField read.1
+abbrev pub ReadsConfigured : Result (Document × Configuration) (Report Verdict) → List ℕ → Type 0
+ReadsConfigured (Ok read) bytes = (json_of bytes ≡ Some (data_of read.0)) × (configuration_reading (data_of read.0) ≡ Ok (configuration_view read.1)) × IsWithinField read.1
 ReadsConfigured (Err report) bytes = (report.answer ≡ verdict.OutOfMemory) ⊎ (IsUnconfigured (json_of bytes) × (report.answer ≡ verdict.BadInput))

@@ -3,8 +3,8 @@
 
 ghost use Rattle.std.specs.Prelude.{◌≡◌, ℕ, List, Option, replicate};
 ghost use Rattle.serde_json.specs.Data.{Data};
-ghost use Rattle.serde_json.specs.View.{view};
 ghost use Rattle.stark_statement.specs.Configuration.{FriNumbers, scheme_numbers};
+ghost use Rattle.stark_statement.specs.StatementApart.{data_of};
 ghost use Rattle.stark_answers.specs.Finding.{WhereProof};
 ghost use Rattle.stark_answers.specs.declared.finding.Finding.{Finding};
 ghost use Rattle.stark_answers.specs.declared.task.ProofForm.{ProofForm};
@@ -19,9 +19,9 @@ ghost use Rattle.stark_service.specs.TraceChecks.{OrLacksMemory};
 use crate::over::{ValueAnswers, answer_over, verify_over};
 use crate::progress::Progress;
 use crate::showing::show_over;
-use serde_json::Value;
 use stark_answers::{Finding, Report, TraceTask, Verdict};
 use stark_bench::{Ext4, F12289, Modulus, Residue, Scalar, Sha256Challenger};
+use stark_json::Document;
 use stark_statement::SchemeChoice;
 use stark_support::TwoAdicField;
 use std::alloc::Global;
@@ -55,34 +55,34 @@ pub trait ServiceField: Sized {
     ghost showing: { Option FriNumbers → Data → Finding → Type 0 };
 
     /// The verdict on a proof.
-    fn verify(alloc: Global, scheme: SchemeChoice, value: Value, proof: &[u8]) -> Report<Verdict>
+    fn verify(alloc: Global, scheme: SchemeChoice, value: Document, proof: &[u8]) -> Report<Verdict>
         requires { HasRoomFor adicity scheme }
-        ensures verdict { OrUnjudged (verdict (scheme_numbers scheme) (view value) proof.now)
-            result.answer }
+        ensures verdict { OrUnjudged (verdict (scheme_numbers scheme) (data_of value)
+            proof.now) result.answer }
         ensures sound { result.answer ≡ Verdict.Accepted → sound (scheme_numbers scheme)
-            (view value) proof.now };
+            (data_of value) proof.now };
 
     /// What is found of a trace.
     fn answer<P: Progress>(
         alloc: Global,
         scheme: SchemeChoice,
         asked: TraceTask,
-        value: Value,
+        value: Document,
         trace: &[u8],
         progress: &mut P,
     ) -> Report<Finding>
         requires { HasRoomFor adicity scheme }
-        ensures found { OrLacksMemory (found (scheme_numbers scheme) asked (view value)
+        ensures found { OrLacksMemory (found (scheme_numbers scheme) asked (data_of value)
             trace.now) result.answer }
         ensures kind { IsOfTrace asked result.answer }
-        ensures proof { WhereProof (proof_file (scheme_numbers scheme) (view value) trace.now)
-            result.answer };
+        ensures proof { WhereProof (proof_file (scheme_numbers scheme) (data_of value)
+            trace.now) result.answer };
 
     /// What is shown. The JSON is let go of once it is read, before the text is made, which may be
     /// far longer.
-    fn show(alloc: Global, scheme: SchemeChoice, value: Value) -> Report<Finding>
+    fn show(alloc: Global, scheme: SchemeChoice, value: Document) -> Report<Finding>
         requires { HasRoomFor adicity scheme }
-        ensures shown { OrLacksMemory (showing (scheme_numbers scheme) (view value))
+        ensures shown { OrLacksMemory (showing (scheme_numbers scheme) (data_of value))
             result.answer }
         ensures kind { IsOfShowing result.answer };
 }
@@ -104,7 +104,12 @@ impl<M: Modulus> ServiceField for Residue<M, Scalar> {
 
     ghost showing = { ⟦<Base<M> as ValueAnswers<Ext4<Base<M>>, Hashing<Base<M>>>>⟧.showing };
 
-    fn verify(alloc: Global, scheme: SchemeChoice, value: Value, proof: &[u8]) -> Report<Verdict> {
+    fn verify(
+        alloc: Global,
+        scheme: SchemeChoice,
+        value: Document,
+        proof: &[u8],
+    ) -> Report<Verdict> {
         let challenger = Hashing::<Base<M>>::new();
         verify_over::<Base<M>, Ext4<Base<M>>, _>(alloc, scheme, challenger, value, proof)
     }
@@ -113,7 +118,7 @@ impl<M: Modulus> ServiceField for Residue<M, Scalar> {
         alloc: Global,
         scheme: SchemeChoice,
         asked: TraceTask,
-        value: Value,
+        value: Document,
         trace: &[u8],
         progress: &mut P,
     ) -> Report<Finding> {
@@ -123,7 +128,7 @@ impl<M: Modulus> ServiceField for Residue<M, Scalar> {
         )
     }
 
-    fn show(alloc: Global, scheme: SchemeChoice, value: Value) -> Report<Finding> {
+    fn show(alloc: Global, scheme: SchemeChoice, value: Document) -> Report<Finding> {
         show_over::<Base<M>, Ext4<Base<M>>>(alloc, scheme, value)
     }
 }
@@ -145,7 +150,12 @@ impl ServiceField for F12289 {
 
     ghost showing = { ⟦<F12289 as ValueAnswers<Ext4<F12289>, Hashing<F12289>>>⟧.showing };
 
-    fn verify(alloc: Global, scheme: SchemeChoice, value: Value, proof: &[u8]) -> Report<Verdict> {
+    fn verify(
+        alloc: Global,
+        scheme: SchemeChoice,
+        value: Document,
+        proof: &[u8],
+    ) -> Report<Verdict> {
         let challenger = Hashing::<F12289>::new();
         verify_over::<F12289, Ext4<F12289>, _>(alloc, scheme, challenger, value, proof)
     }
@@ -154,7 +164,7 @@ impl ServiceField for F12289 {
         alloc: Global,
         scheme: SchemeChoice,
         asked: TraceTask,
-        value: Value,
+        value: Document,
         trace: &[u8],
         progress: &mut P,
     ) -> Report<Finding> {
@@ -164,7 +174,7 @@ impl ServiceField for F12289 {
         )
     }
 
-    fn show(alloc: Global, scheme: SchemeChoice, value: Value) -> Report<Finding> {
+    fn show(alloc: Global, scheme: SchemeChoice, value: Document) -> Report<Finding> {
         show_over::<F12289, Ext4<F12289>>(alloc, scheme, value)
     }
 }

@@ -2,8 +2,8 @@
 
 ghost use Rattle.std.specs.Prelude.{◌≡◌, ℕ, List, Option};
 ghost use Rattle.serde_json.specs.Data.{Data};
-ghost use Rattle.serde_json.specs.View.{view};
 ghost use Rattle.stark_statement.specs.Configuration.{FriNumbers, scheme_numbers};
+ghost use Rattle.stark_statement.specs.StatementApart.{data_of};
 ghost use Rattle.stark_statement.specs.StatementJson.{statement_reading};
 ghost use Rattle.stark_answers.specs.Finding.{WhereProof};
 ghost use Rattle.stark_answers.specs.declared.finding.Finding.{Finding};
@@ -22,9 +22,9 @@ use crate::counted::Numbered;
 use crate::progress::Progress;
 use crate::reading::read_statement;
 use crate::schemes::{FieldAnswers, answer_by, verify_by};
-use serde_json::Value;
 use stark_answers::{Finding, Report, TraceTask, Verdict};
 use stark_bench::ClearCommitment;
+use stark_json::Document;
 use stark_merkle::Root;
 use stark_statement::SchemeChoice;
 use stark_support::{
@@ -77,7 +77,7 @@ pub(crate) fn verify_over<F, EF, C>(
     alloc: Global,
     scheme: SchemeChoice,
     challenger: C,
-    value: Value,
+    value: Document,
     proof: &[u8],
 ) -> Report<Verdict>
 where
@@ -91,9 +91,9 @@ where
         + Clone,
     requires { HasRoomFor F.TWO_ADICITY scheme }
     ensures verdict { OrUnjudged (⟦<F as ValueAnswers<EF, C>>⟧.verdict challenger
-        (scheme_numbers scheme) (view value) proof.now) result.answer }
+        (scheme_numbers scheme) (data_of value) proof.now) result.answer }
     ensures sound { result.answer ≡ Verdict.Accepted → ⟦<F as ValueAnswers<EF, C>>⟧.sound
-        challenger (scheme_numbers scheme) (view value) proof.now }
+        challenger (scheme_numbers scheme) (data_of value) proof.now }
 {
     let read = read_statement::<F>(alloc, &value);
     // The JSON is several times as long as the statement.
@@ -110,7 +110,7 @@ pub(crate) fn answer_over<F, EF, C, P>(
     scheme: SchemeChoice,
     challenger: C,
     asked: TraceTask,
-    value: Value,
+    value: Document,
     trace: &[u8],
     progress: &mut P,
 ) -> Report<Finding>
@@ -128,10 +128,10 @@ where
     requires base { WritesNoFloat F.writing }
     requires extension { WritesNoFloat EF.writing }
     ensures found { OrLacksMemory (⟦<F as ValueAnswers<EF, C>>⟧.found challenger
-        (scheme_numbers scheme) asked (view value) trace.now) result.answer }
+        (scheme_numbers scheme) asked (data_of value) trace.now) result.answer }
     ensures kind { IsOfTrace asked result.answer }
     ensures proof { WhereProof (⟦<F as ValueAnswers<EF, C>>⟧.proof_file challenger
-        (scheme_numbers scheme) (view value) trace.now) result.answer }
+        (scheme_numbers scheme) (data_of value) trace.now) result.answer }
 {
     let read = read_statement::<F>(alloc, &value);
     // The JSON is several times as long as the statement.

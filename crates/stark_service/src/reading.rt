@@ -2,19 +2,19 @@
 
 ghost use Rattle.std.specs.Prelude.{◌≡◌, ℕ, List, None, Result, nat_eq, true};
 ghost use Rattle.std.specs.List.{starts_with};
-ghost use Rattle.serde_json.specs.View.{view};
 ghost use Rattle.stark_support.specs.Json.{json_of};
 ghost use Rattle.stark_proof.specs.ProofJson.{proof_fault, proof_reading};
 ghost use Rattle.stark_proof.specs.ProofView.{proof_view};
 ghost use Rattle.stark_proof_bytes.specs.Bytes.{named};
 ghost use Rattle.stark_proof_bytes.specs.ProofBytes.{codecs, magic};
+ghost use Rattle.stark_statement.specs.StatementApart.{data_of};
 ghost use Rattle.stark_statement.specs.StatementJson.{statement_fault, statement_reading};
 ghost use Rattle.stark_answers.specs.declared.report.Report.{Report};
 ghost use Rattle.stark_answers.specs.declared.verdict.Verdict.{Verdict};
 ghost use Rattle.stark_service.specs.Statements.{ReadsPart, ReadsRows, ReadsStatement, proof_in, proof_in_bytes, proof_in_json, rows_in, verdict_of_fault, verdict_without};
 
-use serde_json::Value;
 use stark_answers::{Report, Verdict};
+use stark_json::Document;
 use stark_proof::{Proof, ProofDecodeError};
 use stark_proof_bytes::{BytesCodec, BytesFault, proof_from_bytes};
 use stark_statement::{AirLimits, Statement, StatementError};
@@ -23,17 +23,17 @@ use stark_trace_json::{RowsFault, TraceRows, rows_from_bytes};
 use stark_tree_air::TreeJsonError;
 use std::alloc::Global;
 
-/// The statement that a JSON value spells, whose AIR is within the limits (`AirLimits::under` its
-/// scheme); or what is said where there is none: `bad input`, with the field, node or constraint at
-/// fault in words; `refused AirTooLarge`, with the limit that is passed in words; or `out of
-/// memory`. Of a statement whose AIR passes a limit nothing is built.
+/// The statement that a JSON document spells, whose AIR is within the limits (`AirLimits::under`
+/// its scheme); or what is said where there is none: `bad input`, with the field, node or
+/// constraint at fault in words; `refused AirTooLarge`, with the limit that is passed in words; or
+/// `out of memory`. Of a statement whose AIR passes a limit nothing is built.
 pub fn read_statement<F: Field + JsonCodec>(
     alloc: Global,
-    value: &Value,
+    value: &Document,
 ) -> Result<Statement<F>, Report<Verdict>>
-    ensures { ReadsStatement result (statement_reading F.reading (view value.now)) }
+    ensures { ReadsStatement result (statement_reading F.reading (data_of value.now)) }
 {
-    let statement = match Statement::<F>::from_json(alloc, value) {
+    let statement = match Statement::<F>::from_document(alloc, value) {
         Ok(statement) => statement,
         Err(error) => return Err(unread_statement(alloc, &error)),
     };

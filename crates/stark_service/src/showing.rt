@@ -1,8 +1,8 @@
 //! A statement, for a person.
 
 ghost use Rattle.std.specs.Prelude.{◌≡◌, IfOk, string_bytes};
-ghost use Rattle.serde_json.specs.View.{view};
 ghost use Rattle.stark_statement.specs.Configuration.{scheme_numbers};
+ghost use Rattle.stark_statement.specs.StatementApart.{data_of};
 ghost use Rattle.stark_statement.specs.StatementJson.{statement_reading};
 ghost use Rattle.stark_statement.specs.StatementView.{statement_view};
 ghost use Rattle.stark_service.specs.Schemes.{HasRoomFor};
@@ -12,8 +12,8 @@ ghost use Rattle.stark_service.specs.TraceChecks.{OrLacksMemory};
 use crate::counted::{CountedField, Numbered};
 use crate::reading::read_statement;
 use crate::security::{challenges_line, security_line};
-use serde_json::Value;
 use stark_answers::{Finding, Report};
+use stark_json::Document;
 use stark_show::shown;
 use stark_statement::{SchemeChoice, Statement};
 use stark_support::{ExtensionField, JsonCodec, TwoAdicField};
@@ -72,13 +72,18 @@ fn showing_of<F: CountedField + TwoAdicField, EF: ExtensionField<F>>(
 
 /// What is shown of a statement over a field. Its JSON is let go of once it is read, before the
 /// text is made, which may be far longer.
-pub(crate) fn show_over<F, EF>(alloc: Global, scheme: SchemeChoice, value: Value) -> Report<Finding>
+pub(crate) fn show_over<F, EF>(
+    alloc: Global,
+    scheme: SchemeChoice,
+    value: Document,
+) -> Report<Finding>
 where
     F: CountedField + TwoAdicField + JsonCodec,
     EF: ExtensionField<F>,
     requires { HasRoomFor F.TWO_ADICITY scheme }
     ensures shown { OrLacksMemory (IsShownOfRead ⟦<EF as Numbered<F>>⟧.fields
-        (scheme_numbers scheme) (statement_reading F.reading (view value))) result.answer }
+        (scheme_numbers scheme) (statement_reading F.reading (data_of value)))
+        result.answer }
     ensures kind { IsOfShowing result.answer }
 {
     let read = read_statement::<F>(alloc, &value);

@@ -7,8 +7,8 @@
 
 ghost use Rattle.std.specs.Prelude.{◌≡◌, ℕ, List};
 ghost use Rattle.serde_json.specs.Data.{Data};
-ghost use Rattle.serde_json.specs.View.{view};
 ghost use Rattle.stark_statement.specs.Configuration.{ConfigurationView, IsWithinField, configuration_view};
+ghost use Rattle.stark_statement.specs.StatementApart.{data_of};
 ghost use Rattle.stark_answers.specs.Finding.{WhereProof};
 ghost use Rattle.stark_answers.specs.declared.finding.Finding.{Finding};
 ghost use Rattle.stark_answers.specs.declared.task.ProofForm.{ProofForm};
@@ -23,11 +23,10 @@ ghost use Rattle.stark_service.specs.TraceChecks.{OrLacksMemory};
 use crate::field::ServiceField;
 use crate::progress::{Progress, Silent};
 use crate::reading::{unread_statement, unread_text};
-use serde_json::Value;
 use stark_answers::{Finding, ProofForm, Report, TraceTask, Verdict};
 use stark_bench::{BabyBearField, F12289, KoalaBearField};
-use stark_statement::{Configuration, FieldName};
-use stark_support::value_from_bytes;
+use stark_json::Document;
+use stark_statement::{Configuration, FieldName, statement_document};
 use std::alloc::Global;
 
 /// What a verifier and a prover that are given a statement say, over the bytes of the statement and
@@ -167,14 +166,17 @@ impl StatementAnswers for NamedFields {
 }
 
 /// A statement's JSON and its configuration; or what is said where there is none.
-fn read_configured(alloc: Global, bytes: &[u8]) -> Result<(Value, Configuration), Report<Verdict>>
+fn read_configured(
+    alloc: Global,
+    bytes: &[u8],
+) -> Result<(Document, Configuration), Report<Verdict>>
     ensures { ReadsConfigured result bytes.now }
 {
-    let value = match value_from_bytes(alloc, bytes) {
+    let value = match statement_document(alloc, bytes) {
         Ok(value) => value,
         Err(error) => return Err(unread_text(alloc, "the statement", &error)),
     };
-    match Configuration::from_statement(&value) {
+    match Configuration::from_document(&value) {
         Ok(configuration) => Ok((value, configuration)),
         Err(error) => Err(unread_statement(alloc, &error)),
     }
@@ -184,15 +186,15 @@ fn read_configured(alloc: Global, bytes: &[u8]) -> Result<(Value, Configuration)
 fn verify_value(
     alloc: Global,
     configuration: Configuration,
-    value: Value,
+    value: Document,
     proof: &[u8],
 ) -> Report<Verdict>
     requires { IsWithinField configuration }
     ensures verdict { OrUnjudged (⟦<NamedFields as ConfiguredAnswers>⟧.verdict
-        (configuration_view configuration) (view value) proof.now) result.answer }
+        (configuration_view configuration) (data_of value) proof.now) result.answer }
     ensures sound { result.answer ≡ Verdict.Accepted
         → ⟦<NamedFields as ConfiguredAnswers>⟧.sound (configuration_view configuration)
-        (view value) proof.now }
+        (data_of value) proof.now }
 {
     let scheme = configuration.scheme;
     match configuration.field {
@@ -207,16 +209,16 @@ fn answer_value<P: Progress>(
     alloc: Global,
     configuration: Configuration,
     asked: TraceTask,
-    value: Value,
+    value: Document,
     trace: &[u8],
     progress: &mut P,
 ) -> Report<Finding>
     requires { IsWithinField configuration }
     ensures found { OrLacksMemory (⟦<NamedFields as ConfiguredAnswers>⟧.found asked
-        (configuration_view configuration) (view value) trace.now) result.answer }
+        (configuration_view configuration) (data_of value) trace.now) result.answer }
     ensures kind { IsOfTrace asked result.answer }
     ensures proof { WhereProof (⟦<NamedFields as ConfiguredAnswers>⟧.proof_file
-        (configuration_view configuration) (view value) trace.now) result.answer }
+        (configuration_view configuration) (data_of value) trace.now) result.answer }
 {
     let scheme = configuration.scheme;
     match configuration.field {
@@ -229,10 +231,10 @@ fn answer_value<P: Progress>(
 }
 
 /// What is shown of a statement that was read as JSON, whose configuration is this.
-fn show_value(alloc: Global, configuration: Configuration, value: Value) -> Report<Finding>
+fn show_value(alloc: Global, configuration: Configuration, value: Document) -> Report<Finding>
     requires { IsWithinField configuration }
     ensures shown { OrLacksMemory (⟦<NamedFields as ConfiguredAnswers>⟧.showing
-        (configuration_view configuration) (view value)) result.answer }
+        (configuration_view configuration) (data_of value)) result.answer }
     ensures kind { IsOfShowing result.answer }
 {
     let scheme = configuration.scheme;

@@ -15,11 +15,23 @@ use stark_parts::{Com, StarkGenericConfig, Val};
 use stark_proof::Proof;
 use stark_support::{GrindingChallenger, Opening, Pcs, Sponge};
 
-/// All that a configuration's types compute, in one record.
+/// All that a configuration's types compute, in one record, and the types that it speaks of beside
+/// the configuration's own: those of its base field and of its scheme.
 pub trait StarkOperations: StarkGenericConfig {
-    ghost operations: { ProtocolOps Self.Pcs Self.Pcs.Domain.Val Self.Challenge Self.Challenger
-        Self.Pcs.Commitment Self.Pcs.ProverData Self.Pcs.Proof Self.Pcs.Error
-        Self.Pcs.ProverError };
+    ghost Value: { Type 0 };
+
+    ghost Commitment: { Type 0 };
+
+    ghost ProverData: { Type 0 };
+
+    ghost Proof: { Type 0 };
+
+    ghost Error: { Type 0 };
+
+    ghost ProverError: { Type 0 };
+
+    ghost operations: { ProtocolOps Self.Pcs Value Self.Challenge Self.Challenger Commitment
+        ProverData Proof Error ProverError };
 }
 
 impl<SC> StarkOperations for SC
@@ -27,6 +39,18 @@ where
     SC: StarkGenericConfig,
     SC::Challenger: GrindingChallenger<Witness = Val<SC>>,
 {
+    ghost Value = { SC.Pcs.Domain.Val };
+
+    ghost Commitment = { SC.Pcs.Commitment };
+
+    ghost ProverData = { SC.Pcs.ProverData };
+
+    ghost Proof = { SC.Pcs.Proof };
+
+    ghost Error = { SC.Pcs.Error };
+
+    ghost ProverError = { SC.Pcs.ProverError };
+
     ghost operations = { record {
       opening = ⟦<SC::Pcs as Opening<SC::Challenge, SC::Challenger>>⟧.opening;
       sponge = ⟦<SC::Challenger as Sponge<Val<SC>, SC::Challenge, Com<SC>>>⟧.sponge;

@@ -38,7 +38,7 @@ module _ {F : Type 0} (m n : ℕ) where
   greatest_bound_is_degree (extension t ∷ cs) = ap_two max (bound_is_degree t) (greatest_bound_is_degree cs)
 
 -- The number of chunks that is answered, by the greatest degree multiple as far as 64 bits hold it.
-pub chunks_answered : {F : Type 0} (cs : List (Constraint F)) (hint : Option ℕ) (is_zk log : ℕ) (leaves : LeafDegrees) (first : Option ℕ) (degree : ℕ) → leaves ≡ trace_multiples 0 → first ≡ fitting (greatest_degree_by leaves cs)
+chunks_answered : {F : Type 0} (cs : List (Constraint F)) (hint : Option ℕ) (is_zk log : ℕ) (leaves : LeafDegrees) (first : Option ℕ) (degree : ℕ) → leaves ≡ trace_multiples 0 → first ≡ fitting (greatest_degree_by leaves cs)
     → degree ≡ unwrap_or first (2 ^ 64 - 1) → IsCeilingOfLog log (quotient_multiple (max degree (unwrap_or hint 0)) is_zk) → IsCeilingOfLog log (quotient_multiple (constraint_degree 0 cs hint) is_zk)
 chunks_answered cs hint is_zk log leaves first degree are fit is sized =
     let exact : degree ≡ greatest_degree 0 cs =
@@ -61,7 +61,7 @@ pub recomposed_degree : (log degree_bits is_zk : ℕ) → is_zk ≤ degree_bits
 recomposed_degree log degree_bits is_zk h = ap (λ q. q + (2 ^ degree_bits - 1)) (quotient_points log degree_bits is_zk h)
 
 -- The bound on zetas, by the two numbers of which it is the greater.
-pub zetas_answered : {F : Type 0} (cs : List (Constraint F)) (log degree_bits is_zk : ℕ) (leaves : LeafDegrees) (second recomposed answer : Option ℕ) → is_zk ≤ degree_bits → leaves ≡ bound_leaves (2 ^ degree_bits) (2 ^ (degree_bits - is_zk))
+zetas_answered : {F : Type 0} (cs : List (Constraint F)) (log degree_bits is_zk : ℕ) (leaves : LeafDegrees) (second recomposed answer : Option ℕ) → is_zk ≤ degree_bits → leaves ≡ bound_leaves (2 ^ degree_bits) (2 ^ (degree_bits - is_zk))
     → second ≡ fitting (greatest_degree_by leaves cs) → recomposed ≡ fitting (2 ^ (log + degree_bits) + (2 ^ degree_bits - 1)) → ((a b : ℕ) → second ≡ fitting a → recomposed ≡ fitting b → answer ≡ fitting (max a b))
     → answer ≡ fitting (zeta_bound (2 ^ degree_bits) (2 ^ (degree_bits - is_zk)) (2 ^ (log + is_zk)) cs)
 zetas_answered cs log degree_bits is_zk leaves second recomposed answer masked are folded_fits recomposed_fits greater =
@@ -69,6 +69,15 @@ zetas_answered cs log degree_bits is_zk leaves second recomposed answer masked a
     let n = 2 ^ (degree_bits - is_zk) in
     let folded : second ≡ fitting (greatest_bound m n cs) = folded_fits ∙ ap (λ l. fitting (greatest_degree_by l cs)) are ∙ ap fitting (sym (greatest_bound_is_degree m n cs)) in
     greater (greatest_bound m n cs) (2 ^ (log + degree_bits) + (2 ^ degree_bits - 1)) folded recomposed_fits ∙ ap (λ b. fitting (max (greatest_bound m n cs) b)) (sym (recomposed_degree log degree_bits is_zk masked))
+
+-- Both that are answered of an AIR's degrees: the quotient's chunks, and the bound on the zetas.
+pub counts_answered : {F : Type 0} (cs : List (Constraint F)) (hint : Option ℕ) (degree_bits is_zk log degree : ℕ) (multiples leaves : LeafDegrees) (first second recomposed answer : Option ℕ) → multiples ≡ trace_multiples 0
+    → first ≡ fitting (greatest_degree_by multiples cs) → degree ≡ unwrap_or first (2 ^ 64 - 1) → IsCeilingOfLog log (quotient_multiple (max degree (unwrap_or hint 0)) is_zk)
+    → is_zk ≤ degree_bits → leaves ≡ bound_leaves (2 ^ degree_bits) (2 ^ (degree_bits - is_zk)) → second ≡ fitting (greatest_degree_by leaves cs) → recomposed ≡ fitting (2 ^ (log + degree_bits) + (2 ^ degree_bits - 1))
+    → ((a b : ℕ) → second ≡ fitting a → recomposed ≡ fitting b → answer ≡ fitting (max a b))
+    → IsCeilingOfLog log (quotient_multiple (constraint_degree 0 cs hint) is_zk) × (answer ≡ fitting (zeta_bound (2 ^ degree_bits) (2 ^ (degree_bits - is_zk)) (2 ^ (log + is_zk)) cs))
+counts_answered cs hint degree_bits is_zk log degree multiples leaves first second recomposed answer are first_fits is sized masked bounds second_fits recomposed_fits greater =
+    (chunks_answered cs hint is_zk log multiples first degree are first_fits is sized, zetas_answered cs log degree_bits is_zk leaves second recomposed answer masked bounds second_fits recomposed_fits greater)
 
 -- where all chunks' cosets together have 2 ^ 64 points or more, the bound doesn't fit
 pub too_many : (log degree_bits more : ℕ) → 64 ≤ log + degree_bits → fitting (2 ^ (log + degree_bits) + more) ≡ None

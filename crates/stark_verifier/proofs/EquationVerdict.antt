@@ -1,5 +1,5 @@
 -- From the test of the constraints to the equation over a proof's opened values.
-use Rattle.std.proofs.Common.{◌≡◌, ◌∙◌, ◌⊎◌, ◌<◌, ap, arith, inl, inr, sym, subst, refl, ℕ, All, List, get_or, length, map, Option, None, Some, option_map, Result, Ok, Err, IfOk, IfErr}
+use Rattle.std.proofs.Common.{◌≡◌, ◌∙◌, ◌⊎◌, ◌<◌, ap, arith, inl, inr, sym, subst, refl, ℕ, All, List, get_or, length, map, replicate, Option, None, Some, option_map, Result, Ok, Err, IfOk, IfErr}
 use Rattle.std.proofs.lemmas.List.{length-map, get_or-map}
 use Rattle.stark_support.specs.Ring.{RingOps}
 use Rattle.stark_support.specs.Selectors.{Subgroup}
@@ -24,6 +24,10 @@ rows_are {F} {E} rows local next fixed_local fixed_next periodic publics el en e
     ap (λ g. at rows.local rows.next rows.preprocessed_local g periodic publics) eg ∙
     ap (λ r. at rows.local rows.next rows.preprocessed_local rows.preprocessed_next r publics) er ∙
     ap (λ p. at rows.local rows.next rows.preprocessed_local rows.preprocessed_next rows.periodic p) ep
+
+-- A row in which zeros stand in for what isn't opened.
+pub filled : {E : Type 0} (at : List E → List E) (zero : E) {row filler held : List E} {count width : ℕ} → row ≡ at filler → filler ≡ held → held ≡ replicate count zero → count ≡ width → row ≡ at (replicate width zero)
+filled at zero is same zeros counted = is ∙ ap at (same ∙ zeros ∙ ap (λ n. replicate n zero) counted)
 
 seen_row : {R E : Type 0} (view : R → List E) (row : Option R) → row_or_empty view row ≡ row_or_empty (λ r. r) (option_map view row)
 seen_row view None = refl

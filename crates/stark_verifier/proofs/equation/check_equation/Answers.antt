@@ -1,4 +1,4 @@
-use Rattle.std.proofs.Common.{◌∙◌, ◌^◌, ◌-◌, ap, length, map, refl, replicate, subst, sym, unwrap_or, vec_len}
+use Rattle.std.proofs.Common.{◌∙◌, ◌^◌, ◌-◌, ap, length, map, refl, subst, sym, unwrap_or, vec_len}
 use Rattle.std.proofs.lemmas.List.{length-map}
 use Rattle.stark_air.specs.Layout.{Covers}
 use Rattle.stark_support.specs.Recomposition.{recomposition}
@@ -10,7 +10,7 @@ use Rattle.stark_proof.specs.ProofView.{openings_view}
 use Rattle.stark_protocol.specs.Sizes.{chunk_shifts}
 use Rattle.stark_verifier.proofs.Balance.{balanced_fault, balanced_held}
 use Rattle.stark_verifier.proofs.CheckSteps.{shaped_covered, shaped_dimension, shaped_number, shaped_widths}
-use Rattle.stark_verifier.proofs.EquationVerdict.{chunk_lengths, equation_fault, equation_held, opened_local, rows_are}
+use Rattle.stark_verifier.proofs.EquationVerdict.{chunk_lengths, equation_fault, equation_held, filled, opened_local, rows_are}
 use Rattle.stark_verifier.proofs.equation.check_equation.Goals as goal
 
 pub quotient_at-requires-clause-number : goal.quotient_at-requires-clause-number
@@ -28,11 +28,7 @@ verify_constraints-requires-clause-widths g c =
     let opened = openings_view c.args.on.now.proof.now.opened_values in
     let periodic = c.args.point.now.periodic_values.items in
     let rows = rows_of g.SC.Challenge.Field.ring.zero layout.main layout.preprocessed opened periodic c.args.on.now.public_values.now in
-    let same = rows_are rows _ _ _ _ _ _ c.as_slice.ensures.value
-    (c.row_or.ensures ∙ ap (unwrap_or opened.trace_next) (c.as_slice-2.ensures.value ∙ c.in_ok-next_filler.ensures ∙ ap (λ n. replicate n g.SC.Challenge.Field.ring.zero) c.width.ensures))
-    (opened_local (λ row. row.now) c.preprocessed_local.result opened.preprocessed c.preprocessed_local.ensures)
-    (c.preprocessed_next.ensures ∙ ap (λ filler. preprocessed_next filler opened.preprocessed) (c.as_slice-3.ensures.value ∙ c.in_ok-fixed_filler.ensures ∙ ap (λ n. replicate n g.SC.Challenge.Field.ring.zero) c.preprocessed_width.ensures))
-    c.as_slice-4.ensures.value refl in
+    let same = rows_are rows _ _ _ _ _ _ c.as_slice.ensures.value (filled (unwrap_or opened.trace_next) g.SC.Challenge.Field.ring.zero c.row_or.ensures c.as_slice-2.ensures.value c.in_ok-next_filler.ensures c.width.ensures) (opened_local (λ row. row.now) c.preprocessed_local.result opened.preprocessed c.preprocessed_local.ensures) (filled (λ filler. preprocessed_next filler opened.preprocessed) g.SC.Challenge.Field.ring.zero c.preprocessed_next.ensures c.as_slice-3.ensures.value c.in_ok-fixed_filler.ensures c.preprocessed_width.ensures) c.as_slice-4.ensures.value refl in
     let covered = shaped_covered c.requires.shaped periodic _ (g.met.A.BaseAir.as_declared c.args.on.now.air.now)
     (ap length c.requires.sampled.are_values ∙ length-map (g.A.BaseAir.periodic_columns c.args.on.now.air.now) _) in
     λ _. subst (λ given. Covers (opened_layout given) layout) (sym same) covered
@@ -43,11 +39,7 @@ returns g c =
     let opened = openings_view c.args.on.now.proof.now.opened_values in
     let periodic = c.args.point.now.periodic_values.items in
     let rows = rows_of g.SC.Challenge.Field.ring.zero layout.main layout.preprocessed opened periodic c.args.on.now.public_values.now in
-    let same = rows_are rows _ _ _ _ _ _ c.as_slice.ensures.value
-    (c.row_or.ensures ∙ ap (unwrap_or opened.trace_next) (c.as_slice-2.ensures.value ∙ c.in_ok-next_filler.ensures ∙ ap (λ n. replicate n g.SC.Challenge.Field.ring.zero) c.width.ensures))
-    (opened_local (λ row. row.now) c.preprocessed_local.result opened.preprocessed c.preprocessed_local.ensures)
-    (c.preprocessed_next.ensures ∙ ap (λ filler. preprocessed_next filler opened.preprocessed) (c.as_slice-3.ensures.value ∙ c.in_ok-fixed_filler.ensures ∙ ap (λ n. replicate n g.SC.Challenge.Field.ring.zero) c.preprocessed_width.ensures))
-    c.as_slice-4.ensures.value refl in
+    let same = rows_are rows _ _ _ _ _ _ c.as_slice.ensures.value (filled (unwrap_or opened.trace_next) g.SC.Challenge.Field.ring.zero c.row_or.ensures c.as_slice-2.ensures.value c.in_ok-next_filler.ensures c.width.ensures) (opened_local (λ row. row.now) c.preprocessed_local.result opened.preprocessed c.preprocessed_local.ensures) (filled (λ filler. preprocessed_next filler opened.preprocessed) g.SC.Challenge.Field.ring.zero c.preprocessed_next.ensures c.as_slice-3.ensures.value c.in_ok-fixed_filler.ensures c.preprocessed_width.ensures) c.as_slice-4.ensures.value refl in
     let trace = g.SC.Pcs.Domain.PolynomialSpace.coset_of c.args.domains.trace in
     let quotient = g.SC.Pcs.Domain.PolynomialSpace.coset_of c.args.domains.quotient in
     let log_chunks = c.args.domains.log_chunks in

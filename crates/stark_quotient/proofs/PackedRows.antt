@@ -1,5 +1,7 @@
 -- In each lane packed rows fold to the folded sum over the row that stands in that lane.
-use Rattle.std.proofs.Common.{◌≡◌, ◌∙◌, ◌++◌, ◌<◌, ℕ, ◌*◌, ◌≤◌, List, map, length, take, drop, slice_index_or, ap, sym, arith}
+use Rattle.std.proofs.Common.{◌≡◌, ◌∙◌, ◌++◌, ◌<◌, ℕ, ◌*◌, ◌≤◌, List, map, length, take, drop, slice_index_or, ap, subst, sym, arith}
+use Rattle.std.specs.Vec.{vec_items}
+use Rattle.std.specs.declared.vec.Vec.{Vec}
 use Rattle.std.proofs.Math.Seq.{take-append_seam, drop-append_seam}
 use Rattle.std.proofs.lemmas.List.{get_or-map, length-drop, length-map, length-take-le, take-map, drop-map}
 use Rattle.stark_support.specs.Ring.{RingOps}
@@ -11,7 +13,11 @@ use Rattle.stark_air.specs.Layout.{Layout, Covers, LeavesWithin}
 use Rattle.stark_air.specs.Value.{constraint_values}
 use Rattle.stark_prover_folder.specs.Finalized.{lane_values}
 use Rattle.stark_parts.specs.Folded.{folded}
-use Rattle.stark_quotient.specs.FoldedPlaces.{embedded}
+use Rattle.stark_air.specs.Declaration.{next_width}
+use Rattle.stark_quotient.specs.FoldedPlaces.{AreFoldingPowers, embedded}
+use Rattle.stark_quotient.specs.Groups.{FitsLayout, group_layout}
+use Rattle.stark_quotient.specs.declared.plain_eval.PackedGroup.{PackedGroup}
+use Rattle.stark_quotient.proofs.PointSteps.{next_within}
 use Rattle.stark_security.specs.SameLeaves.{AgreeWithin, same_constraints}
 use Rattle.stark_quotient.specs.PointRows.{FitLayout, IsLaneRow, PointRow, folded_over, packed_environment, packed_layout, row_environment}
 
@@ -23,7 +29,7 @@ module _ {F P : Type 0} (lanes : P → List F) (i : ℕ) (blank : F) where
   second_part xs ys packed width is number = sym (drop-map (λ v. slice_index_or (lanes v) i blank) width packed) ∙ ap (drop width) is ∙ ap (λ n. drop n (xs ++ ys)) (sym number) ∙ drop-append_seam xs ys
 
 -- Two rows of the widths that a layout has cover it.
-pub halves_cover : {F P : Type 0} (l : Layout) (columns fixed_columns : ℕ) (main preprocessed periodic : List P) (publics : List F) → FitLayout l columns fixed_columns main preprocessed periodic publics
+halves_cover : {F P : Type 0} (l : Layout) (columns fixed_columns : ℕ) (main preprocessed periodic : List P) (publics : List F) → FitLayout l columns fixed_columns main preprocessed periodic publics
     → l.main_next ≤ l.main → l.preprocessed_next ≤ l.preprocessed → Covers (packed_layout columns fixed_columns main preprocessed periodic publics) l
 halves_cover l columns fixed_columns main preprocessed periodic publics fit next fixed_next =
     let first = length-take-le columns main (omega (arith, fit.main)) in
@@ -38,6 +44,20 @@ halves_cover l columns fixed_columns main preprocessed periodic publics fit next
       publics = omega (arith, fit.publics);
       periodics = omega (arith, fit.periodics);
     }
+
+-- So do those of a group that fits it.
+pub group_covers : {F E P : Type 0} (group : PackedGroup F E P) (l : Layout) (columns fixed_columns : List ℕ) → FitsLayout group l → l.main_next ≡ next_width columns l.main → l.preprocessed_next ≡ next_width fixed_columns l.preprocessed
+    → Covers (group_layout group) l
+group_covers group l columns fixed_columns fit next fixed_next =
+    let rows = group.rows.now in
+    halves_cover l rows.main_width rows.preprocessed_width rows.main.items rows.preprocessed.items rows.periodic_values.items group.public_values.now fit (next_within columns l.main_next l.main next) (next_within fixed_columns l.preprocessed_next l.preprocessed fixed_next)
+
+-- Powers that are handed on fold the same constraints.
+pub same_powers : {F E A : Type 0} (ring : RingOps E) (coordinates : E → List F) (dimension : ℕ) (alpha : E) (cs : List (Constraint F)) {base given_base : List (Vec F A)} {ext given_ext : List E} → base ≡ given_base → ext ≡ given_ext
+    → AreFoldingPowers ring coordinates dimension alpha cs (map vec_items given_base) given_ext → AreFoldingPowers ring coordinates dimension alpha cs (map vec_items base) ext
+same_powers ring coordinates dimension alpha cs {base} {given_base} {ext} {given_ext} same_base same_ext are =
+    subst (λ powers. AreFoldingPowers ring coordinates dimension alpha cs (map vec_items base) powers) (sym same_ext)
+    (subst (λ powers. AreFoldingPowers ring coordinates dimension alpha cs (map vec_items powers) given_ext) (sym same_base) are)
 
 module _ {F E P : Type 0} (base : RingOps F) (ring : RingOps E) (embed : F → E) {packed_base : RingOps F} {o : Operations F P} {width : ℕ} {lanes : P → List F} (by_lane : IsLaneByLane packed_base o width lanes) (i : ℕ) (within : i < width) where
   -- a leaf of a packed row
@@ -65,7 +85,7 @@ module _ {F E P : Type 0} (base : RingOps F) (ring : RingOps E) (embed : F → E
     transition = ap embed is.transition;
   }
 
-  pub packed_folded : (l : Layout) (columns fixed_columns : ℕ) (main preprocessed periodic : List P) (publics : List F) (first last change : P) (row : PointRow F)
+  packed_folded : (l : Layout) (columns fixed_columns : ℕ) (main preprocessed periodic : List P) (publics : List F) (first last change : P) (row : PointRow F)
       → IsLaneRow lanes base.zero main preprocessed periodic first last change i row → length row.main_current ≡ columns → length row.preprocessed_current ≡ fixed_columns → row.publics ≡ publics
       → Covers (packed_layout columns fixed_columns main preprocessed periodic publics) l → (alpha : E) (cs : List (Constraint F)) → LeavesWithin l cs
       → folded ring alpha (constraint_values (ring_operations ring embed) (embedded embed (lane_environment lanes i base.zero (packed_environment columns fixed_columns main preprocessed periodic publics o base.zero first last change))) cs)
@@ -73,3 +93,16 @@ module _ {F E P : Type 0} (base : RingOps F) (ring : RingOps E) (embed : F → E
   packed_folded l columns fixed_columns main preprocessed periodic publics first last change row is number fixed_number same covers alpha cs leaves =
       ap (folded ring alpha)
       (same_constraints ring embed l _ (row_environment base ring embed row) (lanes_agree l columns fixed_columns main preprocessed periodic publics first last change row is number fixed_number same covers) cs leaves)
+
+  -- A group's rows fold to the folded sum over the row that stands in that lane.
+  pub group_folded : (group : PackedGroup F E P) (l : Layout) (columns fixed_columns : List ℕ) → FitsLayout group l → l.main_next ≡ next_width columns l.main → l.preprocessed_next ≡ next_width fixed_columns l.preprocessed
+      → (row : PointRow F) → IsLaneRow lanes base.zero group.rows.now.main.items group.rows.now.preprocessed.items group.rows.now.periodic_values.items group.selectors.now.is_first_row group.selectors.now.is_last_row group.selectors.now.is_transition i row
+      → length row.main_current ≡ group.rows.now.main_width → length row.preprocessed_current ≡ group.rows.now.preprocessed_width → row.publics ≡ group.public_values.now → (cs : List (Constraint F)) → LeavesWithin l cs
+      → folded ring group.powers.now.alpha (constraint_values (ring_operations ring embed) (embedded embed (lane_environment lanes i base.zero (packed_environment group.rows.now.main_width group.rows.now.preprocessed_width group.rows.now.main.items
+      group.rows.now.preprocessed.items group.rows.now.periodic_values.items group.public_values.now o base.zero group.selectors.now.is_first_row group.selectors.now.is_last_row group.selectors.now.is_transition))) cs)
+      ≡ folded_over base ring embed row group.powers.now.alpha cs
+  group_folded group l columns fixed_columns fit next fixed_next row is number fixed_number same cs leaves =
+      let rows = group.rows.now in
+      let selectors = group.selectors.now in
+      packed_folded l rows.main_width rows.preprocessed_width rows.main.items rows.preprocessed.items rows.periodic_values.items group.public_values.now selectors.is_first_row selectors.is_last_row selectors.is_transition row is number fixed_number same
+      (group_covers group l columns fixed_columns fit next fixed_next) group.powers.now.alpha cs leaves

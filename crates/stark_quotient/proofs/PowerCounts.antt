@@ -1,6 +1,9 @@
 -- How many powers and values there are of base constraints and of those over the extension.
-use Rattle.std.proofs.Common.{◌≡◌, ◌∙◌, ◌+◌, ◌-◌, ℕ, refl, List, [], ◌∷◌, Some, map, length, ap, sym, arith}
+use Rattle.std.proofs.Common.{◌≡◌, ◌∙◌, ◌+◌, ◌-◌, ◌<◌, ℕ, refl, List, [], ◌∷◌, Some, map, option_map, slice_index_or, length, ap, sym, arith}
 use Rattle.std.specs.List.{slice_get}
+use Rattle.std.specs.Vec.{vec_items}
+use Rattle.std.specs.declared.vec.Vec.{Vec}
+use Rattle.std.proofs.lemmas.Option.{slice_get-get_or, slice_get-map}
 use Rattle.std.proofs.lemmas.List.{length-map}
 use Rattle.stark_support.specs.Ring.{RingOps}
 use Rattle.stark_support.specs.Powers.{power}
@@ -26,7 +29,7 @@ as_many_extension f n (over_extension t ∷ cs) = (let h = as_many_extension f (
 module _ {F E P S : Type 0} {ring : RingOps E} {coordinates : E → List F} {dimension : ℕ} {a : E} {cs : List (Constraint F)} {rows : List (List F)} {powers : List E} (are : AreFoldingPowers ring coordinates dimension a cs rows powers)
     {o : Operations F P} {above : P → List E} {environment : S → Environment P} {layout : S → Layout} {kept : S → List P} {kept_above : S → List (List E)} {s t : S} (collected : CollectedBoth o above environment layout kept kept_above s cs t) where
   -- A row has a power for each base value.
-  pub row_length : kept s ≡ [] → (d : ℕ) (row : List F) → slice_get rows d ≡ Some row → length row ≡ length (kept t)
+  row_length : kept s ≡ [] → (d : ℕ) (row : List F) → slice_get rows d ≡ Some row → length row ≡ length (kept t)
   row_length nothing d row h =
       let places = base_places 0 cs in
       let values = place_powers ring a (length cs) places in
@@ -42,3 +45,9 @@ module _ {F E P S : Type 0} {ring : RingOps E} {coordinates : E → List F} {dim
       sym (length-map values lanes_above) ∙ ap length is ∙
       ap length (kept_from_nothing (kept_above s) (kept_above t) (of_extension f cs) collected.appended_above nothing) ∙
       sym (as_many_extension f 0 cs) ∙ sym (length-map places (λ i. power ring a (length cs - 1 - i))) ∙ sym (ap length are.extension)
+
+module _ {F E P S A : Type 0} {ring : RingOps E} {coordinates : E → List F} {dimension : ℕ} {a : E} {cs : List (Constraint F)} (base : List (Vec F A)) {powers : List E} (are : AreFoldingPowers ring coordinates dimension a cs (map vec_items base) powers)
+    {o : Operations F P} {above : P → List E} {environment : S → Environment P} {layout : S → Layout} {kept : S → List P} {kept_above : S → List (List E)} {s t : S} (collected : CollectedBoth o above environment layout kept kept_above s cs t) where
+  -- So has each of some lists of powers.
+  pub kept_rows_length : kept s ≡ [] → (k : ℕ) (d : Vec F A) → k < length base → length (vec_items (slice_index_or base k d)) ≡ length (kept t)
+  kept_rows_length nothing k d below = row_length are {s = s} {t = t} collected nothing k _ (slice_get-map vec_items base k ∙ ap (option_map vec_items) (slice_get-get_or base k d below))

@@ -1,5 +1,5 @@
 -- Groups of points, and what is computed ahead for all of them.
-use Rattle.std.specs.Prelude.{◌≡◌, ℕ, List, map}
+use Rattle.std.specs.Prelude.{◌≡◌, ℕ, ◌*◌, List, length, map}
 use Rattle.std.specs.Vec.{vec_items}
 use Rattle.std.specs.declared.vec.Vec.{Vec}
 use Rattle.stark_support.specs.Ring.{RingOps}
@@ -19,6 +19,7 @@ use Rattle.stark_prover_folder.specs.Finalized.{PackingOps, in_pairs}
 use Rattle.stark_quotient.specs.PointRows.{AreFoldedRows, FitLayout, packed_environment, packed_layout}
 use Rattle.stark_quotient.specs.declared.plain_eval.AlphaPowers.{AlphaPowers}
 use Rattle.stark_quotient.specs.declared.plain_eval.PackedGroup.{PackedGroup}
+use Rattle.stark_quotient.specs.declared.plain_eval.PackedRows.{PackedRows}
 
 -- The powers of a challenge that fold these constraints, in lists; of the challenge that they are kept with; of some challenge.
 abbrev pub HoldPowers : {F E A B C : Type 0} → RingOps E → (E → List F) → ℕ → E → List (Constraint F) → Vec (Vec F A) B → Vec E C → Type 0
@@ -29,6 +30,10 @@ AreFoldedBy ring coordinates dimension cs powers = AreFoldingPowers ring coordin
 
 abbrev pub HasPowers : {F E P Q A : Type 0} → PackingOps F E P Q → List (Constraint F) → List (Vec F A) → List E → Type 0
 HasPowers {E = E} packing cs base ext = (alpha : E) × AreFoldingPowers packing.fields.ring packing.coordinates packing.fields.dimension alpha cs (map vec_items base) ext
+
+-- Two main rows and two preprocessed ones, each as wide as it is said to be.
+abbrev pub HasTwoRows : {P : Type 0} → PackedRows P → Type 0
+HasTwoRows rows = (length rows.main.items ≡ 2 * rows.main_width) × (length rows.preprocessed.items ≡ 2 * rows.preprocessed_width)
 
 module _ {F E P : Type 0} (group : PackedGroup F E P) where
   -- The group's rows and values have the lengths that a layout declares.

@@ -1,6 +1,6 @@
 //! An AIR's constraints at a group of points, by packed values that have a point in each lane.
-ghost use Rattle.std.specs.Prelude.{◌≡◌, ◌*◌, [], IfOk, length};
-ghost use Rattle.stark_quotient.specs.Groups.{AreFoldedBy, FitsLayout, FoldsPacked, ShowsGroup, group_layout};
+ghost use Rattle.std.specs.Prelude.{◌≡◌, [], IfOk};
+ghost use Rattle.stark_quotient.specs.Groups.{AreFoldedBy, FitsLayout, FoldsPacked, HasTwoRows, ShowsGroup, group_layout};
 
 use crate::group_eval::GroupEval;
 use crate::row::folded_row;
@@ -77,8 +77,7 @@ pub(crate) type GroupOf<'a, SC, P> = PackedGroup<
 pub(crate) fn views_of<P>(
     rows: &PackedRows<P>,
 ) -> (RowMajorMatrixView<'_, P>, RowMajorMatrixView<'_, P>)
-    requires main { length rows.now.main.items ≡ 2 * rows.now.main_width }
-    requires preprocessed { length rows.now.preprocessed.items ≡ 2 * rows.now.preprocessed_width }
+    requires { HasTwoRows rows.now }
     ensures main_width { result.0.width ≡ rows.now.main_width }
     ensures main { result.0.values.now ≡ rows.now.main.items }
     ensures preprocessed_width { result.1.width ≡ rows.now.preprocessed_width }
@@ -117,6 +116,32 @@ pub(crate) fn emptied<T: Drop>(alloc: Global, buffer: &mut Vec<T>) -> Vec<T>
     values
 }
 
+/// A folder over a group's rows, which keeps nothing yet, with emptied buffers for what it will
+/// keep.
+macro_rules! folder_over {
+    ($folder:ident, $alloc:expr, $group:expr, $kept:expr) => {{
+        let (main, preprocessed) = views_of($group.rows);
+        $folder {
+            main,
+            preprocessed,
+            preprocessed_window: RowWindow::from_view(&preprocessed),
+            periodic_values: $group.rows.periodic_values.as_slice(),
+            public_values: $group.public_values,
+            is_first_row: $group.selectors.is_first_row,
+            is_last_row: $group.selectors.is_last_row,
+            is_transition: $group.selectors.is_transition,
+            base_alpha_powers: $group.powers.base.as_slice(),
+            ext_alpha_powers: $group.powers.ext.as_slice(),
+            base_constraints: emptied($alloc, &mut $kept.base),
+            ext_constraints: emptied($alloc, &mut $kept.ext),
+            constraint_index: 0,
+            constraint_count: $group.powers.count,
+        }
+    }};
+}
+
+pub(crate) use folder_over;
+
 /// The prover's folder over a group's rows, which keeps nothing yet.
 fn folder_on<'a, SC: StarkGenericConfig>(
     alloc: Global,
@@ -126,9 +151,7 @@ fn folder_on<'a, SC: StarkGenericConfig>(
 where
     Val<SC>: PackedField,
     SC::Challenge: PackedExtensionField<Val<SC>>,
-    requires main { length group.now.rows.now.main.items ≡ 2 * group.now.rows.now.main_width }
-    requires preprocessed { length group.now.rows.now.preprocessed.items
-        ≡ 2 * group.now.rows.now.preprocessed_width }
+    requires rows { HasTwoRows group.now.rows.now }
     ensures environment { ShowsGroup group.now ⟦<SC as StarkPacking>⟧.packing
         (⟦<ProverConstraintFolder<'a, SC> as BaseAirBuilder>⟧.environment result) }
     ensures layout { ⟦<ProverConstraintFolder<'a, SC> as BaseAirBuilder>⟧.layout result
@@ -138,23 +161,7 @@ where
     ensures base_powers { result.base_alpha_powers.now ≡ group.now.powers.now.base.items }
     ensures ext_powers { result.ext_alpha_powers.now ≡ group.now.powers.now.ext.items }
 {
-    let (main, preprocessed) = views_of(group.rows);
-    ProverConstraintFolder {
-        main,
-        preprocessed,
-        preprocessed_window: RowWindow::from_view(&preprocessed),
-        periodic_values: group.rows.periodic_values.as_slice(),
-        public_values: group.public_values,
-        is_first_row: group.selectors.is_first_row,
-        is_last_row: group.selectors.is_last_row,
-        is_transition: group.selectors.is_transition,
-        base_alpha_powers: group.powers.base.as_slice(),
-        ext_alpha_powers: group.powers.ext.as_slice(),
-        base_constraints: emptied(alloc, &mut kept.base),
-        ext_constraints: emptied(alloc, &mut kept.ext),
-        constraint_index: 0,
-        constraint_count: group.powers.count,
-    }
+    folder_over!(ProverConstraintFolder, alloc, group, kept)
 }
 
 /// In each lane the folded sum of an AIR's constraints over the row there: `alpha^(n - 1 - j)`

@@ -33,6 +33,21 @@ where
         folder.base_alpha_powers.now folder.ext_alpha_powers.now };
 }
 
+/// Evaluates an AIR's constraints over a folder.
+macro_rules! evaluate {
+    ($air:expr, $folder:expr) => {
+        // What an evaluation leaves in a builder doesn't say that the powers stay, so they are put
+        // back.
+        let base_alpha_powers = $folder.base_alpha_powers;
+        let ext_alpha_powers = $folder.ext_alpha_powers;
+        $air.eval($folder)?;
+        $folder.base_alpha_powers = base_alpha_powers;
+        $folder.ext_alpha_powers = ext_alpha_powers;
+    };
+}
+
+pub(crate) use evaluate;
+
 /// The constraints of an AIR over the folder's rows, folded with the powers of alpha that the
 /// folder holds: in each lane `alpha^(n - 1 - j)` times constraint `j` for each of the `n`. The
 /// folder keeps no value yet, and its rows and values have at least the lengths that the AIR
@@ -53,12 +68,6 @@ where
     ensures { IfOk result (⟦<ProverConstraintFolder<'a, SC> as FoldedRow>⟧.folds folder.old
         (A.constraints air.now)) }
 {
-    // What an evaluation leaves in a builder doesn't say that the powers stay, so they are put
-    // back.
-    let base_alpha_powers = folder.base_alpha_powers;
-    let ext_alpha_powers = folder.ext_alpha_powers;
-    air.eval(folder)?;
-    folder.base_alpha_powers = base_alpha_powers;
-    folder.ext_alpha_powers = ext_alpha_powers;
+    evaluate!(air, folder);
     Ok(folder.finalize_constraints())
 }

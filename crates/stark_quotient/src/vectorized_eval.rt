@@ -1,16 +1,16 @@
 //! An AIR's constraints at a group of points, two packed values at a time.
-ghost use Rattle.std.specs.Prelude.{◌≡◌, ◌*◌, [], IfOk, length};
+ghost use Rattle.std.specs.Prelude.{◌≡◌, ◌*◌, [], IfOk};
 ghost use Rattle.std.proofs.Common.{ap};
 ghost use Rattle.stark_air.specs.Layout.{Covers};
 ghost use Rattle.stark_support.specs.declared.vectorized.OfExtension.{OfExtension};
 ghost use Rattle.stark_support.specs.declared.vectorized.PackedPair.{PackedPair};
 ghost use Rattle.stark_prover_folder.specs.Finalized.{in_pairs};
 ghost use Rattle.stark_quotient.specs.FoldedLanes.{FoldsRow};
-ghost use Rattle.stark_quotient.specs.Groups.{AreFoldedBy, FitsLayout, FoldsPacked, HasPowers, ShowsPairs, group_layout};
+ghost use Rattle.stark_quotient.specs.Groups.{AreFoldedBy, FitsLayout, FoldsPacked, HasPowers, HasTwoRows, ShowsPairs, group_layout};
 
 use crate::group_eval::GroupEval;
-use crate::plain_eval::{GroupOf, KeptValues, emptied, views_of};
-use crate::row::FoldedRow;
+use crate::plain_eval::{GroupOf, KeptValues, emptied, folder_over, views_of};
+use crate::row::{FoldedRow, evaluate};
 use stark_air::{Air, BaseAirBuilder, RowWindow};
 use stark_parts::{PackedVal, StarkGenericConfig, Val};
 use stark_prover_folder::{
@@ -46,9 +46,7 @@ fn pairs_folder_on<'a, SC: StarkGenericConfig>(
 where
     Val<SC>: PackedField,
     SC::Challenge: PackedExtensionField<Val<SC>>,
-    requires main { length group.now.rows.now.main.items ≡ 2 * group.now.rows.now.main_width }
-    requires preprocessed { length group.now.rows.now.preprocessed.items
-        ≡ 2 * group.now.rows.now.preprocessed_width }
+    requires rows { HasTwoRows group.now.rows.now }
     ensures environment { ShowsPairs group.now ⟦<SC as StarkPacking>⟧.packing
         (⟦<VectorizedConstraintFolder<'a, SC, 2> as BaseAirBuilder>⟧.environment result) }
     ensures layout { ⟦<VectorizedConstraintFolder<'a, SC, 2> as BaseAirBuilder>⟧.layout result
@@ -58,23 +56,7 @@ where
     ensures base_powers { result.base_alpha_powers.now ≡ group.now.powers.now.base.items }
     ensures ext_powers { result.ext_alpha_powers.now ≡ group.now.powers.now.ext.items }
 {
-    let (main, preprocessed) = views_of(group.rows);
-    VectorizedConstraintFolder {
-        main,
-        preprocessed,
-        preprocessed_window: RowWindow::from_view(&preprocessed),
-        periodic_values: group.rows.periodic_values.as_slice(),
-        public_values: group.public_values,
-        is_first_row: group.selectors.is_first_row,
-        is_last_row: group.selectors.is_last_row,
-        is_transition: group.selectors.is_transition,
-        base_alpha_powers: group.powers.base.as_slice(),
-        ext_alpha_powers: group.powers.ext.as_slice(),
-        base_constraints: emptied(alloc, &mut kept.base),
-        ext_constraints: emptied(alloc, &mut kept.ext),
-        constraint_index: 0,
-        constraint_count: group.powers.count,
-    }
+    folder_over!(VectorizedConstraintFolder, alloc, group, kept)
 }
 
 impl<'a, SC: StarkGenericConfig> FoldedRow for VectorizedConstraintFolder<'a, SC, 2>
@@ -110,13 +92,7 @@ where
     ensures { IfOk result (⟦<VectorizedConstraintFolder<'a, SC, 2> as FoldedRow>⟧.folds folder.old
         (A.constraints air.now)) }
 {
-    // What an evaluation leaves in a builder doesn't say that the powers stay, so they are put
-    // back.
-    let base_alpha_powers = folder.base_alpha_powers;
-    let ext_alpha_powers = folder.ext_alpha_powers;
-    air.eval(folder)?;
-    folder.base_alpha_powers = base_alpha_powers;
-    folder.ext_alpha_powers = ext_alpha_powers;
+    evaluate!(air, folder);
     Ok(folder.finalize_constraints(scratch)?)
 }
 

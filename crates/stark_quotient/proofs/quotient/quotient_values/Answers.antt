@@ -12,14 +12,11 @@ values_on-requires-clause-placed g c = record {
 }
 
 pub values_on-requires-clause-rows : goal.values_on-requires-clause-rows
-values_on-requires-clause-rows g c =
-    let layout = g.A.BaseAir.layout c.args.air.now in
-    let size = sym c.points_of-size.ensures.size in
-    record {
-      main = subst (λ n. HasShape layout.main n (rows_in c.args.trace.now)) size c.requires.trace;
-      preprocessed = subst (λ n. HasShape layout.preprocessed n (rows_or_none c.args.preprocessed)) size c.requires.preprocessed;
-      publics = c.requires.publics;
-    }
+values_on-requires-clause-rows g c = record {
+  main = subst (λ n. HasShape (g.A.BaseAir.layout c.args.air.now).main n (rows_in c.args.trace.now)) (sym c.points_of-size.ensures.size) c.requires.trace;
+  preprocessed = subst (λ n. HasShape (g.A.BaseAir.layout c.args.air.now).preprocessed n (rows_or_none c.args.preprocessed)) (sym c.points_of-size.ensures.size) c.requires.preprocessed;
+  publics = c.requires.publics;
+}
 
 pub values_on-requires-clause-prepared : goal.values_on-requires-clause-prepared
 values_on-requires-clause-prepared g c = c.in_ok-prepared.ensures
@@ -34,14 +31,11 @@ values_on-requires-else-BENEFITS_FROM_LOCKSTEP_EVALUATION-clause-placed g c = re
 }
 
 pub values_on-requires-else-BENEFITS_FROM_LOCKSTEP_EVALUATION-clause-rows : goal.values_on-requires-else-BENEFITS_FROM_LOCKSTEP_EVALUATION-clause-rows
-values_on-requires-else-BENEFITS_FROM_LOCKSTEP_EVALUATION-clause-rows g c =
-    let layout = g.A.BaseAir.layout c.args.air.now in
-    let size = sym c.points_of-size.ensures.size in
-    record {
-      main = subst (λ n. HasShape layout.main n (rows_in c.args.trace.now)) size c.requires.trace;
-      preprocessed = subst (λ n. HasShape layout.preprocessed n (rows_or_none c.args.preprocessed)) size c.requires.preprocessed;
-      publics = c.requires.publics;
-    }
+values_on-requires-else-BENEFITS_FROM_LOCKSTEP_EVALUATION-clause-rows g c = record {
+  main = subst (λ n. HasShape (g.A.BaseAir.layout c.args.air.now).main n (rows_in c.args.trace.now)) (sym c.points_of-size.ensures.size) c.requires.trace;
+  preprocessed = subst (λ n. HasShape (g.A.BaseAir.layout c.args.air.now).preprocessed n (rows_or_none c.args.preprocessed)) (sym c.points_of-size.ensures.size) c.requires.preprocessed;
+  publics = c.requires.publics;
+}
 
 pub values_on-requires-else-BENEFITS_FROM_LOCKSTEP_EVALUATION-clause-prepared : goal.values_on-requires-else-BENEFITS_FROM_LOCKSTEP_EVALUATION-clause-prepared
 values_on-requires-else-BENEFITS_FROM_LOCKSTEP_EVALUATION-clause-prepared g c = c.in_ok-prepared.ensures

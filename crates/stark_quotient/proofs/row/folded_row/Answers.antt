@@ -1,24 +1,18 @@
-use Rattle.std.proofs.Common.{◌∙◌, ◌<◌, ap, map, option_map, refl, subst, sym}
+use Rattle.std.proofs.Common.{◌∙◌, ◌<◌, ap, map, refl, subst, sym}
 use Rattle.std.specs.Vec.{vec_items}
 use Rattle.std.proofs.lemmas.List.{length-map}
-use Rattle.std.proofs.lemmas.Option.{slice_get-get_or, slice_get-map}
 use Rattle.stark_quotient.specs.FoldedLanes.{folded_lane}
-use Rattle.stark_quotient.proofs.PowerCounts.{powers_length, row_length}
+use Rattle.stark_quotient.proofs.PowerCounts.{kept_rows_length, powers_length}
 use Rattle.stark_quotient.proofs.row.folded_row.Goals as goal
 
 pub finalize_constraints-requires-clause-dimension : goal.finalize_constraints-requires-clause-dimension
 finalize_constraints-requires-clause-dimension g c = sym (length-map c.args.folder.now.base_alpha_powers.now vec_items) ∙ c.requires.powers.1.base.number
 
 pub finalize_constraints-requires-clause-rows : goal.finalize_constraints-requires-clause-rows
-finalize_constraints-requires-clause-rows g c = λ k d below.
-    let rows = c.args.folder.now.base_alpha_powers.now in
-    let at = slice_get-map vec_items rows k ∙ ap (option_map vec_items) (slice_get-get_or rows k d below) in
-    row_length c.requires.powers.1 {s = c.args.folder.now} {t = c.eval.new.builder} c.in_ok-eval.ensures.asserted c.requires.nothing_kept k _ at
+finalize_constraints-requires-clause-rows g c = kept_rows_length c.args.folder.now.base_alpha_powers.now c.requires.powers.1 {s = c.args.folder.now} {t = c.eval.new.builder} c.in_ok-eval.ensures.asserted c.requires.nothing_kept
 
 pub finalize_constraints-requires-clause-powers : goal.finalize_constraints-requires-clause-powers
-finalize_constraints-requires-clause-powers g c =
-    let lanes = g.SC.Challenge.ExtensionPacking.PackedValue.lanes in
-    powers_length c.requires.powers.1 {s = c.args.folder.now} {t = c.eval.new.builder} c.in_ok-eval.ensures.asserted (ap (map lanes) c.requires.nothing_kept_above) lanes c.eval.new.builder.ext_constraints.items refl
+finalize_constraints-requires-clause-powers g c = powers_length c.requires.powers.1 {s = c.args.folder.now} {t = c.eval.new.builder} c.in_ok-eval.ensures.asserted (ap (map g.SC.Challenge.ExtensionPacking.PackedValue.lanes) c.requires.nothing_kept_above) g.SC.Challenge.ExtensionPacking.PackedValue.lanes c.eval.new.builder.ext_constraints.items refl
 
 pub returns : goal.returns
 returns g c = λ alpha are i within.

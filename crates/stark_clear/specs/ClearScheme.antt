@@ -1,9 +1,11 @@
 -- The scheme in the clear: a commitment lists the committed columns.
-use Rattle.std.specs.Prelude.{◌≡◌, ℕ, List, Option, None, Some}
+use Rattle.std.specs.Prelude.{◌≡◌, ℕ, ⊤, List, Option, None, Some, Result, Err}
 use Rattle.std.specs.List.{AllByRecursion}
 use Rattle.stark_support.specs.Ring.{RingOps}
 use Rattle.stark_support.specs.Claims.{RoundClaim}
 use Rattle.stark_support.specs.Scheme.{CommittingCalls, SchemeOps}
+use Rattle.stark_support.specs.declared.scheme.SchemeFault.{SchemeFault}
+use Rattle.stark_support.specs.declared.scheme.SchemeFault.TheVariants.{Refused}
 use Rattle.stark_columns.specs.Columns.{IsFull, columns_of}
 use Rattle.stark_clear.specs.ClearClaims.{ClaimsAreTrue, ClaimsFault}
 use Rattle.stark_clear.specs.Stops.{StopsAt}
@@ -14,6 +16,7 @@ use Rattle.stark_clear.specs.declared.clear.check.ClearError.TheVariants.{Stoppe
 use Rattle.stark_clear.specs.declared.clear.pcs.ClearPcs.{ClearPcs}
 use Rattle.stark_clear.specs.declared.clear.pcs.ClearProof.{ClearProof}
 use Rattle.stark_clear.specs.declared.clear.pcs.ClearProverError.{ClearProverError}
+use Rattle.stark_clear.specs.declared.clear.pcs.ClearProverError.TheVariants.{Stopped as ProverStopped}
 
 -- The scheme that stops nowhere.
 abbrev pub clear_pcs : {F : Type 0} → ClearPcs F
@@ -51,3 +54,12 @@ clear_scheme ring embed adicity stops calls = record {
 -- The claims are true, and verifying doesn't stop.
 abbrev pub AcceptsTrue : {F E : Type 0} → RingOps E → (F → E) → Option ClearCall → List (RoundClaim F E (List (List (List F)))) → Type 0
 AcceptsTrue ring embed stops claims = ClaimsAreTrue ring embed claims × (StopsAt stops Verify → ⊥)
+
+-- ---- of what a call answers
+
+-- The prover's call at which the scheme stops answers so, and so does verifying.
+abbrev pub StopsProving : {T : Type 0} → Option ClearCall → ClearCall → Result T (SchemeFault ClearProverError) → Type 0
+StopsProving stops call result = StopsAt stops call → result ≡ Err (Refused ProverStopped)
+
+abbrev pub StopsVerifying : Option ClearCall → Result ⊤ (SchemeFault ClearError) → Type 0
+StopsVerifying stops result = StopsAt stops Verify → result ≡ Err (Refused Stopped)

@@ -9,5 +9,6 @@ pub mod PlaySteps
 pub mod PointSteps
 pub mod QuerySteps
 pub mod ReplaySteps
+pub mod VerifySteps
 pub mod ViewSteps
 pub mod WalkSteps

@@ -30,6 +30,9 @@ pub struct FriData<F: TwoAdicField> {
     layers: Vec<Vec<[u8; 32]>>,
 }
 
+/// What a commitment gives: its root, and what the prover keeps of it.
+pub type Committed<F> = (Root, FriData<F>);
+
 impl<F: TwoAdicField> FriData<F> {
     /// The commitment.
     pub fn root(&self) -> &Root
@@ -260,7 +263,7 @@ pub fn commit_columns<F: TwoAdicField + PrimeField64, H: TreeHash>(
     log_height: usize,
     log_blowup: usize,
     matrices: Vec<Vec<Vec<F>>>,
-) -> Result<(Root, FriData<F>), AllocError>
+) -> Result<Committed<F>, AllocError>
     requires { log_height + log_blowup ≤ F.TWO_ADICITY }
     ensures commitment { IfOk result (λ made. made.0 ≡ made.1.root) }
     ensures height { IfOk result (λ made. made.1.domain.log_size ≡ log_height) }

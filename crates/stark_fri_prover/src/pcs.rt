@@ -8,14 +8,14 @@ ghost use Rattle.stark_columns.specs.ColumnPoints.{height_of};
 ghost use Rattle.stark_columns.specs.Columns.{columns_list};
 ghost use Rattle.stark_fri.specs.Scheme.{ArePlain, fri_calls};
 ghost use Rattle.stark_merkle.specs.Tree.{digests_in};
-ghost use Rattle.stark_fri_prover.specs.Calls.{Accepts, CommitsQuotient, Refuses, RefusesRoundsIn};
+ghost use Rattle.stark_fri_prover.specs.Calls.{Accepts, CommitsQuotient, Refuses, RefusesRoundsIn, RowsStand};
 ghost use Rattle.stark_fri_prover.specs.Commit.{AreLayersOver, data_seen, extension_of, IsKept, IsTopOf};
 ghost use Rattle.stark_fri_prover.specs.HonestFactsScheme.{kept_laws};
 ghost use Rattle.stark_fri_prover.specs.HonestOpening.{kept_scheme};
 ghost use Rattle.stark_support.specs.SchemeClauses.{CommitsChunks, CommitsRows, OpensTrueValues, ProvesTrueClaims, IsTableOver};
 
 use crate::calls::Proving;
-use crate::commit::{FriData, commit_columns};
+use crate::commit::{Committed, FriData, commit_columns};
 use crate::opening::open;
 use stark_bench::Coset;
 use stark_columns::{chunks_of, columns_of, rows_on};
@@ -73,7 +73,7 @@ impl<F: TwoAdicField, H> FriPcs<F, H> {
     }
 }
 
-type Committed<F> = Result<(Root, FriData<F>), SchemeFault<FriProverError>>;
+type CommitResult<F> = Result<Committed<F>, SchemeFault<FriProverError>>;
 
 /// The commitment to one matrix.
 fn commit_alone<F: TwoAdicField + PrimeField64, H: TreeHash>(
@@ -81,7 +81,7 @@ fn commit_alone<F: TwoAdicField + PrimeField64, H: TreeHash>(
     log_height: usize,
     log_blowup: usize,
     columns: Vec<Vec<F>>,
-) -> Result<(Root, FriData<F>), AllocError>
+) -> Result<Committed<F>, AllocError>
     requires { log_height + log_blowup ≤ F.TWO_ADICITY }
     ensures commitment { IfOk result (λ made. made.0 ≡ made.1.root) }
     ensures height { IfOk result (λ made. made.1.domain.log_size ≡ log_height) }
@@ -148,7 +148,7 @@ where
         Ok(*commitment)
     }
 
-    fn commit(&self, alloc: Global, domain: Coset<F>, matrix: RowMajorMatrix<F>) -> Committed<F>
+    fn commit(&self, alloc: Global, domain: Coset<F>, matrix: RowMajorMatrix<F>) -> CommitResult<F>
         requires power { IsPowerOfTwo (height_of matrix) }
         requires within { 2 ^ domain.log_size
             ≤ 2 ^ (F.TWO_ADICITY - self.now.parameters.log_blowup) }
@@ -202,13 +202,13 @@ where
         alloc: Global,
         domain: Coset<F>,
         matrix: RowMajorMatrix<F>,
-    ) -> Committed<F>
+    ) -> CommitResult<F>
         requires power { IsPowerOfTwo (height_of matrix) }
         requires within { 2 ^ domain.log_size
             ≤ 2 ^ (F.TWO_ADICITY - self.now.parameters.log_blowup) }
         requires room { height_of matrix ≤ 2 ^ domain.log_size }
-        ensures stands { IfOk result (CommitsRows ⟦<FriPcs<F, H> as Pcs<EF, C>>⟧.scheme F.ring
-            F.root self.now (coset_from domain.shift domain.log_size) matrix) }
+        ensures stands { RowsStand ⟦<FriPcs<F, H> as Opening<EF, C>>⟧.opening self.now
+            (coset_from domain.shift domain.log_size) matrix result }
         ensures made { IfOk result (λ made. ArePlain F.ring (height_of matrix)
             (map columns_list made.1.matrices.items)) }
         ensures refused { IfRefusal result (λ _. ⊥) }
@@ -223,7 +223,7 @@ where
         domain: Coset<F>,
         flat: RowMajorMatrix<F>,
         num_chunks: usize,
-    ) -> Committed<F>
+    ) -> CommitResult<F>
         requires height { length flat.values.items ≡ 2 ^ domain.log_size * flat.width }
         requires power { IsPowerOfTwo num_chunks }
         requires parts { num_chunks ≤ 2 ^ domain.log_size }
@@ -247,7 +247,7 @@ where
         &self,
         _alloc: Global,
         _domain: Coset<F>,
-    ) -> Result<Option<(Root, FriData<F>)>, SchemeFault<FriProverError>> {
+    ) -> Result<Option<Committed<F>>, SchemeFault<FriProverError>> {
         Ok(None)
     }
 

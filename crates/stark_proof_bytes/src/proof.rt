@@ -84,17 +84,12 @@ fn read_openings<E: BytesCodec + Drop>(
 ) -> Result<OpenedValues<E>, BytesFault>
     ensures { Takes openings_view result reader.new ((openings_ops E.bytes).reading reader.old) }
 {
-    let trace_local = read_list(alloc, &mut *reader)?;
-    let trace_next = read_list_option(alloc, &mut *reader)?;
-    let preprocessed = read_preprocessed(alloc, &mut *reader)?;
-    let quotient_chunks = read_lists(alloc, &mut *reader)?;
-    let random = read_list_option(alloc, reader)?;
     Ok(OpenedValues {
-        trace_local,
-        trace_next,
-        preprocessed,
-        quotient_chunks,
-        random,
+        trace_local: read_list(alloc, &mut *reader)?,
+        trace_next: read_list_option(alloc, &mut *reader)?,
+        preprocessed: read_preprocessed(alloc, &mut *reader)?,
+        quotient_chunks: read_lists(alloc, &mut *reader)?,
+        random: read_list_option(alloc, reader)?,
     })
 }
 
@@ -128,19 +123,13 @@ pub(crate) fn read_proof<
     ensures { Takes proof_view result reader.new ((proof_ops
         (codecs Com.bytes Challenge.bytes PcsProof.bytes Val.bytes)).reading reader.old) }
 {
-    let commitments = Commitments::read_from(alloc, &mut *reader)?;
-    let opened_values = read_openings(alloc, &mut *reader)?;
-    let opening_proof = PcsProof::read_from(alloc, &mut *reader)?;
-    let degree_bits = reader.next_number()?;
-    let ood_pow_witness = Val::read_from(alloc, &mut *reader)?;
-    let alpha_pow_witness = Val::read_from(alloc, reader)?;
     Ok(Proof {
-        commitments,
-        opened_values,
-        opening_proof,
-        degree_bits,
-        ood_pow_witness,
-        alpha_pow_witness,
+        commitments: Commitments::read_from(alloc, &mut *reader)?,
+        opened_values: read_openings(alloc, &mut *reader)?,
+        opening_proof: PcsProof::read_from(alloc, &mut *reader)?,
+        degree_bits: reader.next_number()?,
+        ood_pow_witness: Val::read_from(alloc, &mut *reader)?,
+        alpha_pow_witness: Val::read_from(alloc, reader)?,
     })
 }
 

@@ -39,11 +39,18 @@ fn columns_have_size<F>(columns: &[Vec<F>], size: usize) -> bool
     true
 }
 
+/// Whether so many values are claimed at a point.
+fn has_count<EF>(point: &(EF, &[EF]), count: usize) -> bool
+    ensures { IsTrue result ↔ (length point.now.1.now ≡ count) }
+{
+    point.1.len() == count
+}
+
 fn points_have_count<EF>(points: &[(EF, &[EF])], count: usize) -> bool
     ensures { IsTrue result ↔ AllByRecursion (λ p. length p.1 ≡ count) (map point_view points.now) }
 {
     for point in points {
-        if point.1.len() != count {
+        if !has_count(point, count) {
             return false;
         }
     }

@@ -6,8 +6,8 @@ ghost use Rattle.stark_support.specs.Coset.{coset_from};
 ghost use Rattle.stark_support.specs.Scheme.{zk_bits};
 ghost use Rattle.stark_columns.specs.ColumnPoints.{height_of};
 ghost use Rattle.stark_clear.specs.ClearFacts.{clear_laws};
-ghost use Rattle.stark_clear.specs.ClearCalls.{clear_calls, IsPlainCommitment, IsPlainQuotient};
-ghost use Rattle.stark_clear.specs.ClearScheme.{clear_pcs, clear_scheme, stopping_pcs, AcceptsTrue, RefusesClaims};
+ghost use Rattle.stark_clear.specs.ClearCalls.{clear_calls, IsPlainCommitment, IsPlainQuotient, RowsStand};
+ghost use Rattle.stark_clear.specs.ClearScheme.{clear_pcs, clear_scheme, stopping_pcs, AcceptsTrue, RefusesClaims, StopsProving, StopsVerifying};
 ghost use Rattle.stark_clear.specs.Stops.{StopsAt};
 ghost use Rattle.stark_support.specs.SchemeClauses.{CommitsChunks, CommitsRows, OpensTrueValues, ProvesTrueClaims, IsTableOver};
 
@@ -102,6 +102,32 @@ impl<F> ClearPcs<F> {
     }
 }
 
+impl<F: TwoAdicField> ClearPcs<F> {
+    /// The commitment to a matrix by columns without masks, where the scheme doesn't stop at this
+    /// call.
+    fn committed_plain<EF: ExtensionField<F>, C>(
+        &self,
+        alloc: Global,
+        domain: &Coset<F>,
+        matrix: &RowMajorMatrix<F>,
+        call: ClearCall,
+    ) -> Committed<F>
+        requires power { IsPowerOfTwo (height_of matrix.now) }
+        requires within { 2 ^ domain.now.log_size ≤ 2 ^ F.TWO_ADICITY }
+        requires room { height_of matrix.now ≤ 2 ^ domain.now.log_size }
+        ensures stands { RowsStand ⟦<ClearPcs<F> as Opening<EF, C>>⟧.opening self.now
+            (coset_from domain.now.shift domain.now.log_size) matrix.now result }
+        ensures refused { IfRefusal result (λ _. StopsAt self.now.stops_at call) }
+        ensures made { IfOk result (IsPlainCommitment F.ring matrix.now) }
+        ensures stops { StopsProving self.now.stops_at call result }
+    {
+        self.pass(call, ClearProverError::Stopped)?;
+        let columns = columns_of(alloc, domain, matrix)?;
+        let made = committed_alone(alloc, columns)?;
+        Ok(made)
+    }
+}
+
 impl<F: TwoAdicField, EF: ExtensionField<F>, C> Pcs<EF, C> for ClearPcs<F> {
     type Domain = Coset<F>;
 
@@ -143,13 +169,9 @@ impl<F: TwoAdicField, EF: ExtensionField<F>, C> Pcs<EF, C> for ClearPcs<F> {
             self.now (coset_from domain.shift domain.log_size) matrix) }
         ensures refused { IfRefusal result (λ _. StopsAt self.now.stops_at ClearCall.Commit) }
         ensures made { IfOk result (IsPlainCommitment F.ring matrix) }
-        ensures stops { StopsAt self.now.stops_at ClearCall.Commit → result
-            ≡ Result.Err (SchemeFault.Refused ClearProverError.Stopped) }
+        ensures stops { StopsProving self.now.stops_at ClearCall.Commit result }
     {
-        self.pass(ClearCall::Commit, ClearProverError::Stopped)?;
-        let columns = columns_of(alloc, &domain, &matrix)?;
-        let made = committed_alone(alloc, columns)?;
-        Ok(made)
+        self.committed_plain::<EF, C>(alloc, &domain, &matrix, ClearCall::Commit)
     }
 
     fn get_evaluations_on_domain(
@@ -187,13 +209,9 @@ impl<F: TwoAdicField, EF: ExtensionField<F>, C> UnivariateStarkPcs<EF, C> for Cl
         ensures refused { IfRefusal result (λ _.
             StopsAt self.now.stops_at ClearCall.CommitPreprocessing) }
         ensures made { IfOk result (IsPlainCommitment F.ring matrix) }
-        ensures stops { StopsAt self.now.stops_at ClearCall.CommitPreprocessing → result
-            ≡ Result.Err (SchemeFault.Refused ClearProverError.Stopped) }
+        ensures stops { StopsProving self.now.stops_at ClearCall.CommitPreprocessing result }
     {
-        self.pass(ClearCall::CommitPreprocessing, ClearProverError::Stopped)?;
-        let columns = columns_of(alloc, &domain, &matrix)?;
-        let made = committed_alone(alloc, columns)?;
-        Ok(made)
+        self.committed_plain::<EF, C>(alloc, &domain, &matrix, ClearCall::CommitPreprocessing)
     }
 
     fn commit_quotient(
@@ -214,8 +232,7 @@ impl<F: TwoAdicField, EF: ExtensionField<F>, C> UnivariateStarkPcs<EF, C> for Cl
             (coset_from domain.shift domain.log_size) flat num_chunks) }
         ensures refused { IfRefusal result (λ _.
             StopsAt self.now.stops_at ClearCall.CommitQuotient) }
-        ensures stops { StopsAt self.now.stops_at ClearCall.CommitQuotient → result
-            ≡ Result.Err (SchemeFault.Refused ClearProverError.Stopped) }
+        ensures stops { StopsProving self.now.stops_at ClearCall.CommitQuotient result }
     {
         self.pass(ClearCall::CommitQuotient, ClearProverError::Stopped)?;
         let chunks = chunks_of(alloc, &domain, &flat, num_chunks)?;
@@ -231,8 +248,7 @@ impl<F: TwoAdicField, EF: ExtensionField<F>, C> UnivariateStarkPcs<EF, C> for Cl
         ensures none { IfOk result (λ made. made ≡ None) }
         ensures refused { IfRefusal result (λ _.
             StopsAt self.now.stops_at ClearCall.Randomization) }
-        ensures stops { StopsAt self.now.stops_at ClearCall.Randomization → result
-            ≡ Result.Err (SchemeFault.Refused ClearProverError.Stopped) }
+        ensures stops { StopsProving self.now.stops_at ClearCall.Randomization result }
     {
         self.pass(ClearCall::Randomization, ClearProverError::Stopped)?;
         Ok(None)
@@ -265,8 +281,7 @@ impl<F: TwoAdicField, EF: ExtensionField<F>, C> UnivariateStarkPcs<EF, C> for Cl
         ensures whole { IfOk result (ProvesTrueClaims ⟦<ClearPcs<F> as Pcs<EF, C>>⟧.scheme EF.ring
             EF.embed self.now rounds.entry _challenger.old _preprocessed_index) }
         ensures refused { IfRefusal result (λ _. StopsAt self.now.stops_at ClearCall.Open) }
-        ensures stops { StopsAt self.now.stops_at ClearCall.Open → result
-            ≡ Result.Err (SchemeFault.Refused ClearProverError.Stopped) }
+        ensures stops { StopsProving self.now.stops_at ClearCall.Open result }
     {
         self.pass(ClearCall::Open, ClearProverError::Stopped)?;
         let opened = open_rounds::<F, EF>(alloc, &rounds)?;
@@ -288,8 +303,7 @@ impl<F: TwoAdicField, EF: ExtensionField<F>, C> UnivariateStarkPcs<EF, C> for Cl
             (RefusesClaims EF.ring EF.embed self.now.stops_at
             (claims_view ⟦<Coset<F> as PolynomialSpace>⟧.coset_of claims.entry)) }
         ensures no_memory { IfErr result (λ fault. fault ≢ SchemeFault.OutOfMemory) }
-        ensures stops { StopsAt self.now.stops_at ClearCall.Verify → result
-            ≡ Result.Err (SchemeFault.Refused ClearError.Stopped) }
+        ensures stops { StopsVerifying self.now.stops_at result }
     {
         self.pass(ClearCall::Verify, ClearError::Stopped)?;
         match check_claims::<Coset<F>, EF>(alloc, &claims) {

@@ -7,7 +7,7 @@ ghost use Rattle.stark_support.specs.Scheme.{zk_bits};
 ghost use Rattle.stark_columns.specs.ColumnPoints.{height_of};
 ghost use Rattle.stark_clear.specs.ClearFacts.{clear_laws};
 ghost use Rattle.stark_clear.specs.ClearCalls.{masked_calls, IsPlainCommitment, IsMaskedCommitment, IsMaskedQuotient, AreMasks, ChunksStand, IfMade, ProvesOpening};
-ghost use Rattle.stark_clear.specs.ClearScheme.{clear_scheme, AcceptsTrue, RefusesClaims};
+ghost use Rattle.stark_clear.specs.ClearScheme.{clear_scheme, AcceptsTrue, RefusesClaims, StopsProving, StopsVerifying};
 ghost use Rattle.stark_clear.specs.Stops.{StopsAt};
 ghost use Rattle.stark_support.specs.SchemeClauses.{CommitsRows, OpensTrueValues, CommitsColumns};
 
@@ -74,17 +74,17 @@ impl<F> MaskedClearPcs<F> {
 }
 
 impl<F: TwoAdicField, EF: ExtensionField<F>, C> Pcs<EF, C> for MaskedClearPcs<F> {
-    type Domain = Coset<F>;
+    type Domain = <ClearPcs<F> as Pcs<EF, C>>::Domain;
 
-    type Commitment = ClearCommitment<F>;
+    type Commitment = <ClearPcs<F> as Pcs<EF, C>>::Commitment;
 
-    type ProverData = ClearCommitment<F>;
+    type ProverData = <ClearPcs<F> as Pcs<EF, C>>::ProverData;
 
-    type Proof = ClearProof;
+    type Proof = <ClearPcs<F> as Pcs<EF, C>>::Proof;
 
-    type Error = ClearError;
+    type Error = <ClearPcs<F> as Pcs<EF, C>>::Error;
 
-    type ProverError = ClearProverError;
+    type ProverError = <ClearPcs<F> as Pcs<EF, C>>::ProverError;
 
     ghost ZK = { true };
 
@@ -105,7 +105,7 @@ impl<F: TwoAdicField, EF: ExtensionField<F>, C> Pcs<EF, C> for MaskedClearPcs<F>
         <ClearPcs<F> as Pcs<EF, C>>::copy_commitment(&self.plain, alloc, commitment)
     }
 
-    fn commit(&self, alloc: Global, domain: Coset<F>, matrix: RowMajorMatrix<F>) -> Committed<F>
+    fn commit(&self, alloc: Global, domain: Self::Domain, matrix: RowMajorMatrix<F>) -> Committed<F>
         requires power { IsPowerOfTwo (height_of matrix) }
         requires within { 2 ^ domain.log_size ≤ 2 ^ F.TWO_ADICITY }
         requires room { height_of matrix ≤ 2 ^ domain.log_size }
@@ -114,8 +114,7 @@ impl<F: TwoAdicField, EF: ExtensionField<F>, C> Pcs<EF, C> for MaskedClearPcs<F>
         ensures refused { IfRefusal result (λ _. StopsAt self.now.stops_at ClearCall.Commit) }
         ensures made { IfOk result (IsMaskedCommitment F.ring self.now.masks
             (coset_from domain.shift domain.log_size) matrix) }
-        ensures stops { StopsAt self.now.stops_at ClearCall.Commit → result
-            ≡ Result.Err (SchemeFault.Refused ClearProverError.Stopped) }
+        ensures stops { StopsProving self.now.stops_at ClearCall.Commit result }
     {
         self.plain
             .pass(ClearCall::Commit, ClearProverError::Stopped)?;
@@ -129,7 +128,7 @@ impl<F: TwoAdicField, EF: ExtensionField<F>, C> Pcs<EF, C> for MaskedClearPcs<F>
         alloc: Global,
         prover_data: &ClearCommitment<F>,
         index: usize,
-        domain: Coset<F>,
+        domain: Self::Domain,
     ) -> Result<RowMajorMatrix<F>, AllocError> {
         <ClearPcs<F> as Pcs<EF, C>>::get_evaluations_on_domain(
             &self.plain,
@@ -153,7 +152,7 @@ impl<F: TwoAdicField, EF: ExtensionField<F>, C> UnivariateStarkPcs<EF, C> for Ma
     fn commit_preprocessing(
         &self,
         alloc: Global,
-        domain: Coset<F>,
+        domain: Self::Domain,
         matrix: RowMajorMatrix<F>,
     ) -> Committed<F>
         requires power { IsPowerOfTwo (height_of matrix) }
@@ -164,8 +163,7 @@ impl<F: TwoAdicField, EF: ExtensionField<F>, C> UnivariateStarkPcs<EF, C> for Ma
         ensures refused { IfRefusal result (λ _.
             StopsAt self.now.stops_at ClearCall.CommitPreprocessing) }
         ensures made { IfOk result (IsPlainCommitment F.ring matrix) }
-        ensures stops { StopsAt self.now.stops_at ClearCall.CommitPreprocessing → result
-            ≡ Result.Err (SchemeFault.Refused ClearProverError.Stopped) }
+        ensures stops { StopsProving self.now.stops_at ClearCall.CommitPreprocessing result }
     {
         <ClearPcs<F> as UnivariateStarkPcs<EF, C>>::commit_preprocessing(
             &self.plain,
@@ -178,10 +176,10 @@ impl<F: TwoAdicField, EF: ExtensionField<F>, C> UnivariateStarkPcs<EF, C> for Ma
     fn commit_quotient(
         &self,
         alloc: Global,
-        domain: Coset<F>,
+        domain: Self::Domain,
         flat: RowMajorMatrix<F>,
         num_chunks: usize,
-    ) -> Committed<F>
+    ) -> Result<(Self::Commitment, Self::ProverData), SchemeFault<Self::ProverError>>
         requires height { length flat.values.items ≡ 2 ^ domain.log_size * flat.width }
         requires power { IsPowerOfTwo num_chunks }
         requires parts { num_chunks ≤ 2 ^ domain.log_size }
@@ -192,8 +190,7 @@ impl<F: TwoAdicField, EF: ExtensionField<F>, C> UnivariateStarkPcs<EF, C> for Ma
             StopsAt self.now.stops_at ClearCall.CommitQuotient) }
         ensures made { IfOk result (IsMaskedQuotient F.ring F.inverse_of F.root self.now.masks
             (coset_from domain.shift domain.log_size) flat num_chunks) }
-        ensures stops { StopsAt self.now.stops_at ClearCall.CommitQuotient → result
-            ≡ Result.Err (SchemeFault.Refused ClearProverError.Stopped) }
+        ensures stops { StopsProving self.now.stops_at ClearCall.CommitQuotient result }
     {
         self.plain
             .pass(ClearCall::CommitQuotient, ClearProverError::Stopped)?;
@@ -205,8 +202,8 @@ impl<F: TwoAdicField, EF: ExtensionField<F>, C> UnivariateStarkPcs<EF, C> for Ma
     fn get_opt_randomization_poly_commitment(
         &self,
         alloc: Global,
-        domain: Coset<F>,
-    ) -> Result<Option<(ClearCommitment<F>, ClearCommitment<F>)>, SchemeFault<ClearProverError>>
+        domain: Self::Domain,
+    ) -> Result<Option<(Self::Commitment, Self::ProverData)>, SchemeFault<Self::ProverError>>
         requires within { 2 ^ domain.log_size ≤ 2 ^ F.TWO_ADICITY }
         ensures there { IfOk result (λ made. is_some made ≡ true) }
         ensures stands { IfMade result (CommitsColumns
@@ -216,8 +213,7 @@ impl<F: TwoAdicField, EF: ExtensionField<F>, C> UnivariateStarkPcs<EF, C> for Ma
             StopsAt self.now.stops_at ClearCall.Randomization) }
         ensures made { IfMade result (AreMasks F.ring self.now.masks EF.DIMENSION
             (coset_from domain.shift domain.log_size)) }
-        ensures stops { StopsAt self.now.stops_at ClearCall.Randomization → result
-            ≡ Result.Err (SchemeFault.Refused ClearProverError.Stopped) }
+        ensures stops { StopsProving self.now.stops_at ClearCall.Randomization result }
     {
         self.plain
             .pass(ClearCall::Randomization, ClearProverError::Stopped)?;
@@ -231,8 +227,8 @@ impl<F: TwoAdicField, EF: ExtensionField<F>, C> UnivariateStarkPcs<EF, C> for Ma
         &self,
         alloc: Global,
         columns: &PeriodicColumns<'_, F>,
-        trace_domain: Coset<F>,
-        quotient_domain: Coset<F>,
+        trace_domain: Self::Domain,
+        quotient_domain: Self::Domain,
     ) -> Result<PeriodicLdeTable<F>, AllocError> {
         <ClearPcs<F> as UnivariateStarkPcs<EF, C>>::build_periodic_lde_table(
             &self.plain,
@@ -256,8 +252,7 @@ impl<F: TwoAdicField, EF: ExtensionField<F>, C> UnivariateStarkPcs<EF, C> for Ma
         ensures whole { IfOk result (ProvesOpening ⟦<MaskedClearPcs<F> as Opening<EF, C>>⟧.opening
             self.now rounds.entry challenger.old preprocessed_index) }
         ensures refused { IfRefusal result (λ _. StopsAt self.now.stops_at ClearCall.Open) }
-        ensures stops { StopsAt self.now.stops_at ClearCall.Open → result
-            ≡ Result.Err (SchemeFault.Refused ClearProverError.Stopped) }
+        ensures stops { StopsProving self.now.stops_at ClearCall.Open result }
     {
         <ClearPcs<F> as UnivariateStarkPcs<EF, C>>::open_with_preprocessing(
             &self.plain,
@@ -283,8 +278,7 @@ impl<F: TwoAdicField, EF: ExtensionField<F>, C> UnivariateStarkPcs<EF, C> for Ma
             (RefusesClaims EF.ring EF.embed self.now.stops_at
             (claims_view ⟦<Coset<F> as PolynomialSpace>⟧.coset_of claims.entry)) }
         ensures no_memory { IfErr result (λ fault. fault ≢ SchemeFault.OutOfMemory) }
-        ensures stops { StopsAt self.now.stops_at ClearCall.Verify → result
-            ≡ Result.Err (SchemeFault.Refused ClearError.Stopped) }
+        ensures stops { StopsVerifying self.now.stops_at result }
     {
         <ClearPcs<F> as UnivariateStarkPcs<EF, C>>::verify_with_preprocessing(
             &self.plain,

@@ -1,6 +1,6 @@
 -- The machine's columns, each as a leaf. Its state at the beginning of a row:
-use Rattle.std.specs.Prelude.{ℕ, ◌+◌}
-use Rattle.stark_air.specs.Layout.{Layout}
+use Rattle.std.specs.Prelude.{ℕ, ◌+◌, ◌<◌, ◌≤◌}
+use Rattle.stark_air.specs.Layout.{Covers, Layout}
 use Rattle.stark_air.specs.Tree.{Tree, main_current, preprocessed_current}
 
 -- 40 main columns, of which the next row is read, 14 of the program, and three public values.
@@ -100,3 +100,9 @@ target_index = preprocessed_current 12
 
 abbrev pub number : {F : Type 0} → Tree F
 number = preprocessed_current 13
+
+-- ---- a row has the machine's columns, and among them four flags from a column on, and the column of the program with their index
+pub record ReadsWithin (layout : Layout) (first : ℕ) (column : ℕ) : Type 0 where
+  pub covered : Covers layout machine_layout
+  pub flags : first ≤ 36
+  pub index : column < 14

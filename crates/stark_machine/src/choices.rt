@@ -1,8 +1,8 @@
 //! Which instruction, registers and cell a row works on.
-ghost use Rattle.std.specs.Prelude.{◌≡◌, ◌<◌, ◌≤◌, [], ◌∷◌, IfOk, OnErr};
+ghost use Rattle.std.specs.Prelude.{◌≡◌, [], ◌∷◌, IfOk, OnErr};
 ghost use Rattle.stark_air.specs.Layout.{Covers};
 ghost use Rattle.stark_air.specs.Value.{value};
-ghost use Rattle.stark_machine.specs.Columns.{machine_layout};
+ghost use Rattle.stark_machine.specs.Columns.{ReadsWithin, machine_layout};
 ghost use Rattle.stark_machine.specs.Machine.{active_reach, active_write, is_in_place, is_index, reaches_address, reaches_one, writes_one, writes_target};
 
 use crate::columns::{
@@ -39,9 +39,7 @@ pub(crate) fn assert_index<F: PrimeField64, AB: AirBuilder<F = F>>(
     first: usize,
     column: usize,
 ) -> Result<(), AllocError>
-    requires covered { Covers (AB.layout builder.old) machine_layout }
-    requires flags { first ≤ 36 }
-    requires index { column < 14 }
+    requires { ReadsWithin (AB.layout builder.old) first column }
     ensures same_layout { AB.layout builder.new ≡ AB.layout builder.old }
     ensures asserted { IfOk result (λ _.
         AB.after builder.old (is_index F.of_number first column ∷ []) builder.new) }

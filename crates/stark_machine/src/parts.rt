@@ -1,9 +1,9 @@
 //! The machine's constraints, part by part.
-ghost use Rattle.std.specs.Prelude.{◌<◌, ◌≤◌, [], ◌∷◌, ◌++◌, OnErr, map};
+ghost use Rattle.std.specs.Prelude.{[], ◌∷◌, ◌++◌, OnErr, map};
 ghost use Rattle.std.specs.List.{range_with_len};
 ghost use Rattle.stark_air.specs.Emission.{Asserted};
 ghost use Rattle.stark_air.specs.Layout.{Covers};
-ghost use Rattle.stark_machine.specs.Columns.{machine_layout};
+ghost use Rattle.stark_machine.specs.Columns.{ReadsWithin, machine_layout};
 ghost use Rattle.stark_machine.specs.Machine.{activity, adds, beginning, begins_with_input, begins_with_zero, cell_next, choices, compares, control, end, has_digits, jumps_by_product, jumps_unless_zero, loads, multiplies, next_row, operands, reached, read, reads, register_next, results, step, subtracts, written};
 
 use crate::booleans::Booleans;
@@ -44,9 +44,7 @@ fn assert_read<F: PrimeField64, AB: ExtensionBuilder<F = F>>(
     first: usize,
     column: usize,
 ) -> Result<(), AllocError>
-    requires covered { Covers (AB.layout builder.old) machine_layout }
-    requires flags { first ≤ 36 }
-    requires index { column < 14 }
+    requires { ReadsWithin (AB.layout builder.old) first column }
     ensures asserted { Asserted AB.after result builder.old
         (read F.ONE F.of_number first column)
         builder.new }

@@ -5,7 +5,7 @@ ghost use Rattle.stark_air.specs.Layout.{Covers};
 ghost use Rattle.stark_air.specs.Value.{value};
 ghost use Rattle.stark_air.specs.Tree.{constant, difference};
 ghost use Rattle.stark_machine.specs.Columns.{bit, machine_layout};
-ghost use Rattle.stark_machine.specs.Digits.{AddsDigit, has_difference};
+ghost use Rattle.stark_machine.specs.Digits.{AddsDigit, has_difference, is_zero_at_jump};
 ghost use Rattle.stark_machine.specs.Machine.{adds, compares, digits, first_operand, has_digits, jumps_by_product, jumps_unless_zero, loads, multiplies, second_operand, subtracts};
 
 use crate::columns::{
@@ -230,6 +230,22 @@ pub(crate) fn assert_loads<AB: AirBuilder>(builder: &mut AB) -> Result<(), Alloc
     builder.assert_zero(AB::Expr::from(load) * (AB::Expr::from(c) - value))
 }
 
+/// In a row of a jump an expression is 0.
+#[tactic(auto, using(stark_air::proofs::Steps::shown))]
+fn assert_zero_at_jump<AB: AirBuilder>(builder: &mut AB, x: AB::Expr) -> Result<(), AllocError>
+    requires { Covers (AB.layout builder.old) machine_layout }
+    ensures same_layout { AB.layout builder.new ≡ AB.layout builder.old }
+    ensures asserted { IfOk result (λ _.
+        Asserts AB.Expr.operations AB.Expr.stands AB.environment AB.after is_zero_at_jump
+        builder.old x builder.new) }
+    ensures refused { OnErr result (AB.after builder.old [] builder.new) }
+    ensures memory { OnErr result AB.may_refuse }
+{
+    let program = builder.preprocessed()?;
+    let jump = program.current(JUMP).unwrap();
+    builder.assert_zero(AB::Expr::from(jump) * x)
+}
+
 /// Of a jump, the product of the first operand and some number.
 #[tactic(auto, using(stark_air::proofs::Steps::shown))]
 pub(crate) fn assert_jumps_by_product<AB: AirBuilder>(builder: &mut AB) -> Result<(), AllocError>
@@ -241,13 +257,11 @@ pub(crate) fn assert_jumps_by_product<AB: AirBuilder>(builder: &mut AB) -> Resul
     ensures memory { OnErr result AB.may_refuse }
 {
     let main = builder.main()?;
-    let program = builder.preprocessed()?;
-    let jump = program.current(JUMP).unwrap();
     let a = main.current(A).unwrap();
     let c = main.current(C).unwrap();
     let inverse = main.current(INVERSE).unwrap();
     let result = AB::Expr::from(a) * AB::Expr::from(inverse);
-    builder.assert_zero(AB::Expr::from(jump) * (AB::Expr::from(c) - result))
+    assert_zero_at_jump(builder, AB::Expr::from(c) - result)
 }
 
 /// It is 1 where the first operand isn't 0.
@@ -261,10 +275,8 @@ pub(crate) fn assert_jumps_unless_zero<AB: AirBuilder>(builder: &mut AB) -> Resu
     ensures memory { OnErr result AB.may_refuse }
 {
     let main = builder.main()?;
-    let program = builder.preprocessed()?;
-    let jump = program.current(JUMP).unwrap();
     let a = main.current(A).unwrap();
     let c = main.current(C).unwrap();
     let kept = AB::Expr::from(a) * AB::Expr::from(c);
-    builder.assert_zero(AB::Expr::from(jump) * (AB::Expr::from(a) - kept))
+    assert_zero_at_jump(builder, AB::Expr::from(a) - kept)
 }

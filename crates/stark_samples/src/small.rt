@@ -88,7 +88,7 @@ fn assert_mixed<F: PrimeField64, AB: ExtensionBuilder<F = F>>(
     ensures memory { OnErr result AB.may_refuse }
 {
     assert_number(&mut *builder, 1)?;
-    assert_number_above(&mut *builder, 2)?;
+    assert_two_above(&mut *builder)?;
     assert_number(builder, 3)
 }
 
@@ -136,21 +136,20 @@ fn assert_number<F: PrimeField64, AB: AirBuilder<F = F>>(
     builder.assert_eq(x.into(), AB::Expr::from(F::from_u8(number)))
 }
 
-/// The column is a number, as a constraint over the extension.
+/// The column is 2, as a constraint over the extension.
 #[tactic(auto, using(stark_air::proofs::Steps::shown))]
-fn assert_number_above<F: PrimeField64, AB: ExtensionBuilder<F = F>>(
+fn assert_two_above<F: PrimeField64, AB: ExtensionBuilder<F = F>>(
     builder: &mut AB,
-    number: u8,
 ) -> Result<(), AllocError>
     requires { Covers (AB.layout builder.old) column_layout }
     ensures same_layout { AB.layout builder.new ≡ AB.layout builder.old }
     ensures asserted { IfOk result (λ _.
-        AB.after builder.old (is_number_above (F.of_number number) ∷ []) builder.new) }
+        AB.after builder.old (is_number_above (F.of_number 2) ∷ []) builder.new) }
     ensures refused { OnErr result (AB.after builder.old [] builder.new) }
     ensures memory { OnErr result AB.may_refuse }
 {
     let main = builder.main()?;
     let x = main.current(0).unwrap();
-    let off = AB::Expr::from(x) - AB::Expr::from(F::from_u8(number));
+    let off = AB::Expr::from(x) - AB::Expr::from(F::from_u8(2));
     builder.assert_zero_ext(AB::ExprEF::from(off))
 }

@@ -1,5 +1,5 @@
 -- The trace's domain and the quotient's.
-use Rattle.std.proofs.Common.{◌≡◌, ◌∙◌, ap, arith, ℕ, ◌+◌, ◌^◌, ◌<◌, Option, Some, None, IfSome}
+use Rattle.std.proofs.Common.{◌≡◌, ◌∙◌, ap, arith, sym, ℕ, ◌+◌, ◌^◌, ◌<◌, Bool, true, Option, Some, None, IfSome}
 use Rattle.std.proofs.lemmas.Nat.{pow_below}
 use Rattle.stark_support.specs.Ring.{RingOps}
 use Rattle.stark_support.specs.Coset.{TwoAdicCoset}
@@ -27,3 +27,9 @@ none_of_size adicity n size P is none =
 pub trace_coset_is : (s : Base) (n k : ℕ) → s ≡ residue 1 → n ≡ k → (let d : TwoAdicCoset Base = record { shift = s; log_size = n } in d) ≡ trace_coset k
 trace_coset_is s n k shift size =
     ap (λ (t : Base). let d : TwoAdicCoset Base = record { shift = t; log_size = n } in d) shift ∙ ap (λ (j : ℕ). let d : TwoAdicCoset Base = record { shift = residue 1; log_size = j } in d) size
+
+-- A comparison of two values tells whether these are one.
+pub compared : {K : Type 0} (eq : K → K → Bool) → ((x y : K) → eq x y ≡ true → x ≡ y) → ((x : K) → eq x x ≡ true) → (told : Bool) (a b x y : K) → told ≡ eq a b → a ≡ x → b ≡ y
+    → (told ≡ true → x ≡ y) × (x ≡ y → told ≡ true)
+compared eq same reflexive told a b x y is is_x is_y =
+    (λ yes. sym is_x ∙ same a b (sym is ∙ yes) ∙ is_y, λ e. is ∙ ap (eq a) (sym (is_x ∙ e ∙ sym is_y)) ∙ reflexive a)

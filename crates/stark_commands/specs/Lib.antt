@@ -1,7 +1,9 @@
 pub mod Airs
 pub mod Check
+pub mod Cut
 pub mod Input
 pub mod Numbers
+pub mod Opened
 pub mod Point
 pub mod ProofInput
 pub mod Prove

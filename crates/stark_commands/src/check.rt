@@ -1,15 +1,16 @@
 //! The command `check`: the equation of a proof at one point, of numbers that are read.
 
-ghost use Rattle.std.specs.Prelude.{◌≡◌, ◌≢◌, ◌≤◌, ◌^◌, ◌⊎◌, true, length, map};
+ghost use Rattle.std.specs.Prelude.{◌≡◌, ◌≢◌, ◌≤◌, ◌^◌, ◌⊎◌, true, map};
 ghost use Rattle.stark_commands.specs.Airs.{log_chunks_of, sample};
 ghost use Rattle.stark_answers.specs.CheckedAir.{shape_of};
-ghost use Rattle.stark_commands.specs.Check.{IsBalanced, IsOrLacksMemory, IsOwed, checked, found_at_point, trace_coset, vanishing, verdict_on_bytes, whole_coset};
+ghost use Rattle.stark_commands.specs.Check.{IsBalanced, IsOrLacksMemory, IsOwed, checked, found_at_point, vanishing, verdict_on_bytes};
+ghost use Rattle.stark_commands.specs.Cut.{IsCut};
 ghost use Rattle.stark_commands.specs.Input.{elements, has_shape};
 ghost use Rattle.stark_commands.specs.Numbers.{numbers};
 ghost use Rattle.stark_commands.specs.Point.{TellsEquation};
 
 use crate::input::{CheckInput, Extension, numbers_from, zeros};
-use crate::point::{equation_over, quotient_domain_of, vanishes_at};
+use crate::point::{OpenedPoint, PointDomains, equation_over, quotient_domain_of, vanishes_at};
 use crate::sample::{SampleAir, sample_air};
 use stark_air::{Air, AirLayout};
 use stark_answers::{CheckShape, DeclaredAir, Refusal, Verdict};
@@ -23,43 +24,33 @@ fn check_columns<A: Air<F12289>>(
     alloc: Global,
     air: &A,
     input: &CheckInput,
-    trace_domain: Coset<F12289>,
-    quotient_domain: Coset<F12289>,
-    log_chunks: usize,
+    domains: &PointDomains<Coset<F12289>>,
     columns: &PeriodicColumns<'_, F12289>,
 ) -> Verdict
-    requires shape { has_shape (shape_of (⟦<A as DeclaredAir<F12289>>⟧.declared air.now))
-        (numbers input.now) ≡ true }
-    requires trace { ⟦<Coset<F12289> as PolynomialSpace>⟧.coset_of trace_domain
-        ≡ trace_coset input.now.log_height }
-    requires quotient { ⟦<Coset<F12289> as PolynomialSpace>⟧.coset_of quotient_domain
-        ≡ whole_coset input.now.log_height log_chunks }
-    requires chunks { length (numbers input.now).chunks ≡ 2 ^ log_chunks }
+    requires cut { IsCut (⟦<A as DeclaredAir<F12289>>⟧.declared air.now) (numbers input.now)
+        ⟦<Coset<F12289> as PolynomialSpace>⟧.coset_of domains.now }
     requires outside { vanishing (numbers input.now) ≢ elements.zero }
     requires columns { map (λ column. column.items) columns.now.columns.now
         ≡ A.periodic_columns air.now }
     requires trace_len { columns.now.trace_len ≡ 2 ^ input.now.log_height }
-    ensures { TellsEquation (IsBalanced (⟦<A as DeclaredAir<F12289>>⟧.declared air.now) log_chunks
-        (numbers input.now)) result }
+    ensures { TellsEquation (IsBalanced (⟦<A as DeclaredAir<F12289>>⟧.declared air.now)
+        domains.now.log_chunks (numbers input.now)) result }
 {
     let Ok(preprocessed_next) = zeros(alloc, air.preprocessed_width()) else {
         return Verdict::Refused(Refusal::OutOfMemory);
     };
+    let opened = OpenedPoint {
+        local: &input.local,
+        next: &input.next,
+        preprocessed_local: &input.preprocessed_local,
+        preprocessed_next: &preprocessed_next,
+        publics: &input.publics,
+        chunks: &input.chunks,
+        zeta: input.zeta,
+        alpha: input.alpha,
+    };
     equation_over::<F12289, Extension, Sha256Challenger<F12289>, A>(
-        alloc,
-        air,
-        &input.local,
-        &input.next,
-        &input.preprocessed_local,
-        &preprocessed_next,
-        &input.publics,
-        columns,
-        trace_domain,
-        quotient_domain,
-        log_chunks,
-        &input.chunks,
-        input.zeta,
-        input.alpha,
+        alloc, air, &opened, columns, domains,
     )
 }
 
@@ -69,35 +60,18 @@ fn check_point<A: Air<F12289>>(
     alloc: Global,
     air: &A,
     input: &CheckInput,
-    trace_domain: Coset<F12289>,
-    quotient_domain: Coset<F12289>,
-    log_chunks: usize,
+    domains: &PointDomains<Coset<F12289>>,
 ) -> Verdict
-    requires shape { has_shape (shape_of (⟦<A as DeclaredAir<F12289>>⟧.declared air.now))
-        (numbers input.now) ≡ true }
-    requires trace { ⟦<Coset<F12289> as PolynomialSpace>⟧.coset_of trace_domain
-        ≡ trace_coset input.now.log_height }
-    requires quotient { ⟦<Coset<F12289> as PolynomialSpace>⟧.coset_of quotient_domain
-        ≡ whole_coset input.now.log_height log_chunks }
-    requires chunks { length (numbers input.now).chunks ≡ 2 ^ log_chunks }
+    requires { IsCut (⟦<A as DeclaredAir<F12289>>⟧.declared air.now) (numbers input.now)
+        ⟦<Coset<F12289> as PolynomialSpace>⟧.coset_of domains.now }
     ensures { IsOrLacksMemory (found_at_point (⟦<A as DeclaredAir<F12289>>⟧.declared air.now)
-        log_chunks (numbers input.now)) result }
+        domains.now.log_chunks (numbers input.now)) result }
 {
-    if vanishes_at(&trace_domain, input.zeta) {
+    if vanishes_at(&domains.trace, input.zeta) {
         return Verdict::Refused(Refusal::OodPointInDomain);
     }
-    match PeriodicColumns::new(air.periodic_columns(), trace_domain.size()) {
-        Ok(columns) => {
-            check_columns(
-                alloc,
-                air,
-                input,
-                trace_domain,
-                quotient_domain,
-                log_chunks,
-                &columns,
-            )
-        }
+    match PeriodicColumns::new(air.periodic_columns(), domains.trace.size()) {
+        Ok(columns) => check_columns(alloc, air, input, domains, &columns),
         Err(_) => Verdict::Refused(Refusal::PeriodicColumn),
     }
 }
@@ -123,7 +97,12 @@ fn check_cut<A: Air<F12289>>(
     if input.chunks.len() != 1 << log_chunks {
         return Verdict::BadInput;
     }
-    check_point(alloc, air, input, trace_domain, quotient_domain, log_chunks)
+    let domains = PointDomains {
+        trace: trace_domain,
+        quotient: quotient_domain,
+        log_chunks,
+    };
+    check_point(alloc, air, input, &domains)
 }
 
 /// What is found of numbers in the AIR's widths and counts.

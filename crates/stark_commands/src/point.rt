@@ -1,22 +1,20 @@
 //! The steps of a check at one point, over any domain and extension, or any configuration.
-ghost use Rattle.std.specs.Prelude.{◌≡◌, ◌≢◌, ◌↔◌, List, ◌+◌, ◌-◌, ◌^◌, ◌<◌, ◌≤◌, All, IfSome, IsNone, IsTrue, length, vec_len};
-ghost use Rattle.stark_support.specs.Coset.{coset_size, coset_vanishing};
-ghost use Rattle.stark_support.specs.Subgroup.{subgroup_of};
-ghost use Rattle.stark_air.specs.Layout.{Covers};
-ghost use Rattle.stark_protocol.specs.Equation.{OpenedRows, opened_layout};
+ghost use Rattle.std.specs.Prelude.{◌≡◌, ◌↔◌, ◌+◌, ◌^◌, ◌<◌, ◌≤◌, All, IfSome, IsNone, IsTrue, length, vec_len};
+ghost use Rattle.stark_support.specs.Coset.{coset_size, vanishing_at};
 ghost use Rattle.stark_protocol.specs.Sizes.{quotient_coset};
-ghost use Rattle.stark_commands.specs.Point.{EquationVerdict, IsOutsideCoset, PointVerdict};
+ghost use Rattle.stark_commands.specs.Opened.{CoverRows, LiesOutside, RowsCover, TellsPoint, TellsQuotient};
+ghost use Rattle.stark_commands.specs.Point.{IsOutsideCoset};
 
 use crate::config::ClearConfig;
 use p3_uni_stark::verify_constraints;
 use stark_air::Air;
 use stark_answers::{Refusal, Verdict};
 use stark_bench::{ClearCommitment, Coset};
-use stark_parts::{Domain, StarkGenericConfig, Val};
+use stark_parts::{Domain, StarkFields, StarkGenericConfig, Val};
 use stark_protocol::quotient_at;
 use stark_support::{
-    CanObserve, ExtensionChallenger, ExtensionField, Field, FieldChallenger, PeriodicColumns,
-    PolynomialSpace, PrimeField64, TwoAdicField, checked_log_size_sum,
+    CanObserve, ExtensionChallenger, ExtensionField, Field, FieldChallenger, FieldPair,
+    PeriodicColumns, PolynomialSpace, PrimeField64, TwoAdicField, checked_log_size_sum,
 };
 use stark_transcript::VerificationError;
 use std::alloc::Global;
@@ -25,11 +23,32 @@ use std::alloc::Global;
 #[derive(Drop)]
 pub enum NoScheme {}
 
+/// What is given of a point: the rows and the quotient's chunks that are opened there, public
+/// values, the point itself, which is zeta, and alpha.
+#[derive(Drop)]
+pub struct OpenedPoint<'a, F, EF> {
+    pub local: &'a [EF],
+    pub next: &'a [EF],
+    pub preprocessed_local: &'a [EF],
+    pub preprocessed_next: &'a [EF],
+    pub publics: &'a [F],
+    pub chunks: &'a [Vec<EF>],
+    pub zeta: EF,
+    pub alpha: EF,
+}
+
+/// The domains of a trace and of its quotient, which is cut into `2^log_chunks` chunks.
+#[derive(Drop)]
+pub struct PointDomains<D> {
+    pub trace: D,
+    pub quotient: D,
+    pub log_chunks: usize,
+}
+
 /// Whether the domain's vanishing value at a point is zero.
 pub fn vanishes_at<D: PolynomialSpace, EF: ExtensionField<D::Val>>(domain: &D, point: EF) -> bool
-    ensures { IsTrue result ↔ (coset_vanishing EF.ring (λ c. c) EF.inverse_of
-        (coset_size (D.coset_of domain.now)) (EF.embed (D.coset_of domain.now).shift) point
-        ≡ EF.ring.zero) }
+    ensures { IsTrue result ↔ (vanishing_at EF.ring EF.inverse_of EF.embed (D.coset_of domain.now)
+        point ≡ EF.ring.zero) }
 {
     domain.vanishing_poly_at_point(point) == EF::ZERO
 }
@@ -50,61 +69,35 @@ pub fn quotient_domain_of<D: PolynomialSpace>(
     trace_domain.try_create_disjoint_domain(size)
 }
 
-/// What is found of the equation at a zeta outside the trace domain.
+/// What is found of the equation at a zeta outside the trace domain, with these values of the
+/// periodic columns and of the quotient.
 pub fn check_equation<SC: StarkGenericConfig, A: Air<Val<SC>>>(
     air: &A,
-    local: &[SC::Challenge],
-    next: &[SC::Challenge],
-    preprocessed_local: &[SC::Challenge],
-    preprocessed_next: &[SC::Challenge],
-    periodic_values: &[SC::Challenge],
-    publics: &[Val<SC>],
+    opened: &OpenedPoint<'_, Val<SC>, SC::Challenge>,
+    periodic: &[SC::Challenge],
     trace_domain: Domain<SC>,
-    zeta: SC::Challenge,
-    alpha: SC::Challenge,
     quotient: SC::Challenge,
 ) -> Verdict
     requires subgroup { (SC.Pcs.Domain.coset_of trace_domain).shift ≡ SC.Pcs.Domain.Val.ring.one }
-    requires outside { coset_vanishing SC.Challenge.ring (λ c. c) SC.Challenge.inverse_of
-        (coset_size (SC.Pcs.Domain.coset_of trace_domain))
-        (SC.Challenge.embed (SC.Pcs.Domain.coset_of trace_domain).shift) zeta ≢
-        SC.Challenge.ring.zero }
-    requires one_width { length preprocessed_local.now ≡ length preprocessed_next.now }
-    requires widths { let rows : OpenedRows SC.Pcs.Domain.Val SC.Challenge = record {
-      local = local.now;
-      next = next.now;
-      preprocessed_local = preprocessed_local.now;
-      preprocessed_next = preprocessed_next.now;
-      periodic = periodic_values.now;
-      publics =
-          publics.now;
-    } in
-        Covers (opened_layout rows) (A.layout air.now) }
-    ensures { EquationVerdict SC.Pcs.Domain.Val.ring SC.Challenge.ring SC.Challenge.embed
-        (subgroup_of SC.Challenge.inverse_of SC.Challenge.embed SC.Pcs.Domain.Val.root
-        (SC.Pcs.Domain.coset_of trace_domain)) (A.constraints air.now)
-        (record {
-          local = local.now;
-          next = next.now;
-          preprocessed_local = preprocessed_local.now;
-          preprocessed_next = preprocessed_next.now;
-          periodic = periodic_values.now;
-          publics =
-              publics.now;
-        })
-        zeta alpha quotient result }
+    requires outside { LiesOutside ⟦<SC as StarkFields>⟧.fields
+        (SC.Pcs.Domain.coset_of trace_domain) opened.now }
+    requires one_width { length opened.now.preprocessed_local.now
+        ≡ length opened.now.preprocessed_next.now }
+    requires widths { RowsCover opened.now periodic.now (A.layout air.now) }
+    ensures { TellsQuotient ⟦<SC as StarkFields>⟧.fields (SC.Pcs.Domain.coset_of trace_domain)
+        (A.constraints air.now) opened.now periodic.now quotient result }
 {
     let found = verify_constraints::<SC, A, NoScheme>(
         air,
-        local,
-        next,
-        Some(preprocessed_local),
-        Some(preprocessed_next),
-        periodic_values,
-        publics,
+        opened.local,
+        opened.next,
+        Some(opened.preprocessed_local),
+        Some(opened.preprocessed_next),
+        periodic,
+        opened.publics,
         trace_domain,
-        zeta,
-        alpha,
+        opened.zeta,
+        opened.alpha,
         quotient,
     );
     match found {
@@ -122,75 +115,38 @@ pub fn check_equation<SC: StarkGenericConfig, A: Air<Val<SC>>>(
 pub fn equation_at<SC: StarkGenericConfig, A: Air<Val<SC>>>(
     alloc: Global,
     air: &A,
-    local: &[SC::Challenge],
-    next: &[SC::Challenge],
-    preprocessed_local: &[SC::Challenge],
-    preprocessed_next: &[SC::Challenge],
-    publics: &[Val<SC>],
+    opened: &OpenedPoint<'_, Val<SC>, SC::Challenge>,
     columns: &PeriodicColumns<'_, Val<SC>>,
-    trace_domain: Domain<SC>,
-    quotient_domain: Domain<SC>,
-    log_chunks: usize,
-    chunks: &[Vec<SC::Challenge>],
-    zeta: SC::Challenge,
-    alpha: SC::Challenge,
+    domains: &PointDomains<Domain<SC>>,
 ) -> Verdict
-    requires trace_len { columns.now.trace_len ≡ coset_size (SC.Pcs.Domain.coset_of trace_domain) }
-    requires number { length chunks.now ≡ 2 ^ log_chunks }
-    requires within { log_chunks ≤ (SC.Pcs.Domain.coset_of quotient_domain).log_size }
-    requires dimension { All (λ chunk. vec_len chunk ≡ SC.Challenge.DIMENSION) chunks.now }
-    requires subgroup { (SC.Pcs.Domain.coset_of trace_domain).shift ≡ SC.Pcs.Domain.Val.ring.one }
+    requires trace_len { columns.now.trace_len
+        ≡ coset_size (SC.Pcs.Domain.coset_of domains.now.trace) }
+    requires number { length opened.now.chunks.now ≡ 2 ^ domains.now.log_chunks }
+    requires within { domains.now.log_chunks
+        ≤ (SC.Pcs.Domain.coset_of domains.now.quotient).log_size }
+    requires dimension { All (λ chunk. vec_len chunk ≡ SC.Challenge.DIMENSION)
+        opened.now.chunks.now }
+    requires subgroup { (SC.Pcs.Domain.coset_of domains.now.trace).shift
+        ≡ SC.Pcs.Domain.Val.ring.one }
     requires outside { IsOutsideCoset SC.Challenge.ring SC.Challenge.inverse_of SC.Challenge.embed
-        (SC.Pcs.Domain.coset_of trace_domain) zeta }
-    requires one_width { length preprocessed_local.now ≡ length preprocessed_next.now }
-    requires widths { (periodic : List SC.Challenge) → length periodic
-        ≡ length columns.now.columns.now
-        → let rows : OpenedRows SC.Pcs.Domain.Val SC.Challenge = record {
-          local = local.now;
-          next = next.now;
-          preprocessed_local = preprocessed_local.now;
-          preprocessed_next = preprocessed_next.now;
-          periodic = periodic;
-          publics = publics.now;
-        }
-        in
-        Covers (opened_layout rows) (A.layout air.now) }
-    ensures { PointVerdict SC.Pcs.Domain.Val.ring SC.Pcs.Domain.Val.inverse_of
-        SC.Pcs.Domain.Val.root SC.Challenge.ring SC.Challenge.inverse_of SC.Challenge.embed
-        SC.Challenge.basis
-        (SC.Pcs.Domain.coset_of trace_domain) (SC.Pcs.Domain.coset_of quotient_domain) log_chunks
-        (A.constraints air.now) (λ column. column.items) columns.now.columns.now (λ chunk.
-        chunk.items) chunks.now
-        (λ periodic. record {
-          local = local.now;
-          next = next.now;
-          preprocessed_local =
-              preprocessed_local.now;
-          preprocessed_next = preprocessed_next.now;
-          periodic = periodic;
-          publics = publics.now;
-        })
-        zeta alpha result }
+        (SC.Pcs.Domain.coset_of domains.now.trace) opened.now.zeta }
+    requires one_width { length opened.now.preprocessed_local.now
+        ≡ length opened.now.preprocessed_next.now }
+    requires widths { CoverRows opened.now (length columns.now.columns.now) (A.layout air.now) }
+    ensures { TellsPoint ⟦<SC as StarkFields>⟧.fields SC.Pcs.Domain.coset_of domains.now
+        (A.constraints air.now) columns.now opened.now result }
 {
+    let trace_domain = domains.trace;
+    let zeta = opened.zeta;
     let Ok(periodic_values) = trace_domain.evaluate_periodic_columns_at(alloc, columns, zeta) else {
         return Verdict::Refused(Refusal::OutOfMemory);
     };
-    let Ok(quotient) = quotient_at::<SC>(alloc, &quotient_domain, log_chunks, chunks, zeta) else {
+    let chunks = opened.chunks;
+    let log_chunks = domains.log_chunks;
+    let Ok(quotient) = quotient_at::<SC>(alloc, &domains.quotient, log_chunks, chunks, zeta) else {
         return Verdict::Refused(Refusal::OutOfMemory);
     };
-    check_equation::<SC, A>(
-        air,
-        local,
-        next,
-        preprocessed_local,
-        preprocessed_next,
-        &periodic_values,
-        publics,
-        trace_domain,
-        zeta,
-        alpha,
-        quotient,
-    )
+    check_equation::<SC, A>(air, opened, &periodic_values, trace_domain, quotient)
 }
 
 /// `equation_at` with a scheme in the clear, over any field and extension. A call of this one
@@ -199,18 +155,9 @@ pub fn equation_at<SC: StarkGenericConfig, A: Air<Val<SC>>>(
 pub fn equation_over<F, EF, C, A>(
     alloc: Global,
     air: &A,
-    local: &[EF],
-    next: &[EF],
-    preprocessed_local: &[EF],
-    preprocessed_next: &[EF],
-    publics: &[F],
+    opened: &OpenedPoint<'_, F, EF>,
     columns: &PeriodicColumns<'_, F>,
-    trace_domain: Coset<F>,
-    quotient_domain: Coset<F>,
-    log_chunks: usize,
-    chunks: &[Vec<EF>],
-    zeta: EF,
-    alpha: EF,
+    domains: &PointDomains<Coset<F>>,
 ) -> Verdict
 where
     F: PrimeField64 + TwoAdicField,
@@ -218,56 +165,21 @@ where
     C: FieldChallenger<F> + CanObserve<ClearCommitment<F>> + ExtensionChallenger<F, EF> + Clone,
     A: Air<F>,
     requires trace_len { columns.now.trace_len
-        ≡ coset_size (⟦<Coset<F> as PolynomialSpace>⟧.coset_of trace_domain) }
-    requires number { length chunks.now ≡ 2 ^ log_chunks }
-    requires within { log_chunks ≤ (⟦<Coset<F> as PolynomialSpace>⟧.coset_of
-        quotient_domain).log_size }
-    requires dimension { All (λ chunk. vec_len chunk ≡ EF.DIMENSION) chunks.now }
-    requires subgroup { (⟦<Coset<F> as PolynomialSpace>⟧.coset_of trace_domain).shift ≡ F.ring.one }
+        ≡ coset_size (⟦<Coset<F> as PolynomialSpace>⟧.coset_of domains.now.trace) }
+    requires number { length opened.now.chunks.now ≡ 2 ^ domains.now.log_chunks }
+    requires within { domains.now.log_chunks
+        ≤ (⟦<Coset<F> as PolynomialSpace>⟧.coset_of domains.now.quotient).log_size }
+    requires dimension { All (λ chunk. vec_len chunk ≡ EF.DIMENSION) opened.now.chunks.now }
+    requires subgroup { (⟦<Coset<F> as PolynomialSpace>⟧.coset_of domains.now.trace).shift
+        ≡ F.ring.one }
     requires outside { IsOutsideCoset EF.ring EF.inverse_of EF.embed
-        (⟦<Coset<F> as PolynomialSpace>⟧.coset_of trace_domain) zeta }
-    requires one_width { length preprocessed_local.now ≡ length preprocessed_next.now }
-    requires widths { (periodic : List EF) → length periodic ≡ length columns.now.columns.now
-        → let rows : OpenedRows F EF = record {
-          local = local.now;
-          next = next.now;
-          preprocessed_local = preprocessed_local.now;
-          preprocessed_next = preprocessed_next.now;
-          periodic = periodic;
-          publics = publics.now;
-        }
-        in
-        Covers (opened_layout rows) (A.layout air.now) }
-    ensures { PointVerdict F.ring F.inverse_of F.root EF.ring EF.inverse_of EF.embed EF.basis
-        (⟦<Coset<F> as PolynomialSpace>⟧.coset_of trace_domain)
-        (⟦<Coset<F> as PolynomialSpace>⟧.coset_of quotient_domain) log_chunks
-        (A.constraints air.now) (λ column. column.items) columns.now.columns.now (λ chunk.
-        chunk.items) chunks.now
-        (λ periodic. record {
-          local = local.now;
-          next = next.now;
-          preprocessed_local =
-              preprocessed_local.now;
-          preprocessed_next = preprocessed_next.now;
-          periodic = periodic;
-          publics = publics.now;
-        })
-        zeta alpha result }
+        (⟦<Coset<F> as PolynomialSpace>⟧.coset_of domains.now.trace) opened.now.zeta }
+    requires one_width { length opened.now.preprocessed_local.now
+        ≡ length opened.now.preprocessed_next.now }
+    requires widths { CoverRows opened.now (length columns.now.columns.now) (A.layout air.now) }
+    ensures { TellsPoint ⟦<EF as FieldPair<F>>⟧.fields
+        ⟦<Coset<F> as PolynomialSpace>⟧.coset_of domains.now (A.constraints air.now) columns.now
+        opened.now result }
 {
-    equation_at::<ClearConfig<F, EF, C>, A>(
-        alloc,
-        air,
-        local,
-        next,
-        preprocessed_local,
-        preprocessed_next,
-        publics,
-        columns,
-        trace_domain,
-        quotient_domain,
-        log_chunks,
-        chunks,
-        zeta,
-        alpha,
-    )
+    equation_at::<ClearConfig<F, EF, C>, A>(alloc, air, opened, columns, domains)
 }

@@ -50,23 +50,31 @@ fn written_out<const N: usize, const M: usize, const K: usize>(
     }
 }
 
+/// The nodes of a counter in column 0, whose constraints are nodes 4 and 10, and further ones.
+macro_rules! counter_nodes {
+    ($($further:expr),* $(,)?) => {
+        [
+            TreeNode::FirstRow,
+            TreeNode::MainCurrent(0),
+            TreeNode::PublicValue(0),
+            TreeNode::Difference(1, 2),
+            TreeNode::Product(0, 3),
+            TreeNode::Transition,
+            TreeNode::MainNext(0),
+            TreeNode::Difference(6, 1),
+            TreeNode::Constant(0),
+            TreeNode::Difference(7, 8),
+            TreeNode::Product(5, 9),
+            $($further),*
+        ]
+    };
+}
+
 fn counter(alloc: Global) -> Result<TreeAir<F12289>, AllocError>
     ensures { IfOk result (λ air. ⟦<TreeAir<F12289> as DeclaredAir<F12289>>⟧.declared air
         ≡ sample Counter) }
 {
-    let nodes = [
-        TreeNode::FirstRow,
-        TreeNode::MainCurrent(0),
-        TreeNode::PublicValue(0),
-        TreeNode::Difference(1, 2),
-        TreeNode::Product(0, 3),
-        TreeNode::Transition,
-        TreeNode::MainNext(0),
-        TreeNode::Difference(6, 1),
-        TreeNode::Constant(0),
-        TreeNode::Difference(7, 8),
-        TreeNode::Product(5, 9),
-    ];
+    let nodes = counter_nodes![];
     let constraints = [TreeConstraint::Base(4), TreeConstraint::Base(10)];
     let columns = TreeColumns::main(alloc, 1, 1);
     written_out(alloc, columns, [F12289::ONE], nodes, constraints)
@@ -173,18 +181,7 @@ fn pair(alloc: Global) -> Result<TreeAir<F12289>, AllocError>
     ensures { IfOk result (λ air. ⟦<TreeAir<F12289> as DeclaredAir<F12289>>⟧.declared air
         ≡ sample Pair) }
 {
-    let nodes = [
-        TreeNode::FirstRow,
-        TreeNode::MainCurrent(0),
-        TreeNode::PublicValue(0),
-        TreeNode::Difference(1, 2),
-        TreeNode::Product(0, 3),
-        TreeNode::Transition,
-        TreeNode::MainNext(0),
-        TreeNode::Difference(6, 1),
-        TreeNode::Constant(0),
-        TreeNode::Difference(7, 8),
-        TreeNode::Product(5, 9),
+    let nodes = counter_nodes![
         TreeNode::MainCurrent(1),
         TreeNode::Difference(11, 2),
         TreeNode::Product(0, 12),

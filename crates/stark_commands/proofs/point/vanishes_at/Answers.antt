@@ -1,12 +1,7 @@
-use Rattle.std.proofs.Common.{◌≡◌, ◌∙◌, sym, ap}
+use Rattle.std.proofs.Common.{◌∙◌}
+use Rattle.stark_commands.proofs.Parts.{compared}
 use Rattle.stark_commands.proofs.point.vanishes_at.Goals as goal
 
 pub returns : goal.returns
 returns g c =
-    let field = g.met.EF.Field in
-    let found = c.vanishing_poly_at_point.ensures in
-    let value = c.vanishing_poly_at_point.result in
-    let zero : c.ZERO.result ≡ g.EF.Field.ring.zero = c.ZERO.ensures ∙ field.zero_is in (
-      (λ told. sym found ∙ field.eq_same _ _ (sym c.eq.ensures ∙ told) ∙ zero),
-      (λ e. c.eq.ensures ∙ ap (g.EF.PartialEq.eq value) (sym (found ∙ e ∙ sym zero)) ∙ g.met.EF.Eq.laws.refl value),
-    )
+    compared g.EF.PartialEq.eq g.met.EF.Field.eq_same g.met.EF.Eq.laws.refl _ _ _ _ _ c.eq.ensures c.vanishing_poly_at_point.ensures (c.ZERO.ensures ∙ g.met.EF.Field.zero_is)

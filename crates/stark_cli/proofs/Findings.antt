@@ -1,5 +1,6 @@
 -- What a run found of its input.
-use Rattle.std.proofs.Common.{◌≡◌, ◌⊎◌, ◌∙◌, ℕ, List, Option, None, Some, IfOk, IfSome, Result, Ok, Err, refl, sym, subst, ap, inl, inr, arith}
+use Rattle.std.proofs.Common.{◌≡◌, ◌⊎◌, ◌∙◌, ℕ, List, Bool, true, false, Option, None, Some, IfOk, IfSome, Result, Ok, Err, is_err, refl, sym, subst, ap, inl, inr, arith}
+use Rattle.std.proofs.lemmas.Bool.{false≢true}
 use Rattle.std.specs.Io.KnownBytes.{Appends, Keeps}
 use Rattle.stark_answers.specs.Finding.{IsProof, finding_end, finding_bytes}
 use Rattle.stark_answers.specs.Verdict.{line_of, end_of}
@@ -13,7 +14,7 @@ use Rattle.stark_answers.specs.declared.verdict.Verdict.TheVariants as verdict
 use Rattle.stark_answers.specs.declared.verdict.Refusal.TheVariants as refusal
 use Rattle.stark_answers.specs.declared.verdict.RunEnd.{RunEnd}
 use Rattle.stark_answers.specs.declared.verdict.RunEnd.TheVariants.{Accepted, Refused, NotJudged, InputFailed, OutputFailed}
-use Rattle.stark_cli.specs.Running.{AcceptsOrTells, FindsSome, Found, IsFoundOrLacksMemory, IsInput, IsNoAnswer, IsSomeProof, Says, SaysAnswer, SaysFound, SaysOf, both, first_letter}
+use Rattle.stark_cli.specs.Running.{AcceptsOrTells, FindsSome, Found, IsFoundOrLacksMemory, IsInput, IsFindingEnd, IsNoAnswer, IsSomeProof, SaidAnswer, SaidProof, Says, SaysAnswer, SaysFound, SaysOf, SaysProof, both, first_letter}
 
 -- an input that is the readers'
 abbrev pub some_of : {I : Type 0} → I → Option I → I
@@ -48,6 +49,45 @@ module _ {I : Type 0} (memory : Finding) (IsFound : I → Finding → Type 0) wh
   pub memory_reported : (known : Option I) (input : I) → IsInput known input → (r : Result (Report Finding) RunEnd) → IfOk r (λ report. report.answer ≡ memory) → IfOk r (λ report. Found memory IsFound known report.answer)
   memory_reported known input is (Ok report) lacks = memory_found known input is report.answer lacks
   memory_reported known input is (Err end) lacks = tt
+
+-- What is found of the readers' bytes, unless a reader failed, and what is said of that: here the answer is a finding or a report of one.
+module _ {I A : Type 0} (memory : Finding) (IsFound : I → Finding → Type 0) (answer : A → Finding) (known : Option I) (r : Result A RunEnd) (end : RunEnd) (old new : Option (List ℕ)) where
+  pub said_of : IfOk r (λ x. Found memory IsFound known (answer x)) → IfOk r (λ x. Says end (answer x) old new) → (is_err r ≡ true → end ≡ InputFailed) → (end ≡ InputFailed) ⊎ SaysFound memory IsFound known end old new
+  said_of found says failed = go r found says failed where
+    go : (r : Result A RunEnd) → IfOk r (λ x. Found memory IsFound known (answer x)) → IfOk r (λ x. Says end (answer x) old new) → (is_err r ≡ true → end ≡ InputFailed) → (end ≡ InputFailed) ⊎ SaysFound memory IsFound known end old new
+    go (Ok x) found says failed = inr (answer x, found, says)
+    go (Err e) found says failed = inl (failed refl)
+
+  -- The same of a proof alone, and of what is no proof.
+  pub proof_said : (told : Bool) → IfOk r (λ x. Found memory IsFound known (answer x)) → IfOk r (λ x. told ≡ true → SaidProof end (answer x) old new) → (is_err r ≡ true → end ≡ InputFailed)
+      → (told ≡ true → end ≡ InputFailed → ⊥) → told ≡ true → SaysProof memory IsFound known end old new
+  proof_said told found says failed read is = go r found says failed where
+    go : (r : Result A RunEnd) → IfOk r (λ x. Found memory IsFound known (answer x)) → IfOk r (λ x. told ≡ true → SaidProof end (answer x) old new) → (is_err r ≡ true → end ≡ InputFailed) → SaysProof memory IsFound known end old new
+    go (Ok x) found says failed = (answer x, (says is).is_proof, found, (says is).says)
+    go (Err e) found says failed = absurd (read is (failed refl))
+
+  pub answer_said : (told : Bool) → IfOk r (λ x. Found memory IsFound known (answer x)) → IfOk r (λ x. told ≡ false → SaidAnswer end (answer x) old new) → (is_err r ≡ true → end ≡ InputFailed)
+      → told ≡ false → (end ≡ InputFailed) ⊎ SaysAnswer memory IsFound known end old new
+  answer_said told found says failed other = go r found says failed where
+    go : (r : Result A RunEnd) → IfOk r (λ x. Found memory IsFound known (answer x)) → IfOk r (λ x. told ≡ false → SaidAnswer end (answer x) old new) → (is_err r ≡ true → end ≡ InputFailed) → (end ≡ InputFailed) ⊎ SaysAnswer memory IsFound known end old new
+    go (Ok x) found says failed = inr (answer x, (says other).no_proof, found, (says other).says)
+    go (Err e) found says failed = inl (failed refl)
+
+-- What is said of a finding that is known.
+pub said_known : (r : Result Finding RunEnd) (f : Finding) (end : RunEnd) (old new : Option (List ℕ)) → r ≡ Ok f → IfOk r (λ x. Says end x old new) → Says end f old new
+said_known r f end old new is says = subst (λ s. IfOk s (λ x. Says end x old new)) is says
+
+-- Where nothing failed, the end is that of a finding.
+pub finding_ends : (end : RunEnd) → (end ≡ InputFailed → ⊥) → (end ≡ OutputFailed → ⊥) → IsFindingEnd end
+finding_ends InputFailed read wrote = absurd (read refl)
+finding_ends OutputFailed read wrote = absurd (wrote refl)
+finding_ends Accepted read wrote = inl refl
+finding_ends Refused read wrote = inr (inl refl)
+finding_ends NotJudged read wrote = inr (inr refl)
+
+pub none_failed : (first second : Bool) → first ≡ false → second ≡ false → (first ≡ true) ⊎ (second ≡ true) → ⊥
+none_failed first second is also (inl failed) = false≢true (sym is ∙ failed)
+none_failed first second is also (inr failed) = false≢true (sym also ∙ failed)
 
 -- A run whose input failed says nothing.
 says_nothing : (end : RunEnd) (f : Finding) (old new : Option (List ℕ)) → end ≡ InputFailed → Keeps old new → Says end f old new

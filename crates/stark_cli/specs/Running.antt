@@ -27,6 +27,15 @@ pub record Exchange (I : Type 0) : Type 0 where
   pub old : Option (List ℕ)
   pub new : Option (List ℕ)
 
+-- It is a proof in one form or the other.
+abbrev pub IsSomeProof : Finding → Type 0
+IsSomeProof (finding.Proof line) = ⊤
+IsSomeProof (finding.ProofBytes bytes) = ⊤
+IsSomeProof (finding.Verdict v) = ⊥
+IsSomeProof (finding.Text text) = ⊥
+IsSomeProof finding.Satisfied = ⊥
+IsSomeProof (finding.Broken row) = ⊥
+
 -- A run ended so that found f, and wrote from old to new.
 abbrev pub Says : RunEnd → Finding → Option (List ℕ) → Option (List ℕ) → Type 0
 Says InputFailed f old new = Keeps old new
@@ -34,6 +43,15 @@ Says OutputFailed f old new = (count : ℕ) × Appends old new (take count (find
 Says Accepted f old new = (finding_end f ≡ Accepted) × Appends old new (finding_bytes f)
 Says Refused f old new = (finding_end f ≡ Refused) × Appends old new (finding_bytes f)
 Says NotJudged f old new = (finding_end f ≡ NotJudged) × Appends old new (finding_bytes f)
+
+-- A run found a proof and said so, or what is no proof.
+pub record SaidProof (end : RunEnd) (f : Finding) (old new : Option (List ℕ)) : Type 0 where
+  pub is_proof : IsSomeProof f
+  pub says : Says end f old new
+
+pub record SaidAnswer (end : RunEnd) (f : Finding) (old new : Option (List ℕ)) : Type 0 where
+  pub no_proof : IsSomeProof f → ⊥
+  pub says : Says end f old new
 
 -- It says that the input is bad.
 abbrev pub SaysBadInput : RunEnd → Option (List ℕ) → Option (List ℕ) → Type 0
@@ -69,15 +87,6 @@ IsFindingEnd end = (end ≡ Accepted) ⊎ ((end ≡ Refused) ⊎ (end ≡ NotJud
 abbrev pub first_of : List ℕ → ℕ
 first_of [] = 0
 first_of (x ∷ xs) = x
-
--- It is a proof in one form or the other.
-abbrev pub IsSomeProof : Finding → Type 0
-IsSomeProof (finding.Proof line) = ⊤
-IsSomeProof (finding.ProofBytes bytes) = ⊤
-IsSomeProof (finding.Verdict v) = ⊥
-IsSomeProof (finding.Text text) = ⊥
-IsSomeProof finding.Satisfied = ⊥
-IsSomeProof (finding.Broken row) = ⊥
 
 -- What is said for want of memory ends no run well, and begins neither as `accepted` nor as a proof does.
 pub record IsNoAnswer (memory : Finding) : Type 0 where

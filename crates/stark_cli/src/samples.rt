@@ -2,7 +2,7 @@
 
 ghost use Rattle.std.specs.Prelude.{◌≡◌, ◌↔◌, ◌⊎◌, ℕ, List, Option, map, string_bytes, true, false, None, Some, Ok, IfErr, IfOk, IfSome, is_err};
 ghost use Rattle.std.specs.Io.KnownBytes.{Appends};
-ghost use Rattle.stark_cli.specs.Running.{Exchange, Found, IsFindingEnd, IsFoundOrLacksMemory, SaysBadInput, SaysFound, WhereAccepted, WhereObject};
+ghost use Rattle.stark_cli.specs.Running.{Exchange, Found, IsFindingEnd, IsFoundOrLacksMemory, Says, SaysBadInput, WhereAccepted, WhereObject};
 ghost use Rattle.stark_cli.specs.SampleRun.{AcceptsInput, HoldsOf, IsFinding, OfVerified, ProvesTrace, SaysFinding, WritesProof, lacks_memory};
 ghost use Rattle.stark_cli.specs.Words.{command_of};
 ghost use Rattle.stark_cli.specs.declared.words.Command.{Command};
@@ -24,9 +24,6 @@ use std::alloc::Global;
 /// It has no code.
 pub trait SampleFindings {
     ghost finding: { Option Command → List ℕ → Finding → Type 0 };
-
-    /// It failed to read, or said what it found, or that memory was wanting.
-    ghost said: { List (List ℕ) → Exchange (List ℕ) → RunEnd → Type 0 };
 
     /// It said what is found of the input that is known.
     ghost says: { List (List ℕ) → Exchange (List ℕ) → RunEnd → Type 0 };
@@ -52,11 +49,6 @@ pub trait SampleFindings {
 impl SampleFindings for SampleAir {
     ghost finding = { IsFinding (⟦<SampleAir as VerifiedInput>⟧.verified)
         (⟦<SampleAir as VerifiedInput>⟧.sound) (⟦<SampleAir as ProvedInput>⟧.proved) };
-
-    ghost said = { λ words run end. (end ≡ RunEnd.InputFailed) ⊎ SaysFound lacks_memory
-        (IsFinding (⟦<SampleAir as VerifiedInput>⟧.verified)
-        (⟦<SampleAir as VerifiedInput>⟧.sound) (⟦<SampleAir as ProvedInput>⟧.proved)
-        (command_of words)) run.input end run.old run.new };
 
     ghost says = { λ words run end. IfSome run.input (λ input.
         SaysFinding (⟦<SampleAir as VerifiedInput>⟧.verified)
@@ -121,25 +113,17 @@ fn find<R: Source>(alloc: Global, words: &[String], reader: &mut R) -> Result<Fi
     }
 }
 
-/// A run, by its exact clauses alone.
-fn ran<R: Source, W: Sink>(
-    alloc: Global,
-    words: &[String],
-    reader: &mut R,
-    writer: &mut W,
-) -> RunEnd
-    requires fresh_reader { R.has_failed reader.old ≡ false }
+/// Writes what was found, or nothing where the reader failed.
+fn tell_found<W: Sink>(found: Result<Finding, RunEnd>, writer: &mut W) -> RunEnd
+    requires kind { IfErr found (λ e. e ≡ RunEnd.InputFailed) }
     requires fresh_writer { W.has_failed writer.old ≡ false }
-    ensures says { ⟦<SampleAir as SampleFindings>⟧.said (map string_bytes words.now)
-        (⟦<W as RunWith<R>>⟧.run reader.old writer.old writer.new) result }
+    ensures says { IfOk found (λ f.
+        Says result f (W.contents writer.old) (W.contents writer.new)) }
     ensures silent { result ≡ RunEnd.InputFailed → writer.new ≡ writer.old }
-    ensures input_failed { (result ≡ RunEnd.InputFailed) ↔ (R.has_failed reader.new ≡ true) }
+    ensures input_failed { (result ≡ RunEnd.InputFailed) ↔ (is_err found ≡ true) }
     ensures output_failed { (result ≡ RunEnd.OutputFailed) ↔ (W.has_failed writer.new ≡ true) }
-    ensures unread { command_of (map string_bytes words.now) ≡ None → reader.new ≡ reader.old }
-    ensures other_words { command_of (map string_bytes words.now) ≡ None
-        → SaysBadInput result (W.contents writer.old) (W.contents writer.new) }
 {
-    match find(alloc, words, reader) {
+    match found {
         Ok(finding) => tell(&finding, writer),
         Err(end) => end,
     }
@@ -191,5 +175,5 @@ pub fn run<R: Source, W: Sink>(
     ensures accepted_end { ⟦<SampleAir as SampleFindings>⟧.ends (map string_bytes words.now)
         (⟦<W as RunWith<R>>⟧.run reader.old writer.old writer.new) result }
 {
-    ran(alloc, words, reader, writer)
+    tell_found(find(alloc, words, reader), writer)
 }

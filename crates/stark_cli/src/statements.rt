@@ -2,7 +2,7 @@
 
 ghost use Rattle.std.specs.Prelude.{◌≡◌, ◌↔◌, ◌⊎◌, ℕ, List, Option, true, false, IfErr, IfOk, IfSome, is_err};
 ghost use Rattle.std.specs.Io.KnownBytes.{Appends};
-ghost use Rattle.stark_cli.specs.Running.{Exchange, Found, IsFindingEnd, IsFoundOrLacksMemory, SaysAnswer, SaysFound, SaysOf, SaysProof, WhereAccepted, WhereForm, both};
+ghost use Rattle.stark_cli.specs.Running.{Exchange, Found, IsFindingEnd, IsFoundOrLacksMemory, SaidAnswer, SaidProof, Says, SaysOf, WhereAccepted, WhereForm, both};
 ghost use Rattle.stark_cli.specs.StatementRun.{Accepts, AcceptsInput, DeliversProof, IsFinding, ProvesTrace, SaysSatisfied, WritesProof, WritesText, no_memory};
 ghost use Rattle.stark_cli.specs.declared.statements.Delivered.{Delivered};
 ghost use Rattle.stark_cli.specs.declared.statements.Verb.{Verb};
@@ -55,9 +55,6 @@ pub trait StatementFindings {
     /// It found this, or memory was wanting.
     ghost found: { Verb → Option (List ℕ × List ℕ) → Finding → Type 0 };
 
-    /// It failed to read, or said what it found, or that memory was wanting.
-    ghost said: { Verb → Exchange (List ℕ × List ℕ) → RunEnd → Type 0 };
-
     /// It said what is found of inputs that are known.
     ghost says: { Verb → Exchange (List ℕ × List ℕ) → RunEnd → Type 0 };
 
@@ -92,13 +89,6 @@ impl<A: StatementAnswers> StatementFindings for A {
         A.proof_file
         A.showing verb) };
 
-    ghost said = { λ verb run end. (end ≡ RunEnd.InputFailed) ⊎ SaysFound no_memory
-        (IsFinding A.verdict
-        A.sound
-        A.found
-        A.proof_file
-        A.showing verb) run.input end run.old run.new };
-
     ghost says = { λ verb run end. IfSome run.input (λ input. SaysOf no_memory
         (IsFinding A.verdict
         A.sound
@@ -129,12 +119,6 @@ impl<A: StatementAnswers> StatementFindings for A {
 /// What is said of a run whose proof goes to an output of its own: of a proof by what it wrote to
 /// the output, of anything else by what it wrote to the writer. It has no code.
 pub trait DeliveryFindings {
-    /// It found a proof, and wrote its file or a front of it.
-    ghost said_proof: { Verb → Exchange (List ℕ × List ℕ) → Delivered → Type 0 };
-
-    /// It failed to read, or said what it found, which is no proof.
-    ghost said_answer: { Verb → Exchange (List ℕ × List ℕ) → Delivered → Type 0 };
-
     /// It wrote the file of a proof of the trace: whole where it ended well, or a front of it where
     /// a write failed.
     ghost delivered: { Verb → Exchange (List ℕ × List ℕ) → Delivered → Type 0 };
@@ -148,13 +132,6 @@ pub trait DeliveryFindings {
 }
 
 impl<A: StatementAnswers> DeliveryFindings for A {
-    ghost said_proof = { λ verb run of. of.is_proof ≡ true → SaysProof no_memory
-        (⟦<A as StatementFindings>⟧.finding verb) run.input of.ended.end run.old run.new };
-
-    ghost said_answer = { λ verb run of. of.is_proof ≡ false
-        → (of.ended.end ≡ RunEnd.InputFailed) ⊎ SaysAnswer no_memory
-        (⟦<A as StatementFindings>⟧.finding verb) run.input of.ended.end run.old run.new };
-
     ghost delivered = { λ verb run of. of.is_proof ≡ true
         → DeliversProof A.proof_file verb run.input of.ended.end run.old run.new };
 
@@ -234,27 +211,21 @@ fn find<A: StatementAnswers, S: Source, R: Source, P: Progress>(
     Ok(answer::<A, P>(alloc, verb, first, other, progress))
 }
 
-/// A run, by its exact clauses alone.
-fn ran<A: StatementAnswers, S: Source, R: Source, W: Sink, P: Progress>(
-    alloc: Global,
-    verb: Verb,
-    statement: &mut S,
-    second: &mut R,
+/// Writes what was found, or nothing where a reader failed.
+fn tell_found<W: Sink, P: Progress>(
+    found: Result<Report<Finding>, RunEnd>,
     writer: &mut W,
     progress: &mut P,
 ) -> Ended
-    requires first { S.has_failed statement.old ≡ false }
-    requires behind { R.has_failed second.old ≡ false }
+    requires kind { IfErr found (λ e. e ≡ RunEnd.InputFailed) }
     requires fresh_writer { W.has_failed writer.old ≡ false }
-    ensures says { ⟦<A as StatementFindings>⟧.said verb
-        (⟦<W as RunWithBoth<S, R>>⟧.run statement.old second.old writer.old writer.new)
-        result.end }
+    ensures says { IfOk found (λ report.
+        Says result.end report.answer (W.contents writer.old) (W.contents writer.new)) }
     ensures silent { result.end ≡ RunEnd.InputFailed → writer.new ≡ writer.old }
-    ensures input_failed { (result.end ≡ RunEnd.InputFailed)
-        ↔ ((S.has_failed statement.new ≡ true) ⊎ (R.has_failed second.new ≡ true)) }
+    ensures input_failed { (result.end ≡ RunEnd.InputFailed) ↔ (is_err found ≡ true) }
     ensures output_failed { (result.end ≡ RunEnd.OutputFailed) ↔ (W.has_failed writer.new ≡ true) }
 {
-    match find::<A, S, R, P>(alloc, verb, statement, second, progress) {
+    match found {
         Ok(report) => {
             tell_proof(&report.answer, progress);
             Ended {
@@ -315,37 +286,36 @@ pub fn run<A: StatementAnswers, S: Source, R: Source, W: Sink, P: Progress>(
         (⟦<W as RunWithBoth<S, R>>⟧.run statement.old second.old writer.old writer.new)
         result.end }
 {
-    ran::<A, S, R, W, P>(alloc, verb, statement, second, writer, progress)
+    let found = find::<A, S, R, P>(alloc, verb, statement, second, progress);
+    tell_found(found, writer, progress)
 }
 
-/// A run whose proof goes to an output of its own, by its exact clauses alone.
-fn ran_to<A: StatementAnswers, S: Source, R: Source, O: Sink, W: Sink, P: Progress>(
-    alloc: Global,
-    verb: Verb,
-    statement: &mut S,
-    second: &mut R,
+/// Writes a proof that was found to the output, and what else was found to the writer; nothing
+/// where a reader failed.
+fn deliver_found<O: Sink, W: Sink, P: Progress>(
+    found: Result<Report<Finding>, RunEnd>,
     output: &mut O,
     writer: &mut W,
     progress: &mut P,
 ) -> Delivered
-    requires first { S.has_failed statement.old ≡ false }
-    requires behind { R.has_failed second.old ≡ false }
+    requires kind { IfErr found (λ e. e ≡ RunEnd.InputFailed) }
     requires fresh_output { O.has_failed output.old ≡ false }
     requires fresh_writer { W.has_failed writer.old ≡ false }
-    ensures proof { ⟦<A as DeliveryFindings>⟧.said_proof verb
-        (⟦<O as RunWithBoth<S, R>>⟧.run statement.old second.old output.old output.new) result }
+    ensures proof { IfOk found (λ report. result.is_proof ≡ true
+        → SaidProof result.ended.end report.answer (O.contents output.old)
+        (O.contents output.new)) }
     ensures read { result.is_proof ≡ true → result.ended.end ≡ RunEnd.InputFailed → ⊥ }
     ensures kept { result.is_proof ≡ true → writer.new ≡ writer.old }
-    ensures answer { ⟦<A as DeliveryFindings>⟧.said_answer verb
-        (⟦<W as RunWithBoth<S, R>>⟧.run statement.old second.old writer.old writer.new) result }
+    ensures answer { IfOk found (λ report. result.is_proof ≡ false
+        → SaidAnswer result.ended.end report.answer (W.contents writer.old)
+        (W.contents writer.new)) }
     ensures untouched { result.is_proof ≡ false → output.new ≡ output.old }
     ensures silent { result.ended.end ≡ RunEnd.InputFailed → writer.new ≡ writer.old }
-    ensures input_failed { (result.ended.end ≡ RunEnd.InputFailed)
-        ↔ ((S.has_failed statement.new ≡ true) ⊎ (R.has_failed second.new ≡ true)) }
+    ensures input_failed { (result.ended.end ≡ RunEnd.InputFailed) ↔ (is_err found ≡ true) }
     ensures output_failed { (result.ended.end ≡ RunEnd.OutputFailed)
         ↔ ((O.has_failed output.new ≡ true) ⊎ (W.has_failed writer.new ≡ true)) }
 {
-    match find::<A, S, R, P>(alloc, verb, statement, second, progress) {
+    match found {
         Ok(report) => {
             tell_proof(&report.answer, progress);
             let told = tell_apart(&report.answer, output, writer);
@@ -399,5 +369,6 @@ pub fn run_to<A: StatementAnswers, S: Source, R: Source, O: Sink, W: Sink, P: Pr
     ensures output_failed { (result.ended.end ≡ RunEnd.OutputFailed)
         ↔ ((O.has_failed output.new ≡ true) ⊎ (W.has_failed writer.new ≡ true)) }
 {
-    ran_to::<A, S, R, O, W, P>(alloc, verb, statement, second, output, writer, progress)
+    let found = find::<A, S, R, P>(alloc, verb, statement, second, progress);
+    deliver_found(found, output, writer, progress)
 }

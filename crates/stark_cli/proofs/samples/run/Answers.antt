@@ -1,18 +1,31 @@
-use Rattle.std.proofs.Common.{sym, subst}
+use Rattle.std.proofs.Common.{sym, subst, ◌∙◌}
+use Rattle.std.proofs.lemmas.Bool.{false≢true}
 use Rattle.std.specs.Io.KnownBytes.{Keeps}
 use Rattle.std.proofs.KnownBytes.{Keeps-refl}
 use Rattle.stark_commands.specs.ProveFacts.{proved_accepts_none, proved_begins, proved_line, proved_no_text, proved_satisfies_none}
 use Rattle.stark_answers.specs.declared.task.ProofForm.TheVariants.{Json}
 use Rattle.stark_cli.specs.SampleRun.{found_proofs_open, lacks_memory}
-use Rattle.stark_cli.proofs.Findings.{accepts_or_tells, refused_memory, says_known}
+use Rattle.stark_cli.proofs.Findings.{accepts_or_tells, finding_ends, refused_memory, said_known, said_of, says_known}
 use Rattle.stark_cli.proofs.Lines.{accepted_only_known, proved_only_known}
 use Rattle.stark_cli.proofs.SampleMeaning.{ends_accepted, holds_of_finding, sound_of_finding, told_traces}
 use Rattle.stark_cli.proofs.samples.run.Goals as goal
 
+pub returns-clause-input_failed : goal.returns-clause-input_failed
+returns-clause-input_failed g c =
+    (λ e. c.find.ensures.failed.0 (c.tell_found.ensures.input_failed.0 e), λ failed. c.tell_found.ensures.input_failed.1 (c.find.ensures.failed.1 failed))
+
+pub returns-clause-ends : goal.returns-clause-ends
+returns-clause-ends g c = λ read wrote.
+    finding_ends _ (λ e. false≢true (sym read ∙ c.find.ensures.failed.0 (c.tell_found.ensures.input_failed.0 e))) (λ e. false≢true (sym wrote ∙ c.tell_found.ensures.output_failed.0 e))
+
+pub returns-clause-other_words : goal.returns-clause-other_words
+returns-clause-other_words g c = λ none. said_known _ _ _ _ _ (c.find.ensures.other_words none) c.tell_found.ensures.says
+
 pub returns-clause-says : goal.returns-clause-says
 returns-clause-says g c =
-    says_known lacks_memory _ _ _ _ _ c.ran.ensures.says
-    (λ e. subst (λ writer. Keeps (g.W.Sink.contents c.args.writer.now) (g.W.Sink.contents writer)) (sym (c.ran.ensures.silent e)) (Keeps-refl _))
+    says_known lacks_memory _ _ _ _ _
+    (said_of lacks_memory _ (λ f. f) _ c.find.result _ _ _ c.find.ensures.found c.tell_found.ensures.says c.tell_found.ensures.input_failed.1)
+    (λ e. subst (λ writer. Keeps (g.W.Sink.contents c.args.writer.now) (g.W.Sink.contents writer)) (sym (c.tell_found.ensures.silent e)) (Keeps-refl _))
 
 pub returns-clause-accepted : goal.returns-clause-accepted
 returns-clause-accepted g c =
@@ -38,4 +51,6 @@ returns-clause-proved g c =
 pub returns-clause-accepted_end : goal.returns-clause-accepted_end
 returns-clause-accepted_end g c = λ end.
     ends_accepted _ _ _ _ (λ air i f proved. proved_line _ _ _ _ _ _ _ _ _ f proved) (λ air i f proved is. proved_no_text _ _ _ _ _ _ _ _ _ f proved is) (λ air i proved. proved_satisfies_none _ _ _ _ _ _ _ _ _ proved) _ _ _ _
-    (accepts_or_tells lacks_memory refused_memory _ _ _ _ _ c.ran.ensures.says end)
+    (accepts_or_tells lacks_memory refused_memory _ _ _ _ _
+    (said_of lacks_memory _ (λ f. f) _ c.find.result _ _ _ c.find.ensures.found c.tell_found.ensures.says c.tell_found.ensures.input_failed.1)
+    end)

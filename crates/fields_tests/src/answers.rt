@@ -19,6 +19,8 @@ where
     match table {
         "base" => fields::operation::<F>(alloc, text),
         "above" => fields::operation::<EF>(alloc, text),
+        "factor" => fields::factor::<F>(alloc, text),
+        "factor above" => fields::factor::<EF>(alloc, text),
         "power" => fields::power::<F>(alloc, text),
         "generator" => fields::generator::<F, EF>(alloc, text),
         "json" => fields::json::<F>(alloc, text),

@@ -39,6 +39,16 @@ above | inverse | [[123456789,987654321,2013265920,7],[5,2013265919,11,123456789
 above | inverse | [[0,0,1,0],[0,0,0,0]] => Some(Ext4 { c0: 0, c1: 0, c2: 549072524, c3: 0 })
 above | negative | [[123456789,987654321,2013265920,7],[5,2013265919,11,1234567890]] => Some(Ext4 { c0: 1889809132, c1: 1025611600, c2: 1, c3: 2013265914 })
 
+# An element, and a factor whose quotient is worked out first. Of the first, the third and the fourth
+# the quotient of the product that the factor's tells is one less than it.
+factor | [123456789,987654321] => 6500116
+factor | [987654321,2013265920] => 1025611600
+factor | [2013265920,2013265920] => 1
+factor | [2013265919,987654321] => 37957279
+factor | [0,987654321] => 0
+factor | [2013265920,0] => 0
+factor above | [[123456789,987654321,2013265920,7],[5,2013265919,11,1234567890]] => Ext4 { c0: 1332296430, c1: 1177441689, c2: 1834211196, c3: 1933686633 }
+
 # An element, and to which power.
 power | 31 2013265920 => 1
 power | 31 1006632960 => 2013265920
@@ -99,6 +109,10 @@ above | product | [[0,1,0,0],[0,0,0,1]] => Some(Ext4 { c0: 3, c1: 0, c2: 0, c3: 
 above | inverse | [[123456789,987654321,2130706432,7],[5,2130706431,11,1234567890]] => Some(Ext4 { c0: 1011303690, c1: 735410100, c2: 106863573, c3: 887104786 })
 above | inverse | [[0,0,1,0],[0,0,0,0]] => Some(Ext4 { c0: 0, c1: 0, c2: 710235478, c3: 0 })
 above | negative | [[123456789,987654321,2130706432,7],[5,2130706431,11,1234567890]] => Some(Ext4 { c0: 2007249644, c1: 1143052112, c2: 1, c3: 2130706426 })
+factor | [123456789,987654321] => 194387698
+factor | [2130706432,2130706432] => 1
+factor | [2130706431,987654321] => 155397791
+factor above | [[123456789,987654321,2130706432,7],[5,2130706431,11,1234567890]] => Ext4 { c0: 56795511, c1: 987654588, c2: 1870870959, c3: 662790974 }
 power | 3 2130706432 => 1
 power | 3 1065353216 => 2130706432
 power | 123456789 65537 => 20963830
@@ -131,6 +145,18 @@ pub fn operation<F: Field + JsonCodec + Debug>(alloc: Global, text: &str) -> Res
         return Err(Fail::new("no two elements"));
     };
     shown(alloc, &computed::<F>(name, *x, *y))
+}
+
+/// The product with a factor whose quotient is worked out first.
+pub fn factor<F: TwoAdicField + JsonCodec + Debug>(
+    alloc: Global,
+    text: &str,
+) -> Result<String, Fail> {
+    let elements: Vec<F> = read_all(alloc, text)?;
+    let [x, factor] = elements.as_slice() else {
+        return Err(Fail::new("no two elements"));
+    };
+    shown(alloc, &x.times_factor(*factor, factor.factor_quotient()))
 }
 
 pub fn power<F: Field + JsonCodec + Debug>(alloc: Global, text: &str) -> Result<String, Fail> {

@@ -77,6 +77,33 @@ doubled_apart h n positive = record {
   two_two = λ j less e. elim (starts h j n positive (omega arith)) [ inl same ↦ absurd (omega arith) | inr before ↦ absurd (omega arith) ];
 }
 
+-- places of one block aren't others of it, nor of those before
+behind_apart : (b h low n j : ℕ) → low ≡ b * h → low ≤ n → n < low + h → n ≤ j → j < low + h → doubled h j ≢ doubled h n + h
+behind_apart b h low n j is_low from to behind within e =
+    let one : j / h * h + j ≡ b * h + j = ap (λ m. m * h + j) (block_of b h low j is_low (omega arith) within) in
+    let two : n / h * h + n + h ≡ b * h + n + h = ap (λ m. m * h + n + h) (block_of b h low n is_low from to) in
+    absurd (omega (arith, e, one, two, from, within))
+
+block_apart : (b h low n j : ℕ) → low ≡ b * h → low ≤ n → n < low + h → j < low + h → doubled h j ≢ doubled h n + h
+block_apart b h low n j is_low from to within = elim (cases_order j n) [
+  | inl same ↦ behind_apart b h low n j is_low from to (omega arith) within
+  | inr differ ↦ elim differ [
+    | inl earlier ↦ (doubled_apart h n (omega arith)).one_two j earlier
+    | inr later ↦ behind_apart b h low n j is_low from to (omega arith) within
+  ]
+]
+
+-- Before n each place has its value, and before m each other.
+pub record ArePartlyWritten {K : Type 0} (ring : RingOps K) (place other : ℕ → ℕ) (value second : ℕ → K) (n m : ℕ) (list : List K) : Type 0 where
+  pub one : (j : ℕ) → j < n → entry ring list (place j) ≡ value j
+  pub two : (j : ℕ) → j < m → entry ring list (other j) ≡ second j
+
+abbrev pub IsPartlyInterpolated : {K : Type 0} → RingOps K → ℕ → K → K → ℕ → ℕ → ℕ → List K → List K → Type 0
+IsPartlyInterpolated ring half first ratio middle n m source target =
+    ArePartlyWritten ring (doubled half) (λ j. doubled half j + half)
+    (λ j. ring.add (entry ring source j) (entry ring source (middle + j)))
+    (λ j. ring.mul (point_at ring first ratio (j / half)) (opposite_difference ring middle source j)) n m target
+
 module _ {K : Type 0} (ring : RingOps K) where
   -- what was read is what stands there
   pub was_read : (xs : List K) (i j : ℕ) (x : K) → i < length xs → x ≡ get_or xs i x → i ≡ j → x ≡ entry ring xs j
@@ -86,31 +113,57 @@ module _ {K : Type 0} (ring : RingOps K) where
     pub none_written : (list : List K) → AreWritten ring place other value second 0 list
     none_written list = record { one = λ j h. absurd (omega arith); two = λ j h. absurd (omega arith) }
 
-    pub one_more_written : (n : ℕ) (list : List K) (p q : ℕ) (x y : K) → ArePlacesApart place other n → p ≡ place n → q ≡ other n → p < length list → q < length list
-        → x ≡ value n → y ≡ second n → AreWritten ring place other value second n list → AreWritten ring place other value second (n + 1) (slice_set (slice_set list p x) q y)
-    one_more_written n list p q x y apart at_p at_q p_in q_in is_x is_y before =
-        let middle = slice_set list p x in
-        let longer : length middle ≡ length list = length-set list p x in
-        let pq : p ≢ q = λ e. apart.itself (sym at_p ∙ e ∙ at_q) in
-        let here : entry ring (slice_set middle q y) p ≡ x = get_or-set_other middle q p y ring.zero pq ∙ get_or-set_same list p x ring.zero p_in in
-        let there : entry ring (slice_set middle q y) q ≡ y = get_or-set_same middle q y ring.zero (omega arith) in
-        let kept = λ (k : ℕ) (a : k ≢ place n) (b : k ≢ other n). get_or-set_other middle q k y ring.zero (λ e. b (e ∙ at_q)) ∙ get_or-set_other list p k x ring.zero (λ e. a (e ∙ at_p)) in
+    pub parts_of : (n : ℕ) (list : List K) → AreWritten ring place other value second n list → ArePartlyWritten ring place other value second n n list
+    parts_of n list h = record { one = h.one; two = h.two }
+
+    pub of_parts : (n m k : ℕ) (list : List K) → n ≡ k → m ≡ k → ArePartlyWritten ring place other value second n m list → AreWritten ring place other value second k list
+    of_parts n m k list e f h = record { one = λ j less. h.one j (omega arith); two = λ j less. h.two j (omega arith) }
+
+    pub same_parts : (n k m : ℕ) (list : List K) → n ≡ k → ArePartlyWritten ring place other value second n m list → ArePartlyWritten ring place other value second k m list
+    same_parts n k m list e h = record { one = λ j less. h.one j (omega arith); two = h.two }
+
+    pub place_written : (n m : ℕ) (list : List K) (p : ℕ) (x : K) → ((j : ℕ) → j < n → place j ≢ place n) → ((j : ℕ) → j < m → other j ≢ place n) → p ≡ place n → p < length list → x ≡ value n
+        → ArePartlyWritten ring place other value second n m list → ArePartlyWritten ring place other value second (n + 1) m (slice_set list p x)
+    place_written n m list p x one_apart two_apart at_p p_in is_x before =
+        let here : entry ring (slice_set list p x) p ≡ x = get_or-set_same list p x ring.zero p_in in
+        let kept = λ (k : ℕ) (a : k ≢ place n). get_or-set_other list p k x ring.zero (λ e. a (e ∙ at_p)) in
         record {
           one = λ j less. elim (cases_order j n) [
-            | inl same ↦ ap (λ k. entry ring (slice_set middle q y) (place k)) same ∙ ap (entry ring (slice_set middle q y)) (sym at_p) ∙ here ∙ is_x ∙ ap value (sym same)
+            | inl same ↦ ap (λ k. entry ring (slice_set list p x) (place k)) same ∙ ap (entry ring (slice_set list p x)) (sym at_p) ∙ here ∙ is_x ∙ ap value (sym same)
             | inr differ ↦ elim differ [
-              | inl earlier ↦ kept (place j) (apart.one_one j earlier) (apart.one_two j earlier) ∙ before.one j earlier
+              | inl earlier ↦ kept (place j) (one_apart j earlier) ∙ before.one j earlier
               | inr later ↦ absurd (omega arith)
             ]
           ];
-          two = λ j less. elim (cases_order j n) [
-            | inl same ↦ ap (λ k. entry ring (slice_set middle q y) (other k)) same ∙ ap (entry ring (slice_set middle q y)) (sym at_q) ∙ there ∙ is_y ∙ ap second (sym same)
+          two = λ j less. kept (other j) (two_apart j less) ∙ before.two j less;
+        }
+
+    pub other_written : (n m : ℕ) (list : List K) (q : ℕ) (y : K) → ((j : ℕ) → j < n → place j ≢ other m) → ((j : ℕ) → j < m → other j ≢ other m) → q ≡ other m → q < length list → y ≡ second m
+        → ArePartlyWritten ring place other value second n m list → ArePartlyWritten ring place other value second n (m + 1) (slice_set list q y)
+    other_written n m list q y one_apart two_apart at_q q_in is_y before =
+        let there : entry ring (slice_set list q y) q ≡ y = get_or-set_same list q y ring.zero q_in in
+        let kept = λ (k : ℕ) (a : k ≢ other m). get_or-set_other list q k y ring.zero (λ e. a (e ∙ at_q)) in
+        record {
+          one = λ j less. kept (place j) (one_apart j less) ∙ before.one j less;
+          two = λ j less. elim (cases_order j m) [
+            | inl same ↦ ap (λ k. entry ring (slice_set list q y) (other k)) same ∙ ap (entry ring (slice_set list q y)) (sym at_q) ∙ there ∙ is_y ∙ ap second (sym same)
             | inr differ ↦ elim differ [
-              | inl earlier ↦ kept (other j) (apart.two_one j earlier) (apart.two_two j earlier) ∙ before.two j earlier
+              | inl earlier ↦ kept (other j) (two_apart j earlier) ∙ before.two j earlier
               | inr later ↦ absurd (omega arith)
             ]
           ];
         }
+
+    pub one_more_written : (n : ℕ) (list : List K) (p q : ℕ) (x y : K) → ArePlacesApart place other n → p ≡ place n → q ≡ other n → p < length list → q < length list
+        → x ≡ value n → y ≡ second n → AreWritten ring place other value second n list → AreWritten ring place other value second (n + 1) (slice_set (slice_set list p x) q y)
+    one_more_written n list p q x y apart at_p at_q p_in q_in is_x is_y before =
+        let first = place_written n n list p x apart.one_one apart.two_one at_p p_in is_x (parts_of n list before) in
+        let longer : length (slice_set list p x) ≡ length list = length-set list p x in
+        let others : (j : ℕ) → j < n + 1 → place j ≢ other n = λ j less e. elim (cases_order j n) [
+          | inl same ↦ apart.itself (ap place (sym same) ∙ e)
+          | inr differ ↦ elim differ [ inl earlier ↦ apart.one_two j earlier e | inr later ↦ absurd (omega arith) ]
+        ] in
+        of_parts (n + 1) (n + 1) (n + 1) (slice_set (slice_set list p x) q y) refl refl (other_written (n + 1) n (slice_set list p x) q y others apart.two_two at_q (omega arith) is_y first)
 
     pub same_written : (n m : ℕ) (list : List K) → n ≡ m → AreWritten ring place other value second n list → AreWritten ring place other value second m list
     same_written n m list e h = subst (λ k. AreWritten ring place other value second k list) e h
@@ -144,18 +197,34 @@ module _ {K : Type 0} (ring : RingOps K) (laws : RingLaws ring) where
       (is_sum ∙ ap (λ t. ring.add t product) is_even ∙ ap (ring.add (entry ring source (doubled h n))) is_part)
       (is_rest ∙ ap (λ t. difference ring t product) is_even ∙ ap (difference ring (entry ring source (doubled h n))) is_part) before
 
-  pub interpolated_pair : (h : ℕ) (first ratio : K) (blocks b low n : ℕ) (source target : List K) (here opposite inverse sum rest product : K)
+  -- A sum is written, with the products of the blocks before: the places of the code, and what stood there.
+  pub interpolated_sum : (h : ℕ) (first ratio : K) (blocks b low n : ℕ) (source target : List K) (here opposite sum : K)
+      → low ≡ b * h → b < blocks → low ≤ n → n < low + h → length source ≡ blocks * h + blocks * h → length target ≡ length source
+      → here ≡ get_or source n here → opposite ≡ get_or source (blocks * h + n) opposite → sum ≡ ring.add here opposite
+      → IsPartlyInterpolated ring h first ratio (blocks * h) n low source target → IsPartlyInterpolated ring h first ratio (blocks * h) (n + 1) low source (slice_set target (low + n) sum)
+  interpolated_sum h first ratio blocks b low n source target here opposite sum is_low less from to long as_long read_here read_opposite is_sum before =
+      let inside = block_end b blocks h low is_low less in
+      let block : n / h ≡ b = block_of b h low n is_low from to in
+      let start : low + n ≡ doubled h n = ap (λ m. m + n) (is_low ∙ ap (λ m. m * h) (sym block)) in
+      let is_here : here ≡ entry ring source n = was_read ring source n n here (omega arith) read_here refl in
+      let is_opposite : opposite ≡ entry ring source (blocks * h + n) = was_read ring source (blocks * h + n) (blocks * h + n) opposite (omega arith) read_opposite refl in
+      let apart = doubled_apart h n (omega arith) in
+      place_written ring _ _ _ _ n low target (low + n) sum apart.one_one (λ j k. apart.two_one j (omega (arith, k, from))) start (omega arith)
+      (is_sum ∙ ap (λ t. ring.add t opposite) is_here ∙ ap (ring.add (entry ring source n)) is_opposite) before
+
+  -- A product is written, with the sums of the whole block.
+  pub interpolated_product : (h : ℕ) (first ratio : K) (blocks b low n : ℕ) (source target : List K) (here opposite inverse rest product : K)
       → low ≡ b * h → b < blocks → low ≤ n → n < low + h → length source ≡ blocks * h + blocks * h → length target ≡ length source
       → inverse ≡ point_at ring first ratio b
-      → here ≡ get_or source n here → opposite ≡ get_or source (blocks * h + n) opposite → sum ≡ ring.add here opposite → rest ≡ difference ring here opposite → product ≡ ring.mul inverse rest
-      → IsInterpolatedBelow ring h first ratio (blocks * h) n source target → IsInterpolatedBelow ring h first ratio (blocks * h) (n + 1) source (slice_set (slice_set target (low + n) sum) (low + n + h) product)
-  interpolated_pair h first ratio blocks b low n source target here opposite inverse sum rest product is_low less from to long as_long is_point read_here read_opposite is_sum is_rest is_product before =
+      → here ≡ get_or source n here → opposite ≡ get_or source (blocks * h + n) opposite → rest ≡ difference ring here opposite → product ≡ ring.mul inverse rest
+      → IsPartlyInterpolated ring h first ratio (blocks * h) (low + h) n source target → IsPartlyInterpolated ring h first ratio (blocks * h) (low + h) (n + 1) source (slice_set target (low + n + h) product)
+  interpolated_product h first ratio blocks b low n source target here opposite inverse rest product is_low less from to long as_long is_point read_here read_opposite is_rest is_product before =
       let inside = block_end b blocks h low is_low less in
       let block : n / h ≡ b = block_of b h low n is_low from to in
       let start : low + n ≡ doubled h n = ap (λ m. m + n) (is_low ∙ ap (λ m. m * h) (sym block)) in
       let is_here : here ≡ entry ring source n = was_read ring source n n here (omega arith) read_here refl in
       let is_opposite : opposite ≡ entry ring source (blocks * h + n) = was_read ring source (blocks * h + n) (blocks * h + n) opposite (omega arith) read_opposite refl in
       let is_difference : rest ≡ opposite_difference ring (blocks * h) source n = is_rest ∙ ap (λ t. difference ring t opposite) is_here ∙ ap (difference ring (entry ring source n)) is_opposite in
-      one_more_written ring _ _ _ _ n target (low + n) (low + n + h) sum product (doubled_apart h n (omega arith)) start (ap (λ m. m + h) start) (omega arith) (omega arith)
-      (is_sum ∙ ap (λ t. ring.add t opposite) is_here ∙ ap (ring.add (entry ring source n)) is_opposite)
+      other_written ring _ _ _ _ (low + h) n target (low + n + h) product (λ j within. block_apart b h low n j is_low from to within) (doubled_apart h n (omega arith)).two_two
+      (ap (λ m. m + h) start) (omega arith)
       (is_product ∙ ap (λ t. ring.mul t rest) (is_point ∙ ap (point_at ring first ratio) (sym block)) ∙ ap (ring.mul (point_at ring first ratio (n / h))) is_difference) before

@@ -66,7 +66,7 @@ fn coefficient_rows<F: Field>(
     ensures each { IfOk result (λ rows.
         AreInRows F.ring (map column_list columns.now) (length columns.now) height rows.items) }
 {
-    let mut rows = Vec::new(alloc);
+    let mut rows = Vec::with_capacity(alloc, columns.len().saturating_mul(height))?;
     for place in 0..height {
         for column in columns {
             rows.push(coefficient(column, place))?;
@@ -123,7 +123,7 @@ pub(crate) fn picked_rows<F: Copy>(
     ensures { IfOk result (λ rows.
         ArePicked values.now first step width (height * width) rows.items) }
 {
-    let mut rows = Vec::new(alloc);
+    let mut rows = Vec::with_capacity(alloc, width.saturating_mul(height))?;
     for row in 0..height {
         for column in 0..width {
             rows.push(values[first + column + row * step])?;
@@ -149,7 +149,7 @@ fn strided_column<F: Field>(
         → value F.ring p.items x ≡ value F.ring (strided (entry F.ring rows.now) first step count)
         x) }
 {
-    let mut p = Vec::new(alloc);
+    let mut p = Vec::with_capacity(alloc, size)?;
     for i in 0..count {
         p.push(rows[first + i * step])?;
     }

@@ -3,13 +3,13 @@
 ghost use Rattle.std.specs.Prelude.{◌≡◌, ◌+◌, ◌*◌, ◌<◌, length};
 ghost use Rattle.stark_dft.specs.Passes.{IsEvaluationPass, IsInterpolationPass};
 
-use stark_support::Field;
+use stark_support::TwoAdicField;
 
 /// From the even and the odd coefficients' values at the squares of points to the values at the
 /// points and their opposites. Block `i` of `source` has `half` values of even coefficients and
 /// `half` of odd ones, at the square of the point `first * ratio^i`; block `i` of `target` gets
 /// those at the point, and block `blocks + i` those at its opposite.
-pub fn evaluation_pass<F: Field>(
+pub fn evaluation_pass<F: TwoAdicField>(
     source: &[F],
     target: &mut [F],
     blocks: usize,
@@ -25,9 +25,10 @@ pub fn evaluation_pass<F: Field>(
     let mut point = first;
     let mut low = 0;
     for _block in 0..blocks {
+        let quotient = point.factor_quotient();
         for place in low..low + half {
             let even = source[low + place];
-            let odd = point * source[low + place + half];
+            let odd = source[low + place + half].times_factor(point, quotient);
             target[place] = even + odd;
             target[middle + place] = even - odd;
         }
@@ -40,7 +41,7 @@ pub fn evaluation_pass<F: Field>(
 /// at the points' squares. Blocks `i` and `blocks + i` of `source` have `half` values each, at the
 /// point whose inverse is `first * ratio^i` and at its opposite; block `i` of `target` gets `half`
 /// of even coefficients and `half` of odd ones.
-pub fn interpolation_pass<F: Field>(
+pub fn interpolation_pass<F: TwoAdicField>(
     source: &[F],
     target: &mut [F],
     blocks: usize,
@@ -56,11 +57,14 @@ pub fn interpolation_pass<F: Field>(
     let mut inverse = first;
     let mut low = 0;
     for _block in 0..blocks {
+        let quotient = inverse.factor_quotient();
+        // Of each of the two loops LLVM makes vector code, of both in one it makes none that runs.
         for place in low..low + half {
-            let here = source[place];
-            let opposite = source[middle + place];
-            target[low + place] = here + opposite;
-            target[low + place + half] = inverse * (here - opposite);
+            target[low + place] = source[place] + source[middle + place];
+        }
+        for other in low..low + half {
+            let difference = source[other] - source[middle + other];
+            target[low + other + half] = difference.times_factor(inverse, quotient);
         }
         inverse = inverse * ratio;
         low += half;

@@ -16,7 +16,7 @@ fn filled_up<F: Field>(alloc: Global, values: &[F], size: usize) -> Result<Vec<F
     ensures same { IfOk result (λ filled. (j : ℕ)
         → entry F.ring filled.items j ≡ entry F.ring values.now j) }
 {
-    let mut filled: Vec<F> = Vec::new(alloc);
+    let mut filled: Vec<F> = Vec::with_capacity(alloc, size)?;
     filled.extend_from_slice(values)?;
     for _place in values.len()..size {
         filled.push(F::ZERO)?;
@@ -25,12 +25,13 @@ fn filled_up<F: Field>(alloc: Global, values: &[F], size: usize) -> Result<Vec<F
 }
 
 /// Each value times `factor`, in its place.
-fn scaled<F: Field>(factor: F, values: Vec<F>) -> Vec<F>
+fn scaled<F: TwoAdicField>(factor: F, values: Vec<F>) -> Vec<F>
     ensures { result.items ≡ scaled F.ring factor values.items }
 {
+    let quotient = factor.factor_quotient();
     let mut multiple = values;
     for place in 0..multiple.len() {
-        multiple[place] = factor * multiple[place];
+        multiple[place] = multiple[place].times_factor(factor, quotient);
     }
     multiple
 }

@@ -7,6 +7,7 @@ pub mod BabyBear
 pub mod KoalaBear
 pub mod Small
 pub mod Residues
+pub mod Quotients
 pub mod SmallResidues
 pub mod Chain
 pub mod PrimeField

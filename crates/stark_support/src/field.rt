@@ -246,6 +246,9 @@ pub trait TwoAdicField: Field {
     /// A generator of the group of `2 ^ bits` elements.
     ghost root: { ℕ → Self };
 
+    /// What `factor_quotient` gives.
+    ghost quotient_of: { Self → ℕ };
+
     const TWO_ADICITY: usize;
 
     /// A generator of the group of `2 ^ bits` elements, the same one at each call; the square of
@@ -253,6 +256,15 @@ pub trait TwoAdicField: Field {
     fn two_adic_generator(bits: usize) -> Self
         requires { bits ≤ TWO_ADICITY }
         ensures { result ≡ root bits };
+
+    /// What `times_factor` wants to know of a factor, worked out once for many products.
+    fn factor_quotient(self) -> u32
+        ensures { result ≡ quotient_of self };
+
+    /// The product with a factor. A field of residues divides by no modulus for it.
+    fn times_factor(self, factor: Self, quotient: u32) -> Self
+        requires { quotient ≡ quotient_of factor }
+        ensures { result ≡ Self.ring.mul factor self };
 
     ghost two_adic: { TwoAdicLaws Self.ring TWO_ADICITY root Self.GENERATOR };
 }

@@ -420,6 +420,8 @@ impl<F: QuarticBase + TwoAdicField> TwoAdicField for Ext4<F> {
 
     ghost root = { λ k. embedded F.ring (F.root k) };
 
+    ghost quotient_of = { λ _. 0 };
+
     const TWO_ADICITY: usize = F::TWO_ADICITY;
 
     fn two_adic_generator(bits: usize) -> Ext4<F> {
@@ -429,6 +431,16 @@ impl<F: QuarticBase + TwoAdicField> TwoAdicField for Ext4<F> {
             c2: F::ZERO,
             c3: F::ZERO,
         }
+    }
+
+    fn factor_quotient(self) -> u32 {
+        0
+    }
+
+    fn times_factor(self, factor: Ext4<F>, _quotient: u32) -> Ext4<F>
+        ensures { result ≡ (ext4_ring F.ring F.QUARTIC_CONSTANT).mul factor self }
+    {
+        factor * self
     }
 
     ghost two_adic = { embedded_two_adic

@@ -7,6 +7,7 @@ ghost use Rattle.stark_support.specs.Operations.{exact, total};
 ghost use Rattle.std.specs.Cmp.Rules.{comparing};
 ghost use Rattle.std.proofs.Common.{rules, lit<};
 ghost use Rattle.stark_fields.specs.Residues.{residue, residue_ring, residue_inverse, eq_gives_same, residue_of_value, value_of_residue};
+ghost use Rattle.stark_fields.specs.Quotients.{shoup_quotient};
 ghost use Rattle.stark_fields.specs.PrimeField.{number_fits, residue_laws, quartic_constant, root, two_adic_laws};
 
 use crate::modulus::Modulus;
@@ -383,10 +384,27 @@ impl<M: Modulus, Kind> TwoAdicField for Residue<M, Kind> {
 
     ghost root = { root };
 
+    ghost quotient_of = { λ x. shoup_quotient M.MODULUS x.value };
+
     const TWO_ADICITY: usize = M::TWO_ADICITY;
 
     fn two_adic_generator(bits: usize) -> Residue<M, Kind> {
         squared_times(Residue::new(M::ROOT), M::TWO_ADICITY - bits)
+    }
+
+    fn factor_quotient(self) -> u32 {
+        (u64::from(self.value) * 4294967296 / u64::from(M::MODULUS)) as u32
+    }
+
+    // Shoup's method: the factor's quotient tells how often the modulus goes into the product, or
+    // once less. A loop over such products can become vector code.
+    fn times_factor(self, factor: Residue<M, Kind>, quotient: u32) -> Residue<M, Kind>
+        requires { quotient ≡ shoup_quotient M.MODULUS factor.value }
+        ensures { result ≡ residue_ring.mul factor self }
+    {
+        let times = (u64::from(self.value) * u64::from(quotient)) >> 32;
+        let rest = Residue::wide_product((factor, self)) - times * u64::from(M::MODULUS);
+        Residue::of_sum(rest as u32)
     }
 
     ghost two_adic = { two_adic_laws _ _ };

@@ -18,9 +18,9 @@ offset_bounds-target-middle g c =
 pub loop-place-preserved : goal.loop-place-preserved
 loop-place-preserved g c =
     evaluated_pair g.F.Field.ring g.met.F.Field.field_laws.of_ring c.args.half c.args.first c.args.ratio c.args.blocks c.loop-block._block c.loop-block.low c.loop-place.place c.args.source.now c.loop-place.target
-    c.index-source-low.result c.index-source-low-in-loop-place.result c.loop-block.point c.mul-odd.result c.add.result c.sub.result
+    c.index-source-low.result c.index-source-low-in-loop-place.result c.loop-block.point c.times_factor-odd.result c.add.result c.sub.result
     c.loop-block.invariant.low c.loop-block-test.true (omega arith) c.loop-place-test.true c.requires.source_length (omega arith) c.loop-block.invariant.point
-    c.index-source-low.is c.index-source-low-in-loop-place.is (g.met.F.Field.mul_is _ _ _ c.mul-odd.ensures) (g.met.F.Field.add_is _ _ _ c.add.ensures) (g.met.F.Field.sub_is _ _ _ c.sub.ensures)
+    c.index-source-low.is c.index-source-low-in-loop-place.is c.times_factor-odd.ensures (g.met.F.Field.add_is _ _ _ c.add.ensures) (g.met.F.Field.sub_is _ _ _ c.sub.ensures)
     c.loop-place.invariant
 
 pub loop-block-preserved : goal.loop-block-preserved

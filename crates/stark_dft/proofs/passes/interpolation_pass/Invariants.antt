@@ -1,5 +1,6 @@
-use Rattle.std.proofs.Common.{◌≡◌, ◌*◌}
+use Rattle.std.proofs.Common.{◌≡◌, ◌+◌, ◌*◌}
 use Rattle.stark_dft.specs.Passes.{IsInterpolatedBelow, point_at}
+use Rattle.stark_dft.proofs.PassSteps.{IsPartlyInterpolated}
 use Rattle.stark_dft.proofs.passes.interpolation_pass.Given as goal
 
 abbrev pub invariant-loop-block : goal.invariant-loop-block
@@ -10,4 +11,7 @@ invariant-loop-block g l = record {
 }
 
 abbrev pub invariant-loop-place : goal.invariant-loop-place
-invariant-loop-place g l = IsInterpolatedBelow g.F.Field.ring l.half l.fn.first l.ratio l.middle l.place l.source l.target
+invariant-loop-place g l = IsPartlyInterpolated g.F.Field.ring l.half l.fn.first l.ratio l.middle l.place l.low l.source l.target
+
+abbrev pub invariant-loop-other : goal.invariant-loop-other
+invariant-loop-other g l = IsPartlyInterpolated g.F.Field.ring l.half l.fn.first l.ratio l.middle (l.low + l.half) l.other l.source l.target

@@ -1,5 +1,6 @@
 //! The bench's two challengers, and what they observe of a commitment in the clear.
 mod commitment;
+mod coordinates;
 mod script;
 mod sha256;
 mod trials;

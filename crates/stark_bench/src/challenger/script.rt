@@ -4,6 +4,7 @@ ghost use Rattle.stark_bench.specs.Challenges.{after_four, found_by, four_drawn,
 ghost use Rattle.stark_bench.specs.ChallengeFacts.{after_four_in_turn, four_in_turn, script_laws};
 
 use crate::challenger::commitment::ClearCommitment;
+use crate::challenger::coordinates::sample_coordinates;
 use stark_fields::{Ext4, Modulus, Residue};
 use stark_merkle::Root;
 use stark_support::{
@@ -96,12 +97,7 @@ impl<M: Modulus, Kind> CanSample<Ext4<Residue<M, Kind>>> for ScriptChallenger<Re
 
     /// The next four elements: the coordinates, the constant first.
     fn sample(&mut self) -> Ext4<Residue<M, Kind>> {
-        Ext4 {
-            c0: self.sample(),
-            c1: self.sample(),
-            c2: self.sample(),
-            c3: self.sample(),
-        }
+        sample_coordinates(self)
     }
 }
 

@@ -6,6 +6,7 @@ ghost use Rattle.stark_fields.specs.Residues.{residue};
 ghost use Rattle.stark_bench.specs.ChallengeFacts.{after_four_in_turn, four_in_turn, sha_laws};
 
 use crate::challenger::commitment::{ClearCommitment, observe_matrices};
+use crate::challenger::coordinates::sample_coordinates;
 use crate::challenger::trials::{first_of_four, leading, passes_behind};
 use sha2::{Digest, Sha256};
 use stark_fields::{Ext4, Modulus, Residue};
@@ -139,12 +140,7 @@ impl<M: Modulus, Kind> CanSample<Ext4<Residue<M, Kind>>> for Sha256Challenger<Re
 
     /// Four draws of the base field: the coordinates, the constant first.
     fn sample(&mut self) -> Ext4<Residue<M, Kind>> {
-        Ext4 {
-            c0: self.sample(),
-            c1: self.sample(),
-            c2: self.sample(),
-            c3: self.sample(),
-        }
+        sample_coordinates(self)
     }
 }
 

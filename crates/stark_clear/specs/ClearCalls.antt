@@ -6,7 +6,7 @@ use Rattle.stark_support.specs.Coset.{TwoAdicCoset, coset_size}
 use Rattle.stark_support.specs.declared.matrix.RowMajorMatrix.{RowMajorMatrix}
 use Rattle.stark_support.specs.Polynomial.{value}
 use Rattle.stark_support.specs.Scheme.{CommittingCalls, matrix_row}
-use Rattle.stark_support.specs.SchemeClauses.{CommitsChunks, CommitsRows, OpeningOps, ProvesTrueClaims}
+use Rattle.stark_support.specs.SchemeClauses.{CommitsChunks, OpeningOps, ProvesTrueClaims}
 use Rattle.stark_columns.specs.ColumnPoints.{IsPolynomialBelow}
 use Rattle.stark_clear.specs.Masks.{AreMaskedBy, AreMaskedChunks, mask_lists, quotient_masks, chunk_columns, masked_chunks}
 use Rattle.stark_columns.specs.PlainChunks.{ArePlainChunks}
@@ -88,10 +88,6 @@ IsMaskedOf field inverse root masks domain flat count chunks = AreMaskedChunksOf
 -- What holds of what was made, where something was.
 abbrev pub IfMade : {T X : Type 0} → Result (Option T) X → (T → Type 0) → Type 0
 IfMade result holds = IfOk result (λ made. IfSome made holds)
-
--- Where something was made of a matrix, it stands for columns that take its rows.
-abbrev pub RowsStand : {S F E C K T P X Y Z : Type 0} → OpeningOps S F E C K T P X Y → S → TwoAdicCoset F → RowMajorMatrix F → Result (K × T) Z → Type 0
-RowsStand ops s domain matrix result = IfOk result (CommitsRows ops.scheme ops.fields.base ops.fields.root s domain matrix)
 
 -- Where something was made of a quotient, it stands for its chunks.
 abbrev pub ChunksStand : {S F E C K T P X Y Z : Type 0} → OpeningOps S F E C K T P X Y → S → TwoAdicCoset F → RowMajorMatrix F → ℕ → Result (K × T) Z → Type 0

@@ -1,11 +1,10 @@
 -- What the prover computes with, and what its functions on rounds in memory promise.
-use Rattle.std.specs.Prelude.{ℕ, IfOk, List, Option, Result}
+use Rattle.std.specs.Prelude.{ℕ, List, Option}
 use Rattle.std.specs.Borrow.{Bor}
 use Rattle.std.specs.declared.vec.Vec.{Vec}
 use Rattle.stark_support.specs.Claims.{rounds_view}
 use Rattle.stark_support.specs.Coset.{TwoAdicCoset}
 use Rattle.stark_support.specs.Scheme.{SchemeOps}
-use Rattle.stark_support.specs.SchemeClauses.{CommitsRows, OpeningOps}
 use Rattle.stark_support.specs.declared.matrix.RowMajorMatrix.{RowMajorMatrix}
 use Rattle.stark_support.specs.declared.scheme.SchemeFault.{SchemeFault}
 use Rattle.stark_merkle.specs.declared.root.Root.{Root}
@@ -59,7 +58,3 @@ module _ {S F E C K T P X Y : Type 0} (scheme : SchemeOps S F E C K T P X Y) (s 
   -- The rounds are not opened with this error.
   abbrev pub RefusesRoundsIn : {A B G : Type 0} → Vec (Bor T × Vec (Vec E A) B) G → C → Option ℕ → Y → Type 0
   RefusesRoundsIn rounds state index error = scheme.RefusesOpening s (rounds_view rounds) state index error
-
--- Where something was made of a matrix, it stands for columns that take its rows.
-abbrev pub RowsStand : {S F E C K T P X Y Z : Type 0} → OpeningOps S F E C K T P X Y → S → TwoAdicCoset F → RowMajorMatrix F → Result (K × T) Z → Type 0
-RowsStand ops s coset matrix result = IfOk result (CommitsRows ops.scheme ops.fields.base ops.fields.root s coset matrix)

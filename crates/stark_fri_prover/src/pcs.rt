@@ -8,11 +8,11 @@ ghost use Rattle.stark_columns.specs.ColumnPoints.{height_of};
 ghost use Rattle.stark_columns.specs.Columns.{columns_list};
 ghost use Rattle.stark_fri.specs.Scheme.{ArePlain, fri_calls};
 ghost use Rattle.stark_merkle.specs.Tree.{digests_in};
-ghost use Rattle.stark_fri_prover.specs.Calls.{Accepts, CommitsQuotient, Refuses, RefusesRoundsIn, RowsStand};
+ghost use Rattle.stark_fri_prover.specs.Calls.{Accepts, CommitsQuotient, Refuses, RefusesRoundsIn};
 ghost use Rattle.stark_fri_prover.specs.Commit.{AreLayersOver, data_seen, extension_of, IsKept, IsTopOf};
 ghost use Rattle.stark_fri_prover.specs.HonestFactsScheme.{kept_laws};
 ghost use Rattle.stark_fri_prover.specs.HonestOpening.{kept_scheme};
-ghost use Rattle.stark_support.specs.SchemeClauses.{CommitsChunks, CommitsRows, OpensTrueValues, ProvesTrueClaims, IsTableOver};
+ghost use Rattle.stark_support.specs.SchemeClauses.{CommitsChunks, CommitsRows, OpensTrueValues, ProvesTrueClaims, RowsStand, IsTableOver};
 
 use crate::calls::Proving;
 use crate::commit::{Committed, FriData, commit_columns};
@@ -160,6 +160,8 @@ where
         ensures refused { IfRefusal result (λ _. ⊥) }
     {
         let columns = columns_of(alloc, &domain, &matrix)?;
+        // The columns spell it, and their values on the larger coset take the most memory.
+        drop(matrix);
         let log_blowup = self.parameters.log_blowup();
         let made = commit_alone::<F, H>(alloc, domain.log_size, log_blowup, columns)?;
         Ok(made)

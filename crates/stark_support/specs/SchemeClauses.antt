@@ -1,5 +1,5 @@
 -- What a scheme's calls promise.
-use Rattle.std.specs.Prelude.{◌≡◌, ℕ, ◌/◌, ◌^◌, Bool, List, [], ◌∷◌, map, length, Option, Some, slice_get}
+use Rattle.std.specs.Prelude.{◌≡◌, ℕ, ◌/◌, ◌^◌, Bool, List, [], ◌∷◌, map, length, IfOk, Option, Some, Result, slice_get}
 use Rattle.std.specs.List.{AllByRecursion}
 use Rattle.std.specs.declared.vec.Vec.{Vec}
 use Rattle.std.specs.Borrow.{Bor}
@@ -51,6 +51,10 @@ module _ {S F E C K T P X Y : Type 0} (scheme : SchemeOps S F E C K T P X Y) whe
   -- The scheme accepts the claims, whose domains are seen as cosets.
   abbrev pub AcceptsClaims : {D A B G : Type 0} → (D → TwoAdicCoset F) → S → Vec (Bor K × Vec (D × Vec (E × Bor (List E)) A) B) G → P → C → Option ℕ → Type 0
   AcceptsClaims coset_of s claims proof state index = scheme.Accepts s (claims_view coset_of claims) proof state index
+
+-- Where something was made of a matrix, it stands for columns that take its rows.
+abbrev pub RowsStand : {S F E C K T P X Y Z : Type 0} → OpeningOps S F E C K T P X Y → S → TwoAdicCoset F → RowMajorMatrix F → Result (K × T) Z → Type 0
+RowsStand ops s coset matrix result = IfOk result (CommitsRows ops.scheme ops.fields.base ops.fields.root s coset matrix)
 
 -- The commitment stands for the chunks of a quotient with these values on the coset.
 abbrev pub CommitsChunks : {S F E C K T P X Y : Type 0} → OpeningOps S F E C K T P X Y → S → TwoAdicCoset F → RowMajorMatrix F → ℕ → K × T → Type 0

@@ -17,6 +17,9 @@ pub record Step : Type 0 where
   pub length : Length
   pub degree : ℕ
 
+abbrev pub step_of : Hierarchy → Kind → List ℕ → Length → ℕ → Step
+step_of hierarchy kind label length degree = record { hierarchy = hierarchy; kind = kind; label = label; length = length; degree = degree }
+
 abbrev pub step_view : Interaction → Step
 step_view i = record { hierarchy = i.hierarchy; kind = i.kind; label = i.label.now; length = i.length; degree = i.degree }
 

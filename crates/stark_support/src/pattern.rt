@@ -1,6 +1,6 @@
 //! The steps of an interactive protocol, and the bytes that tell one instance of it from another.
 ghost use Rattle.std.specs.Prelude.{◌≡◌, ◌++◌, IfOk, List, [], ◌∷◌, map};
-ghost use Rattle.stark_support.specs.Seed.{hierarchy_byte, kind_byte, length_tag, length_number, number, step_view, step_bytes, steps_bytes, items_bytes, seed_of};
+ghost use Rattle.stark_support.specs.Seed.{hierarchy_byte, kind_byte, length_tag, length_number, number, step_of, step_view, step_bytes, steps_bytes, items_bytes, seed_of};
 
 use std::alloc::{AllocError, Global};
 use std::marker::Model;
@@ -58,13 +58,7 @@ impl Interaction {
         label: &'static str,
         length: Length,
     ) -> Interaction
-        ensures { step_view result ≡ record {
-          hierarchy = hierarchy;
-          kind = kind;
-          label = label.now;
-          length = length;
-          degree = 0;
-        } }
+        ensures { step_view result ≡ step_of hierarchy kind label.now length 0 }
     {
         Interaction::algebra(hierarchy, kind, label, length, 0)
     }
@@ -77,13 +71,7 @@ impl Interaction {
         length: Length,
         degree: usize,
     ) -> Interaction
-        ensures { step_view result ≡ record {
-          hierarchy = hierarchy;
-          kind = kind;
-          label = label.now;
-          length = length;
-          degree = degree;
-        } }
+        ensures { step_view result ≡ step_of hierarchy kind label.now length degree }
     {
         Interaction {
             hierarchy,
@@ -96,13 +84,7 @@ impl Interaction {
 
     /// A step that carries no value.
     pub fn marker(hierarchy: Hierarchy, kind: Kind, label: &'static str) -> Interaction
-        ensures { step_view result ≡ record {
-          hierarchy = hierarchy;
-          kind = kind;
-          label = label.now;
-          length = Length.Nothing;
-          degree = 0;
-        } }
+        ensures { step_view result ≡ step_of hierarchy kind label.now Length.Nothing 0 }
     {
         Interaction::opaque(hierarchy, kind, label, Length::Nothing)
     }

@@ -6,10 +6,10 @@ ghost use Rattle.stark_support.specs.Coset.{coset_from};
 ghost use Rattle.stark_support.specs.Scheme.{zk_bits};
 ghost use Rattle.stark_columns.specs.ColumnPoints.{height_of};
 ghost use Rattle.stark_clear.specs.ClearFacts.{clear_laws};
-ghost use Rattle.stark_clear.specs.ClearCalls.{clear_calls, IsPlainCommitment, IsPlainQuotient, RowsStand};
+ghost use Rattle.stark_clear.specs.ClearCalls.{clear_calls, IsPlainCommitment, IsPlainQuotient};
 ghost use Rattle.stark_clear.specs.ClearScheme.{clear_pcs, clear_scheme, stopping_pcs, AcceptsTrue, RefusesClaims, StopsProving, StopsVerifying};
 ghost use Rattle.stark_clear.specs.Stops.{StopsAt};
-ghost use Rattle.stark_support.specs.SchemeClauses.{CommitsChunks, CommitsRows, OpensTrueValues, ProvesTrueClaims, IsTableOver};
+ghost use Rattle.stark_support.specs.SchemeClauses.{CommitsChunks, CommitsRows, OpensTrueValues, ProvesTrueClaims, RowsStand, IsTableOver};
 
 use crate::clear::call::ClearCall;
 use crate::clear::check::{ClearError, check_claims};

@@ -1,11 +1,11 @@
 -- What an object with rows joined at a path has under its names.
-use Rattle.std.proofs.Common.{◌≡◌, ℕ, List, [], ◌∷◌, Option, Some, None, option_map, Bool, true, false, if◌then◌else◌, is_some, Ordering, Less, Equal, Greater, nat_cmp, is_eq, refl, sym, ap, ◌∙◌, subst}
+use Rattle.std.proofs.Common.{◌≡◌, ℕ, List, Some, option_map, true, false, if◌then◌else◌, is_some, Ordering, Less, Equal, Greater, nat_cmp, refl, ap, subst}
 use Rattle.std.specs.Cmp.Lexicographic.{slice_cmp}
 use Rattle.std.specs.Ordering.{match_ordering}
 use Rattle.std.specs.Str.{bytes_eq}
 use Rattle.serde_json.specs.Data.{Data, null, boolean, number, string, array, object, Members, no_members, member}
-use Rattle.serde_json.specs.Find.{as_null, as_object, get, get_member}
-use Rattle.stark_json.specs.Apart.{changed, changed_members, joined, placed, rows_data}
+use Rattle.serde_json.specs.Find.{as_null, get, get_member}
+use Rattle.stark_json.specs.Apart.{changed, changed_members, joined}
 use Rattle.stark_json.proofs.Changed.{equal_names}
 
 module _ (name : List ℕ) (f : Data → Data) where

@@ -1,8 +1,8 @@
 -- An AIR whose preprocessed rows are apart is read as that with the rows in their place.
-use Rattle.std.proofs.Common.{◌≡◌, ℕ, List, [], ◌∷◌, Option, Some, None, option_map, false, if◌then◌else◌, is_some, ok_or, IfSome, Result, Ok, Err, refl, sym, ap, ◌∙◌, codes}
+use Rattle.std.proofs.Common.{◌≡◌, ℕ, List, Option, Some, None, option_map, false, ok_or, IfSome, Result, Ok, Err, refl, ap, codes}
 use Rattle.std.specs.Str.{bytes_eq}
 use Rattle.serde_json.specs.Data.{Data, null, boolean, number, string, array, object, Members}
-use Rattle.serde_json.specs.Find.{as_null, as_object, get}
+use Rattle.serde_json.specs.Find.{as_null, get}
 use Rattle.stark_json.specs.Apart.{changed, joined, placed, rows_data}
 use Rattle.stark_json.proofs.Kept.{as_null-changed, get_other, get_same}
 use Rattle.stark_tree_air.specs.TreeApart.{air_apart, columns_apart, lists_apart, rows_path, trace_apart, trace_path}

@@ -162,13 +162,13 @@ folded_within ring have want (product t u) c h =
     pair_within have product _ (both_constants (constant_in a) (constant_in b)) a b (both_hold (tree_within have a) (tree_within have b) (folded_within ring have want t c h.0) (folded_within ring have want u c h.1))
 folded_within ring have want (negation t) c h = let a = constants_folded ring t in single_within have negation _ (constant_in a) a (folded_within ring have want t c h)
 
-pub air_within : {F : Type 0} (ring : RingOps F) (have want : Layout) (cs : List (Constraint F)) → Covers have want → LeavesWithin want cs → all_within have (map (trees.marked_tree ring) cs) ≡ true
+air_within : {F : Type 0} (ring : RingOps F) (have want : Layout) (cs : List (Constraint F)) → Covers have want → LeavesWithin want cs → all_within have (map (trees.marked_tree ring) cs) ≡ true
 air_within ring have want [] c h = refl
 air_within ring have want (base t ∷ cs) c h = both_hold (tree_within have (constants_folded ring t)) (all_within have (map (trees.marked_tree ring) cs)) (folded_within ring have want t c h.0) (air_within ring have want cs c h.1)
 air_within ring have want (extension t ∷ cs) c h = both_hold (tree_within have (constants_folded ring t)) (all_within have (map (trees.marked_tree ring) cs)) (folded_within ring have want t c h.0) (air_within ring have want cs c h.1)
 
 -- Columns that were copied have all that the AIR reads.
-pub copied_cover : {F : Type 0} (columns : TreeColumns F) (l : AirLayout) (want : Layout) (trace : Option (Trace F)) (periodic : List (List F)) (mains others : List ℕ) → IsDeclared want trace periodic mains others → Covers (symbolic_layout l) want →
+copied_cover : {F : Type 0} (columns : TreeColumns F) (l : AirLayout) (want : Layout) (trace : Option (Trace F)) (periodic : List (List F)) (mains others : List ℕ) → IsDeclared want trace periodic mains others → Covers (symbolic_layout l) want →
     l.main_width ≡ want.main → l.preprocessed_width ≡ want.preprocessed → columns.width ≡ want.main → columns.num_public_values ≡ want.publics → map (λ column. column.items) columns.periodic_columns.items ≡ periodic → declared_trace columns.preprocessed_trace ≡ trace → Covers (columns_layout columns) want
 copied_cover {F} columns l want trace periodic mains others declared covers main preprocessed width publics periodics traces =
     let wide : want.preprocessed ≡ trace_width (declared_trace columns.preprocessed_trace) = declared.preprocessed_width ∙ sym (ap trace_width traces) in
@@ -183,6 +183,13 @@ copied_cover {F} columns l want trace periodic mains others declared covers main
       publics = omega (arith, publics);
       periodics = omega (arith, many);
     }
+
+-- So they have what the AIR's constraints read, as these are spelled.
+pub copied_within : {F : Type 0} (ring : RingOps F) (columns : TreeColumns F) (l : AirLayout) (want : Layout) (trace : Option (Trace F)) (periodic : List (List F)) (mains others : List ℕ) (cs : List (Constraint F)) (spelled_cs : List (SymbolicConstraint F)) →
+    IsDeclared want trace periodic mains others → LeavesWithin want cs → Covers (symbolic_layout l) want → l.main_width ≡ want.main → l.preprocessed_width ≡ want.preprocessed → columns.width ≡ want.main → columns.num_public_values ≡ want.publics →
+    map (λ column. column.items) columns.periodic_columns.items ≡ periodic → declared_trace columns.preprocessed_trace ≡ trace → spelled_cs ≡ map (trees.marked_tree ring) cs → all_within (columns_layout columns) spelled_cs ≡ true
+copied_within ring columns l want trace periodic mains others cs spelled_cs declared within covers main preprocessed width publics periodics traces same =
+    ap (all_within (columns_layout columns)) same ∙ air_within ring (columns_layout columns) want cs (copied_cover columns l want trace periodic mains others declared covers main preprocessed width publics periodics traces) within
 
 one_folded : {F : Type 0} (ring : RingOps F) (c d : Constraint F) → expressed c ≡ trees.marked_tree ring d → c ≡ folded ring d
 one_folded ring (base t) (base u) e = let h : t ≡ constants_folded ring u = cc in ap base h

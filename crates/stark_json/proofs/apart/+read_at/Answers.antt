@@ -1,4 +1,4 @@
-use Rattle.std.proofs.Common.{◌≡◌, ◌≢◌, ◌∷◌, false, true, None, Some, map, refl, string_bytes, sym, ap, ◌∙◌, arith, rules}
+use Rattle.std.proofs.Common.{◌≡◌, ◌∷◌, false, true, None, Some, map, refl, string_bytes, sym, ap, ◌∙◌, arith, rules}
 use Rattle.std.specs.Str.{bytes_eq}
 use Rattle.json.specs.Token.{Token}
 use Rattle.json.specs.Json.{read_key, value}

@@ -1,4 +1,4 @@
-use Rattle.std.proofs.Common.{◌≡◌, ℕ, ◌+◌, ◌*◌, false, length, map, None}
+use Rattle.std.proofs.Common.{◌≡◌, ◌+◌, ◌*◌, false, length, map, None}
 use Rattle.serde_json.specs.View.{members_view}
 use Rattle.stark_json.specs.Apart.{joined_members, rows_apart}
 use Rattle.stark_json.proofs.Changed.{HasNone}

@@ -1,8 +1,8 @@
-use Rattle.std.proofs.Common.{◌≡◌, ◌<◌, ◌≤◌, ◌-◌, ◌++◌, ◌∷◌, ◌∙◌, [], None, Some, ap, length, length-append, map, refl, subst, sym, arith}
+use Rattle.std.proofs.Common.{◌≡◌, ◌<◌, ◌-◌, ◌++◌, ◌∷◌, ◌∙◌, [], None, Some, ap, length, length-append, map, refl, subst, sym, arith}
 use Rattle.json.specs.Json.{after_end_array}
 use Rattle.serde_json.specs.View.{items_of}
 use Rattle.stark_json.specs.Apart.{row_data}
-use Rattle.stark_json.specs.Tokens.{items_at, value_at}
+use Rattle.stark_json.specs.Tokens.{value_at}
 use Rattle.stark_json.proofs.Parted.{row_behind, rows_parted}
 use Rattle.stark_json.proofs.SoFar.{item_more, items_ended, no_item_yet}
 use Rattle.stark_json.proofs.rows.read_more.Goals as goal

@@ -1,4 +1,4 @@
-use Rattle.std.proofs.Common.{◌<◌, arith}
+use Rattle.std.proofs.Common.{arith}
 use Rattle.stark_json.proofs.SoFar.{array_read}
 use Rattle.stark_json.proofs.rows.read_rows.Goals as goal
 

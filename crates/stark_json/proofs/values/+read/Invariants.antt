@@ -1,4 +1,4 @@
-use Rattle.std.proofs.Common.{ℕ, ◌+◌, ◌*◌, length}
+use Rattle.std.proofs.Common.{◌+◌, ◌*◌, length}
 use Rattle.serde_json.specs.View.{members_view, view}
 use Rattle.stark_json.proofs.SoFar.{ItemsSoFar, MembersSoFar}
 use Rattle.stark_json.proofs.values.+read.Given as goal

@@ -1,7 +1,7 @@
 //! A proof of a trace, and the verifier's answer for it.
 ghost use Rattle.std.specs.Borrow.{Bor};
 ghost use Rattle.std.specs.Option.{option_copied};
-ghost use Rattle.std.specs.Prelude.{◌≡◌, ◌<◌, ℕ, List, Option, Result, IfErr, IfOk, OnOk, is_some, length, ltb};
+ghost use Rattle.std.specs.Prelude.{◌≡◌, ℕ, List, Option, Result, IfErr, IfOk, OnOk};
 ghost use Rattle.stark_support.specs.declared.matrix.RowMajorMatrix.{RowMajorMatrix};
 ghost use Rattle.stark_completeness.specs.RowCheck.{trace_of};
 ghost use Rattle.stark_proof.specs.ProofView.{proof_view};
@@ -9,7 +9,8 @@ ghost use Rattle.stark_proof.specs.declared.values.Proof.{Proof};
 ghost use Rattle.stark_protocol.specs.FirstFault.{IsOutOfMemoryOr};
 ghost use Rattle.stark_protocol.specs.declared.preprocessed.PreprocessedProverData.{PreprocessedProverData};
 ghost use Rattle.stark_protocol.specs.declared.preprocessed.PreprocessedVerifierKey.{PreprocessedVerifierKey};
-ghost use Rattle.stark_prover.specs.Heights.{FitsSchemeBeside, HoldsColumns};
+ghost use Rattle.stark_prover.specs.Conditions.{FitsAir};
+ghost use Rattle.stark_prover.specs.Heights.{FitsSchemeBeside};
 ghost use Rattle.stark_prover.specs.Honest.{HasSizedDegrees};
 ghost use Rattle.stark_prover.specs.ProverView.{instance_of};
 ghost use Rattle.stark_transcript.specs.declared.error.VerificationError.{VerificationError};
@@ -107,14 +108,10 @@ where
     Val<SC>: PackedField,
     SC::Challenge: PackedExtensionField<Val<SC>>,
     SC::Challenger: GrindingChallenger<Witness = Val<SC>>,
-    requires columns { 0 < trace.width }
-    requires width { trace.width ≡ (A.layout air.now).main }
     requires height { FitsSchemeBeside SC.Pcs.scheme (SC.config.scheme config.now) SC.Pcs.ZK
         (option_copied preprocessed) trace }
-    requires publics { length public_values.now ≡ (A.layout air.now).publics }
-    requires there { is_some preprocessed ≡ ltb 0 (A.layout air.now).preprocessed }
-    requires stands { HoldsColumns SC.Pcs.scheme (SC.config.scheme config.now)
-        SC.Pcs.Domain.Val.ring (option_copied preprocessed) (A.layout air.now).preprocessed }
+    requires fits { FitsAir SC.Pcs.scheme (SC.config.scheme config.now) SC.Pcs.Domain.Val.ring
+        (A.layout air.now) preprocessed trace public_values.now }
     ensures made { IfOk result (λ p. ⟦<SC as StarkProving<A>>⟧.is_proof
         (instance_of config.entry air.entry public_values.entry preprocessed.entry) trace p.0) }
     ensures accepted { IfOk result (⟦<SC as StarkCompleteness<A>>⟧.accepted config.now air.now

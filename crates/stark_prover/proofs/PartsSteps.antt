@@ -1,17 +1,20 @@
 -- The parts of a proof: what is bound, and that its transcript lacks no commitment.
 use Rattle.std.proofs.Common.{◌≡◌, ◌∙◌, ap, refl, sym, subst, ℕ, Bool, true, false, List, Option, None, Some, option_map}
-use Rattle.std.specs.Prelude.{IfSome, is_some}
+use Rattle.std.specs.Borrow.{Bor}
+use Rattle.std.specs.Option.{option_copied}
+use Rattle.std.specs.Prelude.{IfSome, is_some, ltb}
 use Rattle.stark_support.specs.Scheme.{QuotientChunk}
 use Rattle.stark_air.specs.Declaration.{Trace}
-use Rattle.stark_transcript.specs.Replay.{optional_fault, random_fault}
+use Rattle.stark_transcript.specs.Replay.{optional_fault, preprocessed_fault, random_fault}
 use Rattle.stark_transcript.specs.declared.shape.StarkShape.{StarkShape}
 use Rattle.stark_transcript.specs.declared.shape.StarkTranscriptFailure.{StarkTranscriptFailure}
 use Rattle.stark_proof.specs.ProofView.{ProofView}
 use Rattle.stark_protocol.specs.Instance.{Instance, ProtocolOps}
+use Rattle.stark_protocol.specs.ShapeFaults.{width_in_force}
 use Rattle.stark_protocol.specs.declared.preprocessed.PreprocessedProverData.{PreprocessedProverData}
 use Rattle.stark_prover.specs.BoundProof.{IsBoundProof}
 use Rattle.stark_prover.specs.CommittedColumns.{IsRandomCommitment}
-use Rattle.stark_prover.specs.ProofOfTrace.{IsProofOfTrace, IsRandomization, with_masks, without_masks}
+use Rattle.stark_prover.specs.ProofOfTrace.{IsProofOfTrace, IsRandomization, key_of, with_masks, without_masks}
 use Rattle.stark_prover.specs.ProverFault.{HasQuotient}
 use Rattle.stark_prover.specs.declared.commit.Committed.{Committed}
 
@@ -24,6 +27,12 @@ none_where_same false false missing unexpected same = refl
 -- A random commitment lacks nowhere.
 pub random_clear : (shape other : StarkShape) {there : Bool} → shape ≡ other → there ≡ other.has_randomization → random_fault shape there ≡ None
 random_clear shape other {there = there} is_shape same = none_where_same _ there _ _ (same ∙ sym (ap (λ (s : StarkShape). s.has_randomization) is_shape))
+
+-- What is held is there exactly where a shape of its width, or of the AIR's, has preprocessed columns.
+pub held_clear : {K T : Type 0} (shape other : StarkShape) (held : Option (Bor (PreprocessedProverData K T))) (width : ℕ) → shape ≡ other → other.preprocessed_width ≡ width_in_force (option_map key_of (option_copied held)) width
+    → is_some held ≡ ltb 0 width → IfSome (option_copied held) (λ h. h.width ≡ width) → preprocessed_fault shape (is_some held) ≡ None
+held_clear shape other None width is_shape in_force there same = none_where_same _ false _ _ (there ∙ sym (ap (λ n. ltb 0 n) (ap (λ (s : StarkShape). s.preprocessed_width) is_shape ∙ in_force)))
+held_clear shape other (Some held) width is_shape in_force there same = none_where_same _ true _ _ (there ∙ sym (ap (λ n. ltb 0 n) (ap (λ (s : StarkShape). s.preprocessed_width) is_shape ∙ in_force ∙ same)))
 
 module _ {S F E C K T P X Y : Type 0} {ops : ProtocolOps S F E C K T P X Y} {i : Instance S F C K} where
   -- What a proof is, is said of what it carries.

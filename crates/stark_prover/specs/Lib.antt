@@ -2,6 +2,7 @@ pub mod Sizes
 pub mod SchemeFaults
 pub mod CommittedColumns
 pub mod Heights
+pub mod Conditions
 pub mod Commitments
 pub mod Rounds
 pub mod ProofOfTrace

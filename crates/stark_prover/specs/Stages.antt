@@ -1,14 +1,17 @@
 -- What the stages of a prover leave, of whatever trace they stand for.
-use Rattle.std.specs.Prelude.{◌≡◌, ℕ, ◌+◌, ◌≤◌, List, None, Option, length, map, option_map}
+use Rattle.std.specs.Prelude.{◌≡◌, ℕ, ◌+◌, ◌≤◌, Bool, List, None, Option, length, map, option_map}
 use Rattle.std.specs.Option.{option_copied}
 use Rattle.stark_support.specs.Coset.{TwoAdicCoset}
 use Rattle.stark_support.specs.Scheme.{HasRows, QuotientChunk, zk_bits}
 use Rattle.stark_support.specs.declared.matrix.RowMajorMatrix.{RowMajorMatrix}
 use Rattle.stark_support.specs.declared.periodic.PeriodicColumnShapeError.{PeriodicColumnShapeError}
 use Rattle.stark_air.specs.Declaration.{Trace}
+use Rattle.stark_transcript.specs.Replay.{preprocessed_fault}
 use Rattle.stark_transcript.specs.declared.error.InvalidProofShapeError.{InvalidProofShapeError}
 use Rattle.stark_transcript.specs.declared.error.ProvingError.{ProvingError}
 use Rattle.stark_transcript.specs.declared.shape.StarkShape.{StarkShape}
+use Rattle.stark_transcript.specs.declared.shape.TranscriptPhase.TheVariants.{Opened}
+use Rattle.stark_transcript.specs.declared.transcript.prover.StarkProverTranscript.{StarkProverTranscript}
 use Rattle.stark_proof.specs.ProofView.{ProofView, openings_view, proof_view}
 use Rattle.stark_proof.specs.declared.values.Proof.{Proof}
 use Rattle.stark_protocol.specs.Instance.{Instance, ProtocolOps, log_height}
@@ -72,6 +75,13 @@ module _ {S F E C K T P X Y : Type 0} (ops : ProtocolOps S F E C K T P X Y) (vie
 
   abbrev pub seeded_at : ℕ → C
   seeded_at degree_bits = seeded ops (own_instance view) degree_bits
+
+  -- A transcript has bound the seed and nothing else; its shape has preprocessed columns exactly where some are held.
+  pub record IsSeeded (is_held : Bool) (degree_bits : ℕ) (transcript : StarkProverTranscript C F E) : Type 0 where
+    pub opened : transcript.phase ≡ Opened
+    pub described : transcript.shape ≡ described_at degree_bits
+    pub seeded : transcript.challenger.now ≡ seeded_at degree_bits
+    pub there : preprocessed_fault transcript.shape is_held ≡ None
 
   -- ---- the trace's commitment
 

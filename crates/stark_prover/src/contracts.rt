@@ -1,15 +1,16 @@
 //! What a prover is given, and what its clauses say of it: what each stage leaves to the next, and
 //! what it answers.
-ghost use Rattle.std.specs.Prelude.{ℕ, List, Option};
+ghost use Rattle.std.specs.Prelude.{ℕ, List, Option, is_some};
 ghost use Rattle.stark_support.specs.declared.matrix.RowMajorMatrix.{RowMajorMatrix};
 ghost use Rattle.stark_support.specs.declared.periodic.PeriodicColumnShapeError.{PeriodicColumnShapeError};
 ghost use Rattle.stark_transcript.specs.declared.error.InvalidProofShapeError.{InvalidProofShapeError};
 ghost use Rattle.stark_transcript.specs.declared.error.ProvingError.{ProvingError};
 ghost use Rattle.stark_transcript.specs.declared.shape.StarkShape.{StarkShape};
+ghost use Rattle.stark_transcript.specs.declared.transcript.prover.StarkProverTranscript.{StarkProverTranscript};
 ghost use Rattle.stark_proof.specs.declared.values.Proof.{Proof};
 ghost use Rattle.stark_prover.specs.ProverView.{ProverView, prover_view};
 ghost use Rattle.stark_prover.specs.Proving.{Completeness, IsAcceptableProof, IsFaultAt, IsFaultOf, IsProofAt, IsProofOf, IsProofWith};
-ghost use Rattle.stark_prover.specs.Stages.{AreDomainsOf, AreFixedRows, AreQuotients, AreTraceRows, HasColumns, HasFixedColumns, IsBound, IsCommitted, IsDomainFault, IsFault, IsFaultBehindColumns, IsOpened, IsProof, IsQuotientOf, IsRefusalOf, columns_fault_at, described_at, domain_fault_at, seeded_at};
+ghost use Rattle.stark_prover.specs.Stages.{AreDomainsOf, AreFixedRows, AreQuotients, AreTraceRows, HasColumns, HasFixedColumns, IsBound, IsCommitted, IsDomainFault, IsFault, IsFaultBehindColumns, IsOpened, IsProof, IsQuotientOf, IsRefusalOf, IsSeeded, columns_fault_at, described_at, domain_fault_at};
 ghost use Rattle.stark_prover.specs.declared.commit.Committed.{Committed};
 ghost use Rattle.stark_prover.specs.declared.contracts.ProverInputs.{ProverInputs};
 ghost use Rattle.stark_prover.specs.declared.domains.ProverDomains.{ProverDomains};
@@ -227,7 +228,8 @@ pub trait StarkStages<A>: StarkGenericConfig {
 
     ghost described: { Instance → ℕ → StarkShape };
 
-    ghost seeded: { Instance → ℕ → Self.Challenger };
+    ghost is_seeded: { Instance → ℕ
+        → StarkProverTranscript Self.Challenger Self.Pcs.Domain.Val Self.Challenge → Type 0 };
 
     ghost is_committed: { Instance → ProverDomains Self.Pcs.Domain → Committed → Type 0 };
 
@@ -262,8 +264,8 @@ where
     ghost described = { λ i. described_at ⟦<SC as StarkOperations>⟧.operations
         (⟦<SC as StarkProverView<A>>⟧.view i) };
 
-    ghost seeded = { λ i. seeded_at ⟦<SC as StarkOperations>⟧.operations
-        (⟦<SC as StarkProverView<A>>⟧.view i) };
+    ghost is_seeded = { λ i. IsSeeded ⟦<SC as StarkOperations>⟧.operations
+        (⟦<SC as StarkProverView<A>>⟧.view i) (is_some i.preprocessed) };
 
     ghost is_committed = { λ i. IsCommitted ⟦<SC as StarkOperations>⟧.operations
         (⟦<SC as StarkProverView<A>>⟧.view i) SC.Pcs.Domain.coset_of };

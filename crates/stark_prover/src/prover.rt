@@ -3,10 +3,10 @@
 ghost use Rattle.std.specs.Option.{option_copied};
 ghost use Rattle.std.specs.Prelude.{[], ◌≡◌, ◌+◌, ◌<◌, IfErr, IfOk, IfSome, None, is_some, length, ltb, option_map};
 ghost use Rattle.stark_support.specs.Scheme.{zk_bits};
-ghost use Rattle.stark_transcript.specs.Replay.{preprocessed_fault};
-ghost use Rattle.stark_transcript.specs.declared.shape.TranscriptPhase.TheVariants.{Bound, Delegated, Opened};
+ghost use Rattle.stark_transcript.specs.declared.shape.TranscriptPhase.TheVariants.{Bound, Delegated};
 ghost use Rattle.stark_proof.specs.ProofView.{proof_view};
-ghost use Rattle.stark_prover.specs.Heights.{FitsScheme, FitsSchemeBeside, HasRoom, HoldsColumns, IsHeldAt, IsOfHeight};
+ghost use Rattle.stark_prover.specs.Conditions.{FitsAir};
+ghost use Rattle.stark_prover.specs.Heights.{FitsScheme, FitsSchemeBeside, HasRoom, IsHeldAt, IsOfHeight};
 ghost use Rattle.stark_prover.specs.ProverView.{InputsHold, instance_of};
 ghost use Rattle.stark_prover.specs.Stages.{view_of_parts};
 
@@ -43,11 +43,9 @@ where
     Val<SC>: PackedField,
     SC::Challenge: PackedExtensionField<Val<SC>>,
     SC::Challenger: GrindingChallenger<Witness = Val<SC>>,
-    requires columns { 0 < trace.width }
-    requires width { trace.width ≡ (A.layout air.now).main }
     requires height { FitsScheme SC.Pcs.scheme (SC.config.scheme config.now) SC.Pcs.ZK trace }
-    requires publics { length public_values.now ≡ (A.layout air.now).publics }
-    requires none { (A.layout air.now).preprocessed ≡ 0 }
+    requires fits { FitsAir SC.Pcs.scheme (SC.config.scheme config.now) SC.Pcs.Domain.Val.ring
+        (A.layout air.now) None trace public_values.now }
     ensures made { IfOk result (⟦<SC as StarkProving<A>>⟧.is_proof_with
         (instance_of config.entry air.entry public_values.entry None) [] trace) }
     ensures acceptable { IfOk result (⟦<SC as StarkProving<A>>⟧.is_acceptable
@@ -91,14 +89,10 @@ where
     Val<SC>: PackedField,
     SC::Challenge: PackedExtensionField<Val<SC>>,
     SC::Challenger: GrindingChallenger<Witness = Val<SC>>,
-    requires columns { 0 < trace.width }
-    requires width { trace.width ≡ (A.layout air.now).main }
     requires height { FitsSchemeBeside SC.Pcs.scheme (SC.config.scheme config.now) SC.Pcs.ZK
         (option_copied preprocessed) trace }
-    requires publics { length public_values.now ≡ (A.layout air.now).publics }
-    requires there { is_some preprocessed ≡ ltb 0 (A.layout air.now).preprocessed }
-    requires stands { HoldsColumns SC.Pcs.scheme (SC.config.scheme config.now)
-        SC.Pcs.Domain.Val.ring (option_copied preprocessed) (A.layout air.now).preprocessed }
+    requires fits { FitsAir SC.Pcs.scheme (SC.config.scheme config.now) SC.Pcs.Domain.Val.ring
+        (A.layout air.now) preprocessed trace public_values.now }
     ensures made { IfOk result (⟦<SC as StarkProving<A>>⟧.is_proof
         (instance_of config.entry air.entry public_values.entry preprocessed.entry) trace) }
     ensures acceptable { IfOk result (⟦<SC as StarkProving<A>>⟧.is_acceptable
@@ -203,13 +197,8 @@ fn proof_from_transcript<SC: StarkGenericConfig, A: ProvableAir<SC>>(
 where
     SC::Challenger: GrindingChallenger<Witness = Val<SC>>,
     requires committed { ⟦<SC as StarkStages<A>>⟧.is_committed instance.now domains committed }
-    requires opened { transcript.old.phase ≡ Opened }
-    requires described { transcript.old.shape
-        ≡ ⟦<SC as StarkStages<A>>⟧.described instance.now domains.degree_bits }
-    requires seeded { transcript.old.challenger.now
-        ≡ ⟦<SC as StarkStages<A>>⟧.seeded instance.now domains.degree_bits }
-    requires there { preprocessed_fault transcript.old.shape (is_some instance.now.preprocessed)
-        ≡ None }
+    requires seeded { ⟦<SC as StarkStages<A>>⟧.is_seeded instance.now domains.degree_bits
+        transcript.old }
     ensures same_reference { transcript.new.challenger.ghost_name
         ≡ transcript.old.challenger.ghost_name }
     ensures phase { IfOk result (λ _. transcript.new.phase ≡ Delegated) }
@@ -247,13 +236,8 @@ fn bind_quotient<SC: StarkGenericConfig, A: ProvableAir<SC>>(
 where
     SC::Challenger: GrindingChallenger<Witness = Val<SC>>,
     requires committed { ⟦<SC as StarkStages<A>>⟧.is_committed instance.now domains committed.now }
-    requires opened { transcript.old.phase ≡ Opened }
-    requires described { transcript.old.shape
-        ≡ ⟦<SC as StarkStages<A>>⟧.described instance.now domains.degree_bits }
-    requires seeded { transcript.old.challenger.now
-        ≡ ⟦<SC as StarkStages<A>>⟧.seeded instance.now domains.degree_bits }
-    requires there { preprocessed_fault transcript.old.shape (is_some instance.now.preprocessed)
-        ≡ None }
+    requires seeded { ⟦<SC as StarkStages<A>>⟧.is_seeded instance.now domains.degree_bits
+        transcript.old }
     ensures same_reference { transcript.new.challenger.ghost_name
         ≡ transcript.old.challenger.ghost_name }
     ensures shape { transcript.new.shape ≡ transcript.old.shape }

@@ -3,6 +3,9 @@ use Rattle.std.proofs.lemmas.Grind.{common_steps}
 use Rattle.p3_uni_stark.proofs.HonestVerdict.{honest_is_accepted, memory_alone}
 use Rattle.p3_uni_stark.proofs.completeness.prove_and_verify.Goals as goal
 
+pub prove_with_preprocessed-requires-clause-fits : goal.prove_with_preprocessed-requires-clause-fits
+prove_with_preprocessed-requires-clause-fits g c = c.requires.fits
+
 pub returns-clause-complete : goal.returns-clause-complete
 returns-clause-complete g c = λ height provable honest.
     memory_alone _ c.verify_with_preprocessed-verdict.ensures.exact (honest_is_accepted (c.in_ok-proof.ensures.complete height provable.rows provable.least provable.complete _) honest)

@@ -7,13 +7,18 @@ use Rattle.stark_answers.proofs.held.prove_with_held.Goals as goal
 pub setup_preprocessed-requires-clause-within : goal.setup_preprocessed-requires-clause-within
 setup_preprocessed-requires-clause-within g c = λ trace declared some. c.requires.within
 
-pub prove-requires-clause-none : goal.prove-requires-clause-none
-prove-requires-clause-none g c =
-    no_columns (g.A.BaseAir.preprocessed_trace c.args.air.now) _ (g.met.A.BaseAir.as_declared c.args.air.now).preprocessed_width (sym c.in-Ok-None.ensures.there ∙ ap is_some c.in-Ok-None.field-0-is)
-
-pub prove_with_preprocessed-requires-clause-there : goal.prove_with_preprocessed-requires-clause-there
-prove_with_preprocessed-requires-clause-there g c =
-    sym (ap is_some c.in-Ok-Some.field-0-is) ∙ c.in-Ok-Some.ensures.there ∙ same_columns (g.A.BaseAir.preprocessed_trace c.args.air.now) _ (g.met.A.BaseAir.as_declared c.args.air.now).preprocessed_width
+pub prove-requires-clause-fits : goal.prove-requires-clause-fits
+prove-requires-clause-fits g c =
+    let trace = g.A.BaseAir.preprocessed_trace c.args.air.now in
+    let declared = (g.met.A.BaseAir.as_declared c.args.air.now).preprocessed_width in
+    let none = sym c.in-Ok-None.ensures.there ∙ ap is_some c.in-Ok-None.field-0-is in
+    record {
+      columns = c.requires.fits.columns;
+      width = c.requires.fits.width;
+      publics = c.requires.fits.publics;
+      there = sym none ∙ same_columns trace _ declared;
+      stands = ([], refl, sym (no_columns trace _ declared none));
+    }
 
 pub prove_with_preprocessed-requires-clause-height : goal.prove_with_preprocessed-requires-clause-height
 prove_with_preprocessed-requires-clause-height g c =
@@ -21,11 +26,18 @@ prove_with_preprocessed-requires-clause-height g c =
     let there = sym (ap is_some c.in-Ok-Some.field-0-is) ∙ c.in-Ok-Some.ensures.there ∙ same_columns (g.A.BaseAir.preprocessed_trace c.args.air.now) _ (g.met.A.BaseAir.as_declared c.args.air.now).preprocessed_width in
     (c.requires.fits.height, c.requires.fits.rows, c.requires.fits.within, same_degree _ _ _ _ made.2.prover_degree (c.requires.fits.fixed_rows (some_columns _ there)))
 
-pub prove_with_preprocessed-requires-clause-stands : goal.prove_with_preprocessed-requires-clause-stands
-prove_with_preprocessed-requires-clause-stands g c =
+pub prove_with_preprocessed-requires-clause-fits : goal.prove_with_preprocessed-requires-clause-fits
+prove_with_preprocessed-requires-clause-fits g c =
     let made = of_some _ c.in-Ok-Some.field-0 (c.in-Ok-Some.data, c.in-Ok-Some._key) c.in-Ok-Some.field-0-is c.in-Ok-Some.ensures.set_up in
     let held = held_of_set_up made.2 in
-    (held.0, held.1, held.2 ∙ sym (width_of (g.A.BaseAir.preprocessed_trace c.args.air.now) made.0 _ (g.met.A.BaseAir.as_declared c.args.air.now).preprocessed_width made.1))
+    let declared = (g.met.A.BaseAir.as_declared c.args.air.now).preprocessed_width in
+    record {
+      columns = c.requires.fits.columns;
+      width = c.requires.fits.width;
+      publics = c.requires.fits.publics;
+      there = sym (ap is_some c.in-Ok-Some.field-0-is) ∙ c.in-Ok-Some.ensures.there ∙ same_columns (g.A.BaseAir.preprocessed_trace c.args.air.now) _ declared;
+      stands = (held.0, held.1, held.2 ∙ sym (width_of (g.A.BaseAir.preprocessed_trace c.args.air.now) made.0 _ declared made.1));
+    }
 
 pub returns-in-Ok-None : goal.returns-in-Ok-None
 returns-in-Ok-None g c = λ height rows.

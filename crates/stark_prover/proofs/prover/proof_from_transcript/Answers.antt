@@ -9,10 +9,10 @@ returns-in_err-bound-clause-fault g c = carried _ _ _ c.from_residual.ensures c.
 pub open_at_zeta-requires-clause-there : goal.open_at_zeta-requires-clause-there
 open_at_zeta-requires-clause-there g c =
     let committed = c.requires.committed in
-    random_clear _ _ (c.in_ok-bound.ensures.shape ∙ c.requires.described) (random_where_masked _ (c.in_ok-bound.ensures.bound committed.trace committed.columns committed.fixed committed.ready).randomization)
+    random_clear _ _ (c.in_ok-bound.ensures.shape ∙ c.requires.seeded.described) (random_where_masked _ (c.in_ok-bound.ensures.bound committed.trace committed.columns committed.fixed committed.ready).randomization)
 
 pub open_at_zeta-requires-clause-described : goal.open_at_zeta-requires-clause-described
-open_at_zeta-requires-clause-described g c = c.in_ok-bound.ensures.shape ∙ c.requires.described
+open_at_zeta-requires-clause-described g c = c.in_ok-bound.ensures.shape ∙ c.requires.seeded.described
 
 pub returns-in_err-opened-clause-fault : goal.returns-in_err-opened-clause-fault
 returns-in_err-opened-clause-fault g c = carried _ _ _ c.from_residual-in_err-opened.ensures c.in_err-opened.ensures.fault

@@ -6,9 +6,27 @@ use Rattle.stark_prover.proofs.AcceptableSteps.{answer_acceptable, still_there}
 use Rattle.stark_prover.proofs.HonestAnswer.{answer_honest, degree_at, fault_at_heights}
 use Rattle.stark_prover.proofs.prover.prove_with_preprocessed.Goals as goal
 
+pub log_height_of-log_height-requires-clause-columns : goal.log_height_of-log_height-requires-clause-columns
+log_height_of-log_height-requires-clause-columns g c = c.requires.fits.columns
+
+pub prove_sized-requires-clause-columns : goal.prove_sized-requires-clause-columns
+prove_sized-requires-clause-columns g c = c.requires.fits.columns
+
+pub prove_sized-requires-clause-width : goal.prove_sized-requires-clause-width
+prove_sized-requires-clause-width g c = c.requires.fits.width
+
+pub prove_sized-requires-clause-publics : goal.prove_sized-requires-clause-publics
+prove_sized-requires-clause-publics g c = c.requires.fits.publics
+
+pub prove_sized-requires-clause-there : goal.prove_sized-requires-clause-there
+prove_sized-requires-clause-there g c = c.requires.fits.there
+
+pub prove_sized-requires-clause-stands : goal.prove_sized-requires-clause-stands
+prove_sized-requires-clause-stands g c = c.requires.fits.stands
+
 pub returns-clause-acceptable : goal.returns-clause-acceptable
 returns-clause-acceptable g c =
-    answer_acceptable _ _ _ _ _ _ c.requires.width c.requires.publics (still_there _ _ ∙ c.requires.there) c.requires.stands _ c.log_height_of-log_height.ensures c.requires.height
+    answer_acceptable _ _ _ _ _ _ c.requires.fits.width c.requires.fits.publics (still_there _ _ ∙ c.requires.fits.there) c.requires.fits.stands _ c.log_height_of-log_height.ensures c.requires.height
     (λ x. g.met.SC.Pcs.Domain.Val.Eq.laws.refl x) g.met.SC.Pcs.UnivariateStarkPcs.scheme_laws proof_view _ c.prove_sized.ensures.made
 
 pub returns-clause-complete : goal.returns-clause-complete

@@ -8,23 +8,31 @@ at_some : {A : Type 0} (P : A → Type 0) (o : Option A) (a : A) → o ≡ Some 
 at_some P (Some b) a is holds = subst P (let same : b ≡ a = cc in same) holds
 at_some P None a is holds = absurd (cc)
 
-pub prove_and_verify-requires-clause-there : goal.prove_and_verify-requires-clause-there
-prove_and_verify-requires-clause-there g c =
-    sym (ap is_some c.in-Some.is) ∙ c.in_ok-keys.ensures.there ∙ same_columns (g.A.BaseAir.preprocessed_trace c.args.air.now) _ (g.met.A.BaseAir.as_declared c.args.air.now).preprocessed_width
-
-pub prove_and_verify-requires-clause-stands : goal.prove_and_verify-requires-clause-stands
-prove_and_verify-requires-clause-stands g c =
+pub prove_and_verify-requires-clause-fits : goal.prove_and_verify-requires-clause-fits
+prove_and_verify-requires-clause-fits g c =
     let made = at_some _ _ _ c.in-Some.is c.in_ok-keys.ensures.set_up in
     let held = held_of_set_up made.2 in
-    (held.0, held.1, held.2 ∙ sym (width_of (g.A.BaseAir.preprocessed_trace c.args.air.now) made.0 _ (g.met.A.BaseAir.as_declared c.args.air.now).preprocessed_width made.1))
+    let declared = (g.met.A.BaseAir.as_declared c.args.air.now).preprocessed_width in
+    record {
+      columns = c.requires.columns;
+      width = c.requires.width;
+      publics = c.requires.publics;
+      there = sym (ap is_some c.in-Some.is) ∙ c.in_ok-keys.ensures.there ∙ same_columns (g.A.BaseAir.preprocessed_trace c.args.air.now) _ declared;
+      stands = (held.0, held.1, held.2 ∙ sym (width_of (g.A.BaseAir.preprocessed_trace c.args.air.now) made.0 _ declared made.1));
+    }
 
-pub prove_and_verify-requires-in-None-clause-there : goal.prove_and_verify-requires-in-None-clause-there
-prove_and_verify-requires-in-None-clause-there g c =
-    sym (ap is_some c.in-None.is) ∙ c.in_ok-keys.ensures.there ∙ same_columns (g.A.BaseAir.preprocessed_trace c.args.air.now) _ (g.met.A.BaseAir.as_declared c.args.air.now).preprocessed_width
-
-pub prove_and_verify-requires-in-None-clause-stands : goal.prove_and_verify-requires-in-None-clause-stands
-prove_and_verify-requires-in-None-clause-stands g c =
-    ([], refl, sym (no_columns (g.A.BaseAir.preprocessed_trace c.args.air.now) _ (g.met.A.BaseAir.as_declared c.args.air.now).preprocessed_width (sym c.in_ok-keys.ensures.there ∙ ap is_some c.in-None.is)))
+pub prove_and_verify-requires-in-None-clause-fits : goal.prove_and_verify-requires-in-None-clause-fits
+prove_and_verify-requires-in-None-clause-fits g c =
+    let trace = g.A.BaseAir.preprocessed_trace c.args.air.now in
+    let declared = (g.met.A.BaseAir.as_declared c.args.air.now).preprocessed_width in
+    let none = sym c.in_ok-keys.ensures.there ∙ ap is_some c.in-None.is in
+    record {
+      columns = c.requires.columns;
+      width = c.requires.width;
+      publics = c.requires.publics;
+      there = sym none ∙ same_columns trace _ declared;
+      stands = ([], refl, sym (no_columns trace _ declared none));
+    }
 
 pub returns-in-Some : goal.returns-in-Some
 returns-in-Some g c =

@@ -5,6 +5,7 @@ ghost use Rattle.stark_air.specs.Layout.{Covers};
 ghost use Rattle.stark_air.specs.Rows.{layout_of};
 ghost use Rattle.stark_support.specs.Coset.{vanishing_at};
 ghost use Rattle.stark_protocol.specs.Preprocessing.{HasHeight, IsCommittedWithin};
+ghost use Rattle.stark_verifier.specs.Constraints.{LiesOutside};
 ghost use Rattle.protocol_tests.specs.Reads.{layout_read};
 
 use crate::kinds::ReadRows;
@@ -17,7 +18,7 @@ use stark_air::{Air, BaseAir, BaseAirBuilder, RowWindow, SubAirBuilder, WindowAc
 use stark_bench::{ClearCommitment, Coset};
 use stark_clear::{ClearPcs, ClearProof};
 use stark_parts::{
-    Com, PcsError, RowsAtPoint, StarkChallenger, StarkConfig, StarkGenericConfig, Val,
+    Com, Domain, PcsError, RowsAtPoint, StarkChallenger, StarkConfig, StarkGenericConfig, Val,
     VerifierConstraintFolder, fold_constraints,
 };
 use stark_protocol::quotient_at;
@@ -231,13 +232,47 @@ where
 #[derive(Debug, Drop)]
 pub struct NoScheme;
 
+/// The test of the constraints on a subgroup outside which zeta lies, without periodic columns.
+fn equation_on<'p, SC: StarkGenericConfig, A: Air<Val<SC>>>(
+    air: &A,
+    local: &[SC::Challenge],
+    next: &[SC::Challenge],
+    preprocessed_local: Option<&'p [SC::Challenge]>,
+    publics: &[Val<SC>],
+    domain: Domain<SC>,
+    zeta: SC::Challenge,
+    alpha: SC::Challenge,
+    quotient: SC::Challenge,
+) -> Result<(), VerificationError<NoScheme>>
+    requires subgroup { (SC.Pcs.Domain.coset_of domain).shift ≡ SC.Pcs.Domain.Val.ring.one }
+    requires outside { LiesOutside SC.Challenge.ring SC.Challenge.inverse_of SC.Challenge.embed
+        (SC.Pcs.Domain.coset_of domain) zeta }
+    requires widths { Covers (layout_of local.now next.now [] [] publics.now [])
+        (A.layout air.now) }
+{
+    let absent: Option<&'p [SC::Challenge]> = None;
+    verify_constraints::<SC, A, NoScheme>(
+        air,
+        local,
+        next,
+        preprocessed_local,
+        absent,
+        &local[..0],
+        publics,
+        domain,
+        zeta,
+        alpha,
+        quotient,
+    )
+}
+
 /// The test of the constraints on the subgroup of `2^log_size` points; none where there is no such
 /// group, or zeta lies in it.
-pub fn equation<'p, F, EF, C, A>(
+pub fn equation<F, EF, C, A>(
     air: &A,
     local: &[EF],
     next: &[EF],
-    preprocessed_local: Option<&'p [EF]>,
+    preprocessed_local: Option<&[EF]>,
     publics: &[F],
     log_size: usize,
     zeta: EF,
@@ -259,14 +294,11 @@ where
     if vanishes_at(&domain, zeta) {
         return None;
     }
-    let absent: Option<&'p [EF]> = None;
-    Some(verify_constraints::<ClearConfig<F, EF, C>, A, NoScheme>(
+    Some(equation_on::<ClearConfig<F, EF, C>, A>(
         air,
         local,
         next,
         preprocessed_local,
-        absent,
-        &local[..0],
         publics,
         domain,
         zeta,

@@ -228,6 +228,13 @@ fn with_unread_columns(alloc: Global) -> Result<TreeAir<Base>, TreeAirError> {
     TreeAir::new(alloc, TreeDeclaration::without_hints(columns), list)
 }
 
+/// Constraints by their names, each over the base field or the extension.
+macro_rules! named {
+    ($($name:literal: $field:ident($expression:expr)),* $(,)?) => {
+        [$(NamedConstraint { name: $name, constraint: SymbolicConstraint::$field($expression) }),*]
+    };
+}
+
 /// The expression that is a column or a value.
 fn variable<F: Field>(alloc: Global, entry: BaseEntry, index: usize) -> SymbolicExpression<F>
     ensures { result ≡ Some (variable_tree entry index) }
@@ -247,16 +254,7 @@ fn counter_by_expressions(alloc: Global, width: usize) -> Result<TreeAir<Base>, 
     let growth = next - x - SymbolicExpression::from(Base::ONE);
     let starts = SymbolicExpression::is_first_row(alloc) * (again - start);
     let steps = SymbolicExpression::is_transition(alloc) * growth;
-    let constraints = [
-        NamedConstraint {
-            name: "starts",
-            constraint: SymbolicConstraint::Base(starts),
-        },
-        NamedConstraint {
-            name: "steps",
-            constraint: SymbolicConstraint::Base(steps),
-        },
-    ];
+    let constraints = named!["starts": Base(starts), "steps": Base(steps)];
     let columns = TreeColumns::main(alloc, width, 1);
     TreeAir::from_expressions(alloc, TreeDeclaration::without_hints(columns), &constraints)
 }
@@ -272,20 +270,7 @@ fn mixed_by_expressions(alloc: Global) -> Result<TreeAir<Base>, TreeExpressionEr
     let one = x - SymbolicExpression::from(Base::from_u8(1));
     let two = again - SymbolicExpression::from(Base::from_u8(2));
     let three = third - SymbolicExpression::from(Base::from_u8(3));
-    let constraints = [
-        NamedConstraint {
-            name: "one",
-            constraint: SymbolicConstraint::Base(one),
-        },
-        NamedConstraint {
-            name: "two",
-            constraint: SymbolicConstraint::Extension(two),
-        },
-        NamedConstraint {
-            name: "three",
-            constraint: SymbolicConstraint::Base(three),
-        },
-    ];
+    let constraints = named!["one": Base(one), "two": Extension(two), "three": Base(three)];
     let columns = TreeColumns::main(alloc, 1, 0);
     TreeAir::from_expressions(alloc, TreeDeclaration::without_hints(columns), &constraints)
 }
@@ -323,27 +308,12 @@ fn fibonacci_by_expressions(alloc: Global) -> Result<TreeAir<Base>, TreeExpressi
     let moves = SymbolicExpression::is_transition(alloc) * moved;
     let adds = SymbolicExpression::is_transition(alloc) * added;
     let ends = SymbolicExpression::is_last_row(alloc) * ended;
-    let constraints = [
-        NamedConstraint {
-            name: "left starts",
-            constraint: SymbolicConstraint::Base(starts_left),
-        },
-        NamedConstraint {
-            name: "right starts",
-            constraint: SymbolicConstraint::Base(starts_right),
-        },
-        NamedConstraint {
-            name: "moves",
-            constraint: SymbolicConstraint::Base(moves),
-        },
-        NamedConstraint {
-            name: "adds",
-            constraint: SymbolicConstraint::Base(adds),
-        },
-        NamedConstraint {
-            name: "ends",
-            constraint: SymbolicConstraint::Base(ends),
-        },
+    let constraints = named![
+        "left starts": Base(starts_left),
+        "right starts": Base(starts_right),
+        "moves": Base(moves),
+        "adds": Base(adds),
+        "ends": Base(ends),
     ];
     let columns = TreeColumns::main(alloc, 2, 3);
     TreeAir::from_expressions(alloc, TreeDeclaration::without_hints(columns), &constraints)

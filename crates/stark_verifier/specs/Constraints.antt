@@ -1,5 +1,5 @@
 -- The equation at a point outside the trace's domain, over rows that are given one by one.
-use Rattle.std.specs.Prelude.{◌≡◌, ◌≢◌, ℕ, List, Option, length}
+use Rattle.std.specs.Prelude.{◌≡◌, ◌≢◌, ℕ, List, Option, Result, length}
 use Rattle.std.specs.Borrow.{Bor}
 use Rattle.stark_support.specs.Powers.{power}
 use Rattle.stark_support.specs.Ring.{RingOps}
@@ -9,8 +9,10 @@ use Rattle.stark_support.specs.Subgroup.{subgroup_of}
 use Rattle.stark_air.specs.Layout.{Covers, Layout}
 use Rattle.stark_air.specs.Tree.{Constraint}
 use Rattle.stark_transcript.specs.declared.error.VerificationError.{VerificationError}
+use Rattle.stark_parts.specs.declared.folder.RowsAtPoint.{RowsAtPoint}
 use Rattle.stark_protocol.specs.Equation.{ConstraintsFault, ConstraintsHold, OpenedRows, opened_layout, row_or_empty}
 use Rattle.stark_support.specs.FieldPair.{FieldsOps}
+use Rattle.stark_verifier.specs.MemoryAside.{IfErrMemoryAside}
 
 -- ---- the point
 
@@ -40,11 +42,20 @@ given_rows local next preprocessed_local preprocessed_next periodic public_value
   publics = public_values;
 }
 
+-- Rows that the constraints read at a point.
+abbrev pub opened_rows : {F E : Type 0} → RowsAtPoint F E → OpenedRows F E
+opened_rows rows = record {
+  local = rows.main.current.now;
+  next = rows.main.next.now;
+  preprocessed_local = rows.preprocessed.current.now;
+  preprocessed_next = rows.preprocessed.next.now;
+  periodic = rows.periodic_values.now;
+  publics = rows.public_values.now;
+}
+
 -- They have what an AIR of this layout reads, if the two preprocessed ones are of one length.
-abbrev pub AreWideEnough : {F E : Type 0} → Layout → List E → List E → Option (Bor (List E)) → Option (Bor (List E)) → List E → List F → Type 0
-AreWideEnough {F} {E} layout local next preprocessed_local preprocessed_next periodic public_values =
-    let rows : OpenedRows F E = given_rows local next preprocessed_local preprocessed_next periodic public_values in
-    length rows.preprocessed_local ≡ length rows.preprocessed_next → Covers (opened_layout rows) layout
+abbrev pub AreWideEnough : {F E : Type 0} → Layout → OpenedRows F E → Type 0
+AreWideEnough layout rows = length rows.preprocessed_local ≡ length rows.preprocessed_next → Covers (opened_layout rows) layout
 
 -- ---- the equation
 
@@ -53,11 +64,20 @@ module _ {F E : Type 0} (fields : FieldsOps F E) (trace : TwoAdicCoset F) where
   abbrev pub trace_subgroup : Subgroup E
   trace_subgroup = subgroup_of fields.inverse fields.embed fields.root trace
 
-  module _ (constraints : List (Constraint F)) (rows : OpenedRows F E) (zeta alpha quotient : E) where
-    -- The preprocessed rows are of one width, and the folded constraint is Z_H(zeta) times the quotient.
-    abbrev pub HoldsOnRows : Type 0
-    HoldsOnRows = ConstraintsHold fields.base fields.ring fields.embed trace_subgroup constraints rows zeta alpha quotient
+  module _ (constraints : List (Constraint F)) where
+    module _ (rows : OpenedRows F E) (zeta alpha quotient : E) where
+      -- The preprocessed rows are of one width, and the folded constraint is Z_H(zeta) times the quotient.
+      abbrev pub HoldsOnRows : Type 0
+      HoldsOnRows = ConstraintsHold fields.base fields.ring fields.embed trace_subgroup constraints rows zeta alpha quotient
 
-    -- The first of the two that fails, and the error that names it.
-    abbrev pub FailsOnRows : {X : Type 0} → VerificationError X → Type 0
-    FailsOnRows error = ConstraintsFault fields.base fields.ring fields.embed trace_subgroup constraints rows zeta alpha quotient error
+      -- Where the answer is an error, memory was wanting, or else it names the first of the two that fails.
+      abbrev pub TellsFaultOnRows : {T X : Type 0} → Result T (VerificationError X) → Type 0
+      TellsFaultOnRows answer = IfErrMemoryAside answer (ConstraintsFault fields.base fields.ring fields.embed trace_subgroup constraints rows zeta alpha quotient)
+
+    -- The same of rows at a point.
+    module _ (rows : RowsAtPoint F E) (zeta alpha quotient : E) where
+      abbrev pub HoldsAtPoint : Type 0
+      HoldsAtPoint = HoldsOnRows (opened_rows rows) zeta alpha quotient
+
+      abbrev pub TellsFaultAtPoint : {T X : Type 0} → Result T (VerificationError X) → Type 0
+      TellsFaultAtPoint = TellsFaultOnRows (opened_rows rows) zeta alpha quotient

@@ -6,7 +6,7 @@ ghost use Rattle.stark_protocol.specs.FirstFault.{EquationFault};
 ghost use Rattle.stark_verifier.specs.MemoryAside.{IfErrMemoryAside};
 ghost use Rattle.stark_verifier.specs.Shape.{row_view, rows_view};
 
-use crate::constraints::verify_constraints;
+use crate::constraints::{check_rows, rows_at_point};
 use crate::contracts::StarkChecks;
 use crate::instance::InstanceOf;
 use crate::shape::ProofDomains;
@@ -80,17 +80,13 @@ where
     // A next row that isn't opened is read by no constraint, so zeros stand in for it.
     let next_filler: Vec<SC::Challenge> = zeros(alloc, air.width())?;
     let fixed_filler: Vec<SC::Challenge> = zeros(alloc, air.preprocessed_width())?;
-    verify_constraints::<SC, A, PcsError<SC>>(
-        air,
+    let rows = rows_at_point(
         opened.trace_local.as_slice(),
         row_or(&opened.trace_next, next_filler.as_slice()),
         opened.preprocessed_local(),
         preprocessed_next(&opened.preprocessed, fixed_filler.as_slice()),
         point.periodic_values.as_slice(),
         on.public_values,
-        domains.trace,
-        zeta,
-        point.alpha,
-        quotient,
-    )
+    );
+    check_rows::<SC, A, PcsError<SC>>(air, rows, domains.trace, zeta, point.alpha, quotient)
 }

@@ -43,12 +43,10 @@ module _ (verdict_on : List ℕ → List ℕ → Verdict → Type 0) (sound : Li
   show_found verb input f is (inl memory) kind = inr memory
   show_found verb input f is (inr here) kind = subst (λ k. IsFoundOrLacksMemory no_memory (IsFinding verdict_on sound found proof_file shown k) input f) (sym is) (inl (here, kind))
 
-  -- What is found of slices is found of the lists behind them.
-  pub same_inputs : (verb : Verb) (first other bytes others : List ℕ) (f : Finding) → first ≡ bytes → other ≡ others
-      → IsFoundOrLacksMemory no_memory (IsFinding verdict_on sound found proof_file shown verb) (first, other) f → IsFoundOrLacksMemory no_memory (IsFinding verdict_on sound found proof_file shown verb) (bytes, others) f
-  same_inputs verb first other bytes others f is also here =
-      subst (λ b. IsFoundOrLacksMemory no_memory (IsFinding verdict_on sound found proof_file shown verb) (bytes, b) f) also
-      (subst (λ a. IsFoundOrLacksMemory no_memory (IsFinding verdict_on sound found proof_file shown verb) (a, other) f) is here)
+  -- What is found beside a slice is found beside the list behind it.
+  pub same_second : (verb : Verb) (first other others : List ℕ) (f : Finding) → other ≡ others
+      → IsFoundOrLacksMemory no_memory (IsFinding verdict_on sound found proof_file shown verb) (first, other) f → IsFoundOrLacksMemory no_memory (IsFinding verdict_on sound found proof_file shown verb) (first, others) f
+  same_second verb first other others f is here = subst (λ b. IsFoundOrLacksMemory no_memory (IsFinding verdict_on sound found proof_file shown verb) (first, b) f) is here
 
   -- What is found of the bytes that were read is found of the readers' inputs.
   pub pair_found : (verb : Verb) (known : Option (List ℕ × List ℕ)) (lent input : List ℕ × List ℕ) (f : Finding) → IsInput known input → lent ≡ input

@@ -159,8 +159,8 @@ fn answer<A: StatementAnswers, P: Progress>(
         (statement.items, second.items) result.answer }
 {
     match verb {
-        Verb::Verify => A::verify(alloc, &statement, &second).as_finding(),
-        Verb::Trace(asked) => A::answer(alloc, asked, &statement, &second, progress),
+        Verb::Verify => A::verify(alloc, statement, &second).as_finding(),
+        Verb::Trace(asked) => A::answer(alloc, asked, statement, second, progress),
         Verb::Show => A::show(alloc, statement),
     }
 }

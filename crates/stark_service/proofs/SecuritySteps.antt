@@ -22,6 +22,7 @@ use Rattle.stark_security.specs.declared.openings.OpeningShape.TheVariants.{TwoA
 use Rattle.stark_security.specs.declared.params.StarkSecurityParams.{StarkSecurityParams}
 use Rattle.stark_fri_proof.specs.declared.parameters.FriParameters.{FriParameters}
 use Rattle.stark_fri_security.specs.FieldBits.{AreFieldBits}
+use Rattle.stark_fri_security.specs.Regime.{regime_of}
 use Rattle.stark_statement.specs.Configuration.{FriNumbers, fri_numbers}
 use Rattle.stark_statement.specs.Limits.{view_of}
 use Rattle.stark_service.specs.Security.{AreChunks, AreParams, FieldNumbers, HasRoom, IsConjecturedLine, IsFlat, IsFriLine, IsRoomy, crowded_line, most_degree, most_opened, steep_line}
@@ -174,14 +175,7 @@ module _ {F : Type 0} (air : TreeAir F) where
       (subst (λ n. most_opened air.declaration.columns.width n chunks degree < 2 ^ 64) (sym is_preprocessed) room))
 
   module _ (fields : FieldNumbers F) (parameters : FriParameters) (regime : FriRegime) (bits order degree ood_bits : ℕ) (layout : AirLayout) (params : StarkSecurityParams)
-      (is_regime : regime ≡ record {
-        log_blowup = parameters.log_blowup;
-        num_queries = parameters.num_queries;
-        log_final_poly_len = parameters.log_final_poly_len;
-        max_log_arity = 1;
-        commit_pow_bits = parameters.commit_proof_of_work_bits;
-        query_pow_bits = parameters.query_proof_of_work_bits;
-      }) (is_order : order ≡ fields.order) (is_degree : degree ≡ fields.degree) (are_bits : AreFieldBits order degree bits)
+      (is_regime : regime ≡ regime_of parameters) (is_order : order ≡ fields.order) (is_degree : degree ≡ fields.degree) (are_bits : AreFieldBits order degree bits)
       (is_main : layout.main_width ≡ air.declaration.columns.width) (is_preprocessed : layout.preprocessed_width ≡ trace_width (declared_trace air.declaration.columns.preprocessed_trace))
       (chunks : IsChunkCountFor 0 (spelled_in air.list) air.declaration.max_constraint_degree TwoAdic params.num_quotient_chunks)
       (numbers : params ≡ record {

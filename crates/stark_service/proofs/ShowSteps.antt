@@ -3,7 +3,7 @@ use Rattle.std.proofs.Common.{◌≡◌, ◌∙◌, ◌⊎◌, ◌++◌, ap, app
 use Rattle.serde_json.specs.Data.{Data}
 use Rattle.stark_tree_air.specs.declared.columns.TreeDeclaration.{TreeDeclaration}
 use Rattle.stark_tree_air.specs.declared.list.TreeList.{TreeList}
-use Rattle.stark_statement.specs.Configuration.{ConfigurationView, FriNumbers}
+use Rattle.stark_statement.specs.Configuration.{FriNumbers}
 use Rattle.stark_statement.specs.StatementJson.{StatementFault}
 use Rattle.stark_statement.specs.StatementView.{StatementView, statement_view}
 use Rattle.stark_statement.specs.declared.statement.Statement.{Statement}
@@ -15,7 +15,7 @@ use Rattle.stark_answers.specs.declared.task.ProofForm.{ProofForm}
 use Rattle.stark_answers.specs.declared.task.TraceTask.{TraceTask}
 use Rattle.stark_answers.specs.declared.verdict.Verdict.{Verdict}
 use Rattle.stark_answers.specs.declared.verdict.Verdict.TheVariants as verdict
-use Rattle.stark_service.specs.Schemes.{IsSaidOfBytes, IsUnconfigured}
+use Rattle.stark_service.specs.Schemes.{IsUnconfigured}
 use Rattle.stark_service.specs.Security.{FieldNumbers, IsWorthLine, challenges_line}
 use Rattle.stark_service.specs.Showing.{IsOfShowing, IsShownOf, IsShownOfRead, ShowsAir, greatest_height, verdict_of_showing}
 use Rattle.stark_service.specs.StatementFacts.{IsOfTrace}
@@ -49,11 +49,6 @@ module _ {F : Type 0} (fields : FieldNumbers F) (scheme : Option FriNumbers) (st
 pub shown_of_read : {F : Type 0} (fields : FieldNumbers F) (scheme : Option FriNumbers) (read : Result (StatementView F) StatementFault) (f : Finding) (s : StatementView F) → (read ≡ Ok s) × IsWithinLimits s → OrLacksMemory (IsShownOf fields scheme s) f
     → OrLacksMemory (IsShownOfRead fields scheme read) f
 shown_of_read fields scheme read f s reads shown = said_of_read (λ v. finding.Verdict v) (IsShownOf fields scheme) read f s reads shown
-
--- Of the same bytes.
-pub found_of_same : (of_verdict : Verdict → Finding) (IsSaid : ConfigurationView → Data → Finding → Type 0) (bytes others : List ℕ) (f : Finding) → bytes ≡ others → (f ≡ of_verdict verdict.OutOfMemory) ⊎ IsSaidOfBytes of_verdict IsSaid bytes f
-    → (f ≡ of_verdict verdict.OutOfMemory) ⊎ IsSaidOfBytes of_verdict IsSaid others f
-found_of_same of_verdict IsSaid bytes others f same said = subst (λ t. (f ≡ of_verdict verdict.OutOfMemory) ⊎ IsSaidOfBytes of_verdict IsSaid t f) same said
 
 -- A verdict that doesn't accept is a finding of a trace.
 pub verdict_of_trace : (asked : TraceTask) (v : Verdict) → (v ≡ verdict.Accepted → ⊥) → IsOfTrace asked (finding.Verdict v)

@@ -2,25 +2,20 @@
 use Rattle.std.proofs.Common.{◌≡◌, ◌⊎◌, ◌∙◌, inl, inr, ap, refl, subst, sym, ℕ, Bool, true, false, List, ◌++◌, drop, length, map, Option, None, Some, IfSome, Result, Ok, Err, option_map}
 use Rattle.std.specs.Prelude.{filter_map, if◌then◌else◌, nat_eq}
 use Rattle.std.specs.List.{starts_with}
-use Rattle.std.specs.Result.{result_ok}
 use Rattle.std.specs.Str.{is_utf8}
 use Rattle.std.proofs.lemmas.Bool.Decides.{Decides-eqb}
 use Rattle.std.proofs.lemmas.List.{length-map}
 use Rattle.std.proofs.lemmas.Slice.Eq.{starts_is}
-use Rattle.serde_json.specs.Data.{Data}
 use Rattle.serde_json.specs.Read.{read}
 use Rattle.serde_json.proofs.OnLiterals.{serde_json_on_literals}
-use Rattle.stark_support.specs.Json.{◌>>=◌, Gives, json_of}
-use Rattle.stark_support.specs.declared.json.JsonFault.{JsonFault}
-use Rattle.stark_support.specs.declared.json.JsonFault.TheVariants.{Invalid, OutOfMemory}
+use Rattle.stark_support.specs.Json.{json_of}
+use Rattle.stark_support.specs.declared.json.JsonFault.TheVariants.{OutOfMemory}
 use Rattle.stark_air.specs.Declaration.{Trace}
 use Rattle.stark_transcript.specs.declared.error.ProvingError.{ProvingError}
 use Rattle.stark_transcript.specs.declared.error.VerificationError.{VerificationError}
-use Rattle.stark_proof.specs.ProofJson.{ProofFault}
 use Rattle.stark_proof.specs.ProofView.{ProofView, proof_view}
 use Rattle.stark_proof.specs.declared.values.Proof.{Proof}
-use Rattle.stark_proof_bytes.specs.ProofBytes.{ProofCodecs, magic, proof_reading}
-use Rattle.stark_proof_bytes.specs.declared.fault.BytesFault.{BytesFault}
+use Rattle.stark_proof_bytes.specs.ProofBytes.{magic}
 use Rattle.stark_prover.specs.ProofOfTrace.{key_of}
 use Rattle.stark_tree_air.specs.FaultFacts.{tree_air_declared, tree_air_within}
 use Rattle.stark_tree_air.specs.Faults.{main_next_column, preprocessed_next_column, tree_air_fault, tree_layout}
@@ -50,7 +45,7 @@ use Rattle.stark_answers.proofs.Proved.{is_proved, written_exactly}
 use Rattle.stark_answers.proofs.VerdictSteps.{is_verdict}
 use Rattle.stark_service.specs.StatementAir.{declared_of}
 use Rattle.stark_service.specs.Service.{ServiceOps, proof_file}
-use Rattle.stark_service.specs.Statements.{IsFoundWithRows, IsSaidOfNone, IsVerdictWithRows, PassesLimit, ReadsDeclared, proof_in_bytes, proof_in_json, too_large, verdict_of_fault, verdict_without}
+use Rattle.stark_service.specs.Statements.{IsFoundWithRows, IsSaidOfNone, IsVerdictWithRows, PassesLimit, ReadsDeclared, too_large, verdict_without}
 
 -- ---- an AIR that is data
 
@@ -178,16 +173,6 @@ module _ {S F E C K T P X Y : Type 0} (ops : ServiceOps S F E C K T P X Y) (no_f
         ))
       ]
 
-  -- Of others.
-  pub found_unshaped : (air : CheckedAir F) (shape : CheckShape) (publics : List F) (g : Finding) → shape ≡ shape_of air → air ≡ declared_of s.air → publics ≡ s.public_values
-      → ((height : ℕ) → FitsShape shape log_rows most rows publics height → ⊥) → g ≡ finding.Verdict verdict.BadInput
-      → (g ≡ finding.Verdict verdict.OutOfMemory) ⊎ IsFoundWithRows ops scheme first_state s form log_rows (Some rows) g
-  unfolding IsFoundWithRows
-  found_unshaped air shape publics g same declares lists none is = inr (inr (
-    λ height fits. none height (subst (λ ps. FitsShape shape log_rows most rows ps height) (sym lists) (subst (λ k. FitsShape k log_rows most rows s.public_values height) (sym same) (subst (λ a. FitsShape (shape_of a) log_rows most rows s.public_values height) (sym declares) fits))),
-    is,
-  ))
-
 -- ---- parts that weren't read
 
 -- The report of a statement with a fault, or for want of memory.
@@ -202,41 +187,6 @@ pub large_statement : {F : Type 0} (read : Result (StatementView F) StatementFau
     → (v ≡ verdict.OutOfMemory) ⊎ IsSaidOfNone read v
 unfolding IsSaidOfNone
 large_statement read s v is passes large = inr (subst (λ r. IsSaidOfNone r v) (sym is) (passes, large))
-
--- The report of a text that is no JSON, or for want of memory.
-unread_json : {X Y : Type 0} (view : X → Data) (fault : JsonFault) (whole : Option Data) (f : Data → Option Y) (v : Verdict) → Gives view (Err fault) whole → v ≡ verdict_of_fault fault
-    → (v ≡ verdict.OutOfMemory) ⊎ ((whole >>= f ≡ None) × (v ≡ verdict.BadInput))
-unread_json view Invalid whole f v unread is = inr (ap (λ w. w >>= f) unread, is)
-unread_json view OutOfMemory whole f v unread is = inl is
-
-pub unread_proof : {W K E P F : Type 0} (view : W → Data) (reading : Data → Result (ProofView K E P F) ProofFault) (bytes : List ℕ) (fault : JsonFault) (v : Verdict) → Gives view (Err fault) (json_of bytes) → v ≡ verdict_of_fault fault
-    → (v ≡ verdict.OutOfMemory) ⊎ ((proof_in_json reading bytes ≡ None) × (v ≡ verdict.BadInput))
-unfolding proof_in_json
-unread_proof view reading bytes fault v unread is = unread_json view fault (json_of bytes) _ v unread is
-
--- A proof was read of the JSON.
-module _ {K E P F : Type 0} (reading : Data → Result (ProofView K E P F) ProofFault) (bytes : List ℕ) (d : Data) (is_json : json_of bytes ≡ Some d) where
-  pub read_proof_as : (p : ProofView K E P F) → reading d ≡ Ok p → proof_in_json reading bytes ≡ Some p
-  unfolding proof_in_json
-  read_proof_as p reads = ap (λ w. w >>= λ e. result_ok (reading e)) is_json ∙ ap result_ok reads
-
-  pub proof_refused : (fault : Option ProofFault) (v : Verdict) → IfSome fault (λ f. reading d ≡ Err f) → v ≡ verdict_without fault
-      → (v ≡ verdict.OutOfMemory) ⊎ ((proof_in_json reading bytes ≡ None) × (v ≡ verdict.BadInput))
-  unfolding proof_in_json
-  proof_refused None v refused is = inl is
-  proof_refused (Some f) v refused is = inr (ap (λ w. w >>= λ e. result_ok (reading e)) is_json ∙ ap result_ok refused, is)
-
--- A proof was read of its bytes, or has a fault.
-module _ {K E P F : Type 0} (codecs : ProofCodecs K E P F) (bytes : List ℕ) where
-  pub read_bytes_as : (p : ProofView K E P F) → proof_reading codecs bytes ≡ Ok p → proof_in_bytes codecs bytes ≡ Some p
-  unfolding proof_in_bytes
-  read_bytes_as p reads = ap result_ok reads
-
-  pub bytes_refused : (fault : Option BytesFault) (v : Verdict) → IfSome fault (λ f. proof_reading codecs bytes ≡ Err f) → v ≡ verdict_without fault
-      → (v ≡ verdict.OutOfMemory) ⊎ ((proof_in_bytes codecs bytes ≡ None) × (v ≡ verdict.BadInput))
-  unfolding proof_in_bytes
-  bytes_refused None v refused is = inl is
-  bytes_refused (Some f) v refused is = inr (ap result_ok refused, is)
 
 -- ---- bytes that begin as those of a proof are no JSON
 

@@ -20,10 +20,6 @@ use Rattle.stark_answers.specs.declared.verdict.Verdict.TheVariants as verdict
 abbrev pub WithNumbers : {S : Type 0} → (S → FriParameters) → FriNumbers → (S → Type 0) → Type 0
 WithNumbers {S} parameters_of numbers Holds = (s : S) × (fri_numbers (parameters_of s) ≡ numbers) × Holds s
 
--- FRI with these parameters
-abbrev pub by_fri : FriParameters → Option FriNumbers
-by_fri parameters = Some (fri_numbers parameters)
-
 -- By the scheme: FRI with its numbers, or in the clear.
 abbrev pub ByScheme : Option FriNumbers → (FriNumbers → Type 0) → Type 0 → Type 0
 ByScheme (Some numbers) by_fri in_the_clear = by_fri numbers

@@ -1,9 +1,12 @@
 -- What is computed over a configuration by a service that reads statements and proofs.
-use Rattle.std.specs.Prelude.{◌≡◌, ℕ, false, List, Option}
+use Rattle.std.specs.Prelude.{◌≡◌, ℕ, ◌<◌, ◌≤◌, false, List, Option}
 use Rattle.serde_json.specs.Data.{Data}
+use Rattle.stark_air.specs.Declaration.{Trace}
+use Rattle.stark_air.specs.Layout.{Layout}
 use Rattle.stark_proof.specs.ProofView.{ProofView}
 use Rattle.stark_proof_bytes.specs.ProofBytes.{ProofCodecs}
 use Rattle.stark_protocol.specs.Instance.{ProtocolOps}
+use Rattle.stark_protocol.specs.Preprocessing.{HasHeight}
 use Rattle.stark_statement.specs.StatementView.{StatementView}
 use Rattle.stark_answers.specs.Prove.{HasNoFloat, file_of}
 use Rattle.stark_answers.specs.Verify.{SetsUpAll}
@@ -36,3 +39,14 @@ pub record CanProve {S F E C K T P X Y : Type 0} (ops : ServiceOps S F E C K T P
   pub any_height : ops.protocol.opening.scheme.log_min_trace_height scheme ≡ 0
   pub complete : ops.protocol.opening.scheme.IsComplete scheme
   pub no_float : HasNoFloat ops.writing
+
+-- Both.
+pub record CanProveFor {S F E C K T P X Y : Type 0} (ops : ServiceOps S F E C K T P X Y) (scheme : S) (ood_bits alpha_bits : ℕ) (s : StatementView F) : Type 0 where
+  pub ready : IsReady ops scheme ood_bits alpha_bits s
+  pub able : CanProve ops scheme
+
+-- An AIR of this layout has main columns, and as its preprocessed ones these, of 2 ^ log_rows rows, at most 2 ^ greatest.
+pub record HasColumnsAt {F : Type 0} (layout : Layout) (preprocessed : Option (Trace F)) (greatest log_rows : ℕ) : Type 0 where
+  pub height : HasHeight log_rows preprocessed
+  pub within : log_rows ≤ greatest
+  pub columns : 0 < layout.main

@@ -4,12 +4,13 @@ use Rattle.std.specs.Fmt.{decimal}
 use Rattle.stark_support.specs.declared.matrix.RowMajorMatrix.{RowMajorMatrix}
 use Rattle.stark_support.specs.FieldPair.{FieldsOps}
 use Rattle.stark_air.specs.Declaration.{Trace}
-use Rattle.stark_completeness.specs.RowCheck.{IsFirstOfTrace, IsSatisfiedByTrace}
+use Rattle.stark_completeness.specs.RowCheck.{IsFirstOfTrace, IsSatisfiedByTrace, trace_of as view_of}
 use Rattle.stark_completeness.specs.declared.violation.ConstraintViolation.{ConstraintViolation}
 use Rattle.stark_protocol.specs.Preprocessing.{HasHeight}
 use Rattle.stark_show.specs.Shown.{equation_line}
 use Rattle.stark_statement.specs.StatementView.{StatementView}
-use Rattle.stark_tree_air.specs.TreeJson.{ListView}
+use Rattle.stark_tree_air.specs.TreeJson.{ListView, list_view}
+use Rattle.stark_tree_air.specs.declared.air.TreeAir.{TreeAir}
 use Rattle.stark_answers.specs.CheckedAir.{CheckedAir, shape_of}
 use Rattle.stark_answers.specs.TraceShape.{FitsShape, trace_of}
 use Rattle.stark_answers.specs.declared.finding.BrokenRow.{BrokenRow}
@@ -57,6 +58,10 @@ module _ {F E : Type 0} (fields : FieldsOps F E) (number : F → ℕ) where
   IsCheckedTrace air list trace publics (finding.Proof line) = ⊥
   IsCheckedTrace air list trace publics (finding.ProofBytes bytes) = ⊥
   IsCheckedTrace air list trace publics (finding.Text text) = ⊥
+
+  -- What a check finds of a matrix as a trace of an AIR that is data, by what it declares; or memory was wanting.
+  abbrev pub ChecksMatrix : (TreeAir F → CheckedAir F) → TreeAir F → RowMajorMatrix F → List F → Finding → Type 0
+  ChecksMatrix declared air matrix publics f = OrLacksMemory (IsCheckedTrace (declared air) (list_view air.list) (view_of matrix) publics) f
 
   -- The rows are a trace of the AIR's of at most 2 ^ greatest rows, and this is found of it; rows that are none are bad input, and so is
   -- a file that spells no rows.

@@ -1,13 +1,12 @@
 //! The check of a trace: whether it satisfies a statement's AIR.
 
 ghost use Rattle.std.specs.Prelude.{◌≡◌, ◌<◌, IfOk, Some, length};
-ghost use Rattle.stark_completeness.specs.RowCheck.{trace_of};
 ghost use Rattle.stark_protocol.specs.Preprocessing.{HasHeight};
 ghost use Rattle.stark_statement.specs.StatementView.{statement_view};
 ghost use Rattle.stark_support.specs.FieldPair.{FieldsOps};
 ghost use Rattle.stark_tree_air.specs.TreeJson.{list_view};
 ghost use Rattle.stark_service.specs.Fitting.{ChecksTrace, IsOfRows};
-ghost use Rattle.stark_service.specs.TraceChecks.{IsAsHighAs, IsCheckedTrace, OrLacksMemory, TellsBroken};
+ghost use Rattle.stark_service.specs.TraceChecks.{ChecksMatrix, IsAsHighAs, TellsBroken};
 
 use stark_air::BaseAir;
 use stark_answers::{BrokenRow, DeclaredAir, Finding, Report};
@@ -55,9 +54,9 @@ fn check_trace<F: PrimeField64 + TwoAdicField, EF: ExtensionField<F>>(
         trace.now }
     requires public_values { length public_values.now
         ≡ (⟦<TreeAir<F> as BaseAir<F>>⟧.layout air.now).publics }
-    ensures { OrLacksMemory (IsCheckedTrace ⟦<EF as FieldPair<F>>⟧.fields F.number_of
-        (⟦<TreeAir<F> as DeclaredAir<F>>⟧.declared air.now)
-        (list_view air.now.list) (trace_of trace.now) public_values.now) result.answer }
+    ensures { ChecksMatrix ⟦<EF as FieldPair<F>>⟧.fields F.number_of
+        ⟦<TreeAir<F> as DeclaredAir<F>>⟧.declared air.now trace.now public_values.now
+        result.answer }
 {
     match check_declared(alloc, air, trace, public_values) {
         Ok(()) => Report {

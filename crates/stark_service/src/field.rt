@@ -68,15 +68,15 @@ pub trait ServiceField: Sized {
         scheme: SchemeChoice,
         asked: TraceTask,
         value: Document,
-        trace: &[u8],
+        trace: Vec<u8>,
         progress: &mut P,
     ) -> Report<Finding>
         requires { HasRoomFor adicity scheme }
         ensures found { OrLacksMemory (found (scheme_numbers scheme) asked (data_of value)
-            trace.now) result.answer }
+            trace.items) result.answer }
         ensures kind { IsOfTrace asked result.answer }
         ensures proof { WhereProof (proof_file (scheme_numbers scheme) (data_of value)
-            trace.now) result.answer };
+            trace.items) result.answer };
 
     /// What is shown. The JSON is let go of once it is read, before the text is made, which may be
     /// far longer.
@@ -119,7 +119,7 @@ impl<M: Modulus> ServiceField for Residue<M, Scalar> {
         scheme: SchemeChoice,
         asked: TraceTask,
         value: Document,
-        trace: &[u8],
+        trace: Vec<u8>,
         progress: &mut P,
     ) -> Report<Finding> {
         let challenger = Hashing::<Base<M>>::new();
@@ -165,7 +165,7 @@ impl ServiceField for F12289 {
         scheme: SchemeChoice,
         asked: TraceTask,
         value: Document,
-        trace: &[u8],
+        trace: Vec<u8>,
         progress: &mut P,
     ) -> Report<Finding> {
         let challenger = Hashing::<F12289>::new();

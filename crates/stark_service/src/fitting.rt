@@ -12,23 +12,23 @@ use stark_trace_json::TraceRows;
 use stark_tree_air::TreeAir;
 use std::alloc::Global;
 
-/// The logarithm of the height of a trace of these rows, where it is a power of two from 1 to
-/// `2^greatest`, and `2^log_rows` beside preprocessed columns, and the rows are as wide and the
-/// public values as many as those of the shape; else None.
+/// The logarithm of the height of a trace of these rows for a statement, where it is a power of two
+/// from 1 to `2^greatest`, and `2^log_rows` beside preprocessed columns, and the rows are as wide
+/// and the statement's public values as many as those of the shape; else None.
 fn log_height_of_read<F>(
+    statement: &Statement<F>,
     rows: &TraceRows<F>,
-    public_values: &[F],
     shape: CheckShape,
     log_rows: usize,
     greatest: usize,
 ) -> Option<usize>
     requires { greatest ≤ 63 }
-    ensures some { IfSome result (λ log_height. OfRead rows.now (λ list.
-        FitsShape shape log_rows greatest list public_values.now log_height)) }
-    ensures none { IsNone result → OfRead rows.now (λ list. (log_height : ℕ)
-        → FitsShape shape log_rows greatest list public_values.now log_height → ⊥) }
+    ensures some { IfSome result (λ height. OfRead rows.now (λ list.
+        FitsShape shape log_rows greatest list statement.now.public_values.items height)) }
+    ensures none { IsNone result → OfRead rows.now (λ list. (height : ℕ)
+        → FitsShape shape log_rows greatest list statement.now.public_values.items height → ⊥) }
 {
-    if public_values.len() != shape.num_public_values {
+    if statement.public_values.len() != shape.num_public_values {
         return None;
     }
     let Some(log_height) = log_of_height(rows.height, greatest) else {
@@ -60,9 +60,7 @@ pub(crate) fn fitting_trace<F: Field>(
     let Ok(shape) = CheckShape::from_air::<F, TreeAir<F>>(alloc, &statement.air) else {
         return Err(Report::out_of_memory().as_finding());
     };
-    let public_values = statement.public_values.as_slice();
-    let Some(_log_height) = log_height_of_read(&rows, public_values, shape, log_rows, greatest)
-    else {
+    let Some(_log_height) = log_height_of_read(statement, &rows, shape, log_rows, greatest) else {
         return Err(Report::unfit_trace(alloc).as_finding());
     };
     Ok(RowMajorMatrix::new(rows.values, shape.width))

@@ -6,18 +6,17 @@ ghost use Rattle.stark_statement.specs.StatementView.{statement_view};
 ghost use Rattle.stark_answers.specs.declared.verdict.Verdict.{Verdict};
 ghost use Rattle.stark_service.specs.Statements.{OrUnjudged};
 
+use crate::bounds::JudgingConfig;
 use crate::reading::read_proof;
 use crate::service::ServiceAnswers;
 use stark_air::BaseAir;
 use stark_answers::{Report, Verdict, log_rows_of, verdict_of, verify_with_key, words_of_refusal};
-use stark_parts::{Com, PcsError, StarkGenericConfig, Val};
-use stark_proof_bytes::BytesCodec;
-use stark_protocol::{PcsProof, StarkProof};
+use stark_parts::{StarkGenericConfig, Val};
+use stark_protocol::StarkProof;
 use stark_statement::Statement;
-use stark_support::{GrindingChallenger, JsonCodec, NeverNull, UnivariateStarkPcs};
+use stark_support::UnivariateStarkPcs;
 use stark_tree_air::TreeAir;
 use std::alloc::{AllocError, Global};
-use std::fmt::Display;
 
 /// The preprocessed columns have no number of rows that a key can have.
 pub(crate) fn unfit_rows(alloc: Global) -> Report<Verdict>
@@ -30,21 +29,13 @@ pub(crate) fn unfit_rows(alloc: Global) -> Report<Verdict>
 
 /// The verdict on a proof, with the key for `2^log_rows` rows of preprocessed columns. The
 /// configuration asks for the statement's work, masks nothing and sets up all columns.
-fn verify_with_rows<SC>(
+fn verify_with_rows<SC: JudgingConfig>(
     alloc: Global,
     config: &SC,
     statement: &Statement<Val<SC>>,
     log_rows: usize,
     bytes: &[u8],
 ) -> Report<Verdict>
-where
-    SC: StarkGenericConfig,
-    SC::Challenge: JsonCodec + BytesCodec,
-    SC::Challenger: GrindingChallenger<Witness = Val<SC>>,
-    Val<SC>: NeverNull + BytesCodec,
-    Com<SC>: NeverNull + BytesCodec,
-    PcsProof<SC>: JsonCodec + BytesCodec,
-    PcsError<SC>: Display,
     requires ready { ⟦<SC as ServiceAnswers>⟧.is_ready config.now
         (statement_view statement.now) }
     requires height { HasHeight log_rows
@@ -77,20 +68,12 @@ where
 /// columns: `accepted`; `refused` and the first fault; `bad input` where the proof can't be read,
 /// or the AIR's preprocessed columns have no power of two of rows within the scheme's heights;
 /// `out of memory`.
-pub fn verify_with<SC>(
+pub fn verify_with<SC: JudgingConfig>(
     alloc: Global,
     config: &SC,
     statement: &Statement<Val<SC>>,
     bytes: &[u8],
 ) -> Report<Verdict>
-where
-    SC: StarkGenericConfig,
-    SC::Challenge: JsonCodec + BytesCodec,
-    SC::Challenger: GrindingChallenger<Witness = Val<SC>>,
-    Val<SC>: NeverNull + BytesCodec,
-    Com<SC>: NeverNull + BytesCodec,
-    PcsProof<SC>: JsonCodec + BytesCodec,
-    PcsError<SC>: Display,
     requires ready { ⟦<SC as ServiceAnswers>⟧.is_ready config.now
         (statement_view statement.now) }
     ensures verdict { OrUnjudged (⟦<SC as ServiceAnswers>⟧.verdict config.now

@@ -18,7 +18,10 @@ mod service;
 mod showing;
 mod statement;
 
-pub use bounds::{StatementChallenger, StatementExtension, StatementField};
+pub use bounds::{
+    JudgingConfig, ProvingConfig, ServiceConfig, StatementChallenger, StatementExtension,
+    StatementField,
+};
 pub use counted::{CountedField, Numbered};
 pub use field::ServiceField;
 pub use judging::verify_with;

@@ -26,11 +26,9 @@ use stark_answers::{Finding, Report, TraceTask, Verdict};
 use stark_bench::ClearCommitment;
 use stark_json::Document;
 use stark_merkle::Root;
+use stark_parts::StarkChallenger;
 use stark_statement::SchemeChoice;
-use stark_support::{
-    CanObserve, ExtensionChallenger, FieldChallenger, GrindingChallenger, PackedExtensionField,
-    PackedField,
-};
+use stark_support::{CanObserve, PackedExtensionField, PackedField};
 use std::alloc::Global;
 
 /// What is said of a JSON value as a statement over a field. It has no code.
@@ -83,12 +81,7 @@ pub(crate) fn verify_over<F, EF, C>(
 where
     F: StatementField,
     EF: StatementExtension<F>,
-    C: FieldChallenger<F>
-        + CanObserve<Root>
-        + CanObserve<ClearCommitment<F>>
-        + ExtensionChallenger<F, EF>
-        + GrindingChallenger<Witness = F>
-        + Clone,
+    C: StarkChallenger<F, EF, Root> + CanObserve<ClearCommitment<F>>,
     requires { HasRoomFor F.TWO_ADICITY scheme }
     ensures verdict { OrUnjudged (⟦<F as ValueAnswers<EF, C>>⟧.verdict challenger
         (scheme_numbers scheme) (data_of value) proof.now) result.answer }
@@ -111,27 +104,22 @@ pub(crate) fn answer_over<F, EF, C, P>(
     challenger: C,
     asked: TraceTask,
     value: Document,
-    trace: &[u8],
+    trace: Vec<u8>,
     progress: &mut P,
 ) -> Report<Finding>
 where
     F: StatementField + PackedField,
     EF: StatementExtension<F> + PackedExtensionField<F>,
-    C: FieldChallenger<F>
-        + CanObserve<Root>
-        + CanObserve<ClearCommitment<F>>
-        + ExtensionChallenger<F, EF>
-        + GrindingChallenger<Witness = F>
-        + Clone,
+    C: StarkChallenger<F, EF, Root> + CanObserve<ClearCommitment<F>>,
     P: Progress,
     requires room { HasRoomFor F.TWO_ADICITY scheme }
     requires base { WritesNoFloat F.writing }
     requires extension { WritesNoFloat EF.writing }
     ensures found { OrLacksMemory (⟦<F as ValueAnswers<EF, C>>⟧.found challenger
-        (scheme_numbers scheme) asked (data_of value) trace.now) result.answer }
+        (scheme_numbers scheme) asked (data_of value) trace.items) result.answer }
     ensures kind { IsOfTrace asked result.answer }
     ensures proof { WhereProof (⟦<F as ValueAnswers<EF, C>>⟧.proof_file challenger
-        (scheme_numbers scheme) (data_of value) trace.now) result.answer }
+        (scheme_numbers scheme) (data_of value) trace.items) result.answer }
 {
     let read = read_statement::<F>(alloc, &value);
     // The JSON is several times as long as the statement.

@@ -1,41 +1,34 @@
 //! What is found of a trace for a statement that was read: whether it satisfies the AIR, or a proof
 //! of it.
 
-ghost use Rattle.std.specs.Prelude.{◌≡◌, ◌<◌, ◌≤◌, Some};
-ghost use Rattle.stark_protocol.specs.Preprocessing.{HasHeight};
+ghost use Rattle.std.specs.Prelude.{◌≡◌};
 ghost use Rattle.stark_statement.specs.StatementView.{statement_view};
 ghost use Rattle.stark_answers.specs.Finding.{WhereProof};
-ghost use Rattle.stark_service.specs.Fitting.{AreSomeRows, IsOfRows, TellsOfRows, TellsOfTrace};
+ghost use Rattle.stark_service.specs.Fitting.{AreSomeRows, IsOfRows, TellsOfRows};
 ghost use Rattle.stark_service.specs.StatementFacts.{IsOfTrace};
-ghost use Rattle.stark_service.specs.Statements.{rows_in};
 ghost use Rattle.stark_service.specs.TraceChecks.{OrLacksMemory};
 
+use crate::bounds::ProvingConfig;
 use crate::checking::check_rows;
 use crate::fitting::fitting_trace;
 use crate::judging::unfit_rows;
 use crate::progress::{Progress, Stage};
 use crate::reading::read_rows;
-use crate::service::{ServiceAnswers, StarkService};
+use crate::service::ServiceAnswers;
 use stark_air::BaseAir;
 use stark_answers::{
     Finding, ProofForm, Report, TraceTask, finding_of_proof, log_rows_of, prove_with_held,
     words_of_failure,
 };
-use stark_parts::{Com, StarkGenericConfig, Val};
-use stark_proof_bytes::BytesCodec;
-use stark_protocol::PcsProof;
+use stark_parts::{StarkGenericConfig, Val};
 use stark_statement::Statement;
-use stark_support::{
-    GrindingChallenger, JsonCodec, NeverNull, PackedExtensionField, PackedField, RowMajorMatrix,
-    TwoAdicField, UnivariateStarkPcs,
-};
+use stark_support::{RowMajorMatrix, UnivariateStarkPcs};
 use stark_trace_json::TraceRows;
-use stark_tree_air::TreeAir;
 use std::alloc::{AllocError, Global};
 
 /// What a prover finds of the trace that rows are, with preprocessed columns of `2^log_rows` rows:
 /// its proof in a form, or why there is none.
-fn prove_rows<SC>(
+fn prove_rows<SC: ProvingConfig>(
     alloc: Global,
     config: &SC,
     form: ProofForm,
@@ -44,26 +37,14 @@ fn prove_rows<SC>(
     log_rows: usize,
     trace: RowMajorMatrix<Val<SC>>,
 ) -> Report<Finding>
-where
-    SC: StarkGenericConfig,
-    SC::Challenge: PackedExtensionField<Val<SC>> + JsonCodec + BytesCodec,
-    SC::Challenger: GrindingChallenger<Witness = Val<SC>>,
-    Val<SC>: PackedField + NeverNull + BytesCodec,
-    Com<SC>: NeverNull + BytesCodec,
-    PcsProof<SC>: JsonCodec + BytesCodec,
-    requires ready { ⟦<SC as ServiceAnswers>⟧.is_ready config.now
+    requires able { ⟦<SC as ServiceAnswers>⟧.can_prove_for config.now
         (statement_view statement.now) }
-    requires able { ⟦<SC as ServiceAnswers>⟧.can_prove config.now }
-    requires height { HasHeight log_rows
-        (⟦<TreeAir<Val<SC>> as BaseAir<Val<SC>>>⟧.preprocessed_trace statement.now.air) }
-    requires within { log_rows ≤ SC.Pcs.scheme.log_max_trace_height (SC.config.scheme config.now) }
-    requires columns { 0 < (⟦<TreeAir<Val<SC>> as BaseAir<Val<SC>>>⟧.layout
-        statement.now.air).main }
+    requires columns { ⟦<SC as ServiceAnswers>⟧.has_columns_at config.now statement.now log_rows }
     requires greatest { greatest
         ≡ SC.Pcs.scheme.log_max_trace_height (SC.config.scheme config.now) }
     requires fits { IsOfRows greatest log_rows (statement_view statement.now) trace }
-    ensures { let s = statement_view statement.now in TellsOfTrace greatest log_rows s trace
-        (⟦<SC as ServiceAnswers>⟧.proves config.now form s log_rows) result.answer }
+    ensures { ⟦<SC as ServiceAnswers>⟧.proves config.now form greatest
+        (statement_view statement.now) log_rows trace result.answer }
 {
     let public_values = statement.public_values.as_slice();
     let answer = prove_with_held(
@@ -82,7 +63,7 @@ where
 }
 
 /// What is found of rows, by what is asked for them.
-fn answer_rows<SC, P>(
+fn answer_rows<SC: ProvingConfig, P: Progress>(
     alloc: Global,
     config: &SC,
     asked: TraceTask,
@@ -91,22 +72,9 @@ fn answer_rows<SC, P>(
     rows: TraceRows<Val<SC>>,
     progress: &mut P,
 ) -> Report<Finding>
-where
-    SC: StarkGenericConfig,
-    SC::Challenge: PackedExtensionField<Val<SC>> + JsonCodec + BytesCodec,
-    SC::Challenger: GrindingChallenger<Witness = Val<SC>>,
-    Val<SC>: PackedField + NeverNull + BytesCodec,
-    Com<SC>: NeverNull + BytesCodec,
-    PcsProof<SC>: JsonCodec + BytesCodec,
-    P: Progress,
-    requires ready { ⟦<SC as ServiceAnswers>⟧.is_ready config.now
+    requires able { ⟦<SC as ServiceAnswers>⟧.can_prove_for config.now
         (statement_view statement.now) }
-    requires able { ⟦<SC as ServiceAnswers>⟧.can_prove config.now }
-    requires height { HasHeight log_rows
-        (⟦<TreeAir<Val<SC>> as BaseAir<Val<SC>>>⟧.preprocessed_trace statement.now.air) }
-    requires within { log_rows ≤ SC.Pcs.scheme.log_max_trace_height (SC.config.scheme config.now) }
-    requires columns { 0 < (⟦<TreeAir<Val<SC>> as BaseAir<Val<SC>>>⟧.layout
-        statement.now.air).main }
+    requires columns { ⟦<SC as ServiceAnswers>⟧.has_columns_at config.now statement.now log_rows }
     requires read { AreSomeRows rows }
     ensures { TellsOfRows rows (⟦<SC as ServiceAnswers>⟧.tells config.now asked
         (statement_view statement.now) log_rows) result.answer }
@@ -152,34 +120,20 @@ where
 }
 
 /// What is found of the rows that the bytes of a file spell.
-fn answer_with_rows<SC, P>(
+fn answer_with_rows<SC: ProvingConfig, P: Progress>(
     alloc: Global,
     config: &SC,
     asked: TraceTask,
     statement: &Statement<Val<SC>>,
     log_rows: usize,
-    bytes: &[u8],
+    bytes: Vec<u8>,
     progress: &mut P,
 ) -> Report<Finding>
-where
-    SC: StarkGenericConfig,
-    SC::Challenge: PackedExtensionField<Val<SC>> + JsonCodec + BytesCodec,
-    SC::Challenger: GrindingChallenger<Witness = Val<SC>>,
-    Val<SC>: PackedField + NeverNull + BytesCodec,
-    Com<SC>: NeverNull + BytesCodec,
-    PcsProof<SC>: JsonCodec + BytesCodec,
-    P: Progress,
-    requires ready { ⟦<SC as ServiceAnswers>⟧.is_ready config.now
+    requires able { ⟦<SC as ServiceAnswers>⟧.can_prove_for config.now
         (statement_view statement.now) }
-    requires able { ⟦<SC as ServiceAnswers>⟧.can_prove config.now }
-    requires height { HasHeight log_rows
-        (⟦<TreeAir<Val<SC>> as BaseAir<Val<SC>>>⟧.preprocessed_trace statement.now.air) }
-    requires within { log_rows ≤ SC.Pcs.scheme.log_max_trace_height (SC.config.scheme config.now) }
-    requires columns { 0 < (⟦<TreeAir<Val<SC>> as BaseAir<Val<SC>>>⟧.layout
-        statement.now.air).main }
-    ensures { OrLacksMemory (⟦<SC as ServiceAnswers>⟧.tells config.now asked
-        (statement_view statement.now) log_rows
-        (rows_in ⟦<SC as StarkService>⟧.service.element bytes.now)) result.answer }
+    requires columns { ⟦<SC as ServiceAnswers>⟧.has_columns_at config.now statement.now log_rows }
+    ensures { OrLacksMemory (⟦<SC as ServiceAnswers>⟧.tells_of_bytes config.now asked
+        (statement_view statement.now) log_rows bytes.items) result.answer }
 {
     match read_rows::<Val<SC>>(alloc, bytes) {
         Ok(rows) => { answer_rows(alloc, config, asked, statement, log_rows, rows, progress) }
@@ -190,33 +144,25 @@ where
 /// What is found of a trace for a statement that was read, with a configuration whose challenger
 /// has observed the statement, which asks for the statement's work, masks nothing, sets up all
 /// columns, proves traces of any height and refuses no true opening; by what is asked for the
-/// trace; its check and its proof are told before they begin. It is `bad input` where the trace
-/// can't be read, the AIR has no main columns, or the
+/// trace; its check and its proof are told before they begin, and its bytes are let go of once they
+/// are read. It is `bad input` where the trace can't be read, the AIR has no main columns, or the
 /// trace isn't one of its widths and counts; or `out of memory`.
-pub fn answer_with<SC, P>(
+pub fn answer_with<SC: ProvingConfig, P: Progress>(
     alloc: Global,
     config: &SC,
     asked: TraceTask,
     statement: &Statement<Val<SC>>,
-    bytes: &[u8],
+    bytes: Vec<u8>,
     progress: &mut P,
 ) -> Report<Finding>
-where
-    SC: StarkGenericConfig,
-    SC::Challenge: PackedExtensionField<Val<SC>> + JsonCodec + BytesCodec,
-    SC::Challenger: GrindingChallenger<Witness = Val<SC>>,
-    Val<SC>: PackedField + NeverNull + BytesCodec,
-    Com<SC>: NeverNull + BytesCodec,
-    PcsProof<SC>: JsonCodec + BytesCodec,
-    P: Progress,
     requires ready { ⟦<SC as ServiceAnswers>⟧.is_ready config.now
         (statement_view statement.now) }
     requires able { ⟦<SC as ServiceAnswers>⟧.can_prove config.now }
     ensures found { OrLacksMemory (⟦<SC as ServiceAnswers>⟧.found config.now asked
-        (statement_view statement.now) bytes.now) result.answer }
+        (statement_view statement.now) bytes.items) result.answer }
     ensures kind { IsOfTrace asked result.answer }
     ensures proof { WhereProof (⟦<SC as ServiceAnswers>⟧.proof_file config.now
-        (statement_view statement.now) bytes.now) result.answer }
+        (statement_view statement.now) bytes.items) result.answer }
 {
     if statement.air.width() == 0 {
         let wanted = "the AIR has no main columns, so that there is no trace";

@@ -11,7 +11,7 @@ ghost use Rattle.stark_statement.specs.StatementApart.{data_of};
 ghost use Rattle.stark_statement.specs.StatementJson.{statement_fault, statement_reading};
 ghost use Rattle.stark_answers.specs.declared.report.Report.{Report};
 ghost use Rattle.stark_answers.specs.declared.verdict.Verdict.{Verdict};
-ghost use Rattle.stark_service.specs.Statements.{ReadsPart, ReadsRows, ReadsStatement, proof_in, proof_in_bytes, proof_in_json, rows_in, verdict_of_fault, verdict_without};
+ghost use Rattle.stark_service.specs.Statements.{ReadsPart, ReadsRows, ReadsStatement, proof_in, rows_in, verdict_of_fault, verdict_without};
 
 use stark_answers::{Report, Verdict};
 use stark_json::Document;
@@ -59,12 +59,6 @@ pub(crate) fn unread_statement(alloc: Global, error: &StatementError) -> Report<
 pub(crate) trait ReadProof: Sized {
     /// The proof that they spell was read, or the report says why not.
     ghost read: { List ℕ → Result Self (Report Verdict) → Type 0 };
-
-    /// The same of a JSON text;
-    ghost read_json: { List ℕ → Result Self (Report Verdict) → Type 0 };
-
-    /// and of bytes that begin as a proof's do.
-    ghost read_bytes: { List ℕ → Result Self (Report Verdict) → Type 0 };
 }
 
 impl<Com, Challenge, PcsProof, Val> ReadProof for Proof<Com, Challenge, PcsProof, Val>
@@ -77,18 +71,11 @@ where
     ghost read = { λ bytes answer. ReadsPart proof_view answer (proof_in
         (proof_reading Com.reading Challenge.reading PcsProof.reading Val.reading Val.ring.zero)
         (codecs Com.bytes Challenge.bytes PcsProof.bytes Val.bytes) bytes) };
-
-    ghost read_json = { λ bytes answer. ReadsPart proof_view answer (proof_in_json
-        (proof_reading Com.reading Challenge.reading PcsProof.reading Val.reading Val.ring.zero)
-        bytes) };
-
-    ghost read_bytes = { λ bytes answer. ReadsPart proof_view answer (proof_in_bytes
-        (codecs Com.bytes Challenge.bytes PcsProof.bytes Val.bytes) bytes) };
 }
 
 /// The proof that the bytes of a file spell, in either form: as bytes where they begin so, and else
 /// as JSON.
-#[tactic(auto, unfolding(crate::specs::Statements::proof_in))]
+#[tactic(auto, unfolding(crate::specs::Statements::proof_in, crate::specs::Statements::proof_in_json, crate::specs::Statements::proof_in_bytes))]
 pub(crate) fn read_proof<Com, Challenge, PcsProof, Val>(
     alloc: Global,
     bytes: &[u8],
@@ -101,9 +88,18 @@ where
     ensures { ⟦<Proof<Com, Challenge, PcsProof, Val> as ReadProof>⟧.read bytes.now result }
 {
     if begin_as_proof(bytes) {
-        read_proof_bytes(alloc, bytes)
-    } else {
-        read_proof_json(alloc, bytes)
+        return match proof_from_bytes(alloc, bytes) {
+            Ok(proof) => Ok(proof),
+            Err(fault) => Err(unread_bytes(alloc, &fault)),
+        };
+    }
+    let value = match value_from_bytes(alloc, bytes) {
+        Ok(value) => value,
+        Err(error) => return Err(unread_text(alloc, "the proof", &error)),
+    };
+    match Proof::from_json(alloc, &value) {
+        Ok(proof) => Ok(proof),
+        Err(error) => Err(unread_proof(alloc, &error)),
     }
 }
 
@@ -115,29 +111,6 @@ fn begin_as_proof(bytes: &[u8]) -> bool
     bytes.starts_with("voskligan proof 1".as_bytes())
 }
 
-/// The proof that the bytes of a JSON text spell.
-#[tactic(auto, unfolding(crate::specs::Statements::proof_in_json))]
-fn read_proof_json<Com, Challenge, PcsProof, Val>(
-    alloc: Global,
-    bytes: &[u8],
-) -> Result<Proof<Com, Challenge, PcsProof, Val>, Report<Verdict>>
-where
-    Com: NeverNull + BytesCodec + Drop,
-    Challenge: JsonCodec + BytesCodec + Drop,
-    PcsProof: JsonCodec + BytesCodec + Drop,
-    Val: Field + NeverNull + BytesCodec,
-    ensures { ⟦<Proof<Com, Challenge, PcsProof, Val> as ReadProof>⟧.read_json bytes.now result }
-{
-    let value = match value_from_bytes(alloc, bytes) {
-        Ok(value) => value,
-        Err(error) => return Err(unread_text(alloc, "the proof", &error)),
-    };
-    match Proof::from_json(alloc, &value) {
-        Ok(proof) => Ok(proof),
-        Err(error) => Err(unread_proof(alloc, &error)),
-    }
-}
-
 /// What is said of a proof that wasn't read of its JSON.
 fn unread_proof(alloc: Global, error: &ProofDecodeError) -> Report<Verdict>
     ensures { result.answer ≡ verdict_without (proof_fault error.now) }
@@ -145,25 +118,6 @@ fn unread_proof(alloc: Global, error: &ProofDecodeError) -> Report<Verdict>
     match error {
         ProofDecodeError::OutOfMemory => Report::out_of_memory(),
         _ => Report::bad_input(alloc, "the proof", error),
-    }
-}
-
-/// The proof that these bytes name.
-#[tactic(auto, unfolding(crate::specs::Statements::proof_in_bytes))]
-fn read_proof_bytes<Com, Challenge, PcsProof, Val>(
-    alloc: Global,
-    bytes: &[u8],
-) -> Result<Proof<Com, Challenge, PcsProof, Val>, Report<Verdict>>
-where
-    Com: NeverNull + BytesCodec + Drop,
-    Challenge: JsonCodec + BytesCodec + Drop,
-    PcsProof: JsonCodec + BytesCodec + Drop,
-    Val: Field + NeverNull + BytesCodec,
-    ensures { ⟦<Proof<Com, Challenge, PcsProof, Val> as ReadProof>⟧.read_bytes bytes.now result }
-{
-    match proof_from_bytes(alloc, bytes) {
-        Ok(proof) => Ok(proof),
-        Err(fault) => Err(unread_bytes(alloc, &fault)),
     }
 }
 
@@ -178,14 +132,14 @@ fn unread_bytes(alloc: Global, fault: &BytesFault) -> Report<Verdict>
 }
 
 /// The rows of a trace that the bytes of a JSON text spell: an array of arrays of numbers, all of
-/// one length.
+/// one length. The bytes are let go of once they are read.
 pub(crate) fn read_rows<F: JsonCodec + Copy>(
     alloc: Global,
-    bytes: &[u8],
+    bytes: Vec<u8>,
 ) -> Result<TraceRows<F>, Report<Verdict>>
-    ensures { ReadsRows result (rows_in F.reading bytes.now) }
+    ensures { ReadsRows result (rows_in F.reading bytes.items) }
 {
-    match rows_from_bytes::<F>(alloc, bytes) {
+    match rows_from_bytes::<F>(alloc, &bytes) {
         Ok(rows) => Ok(rows),
         Err(RowsFault::Invalid) => Err(Report::bad_input(alloc, "the trace", &JsonFault::Invalid)),
         Err(RowsFault::Uneven) => Err(Report::unfit_trace(alloc)),

@@ -1,6 +1,6 @@
 //! Configurations by FRI and in the clear, over any field, and what is said with them.
 
-ghost use Rattle.std.specs.Prelude.{◌≡◌, ◌≤◌, ℕ, List, Option, None, IfOk};
+ghost use Rattle.std.specs.Prelude.{◌≡◌, ℕ, List, Option, IfOk};
 ghost use Rattle.stark_clear.specs.ClearScheme.{clear_pcs};
 ghost use Rattle.stark_statement.specs.StatementBytes.{after_statement};
 ghost use Rattle.stark_statement.specs.StatementView.{StatementView, statement_view};
@@ -11,7 +11,7 @@ ghost use Rattle.stark_answers.specs.declared.task.ProofForm.{ProofForm};
 ghost use Rattle.stark_answers.specs.declared.task.TraceTask.{TraceTask};
 ghost use Rattle.stark_answers.specs.declared.verdict.Verdict.{Verdict};
 ghost use Rattle.stark_service.specs.NoFloats.{WritesNoFloat};
-ghost use Rattle.stark_service.specs.Schemes.{ByScheme, HasRoomFor, WithNumbers, by_fri};
+ghost use Rattle.stark_service.specs.Schemes.{ByScheme, HasRoomFor, WithNumbers};
 ghost use Rattle.stark_service.specs.StatementFacts.{IsOfTrace};
 ghost use Rattle.stark_service.specs.Statements.{IsFileOn, IsSoundOfTakenOn, IsSoundOn, IsToldOn, IsVerdictOn, OrUnjudged, rows_in};
 ghost use Rattle.stark_service.specs.TraceChecks.{OrLacksMemory};
@@ -23,7 +23,6 @@ use crate::proving::answer_with;
 use crate::service::StarkService;
 use stark_answers::{Finding, Report, TraceTask, Verdict};
 use stark_clear::ClearPcs;
-use stark_fri_proof::FriParameters;
 use stark_fri_prover::FriPcs;
 use stark_merkle::Sha256Tree;
 use stark_parts::StarkConfig;
@@ -127,61 +126,11 @@ fn bound<F: PrimeField64, C: CanObserve<F> + Drop>(
     Ok(challenger)
 }
 
-/// The verdict on a proof by FRI with these parameters.
-fn verify_by_fri<F, EF, C>(
-    alloc: Global,
-    parameters: FriParameters,
-    challenger: C,
-    statement: &Statement<F>,
-    proof: &[u8],
-) -> Report<Verdict>
-where
-    F: StatementField,
-    EF: StatementExtension<F>,
-    C: StatementChallenger<F, EF>,
-    requires { parameters.log_blowup ≤ F.TWO_ADICITY }
-    ensures verdict { OrUnjudged (⟦<F as FieldAnswers<EF, C>>⟧.verdict challenger
-        (by_fri parameters) (statement_view statement.now) proof.now) result.answer }
-    ensures sound { result.answer ≡ Verdict.Accepted → ⟦<F as FieldAnswers<EF, C>>⟧.sound
-        challenger (by_fri parameters) (statement_view statement.now) proof.now }
-{
-    let Ok(bound) = bound(alloc, challenger, statement) else {
-        return Report::out_of_memory();
-    };
-    let pcs: FriPcs<F, Sha256Tree> = FriPcs::new(parameters);
-    let config: FriConfig<F, EF, C> = configured(pcs, bound, statement);
-    verify_with(alloc, &config, statement, proof)
-}
-
-/// The verdict on a proof in the clear.
-fn verify_in_the_clear<F, EF, C>(
-    alloc: Global,
-    challenger: C,
-    statement: &Statement<F>,
-    proof: &[u8],
-) -> Report<Verdict>
-where
-    F: StatementField,
-    EF: StatementExtension<F>,
-    C: StatementChallenger<F, EF>,
-    ensures verdict { OrUnjudged (⟦<F as FieldAnswers<EF, C>>⟧.verdict challenger
-        None (statement_view statement.now) proof.now) result.answer }
-    ensures sound { result.answer ≡ Verdict.Accepted → ⟦<F as FieldAnswers<EF, C>>⟧.sound
-        challenger None (statement_view statement.now) proof.now }
-{
-    let Ok(bound) = bound(alloc, challenger, statement) else {
-        return Report::out_of_memory();
-    };
-    let pcs: ClearPcs<F> = ClearPcs::new();
-    let config: ClearConfig<F, EF, C> = configured(pcs, bound, statement);
-    verify_with(alloc, &config, statement, proof)
-}
-
-/// The verdict on a proof, by the scheme that is chosen.
+/// The verdict on a proof, by the scheme that is chosen, with a challenger in its first state.
 pub(crate) fn verify_by<F, EF, C>(
     alloc: Global,
     scheme: SchemeChoice,
-    challenger: C,
+    fresh: C,
     statement: &Statement<F>,
     proof: &[u8],
 ) -> Report<Verdict>
@@ -190,114 +139,65 @@ where
     EF: StatementExtension<F>,
     C: StatementChallenger<F, EF>,
     requires { HasRoomFor F.TWO_ADICITY scheme }
-    ensures verdict { OrUnjudged (⟦<F as FieldAnswers<EF, C>>⟧.verdict challenger
+    ensures verdict { OrUnjudged (⟦<F as FieldAnswers<EF, C>>⟧.verdict fresh
         (numbers_of scheme) (statement_view statement.now) proof.now) result.answer }
     ensures sound { result.answer ≡ Verdict.Accepted → ⟦<F as FieldAnswers<EF, C>>⟧.sound
-        challenger (numbers_of scheme) (statement_view statement.now) proof.now }
+        fresh (numbers_of scheme) (statement_view statement.now) proof.now }
 {
+    let Ok(bound) = bound(alloc, fresh, statement) else {
+        return Report::out_of_memory();
+    };
     match scheme {
         SchemeChoice::Fri(parameters) => {
-            verify_by_fri::<F, EF, C>(alloc, parameters, challenger, statement, proof)
+            let pcs: FriPcs<F, Sha256Tree> = FriPcs::new(parameters);
+            let config: FriConfig<F, EF, C> = configured(pcs, bound, statement);
+            verify_with(alloc, &config, statement, proof)
         }
         SchemeChoice::Clear => {
-            verify_in_the_clear::<F, EF, C>(alloc, challenger, statement, proof)
+            let pcs: ClearPcs<F> = ClearPcs::new();
+            let config: ClearConfig<F, EF, C> = configured(pcs, bound, statement);
+            verify_with(alloc, &config, statement, proof)
         }
     }
 }
 
-/// What is found of a trace by FRI with these parameters.
-fn answer_by_fri<F, EF, C, P>(
-    alloc: Global,
-    parameters: FriParameters,
-    challenger: C,
-    asked: TraceTask,
-    statement: &Statement<F>,
-    trace: &[u8],
-    progress: &mut P,
-) -> Report<Finding>
-where
+/// What is found of a trace, by the scheme that is chosen, with a challenger in its first state.
+pub(crate) fn answer_by<
     F: StatementField + PackedField,
     EF: StatementExtension<F> + PackedExtensionField<F>,
     C: StatementChallenger<F, EF>,
     P: Progress,
-    requires room { parameters.log_blowup ≤ F.TWO_ADICITY }
-    requires base { WritesNoFloat F.writing }
-    requires extension { WritesNoFloat EF.writing }
-    ensures found { OrLacksMemory (⟦<F as FieldAnswers<EF, C>>⟧.found challenger
-        (by_fri parameters) asked (statement_view statement.now) trace.now)
-        result.answer }
-    ensures kind { IsOfTrace asked result.answer }
-    ensures proof { WhereProof (⟦<F as FieldAnswers<EF, C>>⟧.proof_file challenger
-        (by_fri parameters) (statement_view statement.now) trace.now) result.answer }
-{
-    let Ok(bound) = bound(alloc, challenger, statement) else {
-        return Report::out_of_memory().as_finding();
-    };
-    let pcs: FriPcs<F, Sha256Tree> = FriPcs::new(parameters);
-    let config: FriConfig<F, EF, C> = configured(pcs, bound, statement);
-    answer_with(alloc, &config, asked, statement, trace, progress)
-}
-
-/// What is found of a trace in the clear.
-fn answer_in_the_clear<F, EF, C, P>(
-    alloc: Global,
-    challenger: C,
-    asked: TraceTask,
-    statement: &Statement<F>,
-    trace: &[u8],
-    progress: &mut P,
-) -> Report<Finding>
-where
-    F: StatementField + PackedField,
-    EF: StatementExtension<F> + PackedExtensionField<F>,
-    C: StatementChallenger<F, EF>,
-    P: Progress,
-    requires base { WritesNoFloat F.writing }
-    requires extension { WritesNoFloat EF.writing }
-    ensures found { OrLacksMemory (⟦<F as FieldAnswers<EF, C>>⟧.found challenger
-        None asked (statement_view statement.now) trace.now) result.answer }
-    ensures kind { IsOfTrace asked result.answer }
-    ensures proof { WhereProof (⟦<F as FieldAnswers<EF, C>>⟧.proof_file challenger
-        None (statement_view statement.now) trace.now) result.answer }
-{
-    let Ok(bound) = bound(alloc, challenger, statement) else {
-        return Report::out_of_memory().as_finding();
-    };
-    let pcs: ClearPcs<F> = ClearPcs::new();
-    let config: ClearConfig<F, EF, C> = configured(pcs, bound, statement);
-    answer_with(alloc, &config, asked, statement, trace, progress)
-}
-
-/// What is found of a trace, by the scheme that is chosen.
-pub(crate) fn answer_by<F, EF, C, P>(
+>(
     alloc: Global,
     scheme: SchemeChoice,
-    challenger: C,
+    fresh: C,
     asked: TraceTask,
     statement: &Statement<F>,
-    trace: &[u8],
+    trace: Vec<u8>,
     progress: &mut P,
 ) -> Report<Finding>
-where
-    F: StatementField + PackedField,
-    EF: StatementExtension<F> + PackedExtensionField<F>,
-    C: StatementChallenger<F, EF>,
-    P: Progress,
     requires room { HasRoomFor F.TWO_ADICITY scheme }
     requires base { WritesNoFloat F.writing }
     requires extension { WritesNoFloat EF.writing }
-    ensures found { OrLacksMemory (⟦<F as FieldAnswers<EF, C>>⟧.found challenger
-        (numbers_of scheme) asked (statement_view statement.now) trace.now) result.answer }
+    ensures found { OrLacksMemory (⟦<F as FieldAnswers<EF, C>>⟧.found fresh
+        (numbers_of scheme) asked (statement_view statement.now) trace.items) result.answer }
     ensures kind { IsOfTrace asked result.answer }
-    ensures proof { WhereProof (⟦<F as FieldAnswers<EF, C>>⟧.proof_file challenger
-        (numbers_of scheme) (statement_view statement.now) trace.now) result.answer }
+    ensures proof { WhereProof (⟦<F as FieldAnswers<EF, C>>⟧.proof_file fresh
+        (numbers_of scheme) (statement_view statement.now) trace.items) result.answer }
 {
+    let Ok(bound) = bound(alloc, fresh, statement) else {
+        return Report::out_of_memory().as_finding();
+    };
     match scheme {
-        SchemeChoice::Fri(parameters) => answer_by_fri::<F, EF, C, P>(
-            alloc, parameters, challenger, asked, statement, trace, progress,
-        ),
-        SchemeChoice::Clear => answer_in_the_clear::<F, EF, C, P>(
-            alloc, challenger, asked, statement, trace, progress,
-        ),
+        SchemeChoice::Fri(parameters) => {
+            let pcs: FriPcs<F, Sha256Tree> = FriPcs::new(parameters);
+            let config: FriConfig<F, EF, C> = configured(pcs, bound, statement);
+            answer_with(alloc, &config, asked, statement, trace, progress)
+        }
+        SchemeChoice::Clear => {
+            let pcs: ClearPcs<F> = ClearPcs::new();
+            let config: ClearConfig<F, EF, C> = configured(pcs, bound, statement);
+            answer_with(alloc, &config, asked, statement, trace, progress)
+        }
     }
 }

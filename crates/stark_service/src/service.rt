@@ -5,37 +5,41 @@ ghost use Rattle.stark_proof.specs.ProofJson.{proof_reading, proof_writing};
 ghost use Rattle.stark_proof.specs.ProofView.{ProofView};
 ghost use Rattle.stark_proof_bytes.specs.ProofBytes.{codecs};
 ghost use Rattle.stark_statement.specs.StatementView.{StatementView};
+ghost use Rattle.stark_statement.specs.declared.statement.Statement.{Statement};
+ghost use Rattle.stark_support.specs.declared.matrix.RowMajorMatrix.{RowMajorMatrix};
 ghost use Rattle.stark_answers.specs.declared.finding.Finding.{Finding};
 ghost use Rattle.stark_answers.specs.declared.task.ProofForm.{ProofForm};
 ghost use Rattle.stark_answers.specs.declared.task.TraceTask.{TraceTask};
 ghost use Rattle.stark_answers.specs.declared.verdict.Verdict.{Verdict};
-ghost use Rattle.stark_service.specs.Service.{CanProve, IsReady, ServiceOps};
+ghost use Rattle.stark_service.specs.Fitting.{TellsOfTrace};
+ghost use Rattle.stark_service.specs.Service.{CanProve, CanProveFor, HasColumnsAt, IsReady, ServiceOps};
 ghost use Rattle.stark_service.specs.Statements.{IsFileOn, IsFoundWithRows, IsSoundOfTakenOn, IsToldOn, IsToldWithRows, IsVerdictOn, IsVerdictWithRows, proof_in, rows_in};
 ghost use Rattle.stark_service.specs.TraceChecks.{IsCheckedWithRows};
 
+use crate::bounds::ServiceConfig;
 use p3_uni_stark::StarkOperations;
-use stark_parts::{Com, StarkGenericConfig, Val};
+use stark_air::BaseAir;
+use stark_parts::{StarkGenericConfig, Val};
 use stark_proof_bytes::BytesCodec;
-use stark_protocol::PcsProof;
-use stark_support::{ExtensionField, GrindingChallenger, JsonCodec, NeverNull, PrimeField64};
+use stark_support::{ExtensionField, JsonCodec, PrimeField64};
+use stark_tree_air::TreeAir;
 
 /// All that is computed over a configuration, and how its parts are read and written, in one
-/// record.
+/// record, with names for the elements of the base field and for the scheme's commitments.
 pub trait StarkService: StarkGenericConfig {
-    ghost service: { ServiceOps Self.Pcs Self.Pcs.Domain.Val Self.Challenge Self.Challenger
-        Self.Pcs.Commitment Self.Pcs.ProverData Self.Pcs.Proof Self.Pcs.Error
-        Self.Pcs.ProverError };
+    ghost Value: { Type 0 };
+
+    ghost Commitment: { Type 0 };
+
+    ghost service: { ServiceOps Self.Pcs Value Self.Challenge Self.Challenger Commitment
+        Self.Pcs.ProverData Self.Pcs.Proof Self.Pcs.Error Self.Pcs.ProverError };
 }
 
-impl<SC> StarkService for SC
-where
-    SC: StarkGenericConfig,
-    SC::Challenge: JsonCodec + BytesCodec,
-    SC::Challenger: GrindingChallenger<Witness = Val<SC>>,
-    Val<SC>: NeverNull + BytesCodec,
-    Com<SC>: NeverNull + BytesCodec,
-    PcsProof<SC>: JsonCodec + BytesCodec,
-{
+impl<SC: ServiceConfig> StarkService for SC {
+    ghost Value = { SC.Pcs.Domain.Val };
+
+    ghost Commitment = { SC.Pcs.Commitment };
+
     ghost service = { record {
       protocol = ⟦<SC as StarkOperations>⟧.operations;
       coordinates = SC.Challenge.coordinates;
@@ -62,6 +66,13 @@ pub trait ServiceAnswers: StarkGenericConfig {
     /// It commits to traces of any height and refuses no true opening, and proofs have exact lines.
     ghost can_prove: { Self → Type 0 };
 
+    /// Both.
+    ghost can_prove_for: { Self → StatementView Self.Pcs.Domain.Val → Type 0 };
+
+    /// The statement's AIR has main columns, and preprocessed ones of `2^log_rows` rows, within the
+    /// scheme's heights.
+    ghost has_columns_at: { Self → Statement Self.Pcs.Domain.Val → ℕ → Type 0 };
+
     /// Of a proof, with a key for `2^log_rows` rows, and with the AIR's own number of rows.
     ghost judges: { Self → StatementView Self.Pcs.Domain.Val → ℕ → List ℕ → Verdict → Type 0 };
 
@@ -75,13 +86,18 @@ pub trait ServiceAnswers: StarkGenericConfig {
     ghost checks: { Self → StatementView Self.Pcs.Domain.Val → ℕ
         → Option (List (List Self.Pcs.Domain.Val)) → Finding → Type 0 };
 
-    /// By a prover, in the form that is asked for.
-    ghost proves: { Self → ProofForm → StatementView Self.Pcs.Domain.Val → ℕ
-        → Option (List (List Self.Pcs.Domain.Val)) → Finding → Type 0 };
+    /// Of a matrix as the trace of rows of at most `2^greatest`, by a prover, in the form that is
+    /// asked for.
+    ghost proves: { Self → ProofForm → ℕ → StatementView Self.Pcs.Domain.Val → ℕ
+        → RowMajorMatrix Self.Pcs.Domain.Val → Finding → Type 0 };
 
     /// By what is asked for the trace.
     ghost tells: { Self → TraceTask → StatementView Self.Pcs.Domain.Val → ℕ
         → Option (List (List Self.Pcs.Domain.Val)) → Finding → Type 0 };
+
+    /// The same of the bytes of a trace.
+    ghost tells_of_bytes: { Self → TraceTask → StatementView Self.Pcs.Domain.Val → ℕ → List ℕ
+        → Finding → Type 0 };
 
     /// Of the bytes of a trace.
     ghost found: { Self → TraceTask → StatementView Self.Pcs.Domain.Val → List ℕ
@@ -92,20 +108,20 @@ pub trait ServiceAnswers: StarkGenericConfig {
         → Type 0 };
 }
 
-impl<SC> ServiceAnswers for SC
-where
-    SC: StarkGenericConfig,
-    SC::Challenge: JsonCodec + BytesCodec,
-    SC::Challenger: GrindingChallenger<Witness = Val<SC>>,
-    Val<SC>: NeverNull + BytesCodec,
-    Com<SC>: NeverNull + BytesCodec,
-    PcsProof<SC>: JsonCodec + BytesCodec,
-{
+impl<SC: ServiceConfig> ServiceAnswers for SC {
     ghost is_ready = { λ config. IsReady ⟦<SC as StarkService>⟧.service (SC.config.scheme config)
         (SC.config.ood_bits config) (SC.config.constraint_bits config) };
 
     ghost can_prove = { λ config. CanProve ⟦<SC as StarkService>⟧.service
         (SC.config.scheme config) };
+
+    ghost can_prove_for = { λ config. CanProveFor ⟦<SC as StarkService>⟧.service
+        (SC.config.scheme config) (SC.config.ood_bits config) (SC.config.constraint_bits config) };
+
+    ghost has_columns_at = { λ config statement. HasColumnsAt
+        (⟦<TreeAir<Val<SC>> as BaseAir<Val<SC>>>⟧.layout statement.air)
+        (⟦<TreeAir<Val<SC>> as BaseAir<Val<SC>>>⟧.preprocessed_trace statement.air)
+        (SC.Pcs.scheme.log_max_trace_height (SC.config.scheme config)) };
 
     ghost judges = { λ config s log_rows proof. IsVerdictWithRows ⟦<SC as StarkService>⟧.service
         (SC.config.scheme config) (SC.config.first_state config) s log_rows
@@ -123,11 +139,16 @@ where
         ⟦<SC as StarkService>⟧.service.protocol.opening.fields ⟦<SC as StarkService>⟧.service.number
         (SC.Pcs.scheme.log_max_trace_height (SC.config.scheme config)) };
 
-    ghost proves = { λ config form s. IsFoundWithRows ⟦<SC as StarkService>⟧.service
-        (SC.config.scheme config) (SC.config.first_state config) s form };
+    ghost proves = { λ config form greatest s log_rows trace. TellsOfTrace greatest log_rows s trace
+        (IsFoundWithRows ⟦<SC as StarkService>⟧.service (SC.config.scheme config)
+        (SC.config.first_state config) s form log_rows) };
 
     ghost tells = { λ config asked s. IsToldWithRows ⟦<SC as StarkService>⟧.service
         (SC.config.scheme config) (SC.config.first_state config) s asked };
+
+    ghost tells_of_bytes = { λ config asked s log_rows trace. IsToldWithRows
+        ⟦<SC as StarkService>⟧.service (SC.config.scheme config) (SC.config.first_state config) s
+        asked log_rows (rows_in ⟦<SC as StarkService>⟧.service.element trace) };
 
     ghost found = { λ config asked s trace. IsToldOn ⟦<SC as StarkService>⟧.service
         (SC.config.scheme config) (SC.config.first_state config) s asked

@@ -5,7 +5,7 @@
 //! is another file. Before anything else the challenger, which hashes, observes the whole
 //! statement, so that no part of it can be chosen behind a draw.
 
-ghost use Rattle.std.specs.Prelude.{◌≡◌, ℕ, List};
+ghost use Rattle.std.specs.Prelude.{◌≡◌, ℕ, List, IfOk};
 ghost use Rattle.serde_json.specs.Data.{Data};
 ghost use Rattle.stark_statement.specs.Configuration.{ConfigurationView, IsWithinField, configuration_view};
 ghost use Rattle.stark_statement.specs.StatementApart.{data_of};
@@ -27,7 +27,7 @@ use stark_answers::{Finding, ProofForm, Report, TraceTask, Verdict};
 use stark_bench::{BabyBearField, F12289, KoalaBearField};
 use stark_json::Document;
 use stark_statement::{Configuration, FieldName, statement_document};
-use std::alloc::Global;
+use std::alloc::{AllocError, Global};
 
 /// What a verifier and a prover that are given a statement say, over the bytes of the statement and
 /// of a proof or a trace.
@@ -48,23 +48,24 @@ pub trait StatementAnswers: Sized {
     /// This is found of a statement that is to be shown.
     ghost showing: { List ℕ → Finding → Type 0 };
 
-    /// The verdict on a proof, as `verify_statement` says it.
-    fn verify(alloc: Global, statement: &[u8], proof: &[u8]) -> Report<Verdict>
-        ensures verdict { OrUnjudged (verdict statement.now proof.now) result.answer }
-        ensures sound { result.answer ≡ Verdict.Accepted → sound statement.now proof.now };
+    /// The verdict on a proof, as `verify_statement` says it. The statement's bytes are let go of
+    /// once they are read.
+    fn verify(alloc: Global, statement: Vec<u8>, proof: &[u8]) -> Report<Verdict>
+        ensures verdict { OrUnjudged (verdict statement.items proof.now) result.answer }
+        ensures sound { result.answer ≡ Verdict.Accepted → sound statement.items proof.now };
 
     /// What is found of a trace, as `answer_trace` says it; its check and its proof are told before
-    /// they begin.
+    /// they begin. The bytes of both are let go of once they are read.
     fn answer<P: Progress>(
         alloc: Global,
         asked: TraceTask,
-        statement: &[u8],
-        trace: &[u8],
+        statement: Vec<u8>,
+        trace: Vec<u8>,
         progress: &mut P,
     ) -> Report<Finding>
-        ensures found { OrLacksMemory (found asked statement.now trace.now) result.answer }
+        ensures found { OrLacksMemory (found asked statement.items trace.items) result.answer }
         ensures kind { IsOfTrace asked result.answer }
-        ensures proof { WhereProof (proof_file statement.now trace.now) result.answer };
+        ensures proof { WhereProof (proof_file statement.items trace.items) result.answer };
 
     /// What is shown of a statement, as `show_statement` says it.
     fn show(alloc: Global, statement: Vec<u8>) -> Report<Finding>
@@ -133,7 +134,7 @@ impl StatementAnswers for NamedFields {
     ghost showing = { IsSaidOfBytes (λ v. Finding.Verdict v)
         ⟦<NamedFields as ConfiguredAnswers>⟧.showing };
 
-    fn verify(alloc: Global, statement: &[u8], proof: &[u8]) -> Report<Verdict> {
+    fn verify(alloc: Global, statement: Vec<u8>, proof: &[u8]) -> Report<Verdict> {
         match read_configured(alloc, statement) {
             Ok((value, configuration)) => verify_value(alloc, configuration, value, proof),
             Err(report) => report,
@@ -143,8 +144,8 @@ impl StatementAnswers for NamedFields {
     fn answer<P: Progress>(
         alloc: Global,
         asked: TraceTask,
-        statement: &[u8],
-        trace: &[u8],
+        statement: Vec<u8>,
+        trace: Vec<u8>,
         progress: &mut P,
     ) -> Report<Finding> {
         match read_configured(alloc, statement) {
@@ -156,23 +157,22 @@ impl StatementAnswers for NamedFields {
     }
 
     fn show(alloc: Global, statement: Vec<u8>) -> Report<Finding> {
-        let read = read_configured(alloc, &statement);
-        drop(statement);
-        match read {
+        match read_configured(alloc, statement) {
             Ok((value, configuration)) => show_value(alloc, configuration, value),
             Err(report) => report.as_finding(),
         }
     }
 }
 
-/// A statement's JSON and its configuration; or what is said where there is none.
+/// A statement's JSON and its configuration; or what is said where there is none. The bytes are let
+/// go of once they are read, before the statement is made of the JSON.
 fn read_configured(
     alloc: Global,
-    bytes: &[u8],
+    bytes: Vec<u8>,
 ) -> Result<(Document, Configuration), Report<Verdict>>
-    ensures { ReadsConfigured result bytes.now }
+    ensures { ReadsConfigured result bytes.items }
 {
-    let value = match statement_document(alloc, bytes) {
+    let value = match statement_document(alloc, &bytes) {
         Ok(value) => value,
         Err(error) => return Err(unread_text(alloc, "the statement", &error)),
     };
@@ -210,15 +210,15 @@ fn answer_value<P: Progress>(
     configuration: Configuration,
     asked: TraceTask,
     value: Document,
-    trace: &[u8],
+    trace: Vec<u8>,
     progress: &mut P,
 ) -> Report<Finding>
     requires { IsWithinField configuration }
     ensures found { OrLacksMemory (⟦<NamedFields as ConfiguredAnswers>⟧.found asked
-        (configuration_view configuration) (data_of value) trace.now) result.answer }
+        (configuration_view configuration) (data_of value) trace.items) result.answer }
     ensures kind { IsOfTrace asked result.answer }
     ensures proof { WhereProof (⟦<NamedFields as ConfiguredAnswers>⟧.proof_file
-        (configuration_view configuration) (data_of value) trace.now) result.answer }
+        (configuration_view configuration) (data_of value) trace.items) result.answer }
 {
     let scheme = configuration.scheme;
     match configuration.field {
@@ -245,6 +245,15 @@ fn show_value(alloc: Global, configuration: Configuration, value: Document) -> R
     }
 }
 
+/// A list of its own of the bytes.
+fn copied(alloc: Global, bytes: &[u8]) -> Result<Vec<u8>, AllocError>
+    ensures { IfOk result (λ copy. copy.items ≡ bytes.now) }
+{
+    let mut copy = Vec::new(alloc);
+    copy.extend_from_slice(bytes)?;
+    Ok(copy)
+}
+
 /// The verdict on a proof for a statement, from the bytes of both: `accepted`; `refused` and the
 /// first fault; `bad input` where the statement or the proof can't be read, or the AIR's
 /// preprocessed columns have no power of two of rows within the scheme's heights; `out of memory`.
@@ -264,6 +273,9 @@ pub fn verify_statement(alloc: Global, statement: &[u8], proof: &[u8]) -> Report
     ensures sound { result.answer ≡ Verdict.Accepted
         → ⟦<NamedFields as StatementAnswers>⟧.sound statement.now proof.now }
 {
+    let Ok(statement) = copied(alloc, statement) else {
+        return Report::out_of_memory();
+    };
     NamedFields::verify(alloc, statement, proof)
 }
 
@@ -283,6 +295,8 @@ pub fn verify_statement(alloc: Global, statement: &[u8], proof: &[u8]) -> Report
 /// A finding is one of those of its task, and a proof in the form that is asked for (`kind`). What
 /// is written of it is its file in that form, of a proof of the trace that was read (`proof`): a
 /// line of JSON, or the bytes that `stark_proof_bytes` gives. A proof of any size has both.
+///
+/// It works on copies of the bytes, which it lets go of once they are read.
 pub fn answer_trace(
     alloc: Global,
     asked: TraceTask,
@@ -295,6 +309,12 @@ pub fn answer_trace(
     ensures proof { WhereProof (⟦<NamedFields as StatementAnswers>⟧.proof_file
         statement.now trace.now) result.answer }
 {
+    let Ok(statement) = copied(alloc, statement) else {
+        return Report::out_of_memory().as_finding();
+    };
+    let Ok(trace) = copied(alloc, trace) else {
+        return Report::out_of_memory().as_finding();
+    };
     NamedFields::answer(alloc, asked, statement, trace, &mut Silent)
 }
 
@@ -304,7 +324,7 @@ pub fn check_statement(alloc: Global, statement: &[u8], trace: &[u8]) -> Report<
         statement.now trace.now) result.answer }
     ensures kind { IsOfTrace TraceTask.Check result.answer }
 {
-    NamedFields::answer(alloc, TraceTask::Check, statement, trace, &mut Silent)
+    answer_trace(alloc, TraceTask::Check, statement, trace)
 }
 
 /// `answer_trace` where a proof as JSON is asked for of a trace that satisfies its AIR.
@@ -315,8 +335,7 @@ pub fn prove_statement(alloc: Global, statement: &[u8], trace: &[u8]) -> Report<
     ensures proof { WhereProof (⟦<NamedFields as StatementAnswers>⟧.proof_file
         statement.now trace.now) result.answer }
 {
-    let asked = TraceTask::Prove(ProofForm::Json);
-    NamedFields::answer(alloc, asked, statement, trace, &mut Silent)
+    answer_trace(alloc, TraceTask::Prove(ProofForm::Json), statement, trace)
 }
 
 /// What is shown of the statement that the bytes of a JSON text spell: its AIR's columns,

@@ -1,15 +1,13 @@
-use Rattle.stark_cli.proofs.StatementMeaning.{same_inputs, show_found, trace_found, verify_found}
+use Rattle.stark_cli.proofs.StatementMeaning.{same_second, show_found, trace_found, verify_found}
 use Rattle.stark_cli.proofs.statements.answer.Goals as goal
 
 pub returns-in-Verify : goal.returns-in-Verify
 returns-in-Verify g c =
-    same_inputs _ _ _ _ _ _ c.deref.result.now c.deref-in-Verify.result.now _ _ _ c.deref.ensures.value c.deref-in-Verify.ensures.value
-    (verify_found _ _ _ _ _ _ (c.deref.result.now, c.deref-in-Verify.result.now) _ _ c.in-Verify.is c.as_finding.ensures c.verify.ensures.verdict c.verify.ensures.sound)
+    same_second _ _ _ _ _ _ _ c.deref.result.now _ _ c.deref.ensures.value
+    (verify_found _ _ _ _ _ _ (c.args.statement.items, c.deref.result.now) _ _ c.in-Verify.is c.as_finding.ensures c.verify.ensures.verdict c.verify.ensures.sound)
 
 pub returns-in-Trace : goal.returns-in-Trace
-returns-in-Trace g c =
-    same_inputs _ _ _ _ _ _ c.deref-in-Trace.result.now c.deref-in-Trace-2.result.now _ _ _ c.deref-in-Trace.ensures.value c.deref-in-Trace-2.ensures.value
-    (trace_found _ _ _ _ _ _ c.in-Trace.asked (c.deref-in-Trace.result.now, c.deref-in-Trace-2.result.now) _ c.in-Trace.is c.answer.ensures.found c.answer.ensures.kind c.answer.ensures.proof)
+returns-in-Trace g c = trace_found _ _ _ _ _ _ c.in-Trace.asked _ _ c.in-Trace.is c.answer.ensures.found c.answer.ensures.kind c.answer.ensures.proof
 
 pub returns-in-Show : goal.returns-in-Show
 returns-in-Show g c = show_found _ _ _ _ _ _ _ _ c.in-Show.is c.show.ensures.shown c.show.ensures.kind

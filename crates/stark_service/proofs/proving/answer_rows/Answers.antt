@@ -2,6 +2,18 @@ use Rattle.std.proofs.Common.{◌∙◌, ap}
 use Rattle.stark_service.proofs.TraceTasks.{checked_within, told_check, told_otherwise, told_satisfied, told_unchecked, told_unfit}
 use Rattle.stark_service.proofs.proving.answer_rows.Goals as goal
 
+pub check_rows-requires-clause-height : goal.check_rows-requires-clause-height
+check_rows-requires-clause-height g c = c.requires.columns.height
+
+pub check_rows-requires-clause-columns : goal.check_rows-requires-clause-columns
+check_rows-requires-clause-columns g c = c.requires.columns.columns
+
+pub check_rows-report-requires-clause-height : goal.check_rows-report-requires-clause-height
+check_rows-report-requires-clause-height g c = c.requires.columns.height
+
+pub check_rows-report-requires-clause-columns : goal.check_rows-report-requires-clause-columns
+check_rows-report-requires-clause-columns g c = c.requires.columns.columns
+
 pub check_rows-requires-clause-fits : goal.check_rows-requires-clause-fits
 check_rows-requires-clause-fits g c = (c.requires.read.0, c.in-Ok.ensures c.requires.read.0 c.requires.read.1)
 

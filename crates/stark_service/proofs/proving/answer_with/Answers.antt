@@ -1,9 +1,12 @@
-use Rattle.std.proofs.Common.{◌≡◌, ◌<◌, ◌∙◌, ap, arith, subst}
+use Rattle.std.proofs.Common.{◌≡◌, ◌<◌, ◌≤◌, ◌∙◌, ap, arith, subst}
+use Rattle.stark_protocol.specs.Preprocessing.{HasHeight}
+use Rattle.stark_tree_air.specs.Traces.{declared_trace}
 use Rattle.stark_statement.specs.StatementView.{statement_view}
 use Rattle.stark_answers.specs.CheckedAir.{CheckedAir}
 use Rattle.stark_answers.specs.declared.finding.Finding.TheVariants as finding
 use Rattle.stark_service.proofs.FoundRows.{found_with_rows, found_without_columns, found_without_rows, has_no_rows_found, has_rows_found, told_is_file, told_is_of_trace}
 use Rattle.stark_answers.specs.ProveFacts.{line_begins}
+use Rattle.stark_answers.proofs.VerdictSteps.{of_some}
 use Rattle.stark_service.proofs.StatementSteps.{same_declared, tree_checked}
 use Rattle.stark_service.proofs.proving.answer_with.Goals as goal
 
@@ -19,6 +22,18 @@ returns-then-width-eq0-clause-kind g c = told_is_of_trace _ (line_begins _ _ _ _
 
 pub returns-then-width-eq0-clause-proof : goal.returns-then-width-eq0-clause-proof
 returns-then-width-eq0-clause-proof g c = told_is_file _ (line_begins _ _ _ _ _ _) _ _ (statement_view c.args.statement.now) c.args.asked _ _ (returns-then-width-eq0-clause-found g c)
+
+pub answer_with_rows-requires-clause-able : goal.answer_with_rows-requires-clause-able
+answer_with_rows-requires-clause-able g c = record { ready = c.requires.ready; able = c.requires.able }
+
+pub answer_with_rows-requires-clause-columns : goal.answer_with_rows-requires-clause-columns
+answer_with_rows-requires-clause-columns g c =
+    let most = c.log_max_trace_height-greatest.ensures ∙ ap (λ p. g.SC.Pcs.Pcs.scheme.log_max_trace_height p) c.pcs.ensures in
+    record {
+      height = of_some (λ n. HasHeight n (declared_trace c.args.statement.now.air.declaration.columns.preprocessed_trace)) c.in-Ok-Some.field-0 c.in-Ok-Some.log_rows c.in-Ok-Some.field-0-is c.in-Ok-Some.ensures.height;
+      within = subst (λ n. c.in-Ok-Some.log_rows ≤ n) most (of_some (λ n. n ≤ c.log_max_trace_height-greatest.result) c.in-Ok-Some.field-0 c.in-Ok-Some.log_rows c.in-Ok-Some.field-0-is c.in-Ok-Some.ensures.within);
+      columns = omega (arith, c.width.ensures, c.if-width-eq0.false);
+    }
 
 pub returns-in-Ok-Some-clause-found : goal.returns-in-Ok-Some-clause-found
 returns-in-Ok-Some-clause-found g c =

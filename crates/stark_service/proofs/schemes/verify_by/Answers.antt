@@ -1,0 +1,36 @@
+use Rattle.std.proofs.Common.{refl}
+use Rattle.stark_clear.specs.ClearScheme.{clear_pcs}
+use Rattle.stark_statement.specs.StatementView.{statement_view}
+use Rattle.stark_service.proofs.SchemeSteps.{sound_by_numbers, sound_in_the_clear, verdict_by_numbers}
+use Rattle.stark_service.proofs.schemes.verify_by.Goals as goal
+
+pub returns-in-Fri-clause-verdict : goal.returns-in-Fri-clause-verdict
+returns-in-Fri-clause-verdict g c = rw c.in-Fri.is (
+    verdict_by_numbers _ c.configured-config.result.pcs c.new-pcs.result (λ pcs. pcs.parameters) c.in-Fri.parameters c.configured-config.result.challenger c.in-Ok.bound _ (statement_view c.args.statement.now)
+    c.configured-config.ensures.pcs c.new-pcs.ensures c.configured-config.ensures.challenger c.in-Ok.ensures _ _ c.verify_with.ensures.verdict
+    )
+
+pub returns-in-Fri-clause-sound : goal.returns-in-Fri-clause-sound
+returns-in-Fri-clause-sound g c = rw c.in-Fri.is (
+    λ accepted.
+    sound_by_numbers _ c.configured-config.result.pcs c.new-pcs.result (λ pcs. pcs.parameters) c.in-Fri.parameters c.configured-config.result.challenger c.in-Ok.bound _ (statement_view c.args.statement.now)
+    c.configured-config.ensures.pcs c.new-pcs.ensures c.configured-config.ensures.challenger c.in-Ok.ensures _ (c.verify_with.ensures.sound accepted)
+    )
+
+pub returns-in-Clear-clause-sound : goal.returns-in-Clear-clause-sound
+returns-in-Clear-clause-sound g c = rw c.in-Clear.is (
+    λ accepted.
+    sound_in_the_clear _ c.configured-config-in-Clear.result.pcs c.new-pcs-in-Clear.result clear_pcs c.configured-config-in-Clear.result.challenger c.in-Ok.bound _ (statement_view c.args.statement.now)
+    c.configured-config-in-Clear.ensures.pcs c.new-pcs-in-Clear.ensures c.configured-config-in-Clear.ensures.challenger c.in-Ok.ensures
+    (λ log_rows within. record {
+      plain = refl;
+      base_laws = g.met.F.Field.field_laws;
+      laws = g.met.EF.Field.field_laws;
+      embeds = g.met.EF.ExtensionField.embeds;
+      two_adic = g.met.F.TwoAdicField.two_adic;
+      has_group = within;
+      accepts = λ s claims proof state index h. h.0;
+      stands = λ s commitment prover_data matrices h. (h.0, h.2);
+    })
+    _ _ c.verify_with-in-Clear.ensures.verdict accepted
+    )

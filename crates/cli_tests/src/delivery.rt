@@ -90,22 +90,6 @@ fn taken_at_each_write(rt: &impl Abort, alloc: Global, row: &Row) -> Result<usiz
     Ok(lines.len() + 1)
 }
 
-/// Asserts what each of a table's runs leaves in its output and its writer, wherever these fail,
-/// and that there are so many such runs.
-pub(crate) fn all_delivered(
-    rt: &impl Abort,
-    alloc: Global,
-    table: &str,
-    count: usize,
-) -> Result<(), Fail> {
-    let mut runs = 0usize;
-    for row in &rows_of(alloc, Program::Voskligan, table)? {
-        runs = runs.saturating_add(taken_at_each_write(rt, alloc, row)?);
-    }
-    assert_eq!(rt; runs, count);
-    Ok(())
-}
-
 /// What is told of the stages of a row's run that writes all to one writer.
 fn stages_of(alloc: Global, row: &Row) -> Result<Vec<u8>, Fail> {
     let words = words_of(alloc, &row.commands)?;
@@ -124,30 +108,52 @@ fn stages_of(alloc: Global, row: &Row) -> Result<Vec<u8>, Fail> {
     Ok(stages.into_inner())
 }
 
-/// Asserts that of each of a table's runs the stages are told that its row asks for, with an output
-/// and without one, and that there are so many.
-pub(crate) fn all_staged(
+/// Asserts that of a row's run the stages are told that it asks for, with an output and without
+/// one.
+fn assert_staged(rt: &impl Abort, alloc: Global, row: &Row) -> Result<(), Fail> {
+    let wanted = written(alloc, row)?;
+    let mut stages = Some(StageLines::new(Vec::new(alloc)));
+    let _delivery = deliver(alloc, row, usize::MAX, &mut stages)?;
+    let told = stages
+        .map(|lines| lines.into_inner())
+        .unwrap_or(Vec::new(alloc));
+    let what = &row.written;
+    assert_eq!(rt; told.as_slice(), wanted.as_slice(), "{what}");
+    assert_eq!(rt;
+        stages_of(alloc, row)?.as_slice(),
+        wanted.as_slice(),
+        "{what}"
+    );
+    Ok(())
+}
+
+/// What is asserted of a table's runs.
+#[derive(Clone, Copy)]
+pub(crate) enum Told {
+    /// What each leaves in its output and its writer, wherever these fail.
+    Delivery,
+    /// That of each the stages are told that its row asks for.
+    Stages,
+}
+
+/// Asserts what is told of each of a table's runs, and that there are so many.
+pub(crate) fn all_told(
     rt: &impl Abort,
     alloc: Global,
+    told: Told,
     table: &str,
     count: usize,
 ) -> Result<(), Fail> {
     let mut runs = 0usize;
     for row in &rows_of(alloc, Program::Voskligan, table)? {
-        let wanted = written(alloc, row)?;
-        let mut stages = Some(StageLines::new(Vec::new(alloc)));
-        let _delivery = deliver(alloc, row, usize::MAX, &mut stages)?;
-        let told = stages
-            .map(|lines| lines.into_inner())
-            .unwrap_or(Vec::new(alloc));
-        let what = &row.written;
-        assert_eq!(rt; told.as_slice(), wanted.as_slice(), "{what}");
-        assert_eq!(rt;
-            stages_of(alloc, row)?.as_slice(),
-            wanted.as_slice(),
-            "{what}"
-        );
-        runs = runs.saturating_add(1);
+        let more = match told {
+            Told::Delivery => taken_at_each_write(rt, alloc, row)?,
+            Told::Stages => {
+                assert_staged(rt, alloc, row)?;
+                1
+            }
+        };
+        runs = runs.saturating_add(more);
     }
     assert_eq!(rt; runs, count);
     Ok(())

@@ -1,4 +1,4 @@
-use crate::delivery::{all_delivered, all_staged};
+use crate::delivery::{Told, all_told};
 use crate::faults::{Spoiled, all_spoiled, written_or_no_memory};
 use crate::program::Program;
 use crate::runs::{all_rows, words_of};
@@ -90,12 +90,12 @@ fn failing_writes(rt: HostRuntime) -> Result<(), Fail> {
 
 #[test]
 fn proofs_to_an_output(rt: HostRuntime) -> Result<(), Fail> {
-    all_delivered(&rt, rt.alloc(), DELIVERED, 1257)
+    all_told(&rt, rt.alloc(), Told::Delivery, DELIVERED, 1257)
 }
 
 #[test]
 fn stages_are_told(rt: HostRuntime) -> Result<(), Fail> {
-    all_staged(&rt, rt.alloc(), STAGES, 7)
+    all_told(&rt, rt.alloc(), Told::Stages, STAGES, 7)
 }
 
 /// What a word names, in words.

@@ -20,7 +20,13 @@ use Rattle.stark_completeness.specs.RowSatisfaction.{HoldsInEachRow}
 use Rattle.stark_completeness.specs.TrueOpenings.{air_over}
 use Rattle.stark_completeness.proofs.SelectorRows.{first_elsewhere, transition_at_end}
 use Rattle.p3_uni_stark.proofs.SizedDegrees.{sizable_degrees_fit}
-use Rattle.guide_tests.specs.Counting.{IsDrawnOutside, count_at, counted_from}
+use Rattle.stark_test_proofs.specs.MadeProofs.{IsDrawnOutside}
+use Rattle.guide_tests.specs.Counting.{count_at, counted_from}
+
+-- What two fields compute, in one record.
+abbrev pub fields_with : {F E : Type 0} → RingOps F → (F → F) → (F → F → Bool) → ℕ → (ℕ → F) → F → RingOps E → (E → E) → (F → E) → ℕ → List E → FieldsOps F E
+fields_with base base_inverse same adicity root generator ring inverse embed dimension basis =
+    record { base = base; base_inverse = base_inverse; same = same; adicity = adicity; root = root; generator = generator; ring = ring; inverse = inverse; embed = embed; dimension = dimension; basis = basis }
 
 module _ {K : Type 0} (ring : RingOps K) (start : K) where
   dropped : (m n k : ℕ) → k < n → take 1 (drop k (counted_from ring start m n)) ≡ count_at ring start (m + k) ∷ []

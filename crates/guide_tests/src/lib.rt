@@ -13,5 +13,5 @@ mod sound;
 mod tests;
 mod text;
 
-pub use counting::count;
+pub use counting::{CountedProofs, count};
 pub use doubling::DoublingAir;

@@ -125,6 +125,31 @@ pub(crate) fn base_powers<F: PrimeField64>(
     Ok(rows)
 }
 
+/// A folder over a main column of two values and no other, which keeps nothing yet: the prover's,
+/// or the lockstep one, which has the same fields.
+#[macro_export]
+macro_rules! folder_of {
+    ($folder:ident, $alloc:expr, $column:expr, $x:expr, $publics:expr, $base:expr, $ext:expr) => {{
+        let none = &$column[..0];
+        $folder {
+            main: RowMajorMatrixView::new($column, 1),
+            preprocessed: RowMajorMatrixView::new(none, 0),
+            preprocessed_window: RowWindow::from_two_rows(none, none),
+            periodic_values: none,
+            public_values: $publics,
+            is_first_row: $x,
+            is_last_row: $x,
+            is_transition: $x,
+            base_alpha_powers: $base,
+            ext_alpha_powers: $ext,
+            base_constraints: Vec::new($alloc),
+            ext_constraints: Vec::new($alloc),
+            constraint_index: 0,
+            constraint_count: 3,
+        }
+    }};
+}
+
 /// The prover's folder over a main column of these values and no other, which keeps nothing yet;
 /// none where they are not two.
 fn folder_on<'a, SC: LaneConfig>(
@@ -132,29 +157,13 @@ fn folder_on<'a, SC: LaneConfig>(
     x: PackedVal<SC>,
     column: &'a [PackedVal<SC>],
     publics: &'a [Val<SC>],
-    base_alpha_powers: &'a [Vec<Val<SC>>],
-    ext_alpha_powers: &'a [SC::Challenge],
+    base: &'a [Vec<Val<SC>>],
+    ext: &'a [SC::Challenge],
 ) -> Option<ProverConstraintFolder<'a, SC>> {
     if column.len() != 2 {
         return None;
     }
-    let none = &column[..0];
-    Some(ProverConstraintFolder {
-        main: RowMajorMatrixView::new(column, 1),
-        preprocessed: RowMajorMatrixView::new(none, 0),
-        preprocessed_window: RowWindow::from_two_rows(none, none),
-        periodic_values: none,
-        public_values: publics,
-        is_first_row: x,
-        is_last_row: x,
-        is_transition: x,
-        base_alpha_powers,
-        ext_alpha_powers,
-        base_constraints: Vec::new(alloc),
-        ext_constraints: Vec::new(alloc),
-        constraint_index: 0,
-        constraint_count: 3,
-    })
+    Some(folder_of!(ProverConstraintFolder, alloc, column, x, publics, base, ext))
 }
 
 /// Asserts that x is 1, that x is 2, over the extension, and that x is 3.

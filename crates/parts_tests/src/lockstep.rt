@@ -1,5 +1,6 @@
 //! Two packed values at a time: each lane computes what the field does of the element in it, and so
 //! does the lockstep folder.
+use crate::folder_of;
 use crate::lanes::{LaneConfig, are_powers, base_powers, lanes_agree, lanes_of};
 use stark_air::{BaseAirBuilder, ExtensionBuilder, RowWindow};
 use stark_parts::{PackedVal, StarkGenericConfig, Val};
@@ -62,29 +63,21 @@ fn folder_on<'a, SC: LaneConfig>(
     x: &VectorizedVal<SC, 2>,
     column: &'a [VectorizedVal<SC, 2>],
     publics: &'a [Val<SC>],
-    base_alpha_powers: &'a [Vec<Val<SC>>],
-    ext_alpha_powers: &'a [SC::Challenge],
+    base: &'a [Vec<Val<SC>>],
+    ext: &'a [SC::Challenge],
 ) -> Option<VectorizedConstraintFolder<'a, SC, 2>> {
     if column.len() != 2 {
         return None;
     }
-    let none = &column[..0];
-    Some(VectorizedConstraintFolder {
-        main: RowMajorMatrixView::new(column, 1),
-        preprocessed: RowMajorMatrixView::new(none, 0),
-        preprocessed_window: RowWindow::from_two_rows(none, none),
-        periodic_values: none,
-        public_values: publics,
-        is_first_row: x.dup(),
-        is_last_row: x.dup(),
-        is_transition: x.dup(),
-        base_alpha_powers,
-        ext_alpha_powers,
-        base_constraints: Vec::new(alloc),
-        ext_constraints: Vec::new(alloc),
-        constraint_index: 0,
-        constraint_count: 3,
-    })
+    Some(folder_of!(
+        VectorizedConstraintFolder,
+        alloc,
+        column,
+        x.dup(),
+        publics,
+        base,
+        ext
+    ))
 }
 
 /// What the lockstep folder makes of those assertions with alpha 4; none where there are not as

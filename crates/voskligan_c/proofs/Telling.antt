@@ -4,13 +4,12 @@ use Rattle.std.proofs.lemmas.List.{drop_all, length-append, take-append-le}
 use Rattle.voskligan_c.specs.Message.{told}
 
 -- where the first leaves a byte
-pub told_behind : (a b old : List ℕ) → length a < length old → a ++ told b (drop (length a) old) ≡ told (a ++ b) old
-told_behind [] b old h = refl
-told_behind (x ∷ a) b [] h = absurd (omega arith)
+pub told_behind : (a b old : List ℕ) → length a < length old → take (length a) (told a old) ++ told b (drop (length a) (told a old)) ≡ told (a ++ b) old
+told_behind a b [] h = absurd (omega arith)
+told_behind [] b (o ∷ []) h = refl
+told_behind [] b (o ∷ (p ∷ bs)) h = refl
 told_behind (x ∷ a) b (o ∷ []) h = absurd (omega arith)
-told_behind (x ∷ a) b (o ∷ (p ∷ bs)) h =
-    let e : a ++ told b (drop (length a) (p ∷ bs)) ≡ told (a ++ b) (p ∷ bs) = told_behind a b (p ∷ bs) (omega arith) in
-    ap (λ (l : List ℕ). x ∷ l) e
+told_behind (x ∷ a) b (o ∷ (p ∷ bs)) h = ap (λ (l : List ℕ). x ∷ l) (told_behind a b (p ∷ bs) (omega arith))
 
 -- where it leaves none
 pub told_alone : (a b old : List ℕ) → length old ≤ length a → told a old ≡ told (a ++ b) old

@@ -21,14 +21,11 @@ pub(crate) fn tell(text: &[u8], message: &mut [u8])
 fn tell_both(first: &[u8], second: &[u8], message: &mut [u8])
     ensures { message.new ≡ told (first.now ++ second.now) message.old }
 {
-    let count = first.len();
-    if count >= message.len() {
-        tell(first, message);
-        return;
+    tell(first, message);
+    if first.len() < message.len() {
+        let (_, rest) = message.split_at_mut(first.len());
+        tell(second, rest);
     }
-    let (head, rest) = message.split_at_mut(count);
-    head.copy_from_slice(first);
-    tell(second, rest);
 }
 
 /// Tells three texts as one.
@@ -36,14 +33,11 @@ fn tell_both(first: &[u8], second: &[u8], message: &mut [u8])
 fn tell_three(first: &[u8], second: &[u8], third: &[u8], message: &mut [u8])
     ensures { message.new ≡ told (first.now ++ (second.now ++ third.now)) message.old }
 {
-    let count = first.len();
-    if count >= message.len() {
-        tell(first, message);
-        return;
+    tell(first, message);
+    if first.len() < message.len() {
+        let (_, rest) = message.split_at_mut(first.len());
+        tell_both(second, third, rest);
     }
-    let (head, rest) = message.split_at_mut(count);
-    head.copy_from_slice(first);
-    tell_both(second, third, rest);
 }
 
 /// Tells a line and, where there is a reason, the reason as a second line.

@@ -1,10 +1,10 @@
-use Rattle.std.proofs.Common.{◌≡◌, ◌∙◌, ◌*◌, ◌^◌, ap, arith, sym, refl, length, ℕ, None}
+use Rattle.std.proofs.Common.{◌≡◌, ◌∙◌, ◌*◌, ◌^◌, ap, arith, sym, refl, [], length, ℕ, None}
 use Rattle.stark_support.specs.CosetFacts.{root_has_order, root_nonzero}
 use Rattle.stark_support.specs.FieldPair.{FieldsOps}
 use Rattle.stark_protocol.proofs.Carried.{on_ok}
 use Rattle.stark_prover.specs.Honest.{declared_row}
 use Rattle.guide_tests.specs.Counting.{counted_from}
-use Rattle.guide_tests.proofs.CountingSteps.{counted_length, degrees_fit, drawn_with, holds_in_each_row}
+use Rattle.guide_tests.proofs.CountingSteps.{counted_length, degrees_fit, drawn_with, fields_with, holds_in_each_row}
 use Rattle.guide_tests.proofs.counting.count.Goals as goal
 
 -- so many values in one column
@@ -20,6 +20,17 @@ prove_and_verify-requires-clause-height g c =
     let are = ap (λ v. v.items) c.new_col-trace.ensures.values ∙ c.in_ok-numbers.ensures ∙ ap (counted_from ring c.args.start 0) c.power_of_two.ensures in
     (c.args.log_height, height_of c.args.log_height _ _ (ap length are ∙ counted_length ring c.args.start 0 (2 ^ c.args.log_height)) c.new_col-trace.ensures.width, c.requires.within, tt)
 
+pub prove_and_verify-requires-clause-fits : goal.prove_and_verify-requires-clause-fits
+prove_and_verify-requires-clause-fits g c =
+    let one = c.new_col-trace.ensures.width in
+    record {
+      columns = omega (arith, one);
+      width = one;
+      publics = ap length (c.deref.ensures.value ∙ c.in_ok-publics.ensures);
+      there = refl;
+      stands = ([], refl, refl);
+    }
+
 pub returns : goal.returns
 returns g c = record {
   accepted =
@@ -29,19 +40,8 @@ returns g c = record {
       let h = c.args.log_height in
       let laws = g.met.SC.Pcs.Domain.Val.Field.field_laws in
       let two_adic = g.met.SC.Pcs.Domain.Val.TwoAdicField.two_adic in
-      let fields : FieldsOps g.row.SC-Pcs-Domain-Val.Denot g.row.SC-Challenge.Denot = record {
-        base = ring;
-        base_inverse = val.Field.inverse_of;
-        same = val.PartialEq.eq;
-        adicity = val.TwoAdicField.TWO_ADICITY;
-        root = val.TwoAdicField.root;
-        generator = val.Field.GENERATOR;
-        ring = challenge.Field.ring;
-        inverse = challenge.Field.inverse_of;
-        embed = challenge.ExtensionField.embed;
-        dimension = challenge.ExtensionField.DIMENSION;
-        basis = challenge.ExtensionField.basis;
-      } in
+      let fields : FieldsOps g.row.SC-Pcs-Domain-Val.Denot g.row.SC-Challenge.Denot =
+      fields_with ring val.Field.inverse_of val.PartialEq.eq val.TwoAdicField.TWO_ADICITY val.TwoAdicField.root val.Field.GENERATOR challenge.Field.ring challenge.Field.inverse_of challenge.ExtensionField.embed challenge.ExtensionField.DIMENSION challenge.ExtensionField.basis in
       let are = ap (λ v. v.items) c.new_col-trace.ensures.values ∙ c.in_ok-numbers.ensures ∙ ap (counted_from ring c.args.start 0) c.power_of_two.ensures in
       let is_public = c.deref.ensures.value ∙ c.in_ok-publics.ensures in
       on_ok _ _ c.prove_and_verify.result (λ made complete least whole drawn_here.

@@ -1,5 +1,5 @@
 //! Transforms over BabyBear's numbers in four ways, with the same butterflies and the same values:
-//! a number at a time, reduced by a division by a constant, as the crates do; a number at a time by
+//! a number at a time, reduced by a division by a constant, as a residue's product is; one by
 //! Montgomery's method; and by it in lanes, four of 32 bits and eight. Numbers stay plain: of each
 //! product the twiddle alone is in Montgomery's form, so that the product is plain again.
 //! `bench-lanes` builds it and runs it.

@@ -1,13 +1,14 @@
 -- What the program says of an input, and the line that says so.
 use Rattle.std.specs.Prelude.{ℕ, List, ◌++◌, codes}
+use Rattle.stark_transcript.specs.Errors.{shape_error_name}
 use Rattle.stark_answers.specs.declared.verdict.RunEnd.{RunEnd}
 use Rattle.stark_answers.specs.declared.verdict.RunEnd.TheVariants as ends
 use Rattle.stark_answers.specs.declared.verdict.Refusal.{Refusal}
-use Rattle.stark_answers.specs.declared.verdict.Refusal.TheVariants.{OodEvaluationMismatch, OodPointInDomain, PeriodicColumn, QuotientDomainTooLarge, Pcs, GrindExhausted, AirTooLarge, OutOfMemory, Proof}
-use Rattle.stark_answers.specs.Refusals.{proof_name_of}
+use Rattle.stark_answers.specs.declared.verdict.Refusal.TheVariants.{OodEvaluationMismatch, OodPointInDomain, PeriodicColumn, QuotientDomainTooLarge, Pcs, GrindExhausted, AirTooLarge, OutOfMemory, InvalidProofShape, InvalidOpeningArgument, RandomizationError, NextPointUnavailable, InvalidAlphaPowWitness, InvalidOodPowWitness}
 use Rattle.stark_answers.specs.declared.verdict.Verdict.{Verdict}
 use Rattle.stark_answers.specs.declared.verdict.Verdict.TheVariants as verdict
 
+-- the name that is written, of a shape's error its own
 abbrev pub name_of : Refusal → List ℕ
 name_of OodEvaluationMismatch = codes "OodEvaluationMismatch"
 name_of OodPointInDomain = codes "OodPointInDomain"
@@ -17,7 +18,12 @@ name_of Pcs = codes "Pcs"
 name_of GrindExhausted = codes "GrindExhausted"
 name_of AirTooLarge = codes "AirTooLarge"
 name_of OutOfMemory = codes "OutOfMemory"
-name_of (Proof why) = proof_name_of why
+name_of (InvalidProofShape fault) = shape_error_name fault
+name_of InvalidOpeningArgument = codes "InvalidOpeningArgument"
+name_of RandomizationError = codes "RandomizationError"
+name_of NextPointUnavailable = codes "NextPointUnavailable"
+name_of InvalidAlphaPowWitness = codes "InvalidAlphaPowWitness"
+name_of InvalidOodPowWitness = codes "InvalidOodPowWitness"
 
 -- what is written, with the newline
 abbrev pub line_of : Verdict → List ℕ

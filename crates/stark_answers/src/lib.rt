@@ -21,9 +21,7 @@ pub use contracts::AnswersWithColumns;
 pub use finding::{BrokenRow, Finding};
 pub use held::prove_with_held;
 pub use keyed::verify_with_key;
-pub use refusal::{
-    ProofRefusal, refusal_of_prover, verdict_of, words_of_failure, words_of_refusal,
-};
+pub use refusal::{refusal_of_prover, verdict_of, words_of_failure, words_of_refusal};
 pub use report::Report;
 pub use rows::log_rows_of;
 pub use shape::{CheckShape, have_length};

@@ -1,9 +1,9 @@
 //! What the program says of an input, and the line that says so.
 
-ghost use Rattle.std.specs.Prelude.{◌≡◌};
-ghost use Rattle.stark_answers.specs.Verdict.{line_of, end_of, status_of};
+ghost use Rattle.std.specs.Prelude.{◌≡◌, ◌++◌, codes};
+ghost use Rattle.stark_answers.specs.Verdict.{line_of, name_of, end_of, status_of};
 
-use crate::refusal::ProofRefusal;
+use stark_transcript::InvalidProofShapeError;
 
 /// How a run ends.
 #[derive(Clone, Copy, Debug, PartialEq, Eq)]
@@ -52,8 +52,42 @@ pub enum Refusal {
     AirTooLarge,
     /// A growth of memory was refused.
     OutOfMemory,
-    /// A proof is refused for a reason that no check of numbers finds.
-    Proof(ProofRefusal),
+    /// A proof's shape doesn't fit.
+    InvalidProofShape(InvalidProofShapeError),
+    /// The commitment scheme refuses a proof's openings.
+    InvalidOpeningArgument,
+    /// The random commitment or its opening is missing, or is there and isn't wanted.
+    RandomizationError,
+    /// The trace's domain has no next point.
+    NextPointUnavailable,
+    /// The witness of work before alpha doesn't pass.
+    InvalidAlphaPowWitness,
+    /// The witness of work before the out-of-domain point doesn't pass.
+    InvalidOodPowWitness,
+}
+
+impl Refusal {
+    /// The line that says it, with its newline.
+    fn line(self) -> &'static str
+        ensures { result.now ≡ codes "refused " ++ name_of self ++ codes "\n" }
+    {
+        match self {
+            Refusal::OodEvaluationMismatch => "refused OodEvaluationMismatch\n",
+            Refusal::OodPointInDomain => "refused OodPointInDomain\n",
+            Refusal::PeriodicColumn => "refused PeriodicColumn\n",
+            Refusal::QuotientDomainTooLarge => "refused QuotientDomainTooLarge\n",
+            Refusal::Pcs => "refused Pcs\n",
+            Refusal::GrindExhausted => "refused GrindExhausted\n",
+            Refusal::AirTooLarge => "refused AirTooLarge\n",
+            Refusal::OutOfMemory => "refused OutOfMemory\n",
+            Refusal::InvalidProofShape(fault) => fault.refusal_line(),
+            Refusal::InvalidOpeningArgument => "refused InvalidOpeningArgument\n",
+            Refusal::RandomizationError => "refused RandomizationError\n",
+            Refusal::NextPointUnavailable => "refused NextPointUnavailable\n",
+            Refusal::InvalidAlphaPowWitness => "refused InvalidAlphaPowWitness\n",
+            Refusal::InvalidOodPowWitness => "refused InvalidOodPowWitness\n",
+        }
+    }
 }
 
 /// What is said of an input.
@@ -76,15 +110,7 @@ impl Verdict {
     {
         match self {
             Verdict::Accepted => "accepted\n",
-            Verdict::Refused(Refusal::OodEvaluationMismatch) => "refused OodEvaluationMismatch\n",
-            Verdict::Refused(Refusal::OodPointInDomain) => "refused OodPointInDomain\n",
-            Verdict::Refused(Refusal::PeriodicColumn) => "refused PeriodicColumn\n",
-            Verdict::Refused(Refusal::QuotientDomainTooLarge) => "refused QuotientDomainTooLarge\n",
-            Verdict::Refused(Refusal::Pcs) => "refused Pcs\n",
-            Verdict::Refused(Refusal::GrindExhausted) => "refused GrindExhausted\n",
-            Verdict::Refused(Refusal::AirTooLarge) => "refused AirTooLarge\n",
-            Verdict::Refused(Refusal::OutOfMemory) => "refused OutOfMemory\n",
-            Verdict::Refused(Refusal::Proof(why)) => why.line(),
+            Verdict::Refused(why) => why.line(),
             Verdict::BadInput => "bad input\n",
             Verdict::OutOfMemory => "out of memory\n",
         }

@@ -33,7 +33,7 @@ use Rattle.stark_answers.specs.declared.shape.CheckShape.{CheckShape}
 use Rattle.stark_answers.specs.declared.verdict.Verdict.{Verdict}
 use Rattle.stark_answers.specs.declared.verdict.Verdict.TheVariants as verdict
 use Rattle.stark_answers.specs.declared.verdict.Verdict.TheVariants.{Accepted, Refused, BadInput}
-use Rattle.stark_answers.specs.declared.verdict.Refusal.TheVariants.{OodPointInDomain, OodEvaluationMismatch, PeriodicColumn, QuotientDomainTooLarge, Pcs, GrindExhausted, AirTooLarge, OutOfMemory, Proof}
+use Rattle.stark_answers.specs.declared.verdict.Refusal.TheVariants.{OodPointInDomain, OodEvaluationMismatch, PeriodicColumn, QuotientDomainTooLarge, Pcs, GrindExhausted, AirTooLarge, OutOfMemory, InvalidProofShape, InvalidOpeningArgument, RandomizationError, NextPointUnavailable, InvalidAlphaPowWitness, InvalidOodPowWitness}
 
 -- A verdict that tells an equation is the function of its sides, or memory is wanting.
 module _ {K : Type 0} {ring : RingOps K} {inverse : K → K} (laws : FieldLaws ring inverse) (left right : K) where
@@ -47,7 +47,12 @@ module _ {K : Type 0} {ring : RingOps K} {inverse : K → K} (laws : FieldLaws r
   told_by (Refused GrindExhausted) h = absurd h
   told_by (Refused AirTooLarge) h = absurd h
   told_by (Refused OutOfMemory) h = inr refl
-  told_by (Refused (Proof why)) h = absurd h
+  told_by (Refused (InvalidProofShape fault)) h = absurd h
+  told_by (Refused InvalidOpeningArgument) h = absurd h
+  told_by (Refused RandomizationError) h = absurd h
+  told_by (Refused NextPointUnavailable) h = absurd h
+  told_by (Refused InvalidAlphaPowWitness) h = absurd h
+  told_by (Refused InvalidOodPowWitness) h = absurd h
   told_by BadInput h = absurd h
   told_by verdict.OutOfMemory h = absurd h
 

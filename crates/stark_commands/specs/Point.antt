@@ -11,7 +11,7 @@ use Rattle.stark_protocol.specs.Equation.{OpenedRows, EquationHolds}
 use Rattle.stark_protocol.specs.Sizes.{chunk_shifts}
 use Rattle.stark_answers.specs.declared.verdict.Verdict.{Verdict}
 use Rattle.stark_answers.specs.declared.verdict.Verdict.TheVariants as verdict
-use Rattle.stark_answers.specs.declared.verdict.Refusal.TheVariants.{OodPointInDomain, OodEvaluationMismatch, PeriodicColumn, QuotientDomainTooLarge, Pcs, GrindExhausted, AirTooLarge, OutOfMemory, Proof}
+use Rattle.stark_answers.specs.declared.verdict.Refusal.TheVariants.{OodPointInDomain, OodEvaluationMismatch, PeriodicColumn, QuotientDomainTooLarge, Pcs, GrindExhausted, AirTooLarge, OutOfMemory, InvalidProofShape, InvalidOpeningArgument, RandomizationError, NextPointUnavailable, InvalidAlphaPowWitness, InvalidOodPowWitness}
 
 -- The verdict says whether a fact holds, unless memory is wanting.
 abbrev pub TellsEquation : Type 0 → Verdict → Type 0
@@ -24,7 +24,12 @@ TellsEquation Holds (verdict.Refused Pcs) = ⊥
 TellsEquation Holds (verdict.Refused GrindExhausted) = ⊥
 TellsEquation Holds (verdict.Refused AirTooLarge) = ⊥
 TellsEquation Holds (verdict.Refused OutOfMemory) = Unit {0}
-TellsEquation Holds (verdict.Refused (Proof why)) = ⊥
+TellsEquation Holds (verdict.Refused (InvalidProofShape fault)) = ⊥
+TellsEquation Holds (verdict.Refused InvalidOpeningArgument) = ⊥
+TellsEquation Holds (verdict.Refused RandomizationError) = ⊥
+TellsEquation Holds (verdict.Refused NextPointUnavailable) = ⊥
+TellsEquation Holds (verdict.Refused InvalidAlphaPowWitness) = ⊥
+TellsEquation Holds (verdict.Refused InvalidOodPowWitness) = ⊥
 TellsEquation Holds verdict.BadInput = ⊥
 TellsEquation Holds verdict.OutOfMemory = ⊥
 

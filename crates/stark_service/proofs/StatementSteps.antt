@@ -91,7 +91,12 @@ kept_refusal refusal.Pcs = inr refl
 kept_refusal refusal.GrindExhausted = inr refl
 kept_refusal refusal.AirTooLarge = inr refl
 kept_refusal refusal.OutOfMemory = inl refl
-kept_refusal (refusal.Proof why) = inr refl
+kept_refusal (refusal.InvalidProofShape fault) = inr refl
+kept_refusal refusal.InvalidOpeningArgument = inr refl
+kept_refusal refusal.RandomizationError = inr refl
+kept_refusal refusal.NextPointUnavailable = inr refl
+kept_refusal refusal.InvalidAlphaPowWitness = inr refl
+kept_refusal refusal.InvalidOodPowWitness = inr refl
 
 -- A verdict is kept, unless memory was wanting.
 kept_verdict : (v : Verdict) → (unjudged v ≡ verdict.OutOfMemory) ⊎ (unjudged v ≡ v)

@@ -1,6 +1,6 @@
 //! Why a proof is refused.
-ghost use Rattle.std.specs.Prelude.{◌≡◌};
-ghost use Rattle.stark_transcript.specs.Errors.{IsFaultIn, transcript_error};
+ghost use Rattle.std.specs.Prelude.{◌≡◌, ◌++◌, codes};
+ghost use Rattle.stark_transcript.specs.Errors.{IsFaultIn, shape_error_name, transcript_error};
 ghost use Rattle.stark_transcript.specs.declared.error.VerificationError.TheVariants.{InvalidProofShape, PeriodicColumn, OutOfMemory};
 
 use crate::shape::{GrindExhausted, StarkTranscriptFailure};
@@ -10,7 +10,7 @@ use thiserror::Error;
 
 /// What of a proof's shape doesn't fit the AIR, the key or the scheme. Where `air` is named, it is
 /// the instance at fault, None where a proof has one instance alone.
-#[derive(Debug, Drop, Error)]
+#[derive(Clone, Copy, Debug, PartialEq, Eq, Error)]
 pub enum InvalidProofShapeError {
     /// There are more or fewer instances than parts of the proof. Carried for proofs of several
     /// instances.
@@ -135,6 +135,41 @@ pub enum InvalidProofShapeError {
     /// No witness is asked for, and the proof has one that isn't zero.
     #[error("a witness that isn't zero where none is asked for")]
     NonCanonicalOodPowWitness,
+}
+
+impl InvalidProofShapeError {
+    /// The line that says that a proof is refused for it, with its newline.
+    pub fn refusal_line(self) -> &'static str
+        ensures { result.now ≡ codes "refused " ++ shape_error_name self ++ codes "\n" }
+    {
+        match self {
+            Self::InstanceCountMismatch => "refused InstanceCountMismatch\n",
+            Self::TraceLocalWidthMismatch { .. } => "refused TraceLocalWidthMismatch\n",
+            Self::TraceNextMismatch { .. } => "refused TraceNextMismatch\n",
+            Self::UnexpectedTraceNext { .. } => "refused UnexpectedTraceNext\n",
+            Self::UnexpectedPreprocessedNext { .. } => "refused UnexpectedPreprocessedNext\n",
+            Self::QuotientChunksCountMismatch { .. } => "refused QuotientChunksCountMismatch\n",
+            Self::QuotientChunkDimensionMismatch { .. } =>
+                "refused QuotientChunkDimensionMismatch\n",
+            Self::QuotientDomainsCountMismatch { .. } => "refused QuotientDomainsCountMismatch\n",
+            Self::PreprocessedTraceWidthMismatch { .. } =>
+                "refused PreprocessedTraceWidthMismatch\n",
+            Self::PreprocessedVerifierKeyInconsistency =>
+                "refused PreprocessedVerifierKeyInconsistency\n",
+            Self::PreprocessedDegreeMismatch { .. } => "refused PreprocessedDegreeMismatch\n",
+            Self::PreprocessedWidthMismatch { .. } => "refused PreprocessedWidthMismatch\n",
+            Self::UnexpectedPreprocessedValues { .. } => "refused UnexpectedPreprocessedValues\n",
+            Self::DegreeBitsTooSmall { .. } => "refused DegreeBitsTooSmall\n",
+            Self::DegreeBitsTooLarge { .. } => "refused DegreeBitsTooLarge\n",
+            Self::QuotientDomainTooLarge { .. } => "refused QuotientDomainTooLarge\n",
+            Self::MissingPreprocessedValues { .. } => "refused MissingPreprocessedValues\n",
+            Self::PreprocessedMetadataMismatch { .. } => "refused PreprocessedMetadataMismatch\n",
+            Self::PublicValuesLengthMismatch { .. } => "refused PublicValuesLengthMismatch\n",
+            Self::OpenedValuesDimensionMismatch => "refused OpenedValuesDimensionMismatch\n",
+            Self::NonCanonicalAlphaPowWitness => "refused NonCanonicalAlphaPowWitness\n",
+            Self::NonCanonicalOodPowWitness => "refused NonCanonicalOodPowWitness\n",
+        }
+    }
 }
 
 /// Why a verifier refuses a proof; `PcsErr` is the error of the commitment scheme.

@@ -2,7 +2,7 @@
 ghost use Rattle.std.specs.Prelude.{◌≡◌, ◌≢◌, ◌<◌, ◌≤◌, ◌+◌, ◌*◌, ◌/◌, ◌%◌, ◌^◌, ◌++◌, IfSome, OnOk, Some, length, option_map, take};
 ghost use Rattle.std.specs.List.{slice_get};
 ghost use Rattle.stark_support.specs.PeriodicTable.{table_at};
-ghost use Rattle.stark_quotient.specs.PointwiseQuotient.{rows_in, rows_or_none};
+ghost use Rattle.stark_quotient.specs.PointwiseQuotient.{rows_or_none};
 ghost use Rattle.stark_quotient.specs.PackedParts.{GoesOnAlike, HasColumnFrom, HasRowPairs, HasValuesFrom, HaveColumnsFrom};
 
 use stark_support::{
@@ -64,29 +64,8 @@ pub(crate) fn packed_selectors<F: Field, P: PackedValue<Value = F>>(
 
 /// Puts the packed values of the rows `r`, `r + 1`, .. in a lent buffer, in place of what it has, a
 /// value a column and a row a lane, and behind them those of the rows that lie `step` further; all
-/// are taken round the end.
-fn packed_pair<F: Field, P: PackedValue<Value = F>>(
-    matrix: &RowMajorMatrix<F>,
-    r: usize,
-    step: usize,
-    pair: &mut Vec<P>,
-    next: &mut Vec<P>,
-) -> Result<(), AllocError>
-    requires room { r + step < 2 ^ 64 }
-    requires rows { 0 < length matrix.now.values.items / matrix.now.width }
-    ensures number { OnOk result (length pair.new.items ≡ 2 * matrix.now.width) }
-    ensures lanes { OnOk result (HasRowPairs P.lanes P.WIDTH F.ring.zero (rows_in matrix.now) r step
-        pair.new.items) }
-{
-    matrix.vertically_packed_row_into(r, pair)?;
-    matrix.vertically_packed_row_into(r + step, next)?;
-    pair.extend_from_slice(next.as_slice())?;
-    Ok(())
-}
-
-/// `packed_pair` of a matrix that may not be there, or may have no columns: then there are no
-/// values.
-pub(crate) fn packed_pair_or_none<F: Field, P: PackedValue<Value = F>>(
+/// are taken round the end. Of a matrix that isn't there, or has no columns, there are none.
+pub(crate) fn packed_pair<F: Field, P: PackedValue<Value = F>>(
     matrix: Option<&RowMajorMatrix<F>>,
     r: usize,
     step: usize,
@@ -102,12 +81,14 @@ pub(crate) fn packed_pair_or_none<F: Field, P: PackedValue<Value = F>>(
         r step pair.new.items) }
 {
     match matrix {
-        Some(matrix) if matrix.width > 0 => packed_pair(matrix, r, step, pair, next),
-        _ => {
-            pair.clear();
-            Ok(())
+        Some(matrix) if matrix.width > 0 => {
+            matrix.vertically_packed_row_into(r, pair)?;
+            matrix.vertically_packed_row_into(r + step, next)?;
+            pair.extend_from_slice(next.as_slice())?;
         }
+        _ => pair.clear(),
     }
+    Ok(())
 }
 
 /// The value of a column in the row that lies `lane` after row `start`.

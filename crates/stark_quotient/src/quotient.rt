@@ -11,7 +11,7 @@ ghost use Rattle.stark_quotient.specs.PreparedCoset.{AreQuotientsOn, FitsRows, H
 
 use crate::group_eval::GroupEval;
 use crate::packed_rows::{
-    packed_pair_or_none, packed_selectors, packed_table_row, push_lanes, row_in_period,
+    packed_pair, packed_selectors, packed_table_row, push_lanes, row_in_period,
 };
 use crate::plain_eval::{AlphaPowers, PackedGroup, PackedRows, PlainEval};
 use crate::vectorized_eval::{QUOTIENT_ILP, VectorizedEval};
@@ -135,14 +135,14 @@ fn fill_rows<SC: StarkGenericConfig, P: PackedValue<Value = Val<SC>>>(
     ensures periodic { OnOk result (HaveColumnsFrom P.lanes P.WIDTH on.now.periodic start
         rows.new.periodic_values.items) }
 {
-    packed_pair_or_none(
+    packed_pair(
         Some(on.main),
         start,
         on.step,
         &mut rows.main,
         &mut rows.next,
     )?;
-    packed_pair_or_none(
+    packed_pair(
         on.preprocessed,
         start,
         on.step,

@@ -2,8 +2,8 @@
 use p3_uni_stark::{ConstraintCheckError, check_declared};
 use stark_fields::F12289;
 use stark_support::{PrimeField64, value_from_bytes};
+use stark_test_cases::read_all;
 use stark_test_proofs::{is_trace_of, matrix_of, stands_at};
-use stark_test_rows::read_all;
 use stark_tree_air::TreeAir;
 use std::alloc::Global;
 use std::test::Fail;
@@ -33,13 +33,13 @@ pub fn spelled(alloc: Global, text: &str) -> Result<TreeAir<F12289>, Fail> {
 pub fn checked(alloc: Global, rows: &Rows) -> Result<String, Fail> {
     let air = spelled(alloc, rows.air)?;
     let trace = matrix_of(&air, read_all::<F12289>(alloc, rows.trace)?)?;
-    let publics = read_all::<F12289>(alloc, rows.public_values)?;
-    if !is_trace_of(&air, rows.log_height, &trace, &publics)
+    let public_values = read_all::<F12289>(alloc, rows.public_values)?;
+    if !is_trace_of(&air, rows.log_height, &trace, &public_values)
         || !stands_at(alloc, &air, rows.log_height)?
     {
         return Err(Fail::new("other rows"));
     }
-    match check_declared(alloc, &air, &trace, &publics) {
+    match check_declared(alloc, &air, &trace, &public_values) {
         Ok(()) => Ok(String::from_str(alloc, "satisfied")?),
         Err(ConstraintCheckError::Violation(violation)) => {
             let (row, constraint) = (violation.row, violation.constraint);

@@ -11,8 +11,8 @@ use stark_clear::ClearPcs;
 use stark_fields::{Ext4, F12289};
 use stark_parts::Com;
 use stark_protocol::PcsProverData;
+use stark_test_cases::read_all;
 use stark_test_proofs::{is_trace_of, matrix_of};
-use stark_test_rows::read_all;
 use std::alloc::Global;
 use std::test::Fail;
 
@@ -28,13 +28,15 @@ pub fn configuration() -> Config {
 pub fn proved<'p>(alloc: Global, config: &'p Config, rows: &Rows) -> Result<String, Fail> {
     let air = spelled(alloc, rows.air)?;
     let trace = matrix_of(&air, read_all::<F12289>(alloc, rows.trace)?)?;
-    let publics = read_all::<F12289>(alloc, rows.public_values)?;
-    if !is_trace_of(&air, rows.log_height, &trace, &publics) || air.preprocessed_width() != 0 {
+    let public_values = read_all::<F12289>(alloc, rows.public_values)?;
+    if !is_trace_of(&air, rows.log_height, &trace, &public_values)
+        || air.preprocessed_width() != 0
+    {
         return Err(Fail::new("other rows"));
     }
-    let held: Option<&'p PreprocessedProverData<Com<Config>, PcsProverData<Config>>> = None;
-    match prove_checked(alloc, config, &air, trace, &publics, held) {
-        Ok(proof) => match verify(alloc, config, &air, &proof, &publics) {
+    let data: Option<&'p PreprocessedProverData<Com<Config>, PcsProverData<Config>>> = None;
+    match prove_checked(alloc, config, &air, trace, &public_values, data) {
+        Ok(proof) => match verify(alloc, config, &air, &proof, &public_values) {
             Ok(()) => Ok(String::from_str(alloc, "accepted")?),
             Err(_) => Ok(String::from_str(alloc, "refused")?),
         },

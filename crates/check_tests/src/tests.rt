@@ -28,7 +28,7 @@ const PREPROCESSED: &str =
 const EXTENSION: &str =
     r#"{"width":2,"publics":0,"periodic":[],"constants":[7],"nodes":[["main",0],["main",1],["mul",0,1],["constant",0],["sub",2,3]],"constraints":[{"ext":4},{"base":4}]}"#;
 
-// The same the other way round.
+// A product is 7 over the base field, and then over the extension.
 const BASE_FIRST: &str =
     r#"{"width":2,"publics":0,"periodic":[],"constants":[7],"nodes":[["main",0],["main",1],["mul",0,1],["constant",0],["sub",2,3],["sub",0,3]],"constraints":[{"base":5},{"ext":4}]}"#;
 

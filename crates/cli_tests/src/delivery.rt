@@ -5,7 +5,7 @@ ghost use Rattle.std.specs.Prelude.{◌≡◌, false};
 use crate::program::{Program, both_inputs, verb_of};
 use crate::runs::{end_of, words_of, written};
 use crate::streams::FailingWriter;
-use crate::table::{Row, bytes_of, rows_of};
+use crate::table::{Case, bytes_of, cases_of};
 use stark_answers::RunEnd;
 use stark_cli::statements::{Delivered, run, run_to};
 use stark_cli::{StageLines, WatchedWriter};
@@ -34,16 +34,16 @@ fn failing(alloc: Global, writes: usize) -> WatchedWriter<FailingWriter>
     })
 }
 
-/// The run of a row, whose output and writer take so many bytes each.
+/// The run of a case, whose output and writer take so many bytes each.
 fn deliver(
     alloc: Global,
-    row: &Row,
+    case: &Case,
     writes: usize,
     progress: &mut impl Progress,
 ) -> Result<Delivery, Fail> {
-    let words = words_of(alloc, &row.commands)?;
+    let words = words_of(alloc, &case.commands)?;
     let verb = verb_of(&words).ok_or("no verb")?;
-    let input = bytes_of(alloc, &row.input)?;
+    let input = bytes_of(alloc, &case.input)?;
     let (mut statement, mut second) = both_inputs(&input);
     let mut output = failing(alloc, writes);
     let mut writer = failing(alloc, writes);
@@ -63,38 +63,38 @@ fn deliver(
     })
 }
 
-/// Asserts that a row's run says what the row asks for, or the front of it that its output and its
-/// writer take, byte by byte: of a proof the output has it, and the writer nothing, and of anything
-/// else the writer, and the output nothing. Answers how many runs that took.
-fn taken_at_each_write(rt: &impl Abort, alloc: Global, row: &Row) -> Result<usize, Fail> {
-    let lines = written(alloc, row)?;
-    let is_proof = row.lines.starts_with('{');
+/// Asserts that a case's run says what the case asks for, or the front of it that its output and
+/// its writer take, byte by byte: of a proof the output has it, and the writer nothing, and of
+/// anything else the writer, and the output nothing. Answers how many runs that took.
+fn taken_at_each_write(rt: &impl Abort, alloc: Global, case: &Case) -> Result<usize, Fail> {
+    let lines = written(alloc, case)?;
+    let is_proof = case.lines.starts_with('{');
     for writes in 0..lines.len() + 1 {
-        let what = format!(in alloc; "{writes} writes: {}", row.written)?;
-        let found = deliver(alloc, row, writes, &mut Silent)?;
+        let what = format!(in alloc; "{writes} writes: {}", case.written)?;
+        let outcome = deliver(alloc, case, writes, &mut Silent)?;
         let end = if writes < lines.len() {
             RunEnd::OutputFailed
         } else {
-            end_of(&row.lines)
+            end_of(&case.lines)
         };
         let (has_it, has_nothing) = if is_proof {
-            (&found.output, &found.lines)
+            (&outcome.output, &outcome.lines)
         } else {
-            (&found.lines, &found.output)
+            (&outcome.lines, &outcome.output)
         };
-        assert_eq!(rt; found.ended.is_proof, is_proof, "{what}");
-        assert_eq!(rt; found.ended.ended.end, end, "{what}");
+        assert_eq!(rt; outcome.ended.is_proof, is_proof, "{what}");
+        assert_eq!(rt; outcome.ended.ended.end, end, "{what}");
         assert_eq!(rt; has_it.as_slice(), &lines[..writes], "{what}");
         assert!(rt; has_nothing.is_empty(), "{what}");
     }
     Ok(lines.len() + 1)
 }
 
-/// What is told of the stages of a row's run that writes all to one writer.
-fn stages_of(alloc: Global, row: &Row) -> Result<Vec<u8>, Fail> {
-    let words = words_of(alloc, &row.commands)?;
+/// What is told of the stages of a case's run that writes all to one writer.
+fn stages_of(alloc: Global, case: &Case) -> Result<Vec<u8>, Fail> {
+    let words = words_of(alloc, &case.commands)?;
     let verb = verb_of(&words).ok_or("no verb")?;
-    let input = bytes_of(alloc, &row.input)?;
+    let input = bytes_of(alloc, &case.input)?;
     let (mut statement, mut second) = both_inputs(&input);
     let mut stages = StageLines::new(Vec::new(alloc));
     let _ended = run::<NamedFields, _, _, _, _>(
@@ -108,19 +108,19 @@ fn stages_of(alloc: Global, row: &Row) -> Result<Vec<u8>, Fail> {
     Ok(stages.into_inner())
 }
 
-/// Asserts that of a row's run the stages are told that it asks for, with an output and without
+/// Asserts that of a case's run the stages are told that it asks for, with an output and without
 /// one.
-fn assert_staged(rt: &impl Abort, alloc: Global, row: &Row) -> Result<(), Fail> {
-    let wanted = written(alloc, row)?;
+fn assert_staged(rt: &impl Abort, alloc: Global, case: &Case) -> Result<(), Fail> {
+    let wanted = written(alloc, case)?;
     let mut stages = Some(StageLines::new(Vec::new(alloc)));
-    let _delivery = deliver(alloc, row, usize::MAX, &mut stages)?;
-    let told = stages
+    let _delivery = deliver(alloc, case, usize::MAX, &mut stages)?;
+    let notices = stages
         .map(|lines| lines.into_inner())
         .unwrap_or(Vec::new(alloc));
-    let what = &row.written;
-    assert_eq!(rt; told.as_slice(), wanted.as_slice(), "{what}");
+    let what = &case.written;
+    assert_eq!(rt; notices.as_slice(), wanted.as_slice(), "{what}");
     assert_eq!(rt;
-        stages_of(alloc, row)?.as_slice(),
+        stages_of(alloc, case)?.as_slice(),
         wanted.as_slice(),
         "{what}"
     );
@@ -132,7 +132,7 @@ fn assert_staged(rt: &impl Abort, alloc: Global, row: &Row) -> Result<(), Fail> 
 pub(crate) enum Told {
     /// What each leaves in its output and its writer, wherever these fail.
     Delivery,
-    /// That of each the stages are told that its row asks for.
+    /// That of each the stages are told that its case asks for.
     Stages,
 }
 
@@ -140,16 +140,16 @@ pub(crate) enum Told {
 pub(crate) fn all_told(
     rt: &impl Abort,
     alloc: Global,
-    told: Told,
+    stage: Told,
     table: &str,
     count: usize,
 ) -> Result<(), Fail> {
     let mut runs = 0usize;
-    for row in &rows_of(alloc, Program::Voskligan, table)? {
-        let more = match told {
-            Told::Delivery => taken_at_each_write(rt, alloc, row)?,
+    for case in &cases_of(alloc, Program::Voskligan, table)? {
+        let more = match stage {
+            Told::Delivery => taken_at_each_write(rt, alloc, case)?,
             Told::Stages => {
-                assert_staged(rt, alloc, row)?;
+                assert_staged(rt, alloc, case)?;
                 1
             }
         };

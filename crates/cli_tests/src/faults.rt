@@ -1,7 +1,7 @@
 //! Runs that are cut off, whose streams fail, whose words name nothing, or that have no memory.
 use crate::program::Program;
 use crate::runs::{Faults, NO_FAULTS, end_of, is_said, run_at_once, run_slowly, words_of, written};
-use crate::table::{Row, bytes_of, rows_of};
+use crate::table::{Case, bytes_of, cases_of};
 use stark_answers::RunEnd;
 use std::alloc::Global;
 use std::process::Abort;
@@ -18,71 +18,71 @@ pub(crate) enum Spoiled {
     Write,
 }
 
-/// Asserts that a row's input, cut before any byte, isn't read, and answers how many runs that
+/// Asserts that a case's input, cut before any byte, isn't read, and answers how many runs that
 /// took.
-fn cut_before_each(rt: &impl Abort, alloc: Global, row: &Row) -> Result<usize, Fail> {
-    let words = words_of(alloc, &row.commands)?;
-    let input = bytes_of(alloc, &row.input)?;
+fn cut_before_each(rt: &impl Abort, alloc: Global, case: &Case) -> Result<usize, Fail> {
+    let words = words_of(alloc, &case.commands)?;
+    let input = bytes_of(alloc, &case.input)?;
     for length in 0..input.len() {
-        let what = format!(in alloc; "before byte {length}: {}", row.written)?;
-        let found = run_at_once(
+        let what = format!(in alloc; "before byte {length}: {}", case.written)?;
+        let outcome = run_at_once(
             alloc,
-            row.program,
+            case.program,
             &words,
             &input[..length],
             Vec::new(alloc),
         );
-        is_said(rt, &found, RunEnd::NotJudged, b"bad input\n", &what);
+        is_said(rt, &outcome, RunEnd::NotJudged, b"bad input\n", &what);
     }
     Ok(input.len())
 }
 
-/// Asserts that a row's run ends by its reader alone where a read fails, which is any but the last,
-/// after which all was read.
-fn failing_at_each_read(rt: &impl Abort, alloc: Global, row: &Row) -> Result<usize, Fail> {
-    let words = words_of(alloc, &row.commands)?;
-    let input = bytes_of(alloc, &row.input)?;
-    let lines = written(alloc, row)?;
-    let needed = row.program.reads_of(&input);
+/// Asserts that a case's run ends by its reader alone where a read fails, which is any but the
+/// last, after which all was read.
+fn failing_at_each_read(rt: &impl Abort, alloc: Global, case: &Case) -> Result<usize, Fail> {
+    let words = words_of(alloc, &case.commands)?;
+    let input = bytes_of(alloc, &case.input)?;
+    let lines = written(alloc, case)?;
+    let needed = case.program.reads_of(&input);
     for reads in 0..needed.saturating_add(1) {
-        let what = format!(in alloc; "{reads} reads: {}", row.written)?;
+        let what = format!(in alloc; "{reads} reads: {}", case.written)?;
         let faults = Faults { reads, ..NO_FAULTS };
-        let found = run_slowly(alloc, row.program, &words, &input, faults);
+        let outcome = run_slowly(alloc, case.program, &words, &input, faults);
         if reads < needed {
-            is_said(rt, &found, RunEnd::InputFailed, b"", &what);
+            is_said(rt, &outcome, RunEnd::InputFailed, b"", &what);
         } else {
-            is_said(rt, &found, end_of(&row.lines), &lines, &what);
+            is_said(rt, &outcome, end_of(&case.lines), &lines, &what);
         }
     }
     Ok(needed.saturating_add(1))
 }
 
-/// Asserts that a row's run ends by its writer where a write fails, and has written the front of
+/// Asserts that a case's run ends by its writer where a write fails, and has written the front of
 /// its lines. A writer that takes nothing has failed too.
-fn failing_at_each_write(rt: &impl Abort, alloc: Global, row: &Row) -> Result<usize, Fail> {
-    let words = words_of(alloc, &row.commands)?;
-    let input = bytes_of(alloc, &row.input)?;
-    let lines = written(alloc, row)?;
+fn failing_at_each_write(rt: &impl Abort, alloc: Global, case: &Case) -> Result<usize, Fail> {
+    let words = words_of(alloc, &case.commands)?;
+    let input = bytes_of(alloc, &case.input)?;
+    let lines = written(alloc, case)?;
     for writes in 0..lines.len() + 1 {
-        let what = format!(in alloc; "{writes} writes: {}", row.written)?;
+        let what = format!(in alloc; "{writes} writes: {}", case.written)?;
         let faults = Faults {
             writes,
             ..NO_FAULTS
         };
-        let found = run_slowly(alloc, row.program, &words, &input, faults);
+        let outcome = run_slowly(alloc, case.program, &words, &input, faults);
         let end = if writes < lines.len() {
             RunEnd::OutputFailed
         } else {
-            end_of(&row.lines)
+            end_of(&case.lines)
         };
-        is_said(rt, &found, end, &lines[..writes], &what);
+        is_said(rt, &outcome, end, &lines[..writes], &what);
     }
     let full = Faults {
         full: true,
         ..NO_FAULTS
     };
-    let found = run_slowly(alloc, row.program, &words, &input, full);
-    is_said(rt, &found, RunEnd::OutputFailed, b"", &row.written);
+    let outcome = run_slowly(alloc, case.program, &words, &input, full);
+    is_said(rt, &outcome, RunEnd::OutputFailed, b"", &case.written);
     Ok(lines.len() + 2)
 }
 
@@ -96,13 +96,13 @@ pub(crate) fn all_spoiled(
     table: &str,
     count: usize,
 ) -> Result<(), Fail> {
-    let rows = rows_of(alloc, program, table)?;
+    let cases = cases_of(alloc, program, table)?;
     let mut runs = 0usize;
-    for row in &rows {
+    for case in &cases {
         let more = match spoiled {
-            Spoiled::Cut => cut_before_each(rt, alloc, row)?,
-            Spoiled::Read => failing_at_each_read(rt, alloc, row)?,
-            Spoiled::Write => failing_at_each_write(rt, alloc, row)?,
+            Spoiled::Cut => cut_before_each(rt, alloc, case)?,
+            Spoiled::Read => failing_at_each_read(rt, alloc, case)?,
+            Spoiled::Write => failing_at_each_write(rt, alloc, case)?,
         };
         runs = runs.saturating_add(more);
     }
@@ -126,8 +126,8 @@ pub(crate) fn all_unknown(
     let mut runs = 0usize;
     for text in lines.lines() {
         let words = words_of(alloc, text)?;
-        let found = run_slowly(alloc, program, &words, b"", unread);
-        is_said(rt, &found, RunEnd::NotJudged, b"bad input\n", text);
+        let outcome = run_slowly(alloc, program, &words, b"", unread);
+        is_said(rt, &outcome, RunEnd::NotJudged, b"bad input\n", text);
         runs = runs.saturating_add(1);
     }
     assert_eq!(rt; runs, count);
@@ -150,15 +150,15 @@ pub(crate) fn written_or_no_memory(
     let Ok(words) = words_of(alloc, command) else {
         return Ok(());
     };
-    let Ok(held) = Vec::with_capacity(alloc, 512) else {
+    let Ok(room) = Vec::with_capacity(alloc, 512) else {
         return Ok(());
     };
-    let found = run_at_once(alloc, program, &words, input.as_bytes(), held);
-    if found.end == RunEnd::Accepted {
-        is_said(rt, &found, RunEnd::Accepted, lines, "");
+    let outcome = run_at_once(alloc, program, &words, input.as_bytes(), room);
+    if outcome.end == RunEnd::Accepted {
+        is_said(rt, &outcome, RunEnd::Accepted, lines, "");
     } else {
         let (end, line) = program.no_memory();
-        is_said(rt, &found, end, line, "");
+        is_said(rt, &outcome, end, line, "");
     }
     Ok(())
 }

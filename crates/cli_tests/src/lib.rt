@@ -3,23 +3,23 @@
 #![tactic(auto)]
 
 #[cfg(test)]
-mod check_rows;
+mod check_cases;
 #[cfg(test)]
 mod delivery;
 #[cfg(test)]
-mod fault_rows;
+mod fault_cases;
 #[cfg(test)]
 mod faults;
 #[cfg(test)]
-mod hostile_rows;
+mod hostile_cases;
 #[cfg(test)]
-mod limit_rows;
+mod limit_cases;
 #[cfg(test)]
 mod limit_tests;
 #[cfg(test)]
 mod program;
 #[cfg(test)]
-mod prove_rows;
+mod prove_cases;
 #[cfg(test)]
 mod runs;
 #[cfg(test)]
@@ -31,9 +31,9 @@ mod tests;
 #[cfg(test)]
 mod texts;
 #[cfg(test)]
-mod verify_rows;
+mod verify_cases;
 #[cfg(test)]
-mod voskligan_rows;
+mod voskligan_cases;
 #[cfg(test)]
 mod voskligan_tests;
 #[cfg(test)]

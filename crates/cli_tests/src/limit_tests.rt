@@ -1,12 +1,12 @@
-use crate::limit_rows::LIMITS;
+use crate::limit_cases::LIMITS;
 use crate::program::{Program, both_inputs};
-use crate::table::{bytes_of, rows_of};
+use crate::table::{bytes_of, cases_of};
 use stark_bench::F12289;
 use stark_statement::{AirLimits, Statement};
 use std::alloc::{AllocError, Global};
 use std::test::Fail;
 
-/// The limits of a row, in the order of their fields.
+/// The limits of a case, in the order of their fields.
 fn limits_of(alloc: Global, text: &str) -> Result<AirLimits, Fail> {
     let mut numbers = Vec::new(alloc);
     for word in text.split_ascii_whitespace() {
@@ -38,12 +38,12 @@ fn answer(alloc: Global, limits: AirLimits, text: &[u8]) -> Result<String, Fail>
 fn airs_against_limits(rt: HostRuntime) -> Result<(), Fail> {
     let alloc = rt.alloc();
     let mut done = 0usize;
-    for row in &rows_of(alloc, Program::Voskligan, LIMITS)? {
-        let given = bytes_of(alloc, &row.input)?;
+    for case in &cases_of(alloc, Program::Voskligan, LIMITS)? {
+        let given = bytes_of(alloc, &case.input)?;
         let (statement, _second) = both_inputs(&given);
-        let said = answer(alloc, limits_of(alloc, &row.commands)?, statement)?;
-        let written = &row.written;
-        assert_eq!(rt; said.as_str(), row.lines.as_str(), "{written}");
+        let said = answer(alloc, limits_of(alloc, &case.commands)?, statement)?;
+        let written = &case.written;
+        assert_eq!(rt; said.as_str(), case.lines.as_str(), "{written}");
         done = done.saturating_add(1);
     }
     assert_eq!(rt; done, 20);

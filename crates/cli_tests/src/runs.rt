@@ -1,7 +1,7 @@
 //! Runs of commands on bytes in memory, and what is asserted of them.
 use crate::program::{Program, both_inputs};
 use crate::streams::{FailingReader, FailingWriter};
-use crate::table::{Row, bytes_of, rows_of};
+use crate::table::{Case, bytes_of, cases_of};
 use stark_answers::RunEnd;
 use stark_cli::{WatchedReader, WatchedWriter};
 use std::alloc::{AllocError, Global};
@@ -47,16 +47,16 @@ fn inputs_of(program: Program, input: &[u8]) -> (&[u8], &[u8]) {
     }
 }
 
-/// A run that reads and writes all at once, behind what is held already.
+/// A run that reads and writes all at once, behind what is room already.
 pub(crate) fn run_at_once(
     alloc: Global,
     program: Program,
     words: &[String],
     input: &[u8],
-    held: Vec<u8>,
+    room: Vec<u8>,
 ) -> Outcome {
     let (mut reader, mut second) = inputs_of(program, input);
-    let mut writer = WatchedWriter::new(held);
+    let mut writer = WatchedWriter::new(room);
     let end = program.run(alloc, words, &mut reader, &mut second, &mut writer);
     Outcome {
         end,
@@ -98,9 +98,9 @@ pub(crate) fn run_slowly(
 }
 
 /// Asserts how a run ended and what it wrote.
-pub(crate) fn is_said(rt: &impl Abort, found: &Outcome, end: RunEnd, lines: &[u8], what: &str) {
-    assert_eq!(rt; found.end, end, "{what}");
-    assert_eq!(rt; found.lines.as_slice(), lines, "{what}");
+pub(crate) fn is_said(rt: &impl Abort, outcome: &Outcome, end: RunEnd, lines: &[u8], what: &str) {
+    assert_eq!(rt; outcome.end, end, "{what}");
+    assert_eq!(rt; outcome.lines.as_slice(), lines, "{what}");
 }
 
 /// How a run has to end that writes lines.
@@ -118,37 +118,37 @@ pub(crate) fn end_of(lines: &str) -> RunEnd {
     }
 }
 
-/// What a run has to write: the lines of a row, with the last newline.
-pub(crate) fn written(alloc: Global, row: &Row) -> Result<Vec<u8>, Fail> {
-    let mut bytes = bytes_of(alloc, &row.lines)?;
+/// What a run has to write: the lines of a case, with the last newline.
+pub(crate) fn written(alloc: Global, case: &Case) -> Result<Vec<u8>, Fail> {
+    let mut bytes = bytes_of(alloc, &case.lines)?;
     bytes.push(b'\n')?;
     Ok(bytes)
 }
 
-/// The command whose lines a row asks for: the second, where there are two.
-fn last_command(row: &Row) -> &str {
-    match row.commands.split_once(" then ") {
+/// The command whose lines a case asks for: the second, where there are two.
+fn last_command(case: &Case) -> &str {
+    match case.commands.split_once(" then ") {
         Some((_first, second)) => second,
-        None => row.commands.as_str(),
+        None => case.commands.as_str(),
     }
 }
 
 // What stands behind the trace in the inputs of `stark_run prove`.
 const BEHIND_TRACE: &str = ",\"publics\"";
 
-/// What the last command of a row reads: of two, what the first wrote stands in the input in place
+/// What the last command of a case reads: of two, what the first wrote stands in the input in place
 /// of the trace.
-fn last_input(alloc: Global, row: &Row) -> Result<Vec<u8>, Fail> {
-    let given = bytes_of(alloc, &row.input)?;
-    let Some((first, _second)) = row.commands.split_once(" then ") else {
+fn last_input(alloc: Global, case: &Case) -> Result<Vec<u8>, Fail> {
+    let given = bytes_of(alloc, &case.input)?;
+    let Some((first, _second)) = case.commands.split_once(" then ") else {
         return Ok(given);
     };
     let words = words_of(alloc, first)?;
-    let proof = run_at_once(alloc, row.program, &words, &given, Vec::new(alloc)).lines;
+    let proof = run_at_once(alloc, case.program, &words, &given, Vec::new(alloc)).lines;
     let mut input = Vec::new(alloc);
-    match row.program {
+    match case.program {
         Program::StarkRun => {
-            let (_trace, rest) = row.input.split_once(BEHIND_TRACE).ok_or("no trace")?;
+            let (_trace, rest) = case.input.split_once(BEHIND_TRACE).ok_or("no trace")?;
             input.extend_from_slice(b"{\"proof\":")?;
             input.extend_from_slice(&proof)?;
             input.extend_from_slice(BEHIND_TRACE.as_bytes())?;
@@ -167,33 +167,33 @@ fn last_input(alloc: Global, row: &Row) -> Result<Vec<u8>, Fail> {
 // A longer input is read all at once alone.
 const SLOW_AT_MOST: usize = 1_000_000;
 
-/// Asserts that a row's run says what the row asks for, all at once and byte by byte.
-fn one_row(rt: &impl Abort, alloc: Global, row: &Row) -> Result<(), Fail> {
-    let input = last_input(alloc, row)?;
-    let words = words_of(alloc, last_command(row))?;
-    let (end, lines) = (end_of(&row.lines), written(alloc, row)?);
-    let found = run_at_once(alloc, row.program, &words, &input, Vec::new(alloc));
-    is_said(rt, &found, end, &lines, &row.written);
+/// Asserts that a case's run says what the case asks for, all at once and byte by byte.
+fn one_case(rt: &impl Abort, alloc: Global, case: &Case) -> Result<(), Fail> {
+    let input = last_input(alloc, case)?;
+    let words = words_of(alloc, last_command(case))?;
+    let (end, lines) = (end_of(&case.lines), written(alloc, case)?);
+    let outcome = run_at_once(alloc, case.program, &words, &input, Vec::new(alloc));
+    is_said(rt, &outcome, end, &lines, &case.written);
     if input.len() > SLOW_AT_MOST {
         return Ok(());
     }
-    let found = run_slowly(alloc, row.program, &words, &input, NO_FAULTS);
-    is_said(rt, &found, end, &lines, &row.written);
+    let outcome = run_slowly(alloc, case.program, &words, &input, NO_FAULTS);
+    is_said(rt, &outcome, end, &lines, &case.written);
     Ok(())
 }
 
-/// Asserts that each of a table's runs says what its row asks for, and that there are so many.
-pub(crate) fn all_rows(
+/// Asserts that each of a table's runs says what its case asks for, and that there are so many.
+pub(crate) fn all_cases(
     rt: &impl Abort,
     alloc: Global,
     program: Program,
     table: &str,
     count: usize,
 ) -> Result<(), Fail> {
-    let rows = rows_of(alloc, program, table)?;
+    let cases = cases_of(alloc, program, table)?;
     let mut done = 0usize;
-    for row in &rows {
-        one_row(rt, alloc, row)?;
+    for case in &cases {
+        one_case(rt, alloc, case)?;
         done = done.saturating_add(1);
     }
     assert_eq!(rt; done, count);

@@ -23,7 +23,7 @@ struct Named {
 
 /// A run.
 #[derive(Drop)]
-pub(crate) struct Row {
+pub(crate) struct Case {
     /// The program that runs.
     pub(crate) program: Program,
     /// The run as its table has it.
@@ -86,7 +86,7 @@ fn row_of(
     program: Program,
     written: &str,
     names: &[Named],
-) -> Result<Option<Row>, AllocError> {
+) -> Result<Option<Case>, AllocError> {
     let whole = expanded(alloc, written, names)?;
     let Some((commands, rest)) = whole.split_once(" | ") else {
         return Ok(None);
@@ -97,7 +97,7 @@ fn row_of(
     let Some(input) = changed(alloc, input)? else {
         return Ok(None);
     };
-    Ok(Some(Row {
+    Ok(Some(Case {
         program,
         written: String::from_str(alloc, written)?,
         commands: String::from_str(alloc, commands)?,
@@ -107,18 +107,18 @@ fn row_of(
 }
 
 /// The runs of a program's table.
-pub(crate) fn rows_of(alloc: Global, program: Program, table: &str) -> Result<Vec<Row>, Fail> {
+pub(crate) fn cases_of(alloc: Global, program: Program, table: &str) -> Result<Vec<Case>, Fail> {
     let names = named_texts(alloc, program)?;
-    let mut rows = Vec::new(alloc);
+    let mut cases = Vec::new(alloc);
     for line in table.lines() {
         if is_row(line) {
             match row_of(alloc, program, line, &names)? {
-                Some(row) => rows.push(row)?,
+                Some(case) => cases.push(case)?,
                 None => return Err(Fail::new(format_args!("not read: {line}"))),
             }
         }
     }
-    Ok(rows)
+    Ok(cases)
 }
 
 /// What a text between brackets stands for, as often as the number before it says.

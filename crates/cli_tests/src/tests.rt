@@ -1,12 +1,12 @@
-use crate::check_rows::CHECK;
-use crate::fault_rows::{WHOLE, WORDS};
+use crate::check_cases::CHECK;
+use crate::fault_cases::{WHOLE, WORDS};
 use crate::faults::{Spoiled, all_spoiled, all_unknown, written_or_no_memory};
-use crate::hostile_rows::{HOSTILE, LINES, REPLACED};
+use crate::hostile_cases::{HOSTILE, LINES, REPLACED};
 use crate::program::Program;
-use crate::prove_rows::PROVE;
-use crate::runs::{Outcome, all_rows, end_of, run_at_once, words_of};
-use crate::table::{Row, bytes_of, rows_of};
-use crate::verify_rows::VERIFY;
+use crate::prove_cases::PROVE;
+use crate::runs::{Outcome, all_cases, end_of, run_at_once, words_of};
+use crate::table::{Case, bytes_of, cases_of};
+use crate::verify_cases::VERIFY;
 use stark_answers::RunEnd;
 use std::alloc::{AllocError, Global};
 use std::process::Abort;
@@ -15,23 +15,23 @@ use std::test::Fail;
 const PROGRAM: Program = Program::StarkRun;
 
 #[test]
-fn check_rows(rt: HostRuntime) -> Result<(), Fail> {
-    all_rows(&rt, rt.alloc(), PROGRAM, CHECK, 68)
+fn check_cases(rt: HostRuntime) -> Result<(), Fail> {
+    all_cases(&rt, rt.alloc(), PROGRAM, CHECK, 68)
 }
 
 #[test]
-fn verify_rows(rt: HostRuntime) -> Result<(), Fail> {
-    all_rows(&rt, rt.alloc(), PROGRAM, VERIFY, 46)
+fn verify_cases(rt: HostRuntime) -> Result<(), Fail> {
+    all_cases(&rt, rt.alloc(), PROGRAM, VERIFY, 46)
 }
 
 #[test]
-fn hostile_rows(rt: HostRuntime) -> Result<(), Fail> {
-    all_rows(&rt, rt.alloc(), PROGRAM, HOSTILE, 13)
+fn hostile_cases(rt: HostRuntime) -> Result<(), Fail> {
+    all_cases(&rt, rt.alloc(), PROGRAM, HOSTILE, 13)
 }
 
 #[test]
-fn prove_rows(rt: HostRuntime) -> Result<(), Fail> {
-    all_rows(&rt, rt.alloc(), PROGRAM, PROVE, 44)
+fn prove_cases(rt: HostRuntime) -> Result<(), Fail> {
+    all_cases(&rt, rt.alloc(), PROGRAM, PROVE, 44)
 }
 
 #[test]
@@ -88,14 +88,14 @@ fn refused_growth(rt: HostRuntime) -> Result<(), Fail> {
 }
 
 /// Whether a run ended as one verdict does, and wrote its line.
-fn is_a_verdict(found: &Outcome) -> bool {
-    let Ok(text) = str::from_utf8(&found.lines) else {
+fn is_a_verdict(outcome: &Outcome) -> bool {
+    let Ok(text) = str::from_utf8(&outcome.lines) else {
         return false;
     };
     let Some(line) = text.strip_suffix('\n') else {
         return false;
     };
-    !line.is_empty() && LINES.lines().any(|known| known == line) && end_of(line) == found.end
+    !line.is_empty() && LINES.lines().any(|known| known == line) && end_of(line) == outcome.end
 }
 
 /// The honest input with the names of its members that are null made unreadable: another name says
@@ -106,28 +106,28 @@ fn marked(alloc: Global, honest: &str) -> Result<String, AllocError> {
     text.replace(alloc, "preprocessed_next", "?????????????????")
 }
 
-/// Asserts that a row's input with the byte at a place replaced by any of seven is answered by a
+/// Asserts that a case's input with the byte at a place replaced by any of seven is answered by a
 /// verdict, and accepted only where the byte is the honest one, or is in a name that may be
 /// another.
 fn replaced_at(
     rt: &impl Abort,
     alloc: Global,
-    row: &Row,
+    case: &Case,
     place: usize,
     may_differ: bool,
 ) -> Result<(), Fail> {
-    let words = words_of(alloc, &row.commands)?;
+    let words = words_of(alloc, &case.commands)?;
     for byte in b"\"09-]} " {
-        let mut input = bytes_of(alloc, &row.input)?;
+        let mut input = bytes_of(alloc, &case.input)?;
         if let Some(slot) = input.get_mut(place) {
             *slot = *byte;
         }
-        let found = run_at_once(alloc, row.program, &words, &input, Vec::new(alloc));
-        assert!(rt; is_a_verdict(&found), "{place} {byte}");
+        let outcome = run_at_once(alloc, case.program, &words, &input, Vec::new(alloc));
+        assert!(rt; is_a_verdict(&outcome), "{place} {byte}");
         let is_another = may_differ && *byte != b'"';
-        let is_same = input.as_slice() == row.input.as_bytes();
+        let is_same = input.as_slice() == case.input.as_bytes();
         assert_eq!(rt;
-            found.end == RunEnd::Accepted,
+            outcome.end == RunEnd::Accepted,
             is_same || is_another,
             "{place} {byte}"
         );
@@ -138,10 +138,10 @@ fn replaced_at(
 #[test]
 fn one_byte_replaced(rt: HostRuntime) -> Result<(), Fail> {
     let mut places = 0usize;
-    for row in &rows_of(rt.alloc(), PROGRAM, REPLACED)? {
-        let marked = marked(rt.alloc(), &row.input)?;
+    for case in &cases_of(rt.alloc(), PROGRAM, REPLACED)? {
+        let marked = marked(rt.alloc(), &case.input)?;
         for (place, mark) in marked.as_bytes().iter().enumerate() {
-            replaced_at(&rt, rt.alloc(), row, place, *mark == b'?')?;
+            replaced_at(&rt, rt.alloc(), case, place, *mark == b'?')?;
             places = places.saturating_add(1);
         }
     }

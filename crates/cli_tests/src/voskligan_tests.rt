@@ -1,9 +1,9 @@
 use crate::delivery::{Told, all_told};
 use crate::faults::{Spoiled, all_spoiled, written_or_no_memory};
 use crate::program::Program;
-use crate::runs::{all_rows, words_of};
+use crate::runs::{all_cases, words_of};
 use crate::table::is_row;
-use crate::voskligan_rows::{
+use crate::voskligan_cases::{
     BAD, CHECKED, DEAR, DELIVERED, EXAMPLES, HUGE, LARGE, SHOWN, STAGES, WHOLE, WORDS,
 };
 use stark_answers::{ProofForm, TraceTask};
@@ -19,37 +19,37 @@ const PROGRAM: Program = Program::Voskligan;
 
 #[test]
 fn examples(rt: HostRuntime) -> Result<(), Fail> {
-    all_rows(&rt, rt.alloc(), PROGRAM, EXAMPLES, 48)
+    all_cases(&rt, rt.alloc(), PROGRAM, EXAMPLES, 48)
 }
 
 #[test]
 fn checked_traces(rt: HostRuntime) -> Result<(), Fail> {
-    all_rows(&rt, rt.alloc(), PROGRAM, CHECKED, 45)
+    all_cases(&rt, rt.alloc(), PROGRAM, CHECKED, 45)
 }
 
 #[test]
 fn shown_airs(rt: HostRuntime) -> Result<(), Fail> {
-    all_rows(&rt, rt.alloc(), PROGRAM, SHOWN, 17)
+    all_cases(&rt, rt.alloc(), PROGRAM, SHOWN, 17)
 }
 
 #[test]
 fn bad_inputs(rt: HostRuntime) -> Result<(), Fail> {
-    all_rows(&rt, rt.alloc(), PROGRAM, BAD, 53)
+    all_cases(&rt, rt.alloc(), PROGRAM, BAD, 53)
 }
 
 #[test]
 fn large_airs(rt: HostRuntime) -> Result<(), Fail> {
-    all_rows(&rt, rt.alloc(), PROGRAM, LARGE, 18)
+    all_cases(&rt, rt.alloc(), PROGRAM, LARGE, 18)
 }
 
 #[test]
 fn dear_inputs(rt: HostRuntime) -> Result<(), Fail> {
-    all_rows(&rt, rt.alloc(), PROGRAM, DEAR, 7)
+    all_cases(&rt, rt.alloc(), PROGRAM, DEAR, 7)
 }
 
 #[test]
 fn huge_expressions(rt: HostRuntime) -> Result<(), Fail> {
-    all_rows(&rt, rt.alloc(), PROGRAM, HUGE, 8)
+    all_cases(&rt, rt.alloc(), PROGRAM, HUGE, 8)
 }
 
 #[test]
@@ -148,8 +148,8 @@ fn words_are_compared_whole(rt: HostRuntime) -> Result<(), Fail> {
     for line in WORDS.lines().filter(|line| is_row(line)) {
         let (given, asked) = line.split_once(" = ").unwrap_or((line, "unknown"));
         let words = words_of(alloc, given)?;
-        let found = request_text(alloc, request_of(&words))?;
-        assert_eq!(rt; found.as_str(), asked, "{line}");
+        let actual = request_text(alloc, request_of(&words))?;
+        assert_eq!(rt; actual.as_str(), asked, "{line}");
         lines = lines.saturating_add(1);
     }
     assert_eq!(rt; lines, 122);

@@ -1,9 +1,9 @@
 //! The rows, and their answers over any field.
 use crate::agreement::compared;
 use crate::calls::{Places, columns_of_values, values_of_columns};
-use crate::rows::lists_in;
+use crate::lists::lists_in;
 use stark_support::{PrimeField64, TwoAdicField};
-use stark_test_rows::{apart, element, elements_in, numbers_in};
+use stark_test_cases::{apart, element, elements_in, numbers_in};
 use std::alloc::Global;
 use std::fmt::Debug;
 use std::test::Fail;
@@ -11,7 +11,7 @@ use std::test::Fail;
 // A table's name | what is given. The numbers of the first two tables are those of a few lines of
 // Python, with Horner's rule and Lagrange's formula modulo 12289, at the points shift * 1331^(2^(12
 // - log) * i).
-pub const ROWS: &str = r#"
+pub const CASES: &str = r#"
 # The shift, and the logarithm of the number of points | columns, with commas between. Answered are the values, row after row.
 values | 1 0 | 5 => [5]
 values | 1 1 | 6150 6144 => [5, 6]
@@ -72,8 +72,8 @@ fn values<F: PrimeField64 + TwoAdicField + Debug>(
     let (coset, columns) = apart(text)?;
     let (shift, log_size) = coset_in::<F>(coset)?;
     let columns = lists_in::<F>(alloc, columns)?;
-    let found = values_of_columns(alloc, shift, log_size, &columns)?.ok_or("they don't fit")?;
-    Ok(format!(in alloc; "{found:?}")?)
+    let value = values_of_columns(alloc, shift, log_size, &columns)?.ok_or("they don't fit")?;
+    Ok(format!(in alloc; "{value:?}")?)
 }
 
 fn columns<F: PrimeField64 + TwoAdicField + Debug>(
@@ -91,10 +91,10 @@ fn columns<F: PrimeField64 + TwoAdicField + Debug>(
         width: width as usize,
     };
     let size = size as usize;
-    let found = columns_of_values(alloc, shift, log_size, &values, &places, size)?.ok_or(
+    let value = columns_of_values(alloc, shift, log_size, &values, &places, size)?.ok_or(
         "a row isn't there",
     )?;
-    Ok(format!(in alloc; "{found:?}")?)
+    Ok(format!(in alloc; "{value:?}")?)
 }
 
 fn agrees<F: PrimeField64 + TwoAdicField>(alloc: Global, text: &str) -> Result<String, Fail> {

@@ -10,6 +10,6 @@ mod answers;
 #[cfg(test)]
 mod calls;
 #[cfg(test)]
-mod rows;
+mod lists;
 #[cfg(test)]
 mod tests;

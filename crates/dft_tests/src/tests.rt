@@ -1,7 +1,7 @@
 //! The rows over a field.
-use crate::answers::{ROWS, answer};
+use crate::answers::{CASES, answer};
 use stark_fields::S12289;
-use stark_test_rows::all_rows;
+use stark_test_cases::all_cases;
 use std::alloc::Global;
 use std::test::Fail;
 
@@ -12,5 +12,5 @@ fn over_one_lane(alloc: Global, row: &str) -> Result<String, Fail> {
 
 #[test]
 fn transforms(rt: HostRuntime) -> Result<(), Fail> {
-    all_rows(rt.alloc(), ROWS, over_one_lane)
+    all_cases(rt.alloc(), CASES, over_one_lane)
 }

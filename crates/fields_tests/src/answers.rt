@@ -4,7 +4,7 @@ use stark_bench::{
     BabyBearField, Ext4, KoalaBearField, S12289, ScriptChallenger, Sha256Challenger,
 };
 use stark_support::{ExtensionField, JsonCodec, NeverNull, PrimeField64, TwoAdicField};
-use stark_test_rows::{apart, read_all, script_of};
+use stark_test_cases::{apart, read_all, script_of};
 use std::alloc::Global;
 use std::fmt::Debug;
 use std::test::Fail;
@@ -70,7 +70,7 @@ pub fn drawn(alloc: Global, row: &str) -> Result<String, Fail> {
     }
 }
 
-/// The same over the field of 12289.
+/// What a challenger over the field of 12289 answers to a row of steps.
 pub fn drawn_of_12289(alloc: Global, row: &str) -> Result<String, Fail> {
     let (name, steps) = apart(row)?;
     match script::<S12289>(alloc, name)? {

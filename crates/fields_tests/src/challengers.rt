@@ -5,13 +5,13 @@ use stark_merkle::Root;
 use stark_support::{
     CanObserve, CanSample, CanSampleBits, FieldChallenger, GrindingChallenger, JsonCodec,
 };
-use stark_test_rows::{read, shown, word_and_rest};
+use stark_test_cases::{read, shown, word_and_rest};
 use std::alloc::Global;
 use std::fmt::Debug;
 use std::test::Fail;
 
 // Of 2013265921: the challenger | what is done with it in turn; each step answers something.
-pub const ROWS: &str = r#"
+pub const CASES: &str = r#"
 # Elements and bits from digests, a commitment, and work: the witness, and the next draw.
 sha256 | draw; draw => 1340248034 1177291290
 sha256 | observe 2013265920; draw; bits 10; bits 31; bits 63 => observed 1094168982 412 1805035146 7022966747152662163
@@ -33,7 +33,7 @@ script [4] | grind 0; grind 16 => Some(0) Some(65535)
 script [4] | check 31 2013265920; check 20 1048575; check 64 0 => false true false
 "#;
 
-// The same of 12289.
+// The challengers of the field of 12289.
 pub const OVER_12289: &str = r#"
 # Elements from digests, bits from digests, and an element of the extension, whose coordinates are drawn in turn.
 sha256 | draw; draw => 9721 571
@@ -101,8 +101,8 @@ fn draw<T: Debug + Drop, C: CanSample<T>>(
     alloc: Global,
     challenger: &mut C,
 ) -> Result<String, Fail> {
-    let found = challenger.sample();
-    shown(alloc, &found)
+    let value = challenger.sample();
+    shown(alloc, &value)
 }
 
 fn observe<F: JsonCodec + Drop, C: CanObserve<F>>(
@@ -144,8 +144,8 @@ fn grind<F: Debug + Drop, C: GrindingChallenger<Witness = F>>(
     challenger: &mut C,
     text: &str,
 ) -> Result<String, Fail> {
-    let found = challenger.grind(text.parse::<usize>()?);
-    shown(alloc, &found)
+    let value = challenger.grind(text.parse::<usize>()?);
+    shown(alloc, &value)
 }
 
 /// Whether any challenger lets a witness pass.
@@ -166,6 +166,6 @@ fn copy<F: Debug + Drop, C: FieldChallenger<F>>(
     challenger: &mut C,
 ) -> Result<String, Fail> {
     let mut copy = challenger.duplicate(alloc)?;
-    let found = (challenger.sample(), copy.sample());
-    shown(alloc, &found)
+    let value = (challenger.sample(), copy.sample());
+    shown(alloc, &value)
 }

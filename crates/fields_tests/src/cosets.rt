@@ -4,13 +4,13 @@ use stark_bench::Coset;
 use stark_support::{
     DomainShape, ExtensionField, JsonCodec, LagrangeSelectors, PolynomialSpace, TwoAdicField,
 };
-use stark_test_rows::{apart, read, shown, word_and_rest};
+use stark_test_cases::{apart, read, shown, word_and_rest};
 use std::alloc::{AllocError, Global};
 use std::fmt::Debug;
 use std::test::Fail;
 
 // Of 2013265921: a table's name | what is given.
-pub const ROWS: &str = r#"
+pub const CASES: &str = r#"
 # A subgroup's logarithm of its size, and a point: the vanishing value there.
 coset vanishing | 20 [3,1,4,159265359] => Some(Ext4 { c0: 1477483942, c1: 230675743, c2: 1879636227, c3: 767599522 })
 coset vanishing | 27 [440564289,0,0,0] => Some(Ext4 { c0: 0, c1: 0, c2: 0, c3: 0 })
@@ -33,7 +33,7 @@ coset disjoint | 134217729 => None
 coset beside | 2 => [30784, 1625973710, 2013237061, 387290291] [1676082105, 935479437, 1676022585, 612768004] [1728404544, 950764549, 1728404482, 492778556] [1301714455, 1301714455, 1301714455, 1301714455]
 "#;
 
-// The same of 12289.
+// The cosets of the field of 12289.
 pub const OVER_12289: &str = r#"
 coset vanishing | 1 [12288,0,0,0] => Some(Ext4 { c0: 0, c1: 0, c2: 0, c3: 0 })
 coset vanishing | 1 [3,0,0,0] => Some(Ext4 { c0: 8, c1: 0, c2: 0, c3: 0 })
@@ -88,11 +88,11 @@ where
 {
     let (log_size, point) = word_and_rest(text)?;
     let point: EF = read(alloc, point)?;
-    let found: Option<EF> = match subgroup::<F>(log_size.parse::<usize>()?) {
+    let value: Option<EF> = match subgroup::<F>(log_size.parse::<usize>()?) {
         Some(domain) => Some(domain.vanishing_poly_at_point(point)),
         None => None,
     };
-    shown(alloc, &found)
+    shown(alloc, &value)
 }
 
 fn next<F, EF>(alloc: Global, text: &str) -> Result<String, Fail>
@@ -103,8 +103,8 @@ where
     let (log_size, point) = word_and_rest(text)?;
     let point: EF = read(alloc, point)?;
     let domain = subgroup::<F>(log_size.parse::<usize>()?).ok_or("no such group")?;
-    let found: Option<EF> = domain.next_point(point);
-    shown(alloc, &found)
+    let value: Option<EF> = domain.next_point(point);
+    shown(alloc, &value)
 }
 
 fn size<F: TwoAdicField>(alloc: Global, text: &str) -> Result<String, Fail> {
@@ -136,11 +136,11 @@ fn parts<F: TwoAdicField + JsonCodec + Debug>(alloc: Global, text: &str) -> Resu
     let (shift, log_size) = word_and_rest(text)?;
     let shift: F = read(alloc, shift)?;
     let domain = coset::<F>(shift, log_size.parse::<usize>()?).ok_or("no such coset")?;
-    let mut found = Vec::new(alloc);
+    let mut value = Vec::new(alloc);
     for part in parts_of(alloc, &domain)? {
-        found.push((part.shift, part.log_size))?;
+        value.push((part.shift, part.log_size))?;
     }
-    Ok(format!(in alloc; "{:?} {found:?}", domain.first_point())?)
+    Ok(format!(in alloc; "{:?} {value:?}", domain.first_point())?)
 }
 
 /// The domain beside the subgroup of two points that has at least so many.
@@ -149,11 +149,11 @@ fn disjoint_of<F: TwoAdicField>(size: usize) -> Option<Coset<F>> {
 }
 
 fn disjoint<F: TwoAdicField + Debug>(alloc: Global, text: &str) -> Result<String, Fail> {
-    let found = match disjoint_of::<F>(text.parse::<usize>()?) {
+    let value = match disjoint_of::<F>(text.parse::<usize>()?) {
         Some(other) => Some((other.shift, other.log_size)),
         None => None,
     };
-    shown(alloc, &found)
+    shown(alloc, &value)
 }
 
 /// The selectors of the subgroup of `2^log_size` points at a coset beside it of as many points.
@@ -172,9 +172,9 @@ fn selectors_beside<F: TwoAdicField>(
 }
 
 fn beside<F: TwoAdicField + Debug>(alloc: Global, text: &str) -> Result<String, Fail> {
-    let found = selectors_beside::<F>(alloc, text.parse::<usize>()?)?.ok_or("no coset")?;
+    let value = selectors_beside::<F>(alloc, text.parse::<usize>()?)?.ok_or("no coset")?;
     Ok(format!(in alloc;
         "{:?} {:?} {:?} {:?}",
-        found.is_first_row, found.is_last_row, found.is_transition, found.inv_vanishing
+        value.is_first_row, value.is_last_row, value.is_transition, value.inv_vanishing
     )?)
 }

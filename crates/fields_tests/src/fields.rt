@@ -2,13 +2,13 @@
 //! Python: whole numbers modulo the prime, products of polynomials of which X^4 is replaced, and of
 //! the extension's inverse the power that it is.
 use stark_support::{Field, JsonCodec, NeverNull, TwoAdicField, power_of};
-use stark_test_rows::{apart, computed, read, read_all, shown, spelled, word_and_rest};
+use stark_test_cases::{apart, computed, read, read_all, shown, spelled, word_and_rest};
 use std::alloc::Global;
 use std::fmt::Debug;
 use std::test::Fail;
 
 // Of 2013265921, whose extension has X^4 = 11: a table's name | what is given.
-pub const BABY_BEAR_ROWS: &str = r#"
+pub const BABY_BEAR_CASES: &str = r#"
 # An operation of the base field, and two elements, of which opposites and inverses ask the first.
 base | sum | [123456789,987654321] => Some(1111111110)
 base | sum | [987654321,2013265920] => Some(987654320)
@@ -82,7 +82,7 @@ json above | [1,2,3] => Invalid: the JSON value is refused
 "#;
 
 // Of 2130706433, whose extension has X^4 = 3.
-pub const KOALA_BEAR_ROWS: &str = r#"
+pub const KOALA_BEAR_CASES: &str = r#"
 base | sum | [123456789,987654321] => Some(1111111110)
 base | sum | [987654321,2130706432] => Some(987654320)
 base | sum | [2130706432,2130706432] => Some(2130706431)

@@ -3,25 +3,25 @@ use crate::answers::{baby_bear, drawn, drawn_of_12289, koala_bear, of_12289};
 use crate::{challengers, cosets, fields};
 use stark_bench::{CircleShape, Coset, S12289};
 use stark_support::{DomainShape, PolynomialSpace};
-use stark_test_rows::all_rows;
+use stark_test_cases::all_cases;
 use std::test::Fail;
 
 #[test]
 fn of_baby_bear(rt: HostRuntime) -> Result<(), Fail> {
-    all_rows(rt.alloc(), fields::BABY_BEAR_ROWS, baby_bear)?;
-    all_rows(rt.alloc(), cosets::ROWS, baby_bear)?;
-    all_rows(rt.alloc(), challengers::ROWS, drawn)
+    all_cases(rt.alloc(), fields::BABY_BEAR_CASES, baby_bear)?;
+    all_cases(rt.alloc(), cosets::CASES, baby_bear)?;
+    all_cases(rt.alloc(), challengers::CASES, drawn)
 }
 
 #[test]
 fn of_koala_bear(rt: HostRuntime) -> Result<(), Fail> {
-    all_rows(rt.alloc(), fields::KOALA_BEAR_ROWS, koala_bear)
+    all_cases(rt.alloc(), fields::KOALA_BEAR_CASES, koala_bear)
 }
 
 #[test]
 fn of_the_field_of_12289(rt: HostRuntime) -> Result<(), Fail> {
-    all_rows(rt.alloc(), cosets::OVER_12289, of_12289)?;
-    all_rows(rt.alloc(), challengers::OVER_12289, drawn_of_12289)
+    all_cases(rt.alloc(), cosets::OVER_12289, of_12289)?;
+    all_cases(rt.alloc(), challengers::OVER_12289, drawn_of_12289)
 }
 
 #[test]

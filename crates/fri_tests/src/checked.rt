@@ -7,7 +7,7 @@ ghost use Rattle.stark_proof.specs.ProofView.{proof_view};
 ghost use Rattle.stark_proof.specs.declared.values.Proof.{Proof};
 ghost use Rattle.stark_protocol.specs.Preprocessing.{HasHeight};
 ghost use Rattle.stark_protocol.specs.declared.preprocessed.PreprocessedProverData.{PreprocessedProverData};
-ghost use Rattle.stark_prover.specs.Heights.{HoldsColumns, IsHeldAt, IsOfHeight};
+ghost use Rattle.stark_prover.specs.Heights.{HoldsColumns, IsCommittedAt, IsOfHeight};
 ghost use Rattle.p3_uni_stark.specs.Checked.{IsAcceptedIfSetUp};
 
 use crate::service::Config;
@@ -26,16 +26,17 @@ use std::alloc::Global;
 /// What is said of a prover's data and of a proof of a checked trace, with a configuration and for
 /// an AIR. It has no code.
 pub trait CheckedProofs<A>: StarkGenericConfig {
-    ghost Held: { Type 0 };
+    ghost PreprocessedData: { Type 0 };
 
     ghost Proof: { Type 0 };
 
     /// What the prover holds stands for as many columns as the AIR has preprocessed ones.
-    ghost holds_columns: { Self → A → Option Held → Type 0 };
+    ghost holds_columns: { Self → A → Option PreprocessedData → Type 0 };
 
     /// With the key that is set up beside what the prover holds, at so many rows, the proof is
     /// accepted, unless zeta lies in H; where the AIR's terms can be sized.
-    ghost accepted: { Self → A → List Self.Pcs.Domain.Val → Option Held → ℕ → Proof → Type 0 };
+    ghost accepted: { Self → A → List Self.Pcs.Domain.Val → Option PreprocessedData → ℕ
+        → Proof → Type 0 };
 }
 
 impl<SC, A> CheckedProofs<A> for SC
@@ -44,19 +45,19 @@ where
     SC::Challenger: GrindingChallenger<Witness = Val<SC>>,
     A: Air<Val<SC>>,
 {
-    ghost Held = { Bor (PreprocessedProverData SC.Pcs.Commitment SC.Pcs.ProverData) };
+    ghost PreprocessedData = { Bor (PreprocessedProverData SC.Pcs.Commitment SC.Pcs.ProverData) };
 
     ghost Proof = { Proof SC.Pcs.Commitment SC.Challenge SC.Pcs.Proof SC.Pcs.Domain.Val };
 
-    ghost holds_columns = { λ config air held. HoldsColumns SC.Pcs.scheme
-        (SC.config.scheme config) SC.Pcs.Domain.Val.ring (option_copied held)
+    ghost holds_columns = { λ config air preprocessed_data. HoldsColumns SC.Pcs.scheme
+        (SC.config.scheme config) SC.Pcs.Domain.Val.ring (option_copied preprocessed_data)
         (A.layout air).preprocessed };
 
-    ghost accepted = { λ config air public_values held log_height proof.
+    ghost accepted = { λ config air public_values preprocessed_data log_height proof.
         AreSizable (A.constraints air)
         → IsAcceptedIfSetUp ⟦<SC as StarkOperations>⟧.operations
         (⟦<SC as StarkInstance<A>>⟧.instance config air public_values) (A.preprocessed_trace air)
-        (option_copied held) log_height (proof_view proof) };
+        (option_copied preprocessed_data) log_height (proof_view proof) };
 }
 
 /// `prove_checked` over BabyBear and FRI: a proof of a trace of `2^log_height` rows that satisfies
@@ -83,8 +84,8 @@ pub fn prove_over_baby_bear<A: Air<BabyBearField>>(
     requires room { log_height + config.now.pcs.parameters.log_blowup
         ≤ ⟦<BabyBearField as TwoAdicField>⟧.TWO_ADICITY }
     requires declared { HasHeight log_height (A.preprocessed_trace air.now) }
-    requires held { IsHeldAt (option_copied preprocessed) log_height }
-    requires publics { length public_values.now ≡ (A.layout air.now).publics }
+    requires same { IsCommittedAt (option_copied preprocessed) log_height }
+    requires public_values { length public_values.now ≡ (A.layout air.now).public_values }
     requires there { is_some preprocessed ≡ ltb 0 (A.layout air.now).preprocessed }
     requires stands { ⟦<Config as CheckedProofs<A>>⟧.holds_columns config.now air.now
         preprocessed }

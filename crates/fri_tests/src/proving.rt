@@ -8,8 +8,8 @@ use stark_support::{
     GrindingChallenger, NeverNull, PackedExtensionField, PackedField, PrimeField64, RowMajorMatrix,
     TwoAdicField, value_from_bytes,
 };
+use stark_test_cases::read_all;
 use stark_test_proofs::{fits, made_by, matrix_of, stands_at};
-use stark_test_rows::read_all;
 use stark_tree_air::TreeAir;
 use std::alloc::Global;
 use std::test::Fail;
@@ -46,17 +46,19 @@ fn verdict<SC: StarkGenericConfig>(
     air: &TreeAir<Val<SC>>,
     log_height: usize,
     trace: RowMajorMatrix<Val<SC>>,
-    publics: &[Val<SC>],
+    public_values: &[Val<SC>],
 ) -> Result<&'static str, Fail>
 where
     Val<SC>: PackedField,
     SC::Challenge: PackedExtensionField<Val<SC>>,
     SC::Challenger: GrindingChallenger<Witness = Val<SC>>,
 {
-    if !fits(config, air, log_height, &trace, publics) || !stands_at(alloc, air, log_height)? {
+    if !fits(config, air, log_height, &trace, public_values)
+        || !stands_at(alloc, air, log_height)?
+    {
         return Err(Fail::new("other rows"));
     }
-    match made_by(alloc, config, air, log_height, trace, publics) {
+    match made_by(alloc, config, air, log_height, trace, public_values) {
         Ok((_proof, Ok(()))) => Ok("accepted"),
         Ok((_proof, Err(_))) => Ok("refused"),
         Err(_) => Ok("no proof"),
@@ -83,6 +85,6 @@ where
     let config: Config<F, EF, C> = StarkConfig::new(FriPcs::new(parameters), challenger);
     let air: TreeAir<F> = spelled(alloc, rows.air)?;
     let trace = matrix_of(&air, read_all::<F>(alloc, rows.trace)?)?;
-    let publics = read_all::<F>(alloc, rows.public_values)?;
-    verdict(alloc, &config, &air, rows.log_height, trace, &publics)
+    let public_values = read_all::<F>(alloc, rows.public_values)?;
+    verdict(alloc, &config, &air, rows.log_height, trace, &public_values)
 }

@@ -223,11 +223,11 @@ fn counter_proof(alloc: Global, config: &Config) -> Result<StarkProof<Config>, F
         BabyBearField::from_u8(8),
     ];
     let trace = RowMajorMatrix::new(Vec::from_slice(alloc, &elements)?, 1);
-    let publics = [BabyBearField::from_u8(5)];
-    if !fits(config, &CounterAir, 2, &trace, &publics) {
+    let public_values = [BabyBearField::from_u8(5)];
+    if !fits(config, &CounterAir, 2, &trace, &public_values) {
         return Err(Fail::new("no room"));
     }
-    match prove(alloc, config, &CounterAir, trace, &publics) {
+    match prove(alloc, config, &CounterAir, trace, &public_values) {
         Ok(proof) => Ok(proof),
         Err(_) => Err(Fail::new("no proof")),
     }
@@ -256,11 +256,11 @@ fn checked_proof(
 ) -> Result<Result<StarkProof<Config>, Option<usize>>, Fail> {
     let elements = numbers.map(BabyBearField::from_u8);
     let trace = RowMajorMatrix::new(Vec::from_slice(alloc, &elements)?, 1);
-    let publics = [BabyBearField::from_u8(5)];
-    if !fits(config, &CounterAir, 2, &trace, &publics) {
+    let public_values = [BabyBearField::from_u8(5)];
+    if !fits(config, &CounterAir, 2, &trace, &public_values) {
         return Err(Fail::new("no room"));
     }
-    match prove_over_baby_bear(alloc, config, &CounterAir, 2, trace, &publics, None) {
+    match prove_over_baby_bear(alloc, config, &CounterAir, 2, trace, &public_values, None) {
         Ok(proof) => Ok(Ok(proof)),
         Err(CheckedProvingError::Violation(violation)) => Ok(Err(Some(violation.row))),
         Err(CheckedProvingError::Proving(_)) => Ok(Err(None)),

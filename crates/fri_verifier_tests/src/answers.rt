@@ -49,7 +49,7 @@ where
     Ok(verify_openings::<C, EF, Coset<F>, H>(alloc, &parameters, &claims, &proof, &mut challenger))
 }
 
-/// The same over the field of 12289 and SHA-256.
+/// What the verifier answers over the field of 12289 and SHA-256.
 fn answer_of(alloc: Global, value: &Value) -> Result<Result<(), SchemeFault<FriError>>, Fail> {
     let challenger: Sha256Challenger<F12289> = Sha256Challenger::new();
     verdict::<F12289, Ext4<F12289>, Sha256Tree, Sha256Challenger<F12289>>(alloc, challenger, value)
@@ -84,10 +84,10 @@ fn is_told(alloc: Global, honest: &str, bytes: &[u8]) -> Result<bool, Fail> {
     let Ok(value) = value_from_bytes(alloc, bytes) else {
         return Ok(true);
     };
-    let Ok(told) = field_of(&value, "proof") else {
+    let Ok(member) = field_of(&value, "proof") else {
         return Ok(true);
     };
-    let Ok(proof) = FriProof::<F12289, Ext4<F12289>>::from_json(alloc, told) else {
+    let Ok(proof) = FriProof::<F12289, Ext4<F12289>>::from_json(alloc, member) else {
         return Ok(true);
     };
     match answer_of(alloc, &value)? {

@@ -322,7 +322,7 @@ pub fn text_of(name: &str) -> Result<&'static str, Fail> {
 }
 
 // A name, and the edits behind a bar, if there are some => the answer.
-pub const ROWS: &str = r#"
+pub const CASES: &str = r#"
 # As they were made: of true values, and two of a value that is one too large.
 flat => accepted
 folded => accepted

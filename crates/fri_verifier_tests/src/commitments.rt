@@ -11,7 +11,7 @@ use std::test::Fail;
 
 // The logarithms of the height and of the blow-up, and of each matrix its columns' coefficients =>
 // the root, as the prover of `scripts/fri_vectors.py` computes it.
-pub const ROWS: &str = r#"
+pub const CASES: &str = r#"
 0 1 [[[1864]]] => "cc791f082031310e8a739d832d00fdb876fe77bbe764a57904174a64237c1cd2"
 1 1 [[[10530,3042]]] => "0505753d34a337547a05b106a9a21cbcf252952e4c322a98ffd9600c1123feac"
 1 2 [[[12177,7865],[8972,5770]]] => "947d7d02689cded2e157e9136d9be0f103f9b69906faf229e4e28fa5611d0953"

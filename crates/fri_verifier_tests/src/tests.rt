@@ -1,17 +1,17 @@
 //! All cases.
 use crate::answers::{answer, each_byte_replaced};
 use crate::{cases, commitments};
-use stark_test_rows::all_rows;
+use stark_test_cases::all_cases;
 use std::test::Fail;
 
 #[test]
 fn verdicts(rt: HostRuntime) -> Result<(), Fail> {
-    all_rows(rt.alloc(), cases::ROWS, answer)
+    all_cases(rt.alloc(), cases::CASES, answer)
 }
 
 #[test]
 fn roots(rt: HostRuntime) -> Result<(), Fail> {
-    all_rows(rt.alloc(), commitments::ROWS, commitments::answer)
+    all_cases(rt.alloc(), commitments::CASES, commitments::answer)
 }
 
 #[test]

@@ -1,5 +1,5 @@
 -- A trace that counts satisfies the counter's constraints.
-use Rattle.std.proofs.Common.{◌≡◌, ◌≢◌, ◌∙◌, ap, sym, subst, arith, inl, inr, refl, ℕ, zero, suc, add-one, ◌+◌, ◌-◌, ◌*◌, ◌%◌, ◌^◌, ◌<◌, List, [], ◌∷◌, ◌++◌, length, ◌≤◌, Bool, true, false, None}
+use Rattle.std.proofs.Common.{◌≡◌, ◌≢◌, ◌∙◌, ap, sym, subst, arith, inl, inr, refl, ℕ, zero, suc, add-one, ◌+◌, ◌-◌, ◌*◌, ◌%◌, ◌^◌, ◌<◌, List, [], ◌∷◌, length, Bool, None}
 use Rattle.std.specs.Prelude.{drop, slice_index_or, take}
 use Rattle.std.proofs.Math.Nat.{mod-eq_of_lt}
 use Rattle.std.proofs.lemmas.Bool.{cases_lt}
@@ -90,12 +90,12 @@ module _ {K : Type 0} {ring : RingOps K} {inverse : K → K} (laws : FieldLaws r
 
 -- So the counter's AIR holds in each row.
 pub holds_in_each_row : {F E : Type 0} (fields : FieldsOps F E) (laws : FieldLaws fields.base fields.base_inverse) (n : ℕ) (order : HasOrder fields.base (fields.root n) (2 ^ n)) (nonzero : fields.root n ≢ fields.base.zero)
-    (start one : F) → one ≡ fields.base.one → (fixed : ℕ → List F) (numbers publics : List F) (width : ℕ) → numbers ≡ counted_from fields.base start 0 (2 ^ n) → width ≡ 1 → publics ≡ start ∷ []
-    → HoldsInEachRow (air_over fields (counter_constraints one) [] n) (record { main = matrix_row numbers width; preprocessed = fixed; publics = publics })
-holds_in_each_row fields laws n order nonzero start one is_one fixed numbers publics width are one_wide is_public =
-    subst (λ list. HoldsInEachRow (air_over fields (counter_constraints one) [] n) (record { main = matrix_row list width; preprocessed = fixed; publics = publics })) (sym are)
-    (subst (λ w. HoldsInEachRow (air_over fields (counter_constraints one) [] n) (record { main = matrix_row (counted_from fields.base start 0 (2 ^ n)) w; preprocessed = fixed; publics = publics })) (sym one_wide)
-    (subst (λ list. HoldsInEachRow (air_over fields (counter_constraints one) [] n) (record { main = matrix_row (counted_from fields.base start 0 (2 ^ n)) 1; preprocessed = fixed; publics = list })) (sym is_public)
+    (start one : F) → one ≡ fields.base.one → (preprocessed : ℕ → List F) (numbers public_values : List F) (width : ℕ) → numbers ≡ counted_from fields.base start 0 (2 ^ n) → width ≡ 1 → public_values ≡ start ∷ []
+    → HoldsInEachRow (air_over fields (counter_constraints one) [] n) (record { main = matrix_row numbers width; preprocessed = preprocessed; public_values = public_values })
+holds_in_each_row fields laws n order nonzero start one is_one preprocessed numbers public_values width are one_wide is_public =
+    subst (λ list. HoldsInEachRow (air_over fields (counter_constraints one) [] n) (record { main = matrix_row list width; preprocessed = preprocessed; public_values = public_values })) (sym are)
+    (subst (λ w. HoldsInEachRow (air_over fields (counter_constraints one) [] n) (record { main = matrix_row (counted_from fields.base start 0 (2 ^ n)) w; preprocessed = preprocessed; public_values = public_values })) (sym one_wide)
+    (subst (λ list. HoldsInEachRow (air_over fields (counter_constraints one) [] n) (record { main = matrix_row (counted_from fields.base start 0 (2 ^ n)) 1; preprocessed = preprocessed; public_values = list })) (sym is_public)
     (λ k h. (starts laws (fields.root n) n order nonzero start one is_one k h, (steps laws (fields.root n) n order nonzero start one is_one k h, tt)))))
 
 -- Its degrees fit the quotient's domain.
@@ -106,6 +106,6 @@ pub degrees_fit : {F : Type 0} (one : F) (is_zk : Bool) (height : ℕ) → HasSm
 degrees_fit one is_zk height = sizable_degrees_fit (counter_constraints one) (sizable one) None is_zk height
 
 -- The public values under another name.
-pub drawn_with : {S F E C K T P X Y : Type 0} (ops : ProtocolOps S F E C K T P X Y) (i : Instance S F C K) (p : ProofView K E P F) (publics : List F) → publics ≡ i.public_values → IsDrawnOutside ops i p
-    → IsDrawnOutside ops (record i { public_values = publics }) p
-drawn_with ops i p publics same drawn = subst (λ list. IsDrawnOutside ops (record i { public_values = list }) p) (sym same) drawn
+pub drawn_with : {S F E C K T P X Y : Type 0} (ops : ProtocolOps S F E C K T P X Y) (i : Instance S F C K) (p : ProofView K E P F) (public_values : List F) → public_values ≡ i.public_values → IsDrawnOutside ops i p
+    → IsDrawnOutside ops (record i { public_values = public_values }) p
+drawn_with ops i p public_values same drawn = subst (λ list. IsDrawnOutside ops (record i { public_values = list }) p) (sym same) drawn

@@ -3,7 +3,7 @@ use Rattle.stark_air.specs.Layout.{Layout}
 use Rattle.stark_air.specs.Tree.{Constraint, base, main_current, main_next, public_value, first_row, transition, sum, difference, product}
 
 abbrev pub steps_layout : Layout
-steps_layout = record { main = 1; main_next = 1; preprocessed = 0; preprocessed_next = 0; publics = 1; periodics = 0 }
+steps_layout = record { main = 1; main_next = 1; preprocessed = 0; preprocessed_next = 0; public_values = 1; periodics = 0 }
 
 -- On the first row the column is the public value.
 abbrev pub begins : {F : Type 0} → Constraint F

@@ -77,10 +77,10 @@ where
         ≤ SC.Pcs.scheme.log_max_trace_height (SC.config.scheme config.now) }
     ensures accepted { IfOk result (⟦<SC as CountedProofs>⟧.accepted config.now start log_height) }
 {
-    let publics = numbers_from(alloc, start, 1)?;
+    let public_values = numbers_from(alloc, start, 1)?;
     let numbers = numbers_from(alloc, start, power_of_two(log_height))?;
     let trace = RowMajorMatrix::new_col(numbers);
     let data: Option<&'p PreprocessedProverData<Com<SC>, PcsProverData<SC>>> = None;
     let key: Option<&'p PreprocessedVerifierKey<Com<SC>>> = None;
-    prove_and_verify(alloc, config, &CounterAir, trace, &publics, data, key)
+    prove_and_verify(alloc, config, &CounterAir, trace, &public_values, data, key)
 }

@@ -62,7 +62,7 @@ fn proof_of<A: Air<F12289>>(
 ) -> Result<StarkProof<Config>, Fail>
     requires rows { length rows.items ≡ 4 }
     requires columns { (A.layout air.now).main ≡ 1 }
-    requires publics { (A.layout air.now).publics ≡ 1 }
+    requires public_values { (A.layout air.now).public_values ≡ 1 }
     requires none { (A.layout air.now).preprocessed ≡ 0 }
 {
     let trace = RowMajorMatrix::new(rows, 1);
@@ -120,8 +120,15 @@ fn airs_as_data(rt: HostRuntime) -> Result<(), Fail> {
 /// Whether a proof of four rows is accepted as one of a column that doubles from 5 on.
 fn is_doubled(alloc: Global, numbers: [u8; 4]) -> Result<bool, Fail> {
     let proof = proof_of(alloc, &DoublingAir, four(alloc, numbers)?)?;
-    let publics = [F12289::from_u8(5)];
-    Ok(verify(alloc, &configuration(), &DoublingAir, &proof, &publics).is_ok())
+    let public_values = [F12289::from_u8(5)];
+    Ok(verify(
+        alloc,
+        &configuration(),
+        &DoublingAir,
+        &proof,
+        &public_values,
+    )
+    .is_ok())
 }
 
 #[test]

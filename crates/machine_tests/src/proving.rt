@@ -76,7 +76,7 @@ fn matrix_of(
     Ok(RowMajorMatrix::new(values, 40))
 }
 
-fn publics_of(run: &Run) -> [F; 3] {
+fn public_values_of(run: &Run) -> [F; 3] {
     [
         F::from_u8(run.inputs[0]),
         F::from_u8(run.inputs[1]),
@@ -86,17 +86,21 @@ fn publics_of(run: &Run) -> [F; 3] {
 
 /// What a check finds of a run's trace with one cell changed where one is named: `satisfied`, or
 /// the row and the constraint.
-pub fn found(alloc: Global, run: &Run, change: Option<(usize, usize, u8)>) -> Result<String, Fail> {
+pub fn finding(
+    alloc: Global,
+    run: &Run,
+    change: Option<(usize, usize, u8)>,
+) -> Result<String, Fail> {
     let config = configuration()?;
     let air = machine_of(alloc, run)?;
     let trace = matrix_of(alloc, run, change)?;
-    let publics = publics_of(run);
-    if !fits(&config, &air, run.log_rows, &trace, &publics)
+    let public_values = public_values_of(run);
+    if !fits(&config, &air, run.log_rows, &trace, &public_values)
         || !stands_at(alloc, &air, run.log_rows)?
     {
         return Err(Fail::new("other rows"));
     }
-    match check_declared(alloc, &air, &trace, &publics) {
+    match check_declared(alloc, &air, &trace, &public_values) {
         Ok(()) => Ok(String::from_str(alloc, "satisfied")?),
         Err(ConstraintCheckError::Violation(violation)) => {
             let (row, constraint) = (violation.row, violation.constraint);
@@ -110,13 +114,13 @@ pub fn found(alloc: Global, run: &Run, change: Option<(usize, usize, u8)>) -> Re
 fn proof_of<A: Air<F>>(alloc: Global, air: &A, run: &Run) -> Result<String, Fail> {
     let config = configuration()?;
     let trace = matrix_of(alloc, run, None)?;
-    let publics = publics_of(run);
-    if !fits(&config, air, run.log_rows, &trace, &publics)
+    let public_values = public_values_of(run);
+    if !fits(&config, air, run.log_rows, &trace, &public_values)
         || !stands_at(alloc, air, run.log_rows)?
     {
         return Err(Fail::new("other rows"));
     }
-    match made_by(alloc, &config, air, run.log_rows, trace, &publics) {
+    match made_by(alloc, &config, air, run.log_rows, trace, &public_values) {
         Ok((proof, Ok(()))) => Ok(proof.to_json(alloc)?.to_string(alloc)?),
         _ => Err(Fail::new("no proof that is accepted")),
     }

@@ -5,7 +5,7 @@
 //! 45 and 46 the next place, 47 to 50 the registers, 51 to 54 the cells, 55 to 63 the beginning, 64
 //! and 65 the end.
 use crate::programs::{DIVIDE, FIBONACCI};
-use crate::proving::{Run, found, has_one_proof};
+use crate::proving::{Run, finding, has_one_proof};
 use std::test::Fail;
 
 /// The tenth number of Fibonacci is 55.
@@ -32,14 +32,14 @@ fn divide(log_rows: usize) -> Run {
 fn satisfied(rt: HostRuntime) -> Result<(), Fail> {
     let alloc = rt.alloc();
     for run in [fibonacci(7), fibonacci(10), divide(8), divide(10)] {
-        assert_eq!(rt; found(alloc, &run, None)?.as_str(), "satisfied");
+        assert_eq!(rt; finding(alloc, &run, None)?.as_str(), "satisfied");
     }
     let other = Run {
         result: 54,
         ..fibonacci(7)
     };
     assert_eq!(rt;
-        found(alloc, &other, None)?.as_str(),
+        finding(alloc, &other, None)?.as_str(),
         "row 127: constraint 65"
     );
     Ok(())
@@ -63,7 +63,7 @@ fn spoiled(rt: HostRuntime) -> Result<(), Fail> {
         (divide(8), (0, 34, 2), "row 0: constraint 31"),
     ];
     for (run, change, answer) in lines {
-        assert_eq!(rt; found(alloc, &run, Some(change))?.as_str(), answer);
+        assert_eq!(rt; finding(alloc, &run, Some(change))?.as_str(), answer);
     }
     Ok(())
 }

@@ -1,5 +1,5 @@
 -- The verifier's answer for an honest proof.
-use Rattle.std.proofs.Common.{◌≡◌, ◌⊎◌, inl, inr, ℕ, Option, Result, Ok, Err, IfErr}
+use Rattle.std.proofs.Common.{◌≡◌, inl, inr, ℕ, Option, Result, Ok, Err, IfErr}
 use Rattle.stark_air.specs.Declaration.{Trace}
 use Rattle.stark_transcript.specs.declared.error.VerificationError.{VerificationError}
 use Rattle.stark_transcript.specs.declared.error.VerificationError.TheVariants.{OutOfMemory}
@@ -18,6 +18,6 @@ memory_alone (Err error) (inl memory) holds = memory
 memory_alone (Err error) (inr fails) holds = absurd (fails holds)
 
 -- Of the verifier's own instance, what is accepted if it is honest, and is honest, is accepted.
-pub honest_is_accepted : {S F E C K T P X Y : Type 0} {ops : ProtocolOps S F E C K T P X Y} {i : Instance S F C K} {declared : Option (Trace F)} {held : Option (PreprocessedProverData K T)} {height : ℕ} {trace : Trace F} {p : ProofView K E P F}
-    → (AreSetUp ops.opening i.scheme height declared held i.key → IsSatisfied ops i height declared trace → HasSizedDegrees ops i height → IsAcceptedOutside ops i p) → IsHonest ops i declared held height trace p → Accepted ops i p
+pub honest_is_accepted : {S F E C K T P X Y : Type 0} {ops : ProtocolOps S F E C K T P X Y} {i : Instance S F C K} {declared : Option (Trace F)} {preprocessed_data : Option (PreprocessedProverData K T)} {height : ℕ} {trace : Trace F} {p : ProofView K E P F}
+    → (AreSetUp ops.opening i.scheme height declared preprocessed_data i.key → IsSatisfied ops i height declared trace → HasSizedDegrees ops i height → IsAcceptedOutside ops i p) → IsHonest ops i declared preprocessed_data height trace p → Accepted ops i p
 honest_is_accepted law honest = law honest.set_up honest.satisfied honest.sized honest.alpha honest.zeta honest.drawn honest.outside

@@ -16,8 +16,8 @@ pub record IsProvable {S F E C K T P X Y : Type 0} (scheme : SchemeOps S F E C K
 
 -- Prover's data and key are the two parts of one set-up, or there is neither; the trace satisfies the AIR, whose constraints'
 -- degrees fit the quotient's domain; and the zeta that the proof's replay draws is no point of H.
-pub record IsHonest {S F E C K T P X Y : Type 0} (ops : ProtocolOps S F E C K T P X Y) (i : Instance S F C K) (declared : Option (Trace F)) (held : Option (PreprocessedProverData K T)) (height : ℕ) (trace : Trace F) (p : ProofView K E P F) : Type 0 where
-  pub set_up : AreSetUp ops.opening i.scheme height declared held i.key
+pub record IsHonest {S F E C K T P X Y : Type 0} (ops : ProtocolOps S F E C K T P X Y) (i : Instance S F C K) (declared : Option (Trace F)) (preprocessed_data : Option (PreprocessedProverData K T)) (height : ℕ) (trace : Trace F) (p : ProofView K E P F) : Type 0 where
+  pub set_up : AreSetUp ops.opening i.scheme height declared preprocessed_data i.key
   pub satisfied : IsSatisfied ops i height declared trace
   pub sized : HasSizedDegrees ops i height
   pub alpha : E

@@ -72,19 +72,19 @@ impl<F, E> From<ProvingError<E>> for CheckedProvingError<F, E> {
 /// set up beside these it is accepted unless zeta lies in the trace's domain, where the AIR's terms
 /// can be sized, and where its degrees fit the quotient's domain; and what its errors name.
 pub trait StarkChecked<A>: StarkGenericConfig {
-    ghost Held: { Type 0 };
+    ghost PreprocessedData: { Type 0 };
 
     ghost Proof: { Type 0 };
 
-    ghost accepted_if_sizable: { Self → A → List Self.Pcs.Domain.Val → Option Held
+    ghost accepted_if_sizable: { Self → A → List Self.Pcs.Domain.Val → Option PreprocessedData
         → RowMajorMatrix Self.Pcs.Domain.Val → Proof → Type 0 };
 
-    ghost accepted_if_sized: { Self → A → List Self.Pcs.Domain.Val → Option Held
+    ghost accepted_if_sized: { Self → A → List Self.Pcs.Domain.Val → Option PreprocessedData
         → RowMajorMatrix Self.Pcs.Domain.Val → Proof → Type 0 };
 
     ghost Error: { Type 0 };
 
-    ghost is_fault: { Bor Self → Bor A → Bor (List Self.Pcs.Domain.Val) → Option Held
+    ghost is_fault: { Bor Self → Bor A → Bor (List Self.Pcs.Domain.Val) → Option PreprocessedData
         → RowMajorMatrix Self.Pcs.Domain.Val → Error → Type 0 };
 }
 
@@ -92,31 +92,32 @@ impl<SC: StarkGenericConfig, A: Air<Val<SC>>> StarkChecked<A> for SC
 where
     SC::Challenger: GrindingChallenger<Witness = Val<SC>>,
 {
-    ghost Held = { Bor (PreprocessedProverData SC.Pcs.Commitment SC.Pcs.ProverData) };
+    ghost PreprocessedData = { Bor (PreprocessedProverData SC.Pcs.Commitment SC.Pcs.ProverData) };
 
     ghost Proof = { Proof SC.Pcs.Commitment SC.Challenge SC.Pcs.Proof SC.Pcs.Domain.Val };
 
-    ghost accepted_if_sizable = { λ config air public_values held trace proof. (height : ℕ)
-        → IsProvable SC.Pcs.scheme (SC.config.scheme config) (trace_of trace) height
+    ghost accepted_if_sizable = { λ config air public_values preprocessed_data trace proof.
+        (height : ℕ) → IsProvable SC.Pcs.scheme (SC.config.scheme config) (trace_of trace) height
         → AreSizable (A.constraints air)
         → IsAcceptedIfSetUp ⟦<SC as StarkOperations>⟧.operations
         (⟦<SC as StarkInstance<A>>⟧.instance config air public_values) (A.preprocessed_trace air)
-        (option_copied held) height (proof_view proof) };
+        (option_copied preprocessed_data) height (proof_view proof) };
 
-    ghost accepted_if_sized = { λ config air public_values held trace proof. (height : ℕ)
-        → IsProvable SC.Pcs.scheme (SC.config.scheme config) (trace_of trace) height
+    ghost accepted_if_sized = { λ config air public_values preprocessed_data trace proof.
+        (height : ℕ) → IsProvable SC.Pcs.scheme (SC.config.scheme config) (trace_of trace) height
         → HasSizedDegrees ⟦<SC as StarkOperations>⟧.operations
         (⟦<SC as StarkInstance<A>>⟧.instance config air public_values None) height
         → IsAcceptedIfSetUp ⟦<SC as StarkOperations>⟧.operations
         (⟦<SC as StarkInstance<A>>⟧.instance config air public_values) (A.preprocessed_trace air)
-        (option_copied held) height (proof_view proof) };
+        (option_copied preprocessed_data) height (proof_view proof) };
 
     ghost Error = { CheckedProvingError SC.Pcs.Domain.Val SC.Pcs.ProverError };
 
-    ghost is_fault = { λ config air public_values held trace. IsViolationOr
+    ghost is_fault = { λ config air public_values preprocessed_data trace. IsViolationOr
         (⟦<A as RowChecks<Val<SC>>>⟧.is_first_violation air.now (trace_of trace)
         (A.preprocessed_trace air.now) public_values.now)
-        (⟦<SC as StarkProving<A>>⟧.fault (instance_of config air public_values held) trace) };
+        (⟦<SC as StarkProving<A>>⟧.fault
+        (instance_of config air public_values preprocessed_data) trace) };
 }
 
 /// `check_declared`, and then `prove_with_preprocessed`: a proof of a trace that satisfies the AIR,

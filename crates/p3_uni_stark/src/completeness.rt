@@ -36,7 +36,7 @@ use std::alloc::Global;
 /// prover holds of the preprocessed columns. Beside it, that an AIR's degrees fit the quotient's
 /// domain, whatever the height.
 pub trait StarkCompleteness<A>: StarkGenericConfig {
-    ghost Held: { Type 0 };
+    ghost PreprocessedData: { Type 0 };
 
     ghost Key: { Type 0 };
 
@@ -46,7 +46,7 @@ pub trait StarkCompleteness<A>: StarkGenericConfig {
 
     ghost refused: { Self → A → List Self.Pcs.Domain.Val → Option Key → Verified → Type 0 };
 
-    ghost complete: { Self → A → List Self.Pcs.Domain.Val → Option Held → Option Key
+    ghost complete: { Self → A → List Self.Pcs.Domain.Val → Option PreprocessedData → Option Key
         → RowMajorMatrix Self.Pcs.Domain.Val → Verified → Type 0 };
 
     ghost has_sized_degrees: { Self → A → Type 0 };
@@ -56,7 +56,7 @@ impl<SC: StarkGenericConfig, A: Air<Val<SC>>> StarkCompleteness<A> for SC
 where
     SC::Challenger: GrindingChallenger<Witness = Val<SC>>,
 {
-    ghost Held = { Bor (PreprocessedProverData SC.Pcs.Commitment SC.Pcs.ProverData) };
+    ghost PreprocessedData = { Bor (PreprocessedProverData SC.Pcs.Commitment SC.Pcs.ProverData) };
 
     ghost Key = { Bor (PreprocessedVerifierKey SC.Pcs.Commitment) };
 
@@ -71,11 +71,11 @@ where
         IfErr made.1 (IsOutOfMemoryOr (⟦<SC as StarkVerdict<A>>⟧.first_fault config air made.0
         public_values (option_copied key))) };
 
-    ghost complete = { λ config air public_values held key trace made. (height : ℕ)
+    ghost complete = { λ config air public_values preprocessed_data key trace made. (height : ℕ)
         → IsProvable SC.Pcs.scheme (SC.config.scheme config) (trace_of trace) height
         → IsHonest ⟦<SC as StarkOperations>⟧.operations
         (⟦<SC as StarkInstance<A>>⟧.instance config air public_values (option_copied key))
-        (A.preprocessed_trace air) (option_copied held) height (trace_of trace)
+        (A.preprocessed_trace air) (option_copied preprocessed_data) height (trace_of trace)
         (proof_view made.0)
         → IfErr made.1 (λ error. error ≡ VerificationError.OutOfMemory) };
 

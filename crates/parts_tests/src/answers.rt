@@ -7,7 +7,7 @@ use stark_bench::{
 };
 use stark_parts::StarkChallenger;
 use stark_support::{NeverNull, PackedExtensionField, PackedField, PrimeField64, TwoAdicField};
-use stark_test_rows::{apart, elements_in, script_of};
+use stark_test_cases::{apart, elements_in, script_of};
 use std::alloc::Global;
 use std::fmt::Debug;
 use std::test::Fail;

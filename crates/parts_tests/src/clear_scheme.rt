@@ -14,13 +14,13 @@ use stark_support::{
     PolynomialSpace, PrimeField64, RowMajorMatrix, SchemeFault, TwoAdicField, UnivariateStarkPcs,
     value_from_bytes,
 };
-use stark_test_rows::{above, all_above_in, apart, elements_in, numbers_in, shown};
+use stark_test_cases::{above, all_above_in, apart, elements_in, numbers_in, shown};
 use std::alloc::{AllocError, Global};
 use std::fmt::Debug;
 use std::test::Fail;
 
 // A table's name | what is given.
-pub const ROWS: &str = r#"
+pub const CASES: &str = r#"
 # The logarithm of the domain's size | the column. 6150 + 6144 X takes 5 and 6 on the subgroup of two points; on a larger one
 # zeros stand behind. Answered are the commitment and the prover's data.
 committed | 1 | 5 6 => [[[6150, 6144]]] [[[6150, 6144]]]
@@ -66,7 +66,7 @@ periodic | 5 6 | 7 => Some([[12234, 7], [66, 7], [12234, 7], [66, 7]])
 configuration | sha256 => ([0, 12, 0], [9721, 9721])
 "#;
 
-// The same over 2013265921, computed in Python by Lagrange's interpolation: the line through 5 and
+// Over 2013265921, computed in Python by Lagrange's interpolation: the line through 5 and
 // 6 on the points 1 and -1, and the one that is 4 at 3 and 7 at 12286. The domains beside the
 // subgroups have the shift 31. The draw is this challenger's first one in `fields_tests`.
 pub const OVER_BABY_BEAR: &str = r#"
@@ -395,8 +395,8 @@ where
     F: PrimeField64 + TwoAdicField + Debug,
     EF: ExtensionField<F> + Debug,
 {
-    let found = rows_beside::<F, EF>(alloc, &listed::<F>(alloc, text)?)?;
-    shown(alloc, &found)
+    let value = rows_beside::<F, EF>(alloc, &listed::<F>(alloc, text)?)?;
+    shown(alloc, &value)
 }
 
 fn quotient_text<F, EF>(alloc: Global, text: &str) -> Result<String, Fail>
@@ -404,8 +404,8 @@ where
     F: PrimeField64 + TwoAdicField + Debug,
     EF: ExtensionField<F> + Debug,
 {
-    let found = committed_quotient::<F, EF>(alloc, elements_in::<F>(alloc, text)?);
-    shown(alloc, &found)
+    let value = committed_quotient::<F, EF>(alloc, elements_in::<F>(alloc, text)?);
+    shown(alloc, &value)
 }
 
 /// Claims that any scheme's relation accepts are never refused.
@@ -466,8 +466,8 @@ where
     F: PrimeField64 + TwoAdicField + Debug,
     EF: ExtensionField<F> + Debug,
 {
-    let found = rows_again::<F, EF>(alloc, elements_in::<F>(alloc, text)?);
-    shown(alloc, &found)
+    let value = rows_again::<F, EF>(alloc, elements_in::<F>(alloc, text)?);
+    shown(alloc, &value)
 }
 
 /// The rows of a table of two columns.

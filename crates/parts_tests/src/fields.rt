@@ -4,7 +4,7 @@ use stark_support::{
     PrimeField64, TwoAdicField, batch_multiplicative_inverse, packed_from_fn, power_of,
     squared_times, value_from_bytes,
 };
-use stark_test_rows::{
+use stark_test_cases::{
     above_in, all_above_in, apart, computed, element, elements_in, numbers_in, shown,
 };
 use std::alloc::{AllocError, Global};
@@ -13,7 +13,7 @@ use std::test::Fail;
 
 // What is computed of one element or of two, and which elements there are: a table's name | what is
 // given.
-pub const ROWS: &str = r#"
+pub const CASES: &str = r#"
 # The operation | the numbers.
 base | sum | 12288 5 => Some(4)
 base | difference | 5 12288 => Some(6)
@@ -70,13 +70,13 @@ json above | [1,2,3] => Invalid: the JSON value is refused
 // and has with the other one in its place; none of wider packs. Then the pack that has the first
 // value in its first lane and the other one in all others, by its first lane and its last, and the
 // first value in all lanes, as a pack of the extension.
-pub const SCALAR_ROWS: &str = r#"
+pub const SCALAR_CASES: &str = r#"
 packs | 7 8 | 1 2 3 4, 0 0 0 0 => Some((7, 8)) Some((Ext4 { c0: 1, c1: 2, c2: 3, c3: 4 }, Ext4 { c0: 0, c1: 0, c2: 0, c3: 0 }))
 by lane | 5 6 => Some((5, 5)) Some((Ext4 { c0: 5, c1: 0, c2: 0, c3: 0 }, Ext4 { c0: 5, c1: 0, c2: 0, c3: 0 }))
 by lane | 7 6 => Some((7, 7)) Some((Ext4 { c0: 7, c1: 0, c2: 0, c3: 0 }, Ext4 { c0: 7, c1: 0, c2: 0, c3: 0 }))
 "#;
 
-pub const ONE_LANE_ROWS: &str = r#"
+pub const ONE_LANE_CASES: &str = r#"
 widths | all => 1 1 false
 "#;
 
@@ -84,13 +84,13 @@ pub const OVER_BABY_BEAR: &str = r#"
 widths | all => 1 1 true
 "#;
 
-pub const PACKED_ROWS: &str = r#"
+pub const PACKED_CASES: &str = r#"
 widths | all => 4 4 false
 packs | 7 8 | 1 2 3 4, 0 0 0 0 => None None
 by lane | 5 6 => Some((5, 6)) Some((Ext4 { c0: 5, c1: 0, c2: 0, c3: 0 }, Ext4 { c0: 5, c1: 0, c2: 0, c3: 0 }))
 "#;
 
-pub const LOCKSTEP_ROWS: &str = r#"
+pub const LOCKSTEP_CASES: &str = r#"
 widths | all => 4 4 true
 packs | 7 8 | 1 2 3 4, 0 0 0 0 => None None
 by lane | 5 6 => Some((5, 6)) Some((Ext4 { c0: 5, c1: 0, c2: 0, c3: 0 }, Ext4 { c0: 5, c1: 0, c2: 0, c3: 0 }))
@@ -129,8 +129,8 @@ fn both_shown<T: Debug, U: Debug>(alloc: Global, first: &T, second: &U) -> Resul
 fn base_operation<F: PrimeField64 + Debug>(alloc: Global, text: &str) -> Result<String, Fail> {
     let (name, numbers) = apart(text)?;
     let [x, y] = numbers_in::<2>(numbers)?;
-    let found = computed::<F>(name, element(x), element(y));
-    shown(alloc, &found)
+    let value = computed::<F>(name, element(x), element(y));
+    shown(alloc, &value)
 }
 
 fn operation_above<F: PrimeField64, EF: ExtensionField<F> + Debug>(
@@ -139,12 +139,12 @@ fn operation_above<F: PrimeField64, EF: ExtensionField<F> + Debug>(
 ) -> Result<String, Fail> {
     let (name, rest) = apart(text)?;
     let (x, y) = rest.split_once(", ").ok_or("one element")?;
-    let found = computed::<EF>(
+    let value = computed::<EF>(
         name,
         above_in::<F, EF>(alloc, x)?,
         above_in::<F, EF>(alloc, y)?,
     );
-    shown(alloc, &found)
+    shown(alloc, &value)
 }
 
 /// The inverses of elements; none where one of them is zero.
@@ -156,8 +156,8 @@ fn inverses_of<F: Field>(alloc: Global, elements: &[F]) -> Result<Option<Vec<F>>
 }
 
 fn inverses<F: PrimeField64 + Debug>(alloc: Global, text: &str) -> Result<String, Fail> {
-    let found = inverses_of(alloc, &elements_in::<F>(alloc, text)?)?;
-    shown(alloc, &found)
+    let value = inverses_of(alloc, &elements_in::<F>(alloc, text)?)?;
+    shown(alloc, &value)
 }
 
 /// The generator of the group of `2 ^ bits` elements; zero where there is no such group.
@@ -183,9 +183,9 @@ fn generators<F: TwoAdicField + Debug, EF: TwoAdicField + Debug>(
 
 fn powers<F: Field + Debug>(alloc: Global, text: &str) -> Result<String, Fail> {
     let [power, bits] = numbers_in::<2>(text)?;
-    let found = power_of(F::GENERATOR, power as u64);
+    let value = power_of(F::GENERATOR, power as u64);
     let squared = squared_times(F::GENERATOR, bits as usize);
-    both_shown(alloc, &found, &squared)
+    both_shown(alloc, &value, &squared)
 }
 
 /// An element of the basis; none past its end.
@@ -202,8 +202,8 @@ fn basis<F: Field, EF: ExtensionField<F> + Debug>(
     text: &str,
 ) -> Result<String, Fail> {
     let [index] = numbers_in::<1>(text)?;
-    let found = basis_element::<F, EF>(index as usize);
-    shown(alloc, &found)
+    let value = basis_element::<F, EF>(index as usize);
+    shown(alloc, &value)
 }
 
 fn sums_of_basis<F: PrimeField64, EF: ExtensionField<F> + Debug>(
@@ -232,9 +232,9 @@ fn parts<F: PrimeField64 + Debug, EF: ExtensionField<F> + Debug>(
 ) -> Result<String, Fail> {
     let (x, numbers) = apart(text)?;
     let [index, number] = numbers_in::<2>(numbers)?;
-    let found = coordinate::<F, EF>(above_in::<F, EF>(alloc, x)?, index as usize);
+    let value = coordinate::<F, EF>(above_in::<F, EF>(alloc, x)?, index as usize);
     let embedded = EF::from_base(element(number));
-    Ok(format!(in alloc; "{found:?} {embedded:?} {:?}", EF::ONE)?)
+    Ok(format!(in alloc; "{value:?} {embedded:?} {:?}", EF::ONE)?)
 }
 
 fn read<T: NeverNull>(alloc: Global, text: &str) -> Result<T, JsonFault> {

@@ -12,7 +12,7 @@ use stark_support::{
     CanObserve, ExtensionChallenger, ExtensionField, Field, FieldChallenger, PackedExtensionField,
     PackedField, PackedValue, Pcs, PolynomialSpace, PrimeField64, RowMajorMatrixView, TwoAdicField,
 };
-use stark_test_rows::{all_above_in, apart, elements_in};
+use stark_test_cases::{all_above_in, apart, elements_in};
 use std::alloc::{AllocError, Global};
 use std::fmt::Debug;
 use std::test::Fail;
@@ -23,7 +23,7 @@ use std::test::Fail;
 // (x - 2) + (x - 3) in each lane. `pairs of lanes`: whether the lanes of two packs agree with the
 // field. `folded in pairs`: how many other values the scratch vector held | the elements that two
 // packs at a time fold.
-pub const SCALAR_ROWS: &str = r#"
+pub const SCALAR_CASES: &str = r#"
 lanes | 12288 | 12288 1 0 6144 => 1 true true
 folded | 5 => Some([Ext4 { c0: 78, c1: 0, c2: 0, c3: 0 }])
 pairs of lanes | 250 251 => true
@@ -31,7 +31,7 @@ folded in pairs | 0 | 5 6 => Some([Ext4 { c0: 78, c1: 0, c2: 0, c3: 0 }, Ext4 { 
 folded in pairs | 7 | 5 6 => Some([Ext4 { c0: 78, c1: 0, c2: 0, c3: 0 }, Ext4 { c0: 99, c1: 0, c2: 0, c3: 0 }])
 "#;
 
-pub const WIDE_ROWS: &str = r#"
+pub const WIDE_CASES: &str = r#"
 lanes | 12288 1 0 6144 | 12288 1 0 6144, 1 0 6144 12288, 0 6144 12288 1, 6144 12288 1 0 => 4 true true
 folded | 5 6 7 8 => Some([Ext4 { c0: 78, c1: 0, c2: 0, c3: 0 }, Ext4 { c0: 99, c1: 0, c2: 0, c3: 0 }, Ext4 { c0: 120, c1: 0, c2: 0, c3: 0 }, Ext4 { c0: 141, c1: 0, c2: 0, c3: 0 }])
 pairs of lanes | 250 251 252 253 254 255 0 1 => true
@@ -129,14 +129,14 @@ pub(crate) fn base_powers<F: PrimeField64>(
 /// or the lockstep one, which has the same fields.
 #[macro_export]
 macro_rules! folder_of {
-    ($folder:ident, $alloc:expr, $column:expr, $x:expr, $publics:expr, $base:expr, $ext:expr) => {{
+    ($folder:ident, $alloc:expr, $column:expr, $x:expr, $public:expr, $base:expr, $ext:expr) => {{
         let none = &$column[..0];
         $folder {
             main: RowMajorMatrixView::new($column, 1),
             preprocessed: RowMajorMatrixView::new(none, 0),
             preprocessed_window: RowWindow::from_two_rows(none, none),
             periodic_values: none,
-            public_values: $publics,
+            public_values: $public,
             is_first_row: $x,
             is_last_row: $x,
             is_transition: $x,
@@ -156,14 +156,22 @@ fn folder_on<'a, SC: LaneConfig>(
     alloc: Global,
     x: PackedVal<SC>,
     column: &'a [PackedVal<SC>],
-    publics: &'a [Val<SC>],
+    public_values: &'a [Val<SC>],
     base: &'a [Vec<Val<SC>>],
     ext: &'a [SC::Challenge],
 ) -> Option<ProverConstraintFolder<'a, SC>> {
     if column.len() != 2 {
         return None;
     }
-    Some(folder_of!(ProverConstraintFolder, alloc, column, x, publics, base, ext))
+    Some(folder_of!(
+        ProverConstraintFolder,
+        alloc,
+        column,
+        x,
+        public_values,
+        base,
+        ext
+    ))
 }
 
 /// Asserts that x is 1, that x is 2, over the extension, and that x is 3.
@@ -241,9 +249,9 @@ where
     SC::Challenge: Debug,
 {
     let elements = elements_in::<Val<SC>>(alloc, text)?;
-    let found = match folded::<SC>(alloc, &elements)? {
+    let value = match folded::<SC>(alloc, &elements)? {
         Some(pack) => Some(lanes_of(alloc, pack)?),
         None => None,
     };
-    Ok(format!(in alloc; "{found:?}")?)
+    Ok(format!(in alloc; "{value:?}")?)
 }

@@ -9,7 +9,7 @@ use stark_support::{
     Algebra, ExtensionField, PackedExtensionField, PackedField, PackedValue, PrimeField64,
     RowMajorMatrixView, Vectorized,
 };
-use stark_test_rows::{apart, elements_in, numbers_in};
+use stark_test_cases::{apart, elements_in, numbers_in};
 use std::alloc::{AllocError, Global};
 use std::fmt::Debug;
 use std::test::Fail;
@@ -62,7 +62,7 @@ fn folder_on<'a, SC: LaneConfig>(
     alloc: Global,
     x: &VectorizedVal<SC, 2>,
     column: &'a [VectorizedVal<SC, 2>],
-    publics: &'a [Val<SC>],
+    public_values: &'a [Val<SC>],
     base: &'a [Vec<Val<SC>>],
     ext: &'a [SC::Challenge],
 ) -> Option<VectorizedConstraintFolder<'a, SC, 2>> {
@@ -74,7 +74,7 @@ fn folder_on<'a, SC: LaneConfig>(
         alloc,
         column,
         x.dup(),
-        publics,
+        public_values,
         base,
         ext
     ))
@@ -110,16 +110,16 @@ pub fn folded_text<SC: LaneConfig>(alloc: Global, text: &str) -> Result<String, 
 where
     SC::Challenge: Debug,
 {
-    let (held, elements) = apart(text)?;
-    let [held] = numbers_in::<1>(held)?;
+    let (count, elements) = apart(text)?;
+    let [count] = numbers_in::<1>(count)?;
     let elements = elements_in::<Val<SC>>(alloc, elements)?;
     let mut scratch = Vec::new(alloc);
-    for _value in 0..held {
+    for _value in 0..count {
         scratch.push(PackedVal::<SC>::from(Val::<SC>::from_u8(9)))?;
     }
-    let found = match folded::<SC>(alloc, &elements, &mut scratch)? {
+    let value = match folded::<SC>(alloc, &elements, &mut scratch)? {
         Some(pack) => Some(lanes_of(alloc, pack)?),
         None => None,
     };
-    Ok(format!(in alloc; "{found:?}")?)
+    Ok(format!(in alloc; "{value:?}")?)
 }

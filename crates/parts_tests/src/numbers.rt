@@ -4,13 +4,13 @@ use stark_support::{
     RowMajorMatrix, RowMajorMatrixView, VerticalPair, ViewPair, batched_linear_combination,
     checked_log_size_sum, checked_pow2, log2_ceil_usize, log2_strict_usize,
 };
-use stark_test_rows::{all_above_in, apart, elements_in, numbers_in, shown};
+use stark_test_cases::{all_above_in, apart, elements_in, numbers_in, shown};
 use std::alloc::{AllocError, Global};
 use std::fmt::Debug;
 use std::test::Fail;
 
 // A table's name | what is given.
-pub const ROWS: &str = r#"
+pub const CASES: &str = r#"
 # Numbers | as many coefficients. Answered is the sum of the products, by packed values, in their first lane; then the same of
 # elements of the extension.
 sums | 1 2 3 | 4 5 4096 => Some(13)
@@ -66,11 +66,11 @@ fn sums<F: PrimeField64 + PackedField + Debug>(alloc: Global, text: &str) -> Res
         values.push(F::Packing::from(number))?;
     }
     let sum = combined::<F, F::Packing>(&values, &elements_in::<F>(alloc, coefficients)?);
-    let found = match sum {
+    let value = match sum {
         Some(pack) => first_lane(pack),
         None => None,
     };
-    shown(alloc, &found)
+    shown(alloc, &value)
 }
 
 fn sums_above<F: PrimeField64, EF: ExtensionField<F> + Debug>(
@@ -79,8 +79,8 @@ fn sums_above<F: PrimeField64, EF: ExtensionField<F> + Debug>(
 ) -> Result<String, Fail> {
     let (elements, coefficients) = apart(text)?;
     let elements = all_above_in::<F, EF>(alloc, elements)?;
-    let found = combined::<F, EF>(&elements, &elements_in::<F>(alloc, coefficients)?);
-    shown(alloc, &found)
+    let value = combined::<F, EF>(&elements, &elements_in::<F>(alloc, coefficients)?);
+    shown(alloc, &value)
 }
 
 /// A column of elements, as rows of their coordinates.
@@ -141,8 +141,8 @@ fn packed_rows<F: PrimeField64 + PackedField + Debug>(
     lent.push(F::Packing::from(F::from_u8(9)))?;
     match packed_row::<F::Packing>(alloc, &matrix, first as usize, lent)? {
         Some([made, lent]) => {
-            let found = [first_lanes(alloc, &made)?, first_lanes(alloc, &lent)?];
-            shown(alloc, &found)
+            let value = [first_lanes(alloc, &made)?, first_lanes(alloc, &lent)?];
+            shown(alloc, &value)
         }
         None => Err(Fail::new("no row")),
     }

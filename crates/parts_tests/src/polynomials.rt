@@ -5,13 +5,13 @@ use stark_support::{
     interpolate, interpolation_is_unique, is_zero, points_differ, polynomial_value,
     polynomial_value_in, roots_are_few, vanishing_is_constant,
 };
-use stark_test_rows::{above_in, apart, element, elements_in, numbers_in, shown};
+use stark_test_cases::{above_in, apart, element, elements_in, numbers_in, shown};
 use std::alloc::{AllocError, Global};
 use std::fmt::Debug;
 use std::test::Fail;
 
 // A table's name | what is given.
-pub const ROWS: &str = r#"
+pub const CASES: &str = r#"
 # The coefficients | the point. 6150 + 6144 X takes 5 and 6 on the subgroup of two points.
 value | 6150 6144 | 1 => 5
 value | 6150 6144 | 12288 => 6
@@ -25,7 +25,7 @@ line | 1 12288 | 5 6 => [6150, 6144]
 subgroup | 1 2 => its laws are called
 "#;
 
-// The same over 2013265921, computed in Python: powers of the point, and Lagrange's interpolation.
+// Over 2013265921, computed in Python: powers of the point, and Lagrange's interpolation.
 pub const OVER_BABY_BEAR: &str = r#"
 value | 2013265920 1234567890 987654321 2000000000 | 1789456123 => 1877140676
 value above | 2013265920 1234567890 987654321 2000000000 | 5 2013265920 7 16777216 => Ext4 { c0: 1227938419, c1: 1935742442, c2: 1030001014, c3: 604547011 }
@@ -51,8 +51,8 @@ where
 fn value<F: PrimeField64 + Debug>(alloc: Global, text: &str) -> Result<String, Fail> {
     let (coefficients, point) = apart(text)?;
     let [point] = numbers_in::<1>(point)?;
-    let found = polynomial_value(&elements_in::<F>(alloc, coefficients)?, element(point));
-    shown(alloc, &found)
+    let answer = polynomial_value(&elements_in::<F>(alloc, coefficients)?, element(point));
+    shown(alloc, &answer)
 }
 
 fn value_above<F: PrimeField64, EF: ExtensionField<F> + Debug>(
@@ -61,8 +61,8 @@ fn value_above<F: PrimeField64, EF: ExtensionField<F> + Debug>(
 ) -> Result<String, Fail> {
     let (coefficients, point) = apart(text)?;
     let point: EF = above_in::<F, EF>(alloc, point)?;
-    let found = polynomial_value_in(&elements_in::<F>(alloc, coefficients)?, point);
-    shown(alloc, &found)
+    let value = polynomial_value_in(&elements_in::<F>(alloc, coefficients)?, point);
+    shown(alloc, &value)
 }
 
 /// The line through two points, where these differ.
@@ -81,8 +81,8 @@ fn line<F: PrimeField64 + Debug>(alloc: Global, text: &str) -> Result<String, Fa
     let (points, values) = apart(text)?;
     let points = elements_in::<F>(alloc, points)?;
     let values = elements_in::<F>(alloc, values)?;
-    let found = interpolated(alloc, &points, &values)?.ok_or("the points are the same")?;
-    shown(alloc, &found)
+    let value = interpolated(alloc, &points, &values)?.ok_or("the points are the same")?;
+    shown(alloc, &value)
 }
 
 /// Calls the laws of a subgroup and of a coset beside it, if that has as many points.

@@ -5,13 +5,13 @@ ghost use Rattle.stark_air.specs.Declaration.{next_width, read_columns};
 
 use stark_air::{BaseAir, every_column};
 use stark_support::{DomainSeparator, ExtensionField, Field, RowMajorMatrix};
-use stark_test_rows::{apart, numbers_in, shown};
+use stark_test_cases::{apart, numbers_in, shown};
 use stark_transcript::StarkShape;
 use std::alloc::{AllocError, Global};
 use std::test::Fail;
 
 // A table's name | a shape by its fields in their order, 1 for what it has or opens.
-pub const ROWS: &str = r#"
+pub const CASES: &str = r#"
 # The number of steps, the seed's length and its first 29 bytes.
 seed | 1 1 1 0 1 0 1 1 0 0 0 0 => 7 steps, 443 bytes: Some([1, 0, 0, 0, 0, 0, 0, 0, 12, 112, 51, 45, 117, 110, 105, 45, 115, 116, 97, 114, 107, 0, 0, 0, 0, 0, 0, 0, 7])
 seed | 1 1 1 0 1 0 1 1 0 0 0 3 => 8 steps, 479 bytes: Some([1, 0, 0, 0, 0, 0, 0, 0, 12, 112, 51, 45, 117, 110, 105, 45, 115, 116, 97, 114, 107, 0, 0, 0, 0, 0, 0, 0, 8])
@@ -113,26 +113,26 @@ fn length<F: Field, EF: ExtensionField<F>>(alloc: Global, text: &str) -> Result<
 /// How many seeds of the shapes there are, where no two are the same; else the shape whose seed
 /// another one has.
 fn different<F: Field, EF: ExtensionField<F>>(alloc: Global, text: &str) -> Result<String, Fail> {
-    let mut found: Vec<DomainSeparator> = Vec::new(alloc);
+    let mut value: Vec<DomainSeparator> = Vec::new(alloc);
     for shape in text.split(", ") {
         let next = separator::<F, EF>(alloc, shape)?;
-        if found.iter().any(|other| other.seed() == next.seed()) {
+        if value.iter().any(|other| other.seed() == next.seed()) {
             return Ok(format!(in alloc; "{shape} has another's")?);
         }
-        found.push(next)?;
+        value.push(next)?;
     }
-    Ok(format!(in alloc; "{} seeds", found.len())?)
+    Ok(format!(in alloc; "{} seeds", value.len())?)
 }
 
 /// An AIR by its counts, and by whether each next row is read; `fixed` are preprocessed columns.
 #[derive(Drop)]
 struct CountedAir<F> {
     main: usize,
-    fixed: usize,
+    preprocessed: usize,
     public_values: usize,
     periodic: Vec<Vec<F>>,
     reads_next: bool,
-    reads_next_fixed: bool,
+    reads_next_preprocessed: bool,
 }
 
 /// All columns of a row where the next row is read, none where it isn't.
@@ -150,19 +150,21 @@ impl<F> BaseAir<F> for CountedAir<F> {
     ghost layout = { λ air. record {
       main = air.main;
       main_next = next_width (read_columns air.reads_next air.main) air.main;
-      preprocessed = air.fixed;
-      preprocessed_next = next_width (read_columns air.reads_next_fixed air.fixed) air.fixed;
-      publics = air.public_values;
+      preprocessed = air.preprocessed;
+      preprocessed_next = next_width (read_columns air.reads_next_preprocessed
+          air.preprocessed) air.preprocessed;
+      public_values = air.public_values;
       periodics = length (map (λ column. column.items) air.periodic.items);
     } };
 
-    ghost preprocessed_trace = { λ air. Some (record { width = air.fixed; values = [] }) };
+    ghost preprocessed_trace = { λ air. Some (record { width = air.preprocessed; values = [] }) };
 
     ghost periodic_columns = { λ air. map (λ column. column.items) air.periodic.items };
 
     ghost main_next_row_columns = { λ air. read_columns air.reads_next air.main };
 
-    ghost preprocessed_next_row_columns = { λ air. read_columns air.reads_next_fixed air.fixed };
+    ghost preprocessed_next_row_columns = { λ air.
+        read_columns air.reads_next_preprocessed air.preprocessed };
 
     ghost degree_hint = { λ _. None };
 
@@ -178,13 +180,13 @@ impl<F> BaseAir<F> for CountedAir<F> {
     }
 
     fn preprocessed_width(&self) -> usize {
-        self.fixed
+        self.preprocessed
     }
 
     fn preprocessed_trace(&self, alloc: Global) -> Result<Option<RowMajorMatrix<F>>, AllocError> {
         Ok(Some(RowMajorMatrix {
             values: Vec::new(alloc),
-            width: self.fixed,
+            width: self.preprocessed,
         }))
     }
 
@@ -201,7 +203,7 @@ impl<F> BaseAir<F> for CountedAir<F> {
     }
 
     fn preprocessed_next_row_columns(&self, alloc: Global) -> Result<Vec<usize>, AllocError> {
-        read_columns(alloc, self.fixed, self.reads_next_fixed)
+        read_columns(alloc, self.preprocessed, self.reads_next_preprocessed)
     }
 
     fn max_constraint_degree(&self) -> Option<usize> {
@@ -233,15 +235,22 @@ fn periodic_columns<F: Field>(alloc: Global, count: u32) -> Result<Vec<Vec<F>>, 
 }
 
 fn counted_air<F: Field>(alloc: Global, text: &str) -> Result<CountedAir<F>, Fail> {
-    let [main, fixed, publics, periodics, next, next_fixed] = numbers_in::<6>(text)?;
+    let [
+        main,
+        preprocessed,
+        public_values,
+        periodics,
+        next,
+        next_preprocessed,
+    ] = numbers_in::<6>(text)?;
     let periodic = periodic_columns(alloc, periodics)?;
     Ok(CountedAir {
         main: main as usize,
-        fixed: fixed as usize,
-        public_values: publics as usize,
+        preprocessed: preprocessed as usize,
+        public_values: public_values as usize,
         periodic,
         reads_next: next == 1,
-        reads_next_fixed: next_fixed == 1,
+        reads_next_preprocessed: next_preprocessed == 1,
     })
 }
 

@@ -3,43 +3,43 @@ use crate::answers::{baby_bear, lockstep, packed, scalar};
 use crate::{clear_scheme, fields, lanes, numbers, polynomials, seeds, transcripts};
 use stark_bench::S12289;
 use stark_support::{Algebra, PrimeField64};
-use stark_test_rows::all_rows_of;
+use stark_test_cases::all_cases_of;
 use std::test::Fail;
 
 #[test]
 fn all_parts(rt: HostRuntime) -> Result<(), Fail> {
     for (subject, rows) in [
-        ("clear scheme", clear_scheme::ROWS),
-        ("numbers", numbers::ROWS),
-        ("polynomials", polynomials::ROWS),
-        ("seeds", seeds::ROWS),
-        ("transcripts", transcripts::ROWS),
+        ("clear scheme", clear_scheme::CASES),
+        ("numbers", numbers::CASES),
+        ("polynomials", polynomials::CASES),
+        ("seeds", seeds::CASES),
+        ("transcripts", transcripts::CASES),
     ] {
-        all_rows_of(rt.alloc(), subject, rows, scalar)?;
+        all_cases_of(rt.alloc(), subject, rows, scalar)?;
     }
     Ok(())
 }
 
 #[test]
 fn over_one_lane(rt: HostRuntime) -> Result<(), Fail> {
-    all_rows_of(rt.alloc(), "fields", fields::ROWS, scalar)?;
-    all_rows_of(rt.alloc(), "fields", fields::SCALAR_ROWS, scalar)?;
-    all_rows_of(rt.alloc(), "fields", fields::ONE_LANE_ROWS, scalar)?;
-    all_rows_of(rt.alloc(), "lanes", lanes::SCALAR_ROWS, scalar)
+    all_cases_of(rt.alloc(), "fields", fields::CASES, scalar)?;
+    all_cases_of(rt.alloc(), "fields", fields::SCALAR_CASES, scalar)?;
+    all_cases_of(rt.alloc(), "fields", fields::ONE_LANE_CASES, scalar)?;
+    all_cases_of(rt.alloc(), "lanes", lanes::SCALAR_CASES, scalar)
 }
 
 #[test]
 fn over_four_lanes(rt: HostRuntime) -> Result<(), Fail> {
-    all_rows_of(rt.alloc(), "fields", fields::ROWS, packed)?;
-    all_rows_of(rt.alloc(), "fields", fields::PACKED_ROWS, packed)?;
-    all_rows_of(rt.alloc(), "lanes", lanes::WIDE_ROWS, packed)
+    all_cases_of(rt.alloc(), "fields", fields::CASES, packed)?;
+    all_cases_of(rt.alloc(), "fields", fields::PACKED_CASES, packed)?;
+    all_cases_of(rt.alloc(), "lanes", lanes::WIDE_CASES, packed)
 }
 
 #[test]
 fn over_lanes_in_lockstep(rt: HostRuntime) -> Result<(), Fail> {
-    all_rows_of(rt.alloc(), "fields", fields::ROWS, lockstep)?;
-    all_rows_of(rt.alloc(), "fields", fields::LOCKSTEP_ROWS, lockstep)?;
-    all_rows_of(rt.alloc(), "lanes", lanes::WIDE_ROWS, lockstep)
+    all_cases_of(rt.alloc(), "fields", fields::CASES, lockstep)?;
+    all_cases_of(rt.alloc(), "fields", fields::LOCKSTEP_CASES, lockstep)?;
+    all_cases_of(rt.alloc(), "lanes", lanes::WIDE_CASES, lockstep)
 }
 
 // What is said of no field in particular is asked again: packs of one lane, and transcripts.
@@ -47,13 +47,13 @@ fn over_lanes_in_lockstep(rt: HostRuntime) -> Result<(), Fail> {
 fn over_baby_bear(rt: HostRuntime) -> Result<(), Fail> {
     for (subject, rows) in [
         ("clear scheme", clear_scheme::OVER_BABY_BEAR),
-        ("fields", fields::SCALAR_ROWS),
+        ("fields", fields::SCALAR_CASES),
         ("fields", fields::OVER_BABY_BEAR),
-        ("lanes", lanes::SCALAR_ROWS),
+        ("lanes", lanes::SCALAR_CASES),
         ("polynomials", polynomials::OVER_BABY_BEAR),
-        ("transcripts", transcripts::ROWS),
+        ("transcripts", transcripts::CASES),
     ] {
-        all_rows_of(rt.alloc(), subject, rows, baby_bear)?;
+        all_cases_of(rt.alloc(), subject, rows, baby_bear)?;
     }
     Ok(())
 }

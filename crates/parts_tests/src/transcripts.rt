@@ -4,7 +4,7 @@ ghost use Rattle.std.specs.Prelude.{◌≡◌, IfOk, length};
 use stark_bench::ClearCommitment;
 use stark_parts::StarkChallenger;
 use stark_support::{ExtensionField, Field, PrimeField64};
-use stark_test_rows::{apart, element, numbers_in, shown};
+use stark_test_cases::{apart, element, numbers_in, shown};
 use stark_transcript::{
     StarkProverTranscript, StarkShape, StarkTranscriptFailure, StarkVerifierTranscript,
     alpha_without_work,
@@ -13,7 +13,7 @@ use std::alloc::{AllocError, Global};
 use std::test::Fail;
 
 // The challenger | a table's name | what is given.
-pub const ROWS: &str = r#"
+pub const CASES: &str = r#"
 # The preprocessed columns, the bits of work before alpha, and whether a commitment to the columns is given: the failure of a
 # verifier's first phase.
 sha256 | first | 3 0 0 => Some(MissingPreprocessedCommitment { width: 3 })
@@ -152,9 +152,9 @@ fn commitments<F: PrimeField64>(
 fn one<F: Drop>(alloc: Global, x: F) -> Result<Vec<F>, AllocError>
     ensures { IfOk result (λ v. length v.items ≡ 1) }
 {
-    let mut publics = Vec::new(alloc);
-    publics.push(x)?;
-    Ok(publics)
+    let mut public_values = Vec::new(alloc);
+    public_values.push(x)?;
+    Ok(public_values)
 }
 
 fn shape(
@@ -163,7 +163,7 @@ fn shape(
     ood_pow_bits: usize,
     constraint_pow_bits: usize,
 ) -> StarkShape
-    ensures publics { result.num_public_values ≡ 1 }
+    ensures public_values { result.num_public_values ≡ 1 }
     ensures width { result.preprocessed_width ≡ preprocessed_width }
     ensures randomization { result.has_randomization ≡ has_randomization }
 {
@@ -188,7 +188,7 @@ fn shape(
 struct Handed<'a, F, K> {
     trace: &'a K,
     preprocessed: Option<&'a K>,
-    publics: &'a [F],
+    public_values: &'a [F],
     quotient: &'a K,
     random: Option<&'a K>,
     first: F,
@@ -233,13 +233,13 @@ where
     EF: ExtensionField<F>,
     C: StarkChallenger<F, EF, K>,
     requires shape { shape.num_public_values ≡ 1 }
-    requires publics { length handed.now.publics.now ≡ 1 }
+    requires public_values { length handed.now.public_values.now ≡ 1 }
 {
     let mut transcript = StarkVerifierTranscript::<C, F, EF>::new(alloc, challenger, shape)?;
     let bound = transcript.constraint_phase::<K>(
         handed.trace,
         handed.preprocessed,
-        handed.publics,
+        handed.public_values,
         handed.first,
     );
     let alpha = match bound {
@@ -277,22 +277,25 @@ fn proved<F, EF, K, C>(
     alloc: Global,
     challenger: &mut C,
     commitments: &[K],
-    publics: &[F],
+    public_values: &[F],
     delegates: bool,
 ) -> Result<Option<Drawn<F, EF>>, AllocError>
 where
     F: PrimeField64,
     EF: ExtensionField<F>,
     C: StarkChallenger<F, EF, K>,
-    requires { length publics.now ≡ 1 }
+    requires { length public_values.now ≡ 1 }
 {
     let [trace, preprocessed, quotient, random] = commitments else {
         return Ok(None);
     };
     let shape = shape(3, true, 1, 1);
     let mut transcript = StarkProverTranscript::<C, F, EF>::new(alloc, challenger, shape)?;
-    let Ok((alpha, first)) = transcript.constraint_phase::<K>(trace, Some(preprocessed), publics)
-    else {
+    let Ok((alpha, first)) = transcript.constraint_phase::<K>(
+        trace,
+        Some(preprocessed),
+        public_values,
+    ) else {
         transcript.abort();
         return Ok(None);
     };
@@ -344,11 +347,11 @@ where
 {
     let own = commitment::<F>(alloc, 5)?;
     let other = commitment::<F>(alloc, 2)?;
-    let publics = one(alloc, F::from_u8(5))?;
+    let public_values = one(alloc, F::from_u8(5))?;
     let handed = Handed {
         trace: &own,
         preprocessed: given(asked.is_preprocessed_given, &other),
-        publics: &publics,
+        public_values: &public_values,
         quotient: &own,
         random: given(asked.is_random_given, &other),
         first: F::ZERO,
@@ -390,9 +393,15 @@ where
     C: StarkChallenger<F, EF, ClearCommitment<F>>,
 {
     let commitments = commitments::<F>(alloc, numbers)?;
-    let publics = one(alloc, element(numbers[2]))?;
+    let public_values = one(alloc, element(numbers[2]))?;
     let mut challenger = fresh.duplicate(alloc)?;
-    let drawn = proved(alloc, &mut challenger, &commitments, &publics, delegates)?;
+    let drawn = proved(
+        alloc,
+        &mut challenger,
+        &commitments,
+        &public_values,
+        delegates,
+    )?;
     let next: F = challenger.sample();
     let drawn = drawn.ok_or("no witness of one bit")?;
     Ok(Played { drawn, next })
@@ -415,11 +424,11 @@ where
     let [trace, preprocessed, quotient, random] = commitments.as_slice() else {
         return Ok(None);
     };
-    let publics = one(alloc, element(numbers[2]))?;
+    let public_values = one(alloc, element(numbers[2]))?;
     let handed = Handed {
         trace,
         preprocessed: Some(preprocessed),
-        publics: &publics,
+        public_values: &public_values,
         quotient,
         random: Some(random),
         first: proved.first,

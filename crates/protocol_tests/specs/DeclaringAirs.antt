@@ -23,17 +23,17 @@ width_or_none None = 0
 -- One main column and one public value, whether the next main row is read, how many preprocessed columns there are, if there is such
 -- a trace, and whether their next row is read, and how many periodic columns there are.
 abbrev pub declaring_layout : Bool → Option ℕ → Bool → ℕ → Layout
-declaring_layout next fixed fixed_next periodics = record { main = 1; main_next = next_width (column_if next) 1; preprocessed = width_or_none fixed; preprocessed_next = next_width (column_if fixed_next) (width_or_none fixed); publics = 1; periodics = periodics }
+declaring_layout next preprocessed preprocessed_next periodics = record { main = 1; main_next = next_width (column_if next) 1; preprocessed = width_or_none preprocessed; preprocessed_next = next_width (column_if preprocessed_next) (width_or_none preprocessed); public_values = 1; periodics = periodics }
 
-pub declaring : {F : Type 0} (next : Bool) (fixed : Option ℕ) (fixed_next : Bool) (periodic : List (List F)) → IsDeclared (declaring_layout next fixed fixed_next (length periodic)) (trace_of_width fixed) periodic (column_if next) (column_if fixed_next)
-declaring next (Some width) fixed_next periodic = record { preprocessed_width = refl; periodic_columns = refl; main_next_row = refl; preprocessed_next_row = refl }
-declaring next None fixed_next periodic = record { preprocessed_width = refl; periodic_columns = refl; main_next_row = refl; preprocessed_next_row = refl }
+pub declaring : {F : Type 0} (next : Bool) (preprocessed : Option ℕ) (preprocessed_next : Bool) (periodic : List (List F)) → IsDeclared (declaring_layout next preprocessed preprocessed_next (length periodic)) (trace_of_width preprocessed) periodic (column_if next) (column_if preprocessed_next)
+declaring next (Some width) preprocessed_next periodic = record { preprocessed_width = refl; periodic_columns = refl; main_next_row = refl; preprocessed_next_row = refl }
+declaring next None preprocessed_next periodic = record { preprocessed_width = refl; periodic_columns = refl; main_next_row = refl; preprocessed_next_row = refl }
 
 -- The counter's where the next row is read, else none.
 abbrev pub counting_if : {F : Type 0} → F → Bool → List (Constraint F)
 counting_if one true = counter_constraints one
 counting_if one false = []
 
-pub counting_within : (F : Type 0) (one : F) (next : Bool) (fixed : Option ℕ) (fixed_next : Bool) (periodics : ℕ) → LeavesWithin {F = F} (declaring_layout next fixed fixed_next periodics) (counting_if one next)
-counting_within F one true fixed fixed_next periodics = ((tt, (omega arith, omega arith)), ((tt, ((omega arith, omega arith), tt)), tt))
-counting_within F one false fixed fixed_next periodics = tt
+pub counting_within : (F : Type 0) (one : F) (next : Bool) (preprocessed : Option ℕ) (preprocessed_next : Bool) (periodics : ℕ) → LeavesWithin {F = F} (declaring_layout next preprocessed preprocessed_next periodics) (counting_if one next)
+counting_within F one true preprocessed preprocessed_next periodics = ((tt, (omega arith, omega arith)), ((tt, ((omega arith, omega arith), tt)), tt))
+counting_within F one false preprocessed preprocessed_next periodics = tt

@@ -26,14 +26,14 @@ abbrev pub named_layout : {F : Type 0} → NamedAir F → Layout
 named_layout (Sample air) = any_layout air
 named_layout (Small _) = column_layout
 named_layout (Bounded _) = column_layout
-named_layout (Declaring air) = declaring_layout air.reads_next air.fixed air.reads_fixed_next (length (map (λ column. column.items) air.periodic.items))
+named_layout (Declaring air) = declaring_layout air.reads_next air.preprocessed air.reads_preprocessed_next (length (map (λ column. column.items) air.periodic.items))
 named_layout (Tree air) = tree_layout air.declaration.columns air.list.nodes.items
 
 abbrev pub named_preprocessed_trace : {F : Type 0} → (ℕ → F) → NamedAir F → Option (Trace F)
 named_preprocessed_trace of_number (Sample air) = any_preprocessed_trace of_number air
 named_preprocessed_trace of_number (Small _) = None
 named_preprocessed_trace of_number (Bounded _) = None
-named_preprocessed_trace of_number (Declaring air) = trace_of_width air.fixed
+named_preprocessed_trace of_number (Declaring air) = trace_of_width air.preprocessed
 named_preprocessed_trace of_number (Tree air) = declared_trace air.declaration.columns.preprocessed_trace
 
 abbrev pub named_next_columns : {F : Type 0} → NamedAir F → List ℕ
@@ -47,7 +47,7 @@ abbrev pub named_preprocessed_next_columns : {F : Type 0} → NamedAir F → Lis
 named_preprocessed_next_columns (Sample _) = []
 named_preprocessed_next_columns (Small _) = []
 named_preprocessed_next_columns (Bounded _) = []
-named_preprocessed_next_columns (Declaring air) = column_if air.reads_fixed_next
+named_preprocessed_next_columns (Declaring air) = column_if air.reads_preprocessed_next
 named_preprocessed_next_columns (Tree air) = filter_map preprocessed_next_column air.list.nodes.items
 
 abbrev pub named_degree_hint : {F : Type 0} → NamedAir F → Option ℕ
@@ -69,7 +69,7 @@ pub named_declared : {F : Type 0} (of_number : ℕ → F) (air : NamedAir F)
 named_declared of_number (Sample air) = any_declared of_number air
 named_declared of_number (Small _) = record { preprocessed_width = refl; periodic_columns = refl; main_next_row = refl; preprocessed_next_row = refl }
 named_declared of_number (Bounded _) = record { preprocessed_width = refl; periodic_columns = refl; main_next_row = refl; preprocessed_next_row = refl }
-named_declared of_number (Declaring air) = declaring air.reads_next air.fixed air.reads_fixed_next _
+named_declared of_number (Declaring air) = declaring air.reads_next air.preprocessed air.reads_preprocessed_next _
 named_declared of_number (Tree air) = tree_air_declared air.declaration.columns air.list.nodes.items
 
 abbrev pub named_constraints : {F : Type 0} → F → (ℕ → F) → NamedAir F → List (Constraint F)
@@ -83,5 +83,5 @@ pub named_within : {F : Type 0} (one : F) (of_number : ℕ → F) (air : NamedAi
 named_within one of_number (Sample air) = any_within one air
 named_within one of_number (Small air) = asked_within one of_number air.asked
 named_within one of_number (Bounded _) = (((omega arith, omega arith), omega arith), tt)
-named_within {F = F} one of_number (Declaring air) = counting_within F one air.reads_next air.fixed air.reads_fixed_next _
+named_within {F = F} one of_number (Declaring air) = counting_within F one air.reads_next air.preprocessed air.reads_preprocessed_next _
 named_within one of_number (Tree air) = tree_air_within air.declaration.columns air.list.constants.items air.list.nodes.items air.list.constraints.items air.without_fault

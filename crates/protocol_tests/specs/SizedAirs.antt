@@ -29,7 +29,7 @@ next_columns_of Cube = range_with_len 0 4
 next_columns_of SteppedSquare = range_with_len 0 4
 
 abbrev pub layout_of_kind : Kind → Layout
-layout_of_kind kind = record { main = width_of kind; main_next = next_width (next_columns_of kind) (width_of kind); preprocessed = 0; preprocessed_next = 0; publics = 0; periodics = 0 }
+layout_of_kind kind = record { main = width_of kind; main_next = next_width (next_columns_of kind) (width_of kind); preprocessed = 0; preprocessed_next = 0; public_values = 0; periodics = 0 }
 
 pub kind_declared : {F : Type 0} (kind : Kind) → IsDeclared {F = F} (layout_of_kind kind) None [] (next_columns_of kind) []
 kind_declared kind = record { preprocessed_width = refl; periodic_columns = refl; main_next_row = refl; preprocessed_next_row = refl }

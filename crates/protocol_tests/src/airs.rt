@@ -16,13 +16,13 @@ use stark_support::{
     CanObserve, ExtensionChallenger, ExtensionField, FieldChallenger, PrimeField64, RowMajorMatrix,
     TwoAdicField,
 };
-use stark_test_rows::{above, apart, elements_in, list_in, numbers_in, shown};
+use stark_test_cases::{above, apart, elements_in, list_in, numbers_in, shown};
 use std::alloc::{AllocError, Global};
 use std::fmt::Debug;
 use std::test::Fail;
 
 // A table's name | what is given.
-pub const ROWS: &str = r#"
+pub const CASES: &str = r#"
 # The AIR | the main row | the one after it | the preprocessed row | the periodic values | the public values: the folded sum. The
 # counter: 4 * (4 * (4 - 5)) + 4 * (7 - 4 - 1) is -8. Of the mixed constraints 16 * (5 - 1) + 4 * (5 - 2) + (5 - 3): in their
 # order, base and extension ones alike. Then the first row's selector less one; the column alone, under an author's bound; and
@@ -65,7 +65,7 @@ part | 0 | 1 2 3 | 4 5 6 => Some(((Some(Ext4 { c0: 1, c1: 0, c2: 0, c3: 0 }), No
 part | 1 | 1 2 3 | 4 5 6 => Some(((Some(Ext4 { c0: 2, c1: 0, c2: 0, c3: 0 }), None), (Some(Ext4 { c0: 6, c1: 0, c2: 0, c3: 0 }), None)))
 "#;
 
-// The same over 2013265921, with numbers past 12289, computed in Python: the selectors as sums over
+// Over 2013265921, with numbers past 12289, computed in Python: the selectors as sums over
 // the subgroup's points, each constraint as it is written, the sum by powers of 4.
 pub const OVER_BABY_BEAR: &str = r#"
 folded | counter | 1234567890 | 987654321 | empty | empty | 2013265920 => Ext4 { c0: 646038687, c1: 0, c2: 0, c3: 0 }
@@ -121,9 +121,9 @@ fn next_widths<F, A: BaseAir<F>>(alloc: Global, air: &A) -> Result<(usize, usize
     ensures preprocessed { IfOk result (λ widths. widths.1 ≡ (A.layout air.now).preprocessed_next) }
 {
     let columns = air.main_next_row_columns(alloc)?;
-    let fixed_columns = air.preprocessed_next_row_columns(alloc)?;
+    let preprocessed_columns = air.preprocessed_next_row_columns(alloc)?;
     let main = next_width(&columns, air.width());
-    let preprocessed = next_width(&fixed_columns, air.preprocessed_width());
+    let preprocessed = next_width(&preprocessed_columns, air.preprocessed_width());
     Ok((main, preprocessed))
 }
 
@@ -138,12 +138,12 @@ fn are_covered<F, EF, A: BaseAir<F>>(
     requires preprocessed { next_widths.1 ≡ (A.layout air.now).preprocessed_next }
     ensures { IsTrue result → Covers (layout_read read.now) (A.layout air.now) }
 {
-    let (main_next, fixed_next) = next_widths;
+    let (main_next, preprocessed_next) = next_widths;
     read.local.len() >= air.width()
         && read.next.len() >= main_next
-        && read.fixed.len() >= air.preprocessed_width()
-        && fixed_next == 0
-        && read.publics.len() >= air.num_public_values()
+        && read.preprocessed.len() >= air.preprocessed_width()
+        && preprocessed_next == 0
+        && read.public_values.len() >= air.num_public_values()
         && read.periodic.len() >= air.num_periodic_columns()
 }
 
@@ -172,19 +172,19 @@ where
 {
     let (local, rest) = apart(text)?;
     let (next, rest) = apart(rest)?;
-    let (fixed, rest) = apart(rest)?;
-    let (periodic, publics) = apart(rest)?;
+    let (preprocessed, rest) = apart(rest)?;
+    let (periodic, public_values) = apart(rest)?;
     let local = row_in::<F, EF>(alloc, local)?;
     let next = row_in::<F, EF>(alloc, next)?;
-    let fixed = row_in::<F, EF>(alloc, fixed)?;
+    let preprocessed = row_in::<F, EF>(alloc, preprocessed)?;
     let periodic = row_in::<F, EF>(alloc, periodic)?;
-    let publics = elements_in::<F>(alloc, publics)?;
+    let public_values = elements_in::<F>(alloc, public_values)?;
     let read = ReadRows {
         local: &local,
         next: &next,
-        fixed: &fixed,
+        preprocessed: &preprocessed,
         periodic: &periodic,
-        publics: &publics,
+        public_values: &public_values,
     };
     let sum = folded_of::<F, EF, C, A>(alloc, air, &read)?;
     shown(alloc, &sum)

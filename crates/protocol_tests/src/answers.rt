@@ -13,7 +13,7 @@ use stark_support::{
     ExtensionField, NeverNull, PackedExtensionField, PackedField, PrimeField64, QuarticBase,
     TwoAdicField,
 };
-use stark_test_rows::{apart, elements_in, script_of};
+use stark_test_cases::{apart, elements_in, script_of};
 use std::alloc::Global;
 use std::fmt::Debug;
 use std::test::Fail;
@@ -54,7 +54,7 @@ where
     }
 }
 
-/// The same of each subject. What asks for no lanes is asked over fields of one lane.
+/// The answer to a row of each subject. What asks for no lanes is asked over fields of one lane.
 fn answer<F, EF, C>(alloc: Global, challenger: C, subject: &str, row: &str) -> Result<String, Fail>
 where
     F: PrimeField64 + TwoAdicField + QuarticBase + PackedField + NeverNull + Debug,

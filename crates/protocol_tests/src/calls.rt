@@ -56,7 +56,7 @@ where
         of: PhantomData,
     };
     let preprocessed = RowWindow {
-        current: read.fixed,
+        current: read.preprocessed,
         next: &read.local[..0],
         of: PhantomData,
     };
@@ -64,7 +64,7 @@ where
         main,
         preprocessed,
         periodic_values: read.periodic,
-        public_values: read.publics,
+        public_values: read.public_values,
     };
     fold_constraints::<ClearConfig<F, EF, C>, A>(air, rows, selectors, alpha)
 }
@@ -185,7 +185,7 @@ fn part_reads<'a, SC: StarkGenericConfig>(
     start: usize,
     local: &'a [SC::Challenge],
     next: &'a [SC::Challenge],
-    publics: &'a [Val<SC>],
+    public_values: &'a [Val<SC>],
 ) -> Result<Option<Reads<SC::Challenge>>, AllocError> {
     if local.len() != 3 || next.len() != 3 || start > 1 {
         return Ok(None);
@@ -202,7 +202,7 @@ fn part_reads<'a, SC: StarkGenericConfig>(
         },
         preprocessed_window: RowWindow::from_two_rows(none, none),
         periodic_values: none,
-        public_values: publics,
+        public_values: public_values,
         is_first_row: SC::Challenge::ONE,
         is_last_row: SC::Challenge::ONE,
         is_transition: SC::Challenge::ONE,
@@ -218,14 +218,14 @@ pub fn reads_of_a_part<'a, F, EF, C>(
     start: usize,
     local: &'a [EF],
     next: &'a [EF],
-    publics: &'a [F],
+    public_values: &'a [F],
 ) -> Result<Option<Reads<EF>>, AllocError>
 where
     F: TwoAdicField + PrimeField64,
     EF: ExtensionField<F>,
     C: FieldChallenger<F> + CanObserve<ClearCommitment<F>> + ExtensionChallenger<F, EF> + Clone,
 {
-    part_reads::<ClearConfig<F, EF, C>>(start, local, next, publics)
+    part_reads::<ClearConfig<F, EF, C>>(start, local, next, public_values)
 }
 
 /// No scheme's refusal.
@@ -238,7 +238,7 @@ fn equation_on<'p, SC: StarkGenericConfig, A: Air<Val<SC>>>(
     local: &[SC::Challenge],
     next: &[SC::Challenge],
     preprocessed_local: Option<&'p [SC::Challenge]>,
-    publics: &[Val<SC>],
+    public_values: &[Val<SC>],
     domain: Domain<SC>,
     zeta: SC::Challenge,
     alpha: SC::Challenge,
@@ -247,7 +247,7 @@ fn equation_on<'p, SC: StarkGenericConfig, A: Air<Val<SC>>>(
     requires subgroup { (SC.Pcs.Domain.coset_of domain).shift ≡ SC.Pcs.Domain.Val.ring.one }
     requires outside { LiesOutside SC.Challenge.ring SC.Challenge.inverse_of SC.Challenge.embed
         (SC.Pcs.Domain.coset_of domain) zeta }
-    requires widths { Covers (layout_of local.now next.now [] [] publics.now [])
+    requires widths { Covers (layout_of local.now next.now [] [] public_values.now [])
         (A.layout air.now) }
 {
     let absent: Option<&'p [SC::Challenge]> = None;
@@ -258,7 +258,7 @@ fn equation_on<'p, SC: StarkGenericConfig, A: Air<Val<SC>>>(
         preprocessed_local,
         absent,
         &local[..0],
-        publics,
+        public_values,
         domain,
         zeta,
         alpha,
@@ -273,7 +273,7 @@ pub fn equation<F, EF, C, A>(
     local: &[EF],
     next: &[EF],
     preprocessed_local: Option<&[EF]>,
-    publics: &[F],
+    public_values: &[F],
     log_size: usize,
     zeta: EF,
     alpha: EF,
@@ -284,7 +284,7 @@ where
     EF: ExtensionField<F>,
     C: FieldChallenger<F> + CanObserve<ClearCommitment<F>> + ExtensionChallenger<F, EF> + Clone,
     A: Air<F>,
-    requires widths { Covers (layout_of local.now next.now [] [] publics.now [])
+    requires widths { Covers (layout_of local.now next.now [] [] public_values.now [])
         (A.layout air.now) }
 {
     if log_size > F::TWO_ADICITY {
@@ -299,7 +299,7 @@ where
         local,
         next,
         preprocessed_local,
-        publics,
+        public_values,
         domain,
         zeta,
         alpha,
@@ -316,7 +316,7 @@ fn verified<SC, A>(
     config: &SC,
     air: &A,
     proof: &StarkProof<SC>,
-    publics: &[Val<SC>],
+    public_values: &[Val<SC>],
     key: Option<&PreprocessedVerifierKey<Com<SC>>>,
 ) -> Result<String, AllocError>
 where
@@ -326,8 +326,8 @@ where
     PcsError<SC>: Debug,
 {
     let answer = match key {
-        Some(_) => verify_with_preprocessed(alloc, config, air, proof, publics, key),
-        None => verify(alloc, config, air, proof, publics),
+        Some(_) => verify_with_preprocessed(alloc, config, air, proof, public_values, key),
+        None => verify(alloc, config, air, proof, public_values),
     };
     format!(in alloc; "{answer:?}")
 }
@@ -338,7 +338,7 @@ pub fn answer<F, EF, C, A>(
     config: &ClearConfig<F, EF, C>,
     air: &A,
     proof: &Proof<ClearCommitment<F>, EF, ClearProof, F>,
-    publics: &[F],
+    public_values: &[F],
     key: Option<&PreprocessedVerifierKey<ClearCommitment<F>>>,
 ) -> Result<String, AllocError>
 where
@@ -347,7 +347,7 @@ where
     C: StarkChallenger<F, EF, ClearCommitment<F>>,
     A: Air<F>,
 {
-    verified::<ClearConfig<F, EF, C>, A>(alloc, config, air, proof, publics, key)
+    verified::<ClearConfig<F, EF, C>, A>(alloc, config, air, proof, public_values, key)
 }
 
 /// What is set up for an AIR with preprocessed columns.

@@ -8,13 +8,13 @@ use stark_support::{ExtensionField, Field, JsonCodec};
 use stark_symbolic::{
     LeafDegrees, get_constraint_layout, get_max_constraint_degree_extension, greatest_degrees,
 };
-use stark_test_rows::{apart, numbers_in};
+use stark_test_cases::{apart, numbers_in};
 use stark_tree_air::{TreeAir, TreeColumns, TreeDeclaration, TreeList, TreeNode};
 use std::alloc::Global;
 use std::test::Fail;
 
 // A table's name | what is given.
-pub const ROWS: &str = r#"
+pub const CASES: &str = r#"
 # An operation | how many nodes of it, each on the one before, over a column of 8 rows; the last is
 # a constraint, and the column one over the extension. Answered are the greatest degree, the
 # logarithm of the number of chunks, the places, and the bounds on bad draws: the greater of 7 times
@@ -115,8 +115,8 @@ fn degrees<F: Field + JsonCodec, EF: ExtensionField<F>>(
     let multiples = LeafDegrees::trace_multiples(2);
     let air = tree_of::<F>(alloc, spelled)?;
     let layout = AirLayout::from_air::<F, TreeAir<F>>(&air);
-    let found = greatest_degrees::<F, EF, TreeAir<F>>(alloc, &air, layout, multiples, leaves)?;
-    let degree = found.first.unwrap_or(usize::MAX);
+    let value = greatest_degrees::<F, EF, TreeAir<F>>(alloc, &air, layout, multiples, leaves)?;
+    let degree = value.first.unwrap_or(usize::MAX);
     let log = get_log_num_quotient_chunks_for_degree::<F, TreeAir<F>>(&air, degree, 0);
-    Ok(format!(in alloc; "{found:?} {log}")?)
+    Ok(format!(in alloc; "{value:?} {log}")?)
 }

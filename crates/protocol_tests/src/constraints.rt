@@ -6,12 +6,12 @@ use stark_samples::CounterAir;
 use stark_support::{
     CanObserve, ExtensionChallenger, ExtensionField, FieldChallenger, PrimeField64, TwoAdicField,
 };
-use stark_test_rows::{above, apart, elements_in, numbers_in, shown};
+use stark_test_cases::{above, apart, elements_in, numbers_in, shown};
 use std::alloc::Global;
 use std::fmt::Debug;
 use std::test::Fail;
 
-pub const ROWS: &str = r#"
+pub const CASES: &str = r#"
 # The current value and the quotient | the current preprocessed row, where there is one. The next value is 7, the public one 5. The
 # vanishing value is 8: the quotient -1 fits -8, and nothing else does.
 4 12288 | none => Some(Ok(()))
@@ -23,7 +23,7 @@ pub const ROWS: &str = r#"
 4 12288 | 1 => Some(Err(InvalidProofShape(PreprocessedTraceWidthMismatch { expected_local: 1, expected_next: 1, got_local: 1, got_next: 0 })))
 "#;
 
-// The same over 2013265921, where -1 is 2013265920: 12288 is another number there.
+// Over 2013265921, where -1 is 2013265920: 12288 is another number there.
 pub const OVER_BABY_BEAR: &str = r#"
 4 2013265920 | none => Some(Ok(()))
 4 12288 | none => Some(Err(OodEvaluationMismatch { index: None }))
@@ -48,17 +48,17 @@ where
     let mut current = Vec::new(alloc);
     current.push(above::<F, EF>(local))?;
     let next = row_in::<F, EF>(alloc, "7")?;
-    let publics = elements_in::<F>(alloc, "5")?;
-    if current.len() != 1 || next.len() != 1 || publics.len() != 1 {
+    let public_values = elements_in::<F>(alloc, "5")?;
+    if current.len() != 1 || next.len() != 1 || public_values.len() != 1 {
         return Err(Fail::new("other rows"));
     }
-    let fixed = if is_there { Some(values) } else { None };
+    let preprocessed = if is_there { Some(values) } else { None };
     let answer = equation::<F, EF, C, CounterAir>(
         &CounterAir,
         &current,
         &next,
-        fixed,
-        &publics,
+        preprocessed,
+        &public_values,
         1,
         above::<F, EF>(3),
         above::<F, EF>(4),
@@ -74,10 +74,10 @@ where
     EF: ExtensionField<F> + Debug,
     C: FieldChallenger<F> + CanObserve<ClearCommitment<F>> + ExtensionChallenger<F, EF> + Clone,
 {
-    let (numbers, fixed) = apart(row)?;
+    let (numbers, preprocessed) = apart(row)?;
     let [local, quotient] = numbers_in::<2>(numbers)?;
-    let is_there = fixed != "none";
-    let text = if is_there { fixed } else { "" };
+    let is_there = preprocessed != "none";
+    let text = if is_there { preprocessed } else { "" };
     let values = row_in::<F, EF>(alloc, text)?;
     equation_text::<F, EF, C>(alloc, local, &values, is_there, quotient)
 }

@@ -20,34 +20,35 @@ fn column_if(alloc: Global, read: bool) -> Result<Vec<usize>, AllocError>
 }
 
 impl<F> BaseAir<F> for DeclaringAir<F> {
-    ghost layout = { λ air. declaring_layout air.reads_next air.fixed air.reads_fixed_next
-        (length (map (λ column. column.items) air.periodic.items)) };
+    ghost layout = { λ air. declaring_layout air.reads_next air.preprocessed
+        air.reads_preprocessed_next (length (map (λ column. column.items) air.periodic.items)) };
 
-    ghost preprocessed_trace = { λ air. trace_of_width air.fixed };
+    ghost preprocessed_trace = { λ air. trace_of_width air.preprocessed };
 
     ghost periodic_columns = { λ air. map (λ column. column.items) air.periodic.items };
 
     ghost main_next_row_columns = { λ air. column_if air.reads_next };
 
-    ghost preprocessed_next_row_columns = { λ air. column_if air.reads_fixed_next };
+    ghost preprocessed_next_row_columns = { λ air. column_if air.reads_preprocessed_next };
 
     ghost degree_hint = { λ air. air.hint };
 
-    ghost as_declared = { λ air. declaring air.reads_next air.fixed air.reads_fixed_next _ };
+    ghost as_declared = { λ air. declaring air.reads_next air.preprocessed
+        air.reads_preprocessed_next _ };
 
     fn width(&self) -> usize {
         1
     }
 
     fn preprocessed_width(&self) -> usize {
-        match self.fixed {
+        match self.preprocessed {
             Some(width) => width,
             None => 0,
         }
     }
 
     fn preprocessed_trace(&self, alloc: Global) -> Result<Option<RowMajorMatrix<F>>, AllocError> {
-        match self.fixed {
+        match self.preprocessed {
             Some(width) => Ok(Some(RowMajorMatrix {
                 values: Vec::new(alloc),
                 width,
@@ -69,7 +70,7 @@ impl<F> BaseAir<F> for DeclaringAir<F> {
     }
 
     fn preprocessed_next_row_columns(&self, alloc: Global) -> Result<Vec<usize>, AllocError> {
-        column_if(alloc, self.reads_fixed_next)
+        column_if(alloc, self.reads_preprocessed_next)
     }
 
     fn max_constraint_degree(&self) -> Option<usize> {
@@ -88,8 +89,8 @@ impl<F> BaseAir<F> for DeclaringAir<F> {
 impl<F: Field> Air<F> for DeclaringAir<F> {
     ghost constraints = { λ air. counting_if F.ONE air.reads_next };
 
-    ghost leaves_within = { λ air. counting_within _ F.ONE air.reads_next air.fixed
-        air.reads_fixed_next _ };
+    ghost leaves_within = { λ air. counting_within _ F.ONE air.reads_next air.preprocessed
+        air.reads_preprocessed_next _ };
 
     fn eval<AB: ExtensionBuilder<F = F>>(&self, builder: &mut AB) -> Result<(), AllocError> {
         if self.reads_next {

@@ -7,13 +7,13 @@ use stark_support::{
     CanObserve, DomainShape, ExtensionChallenger, ExtensionField, Field, FieldChallenger,
     PeriodicColumnShapeError, PeriodicColumns, PolynomialSpace, PrimeField64, TwoAdicField,
 };
-use stark_test_rows::{above, apart, elements_in, list_in, numbers_in, shown};
+use stark_test_cases::{above, apart, elements_in, list_in, numbers_in, shown};
 use std::alloc::{AllocError, Global};
 use std::fmt::Debug;
 use std::test::Fail;
 
 // A table's name | what is given.
-pub const ROWS: &str = r#"
+pub const CASES: &str = r#"
 # The selectors of a subgroup at a point. At 3 on the subgroup of two points they are 4, 2 and 4, and the vanishing value is 8.
 selectors | 1 3 => Ext4 { c0: 4, c1: 0, c2: 0, c3: 0 } Ext4 { c0: 2, c1: 0, c2: 0, c3: 0 } Ext4 { c0: 4, c1: 0, c2: 0, c3: 0 } Ext4 { c0: 10753, c1: 0, c2: 0, c3: 0 }
 
@@ -34,7 +34,7 @@ recomposed | 2 1 | 7684 0 0 0, 7684 0 0 0 => Some(Ext4 { c0: 7684, c1: 0, c2: 0,
 recomposed | 3 2 | 9603 9340 9340 9340, 6903 5345 5345 5345, 2720 2941 2941 2941, 2254 3770 3770 3770 => Some(Ext4 { c0: 39, c1: 0, c2: 0, c3: 0 })
 "#;
 
-// The same over 2013265921, computed in Python: the selectors as sums over the subgroup's points,
+// Over 2013265921, computed in Python: the selectors as sums over the subgroup's points,
 // the columns by Lagrange's interpolation, the chunks' weights as products of quotients, on parts
 // of the coset of 31. What else there is of cosets over this field stands in `fields_tests`.
 pub const OVER_BABY_BEAR: &str = r#"
@@ -84,10 +84,10 @@ where
 {
     let [log_size, point] = numbers_in::<2>(text)?;
     let point = above::<F, EF>(point);
-    let found = selectors_at::<F, EF>(log_size as usize, point).ok_or("a point of the domain")?;
+    let value = selectors_at::<F, EF>(log_size as usize, point).ok_or("a point of the domain")?;
     Ok(format!(in alloc;
         "{:?} {:?} {:?} {:?}",
-        found.is_first_row, found.is_last_row, found.is_transition, found.inv_vanishing
+        value.is_first_row, value.is_last_row, value.is_transition, value.inv_vanishing
     )?)
 }
 
@@ -108,8 +108,8 @@ fn fitting<F: Field>(alloc: Global, text: &str) -> Result<String, Fail> {
         }
         columns.push(column)?;
     }
-    let found = fits(&columns);
-    shown(alloc, &found)
+    let value = fits(&columns);
+    shown(alloc, &value)
 }
 
 /// The values at a point of columns beside the subgroup of `2^log_size` points.
@@ -141,8 +141,8 @@ where
         columns.push(elements_in::<F>(alloc, column)?)?;
     }
     let point = above::<F, EF>(point);
-    let found = periodic_values::<F, EF>(alloc, log_size as usize, &columns, point)?;
-    shown(alloc, &found)
+    let value = periodic_values::<F, EF>(alloc, log_size as usize, &columns, point)?;
+    shown(alloc, &value)
 }
 
 /// The value at 3 that is recomposed from chunks on the parts of the coset whose shift is the
@@ -191,6 +191,6 @@ where
         }
         chunks.push(values)?;
     }
-    let found = recomposed_at::<F, EF, C>(alloc, log_size as usize, log_chunks as usize, &chunks)?;
-    shown(alloc, &found)
+    let value = recomposed_at::<F, EF, C>(alloc, log_size as usize, log_chunks as usize, &chunks)?;
+    shown(alloc, &value)
 }

@@ -2,7 +2,7 @@
 //! each. A fault is a few edits of an honest input's text: ` > ` stands between what is taken out
 //! and what is put in its place, ` & ` between two edits.
 use crate::answers::scalar;
-use stark_test_rows::apart;
+use stark_test_cases::apart;
 use std::alloc::Global;
 use std::process::Abort;
 use std::test::Fail;
@@ -248,14 +248,14 @@ fn both_together(
     if row_of(NEVER, first.name, second.name).is_some() {
         return Ok(());
     }
-    let found = spoiled(alloc, text, first, second)?;
+    let case = spoiled(alloc, text, first, second)?;
     assert!(rt;
-        found.is_some(),
+        case.is_some(),
         "no table has {} & {}",
         first.name,
         second.name
     );
-    let (text, expected) = found.ok_or("no table has them")?;
+    let (text, expected) = case.ok_or("no table has them")?;
     let (one, other) = (first.name, second.name);
     assert_eq!(rt;
         answer_to(alloc, scheme, &text)?.as_str(),
@@ -265,7 +265,7 @@ fn both_together(
     Ok(())
 }
 
-/// The same for all pairs of a scheme's faults.
+/// Asserts that of all pairs of a scheme's faults the first in order is told.
 fn all_pairs(rt: &impl Abort, alloc: Global, scheme: &str, text: &str) -> Result<(), Fail> {
     for (place, row) in FAULTS.lines().enumerate() {
         let first = fault_in(row)?;
@@ -295,7 +295,7 @@ fn first_faults_under_masks(rt: HostRuntime) -> Result<(), Fail> {
 fn place_of(name: &str) -> Option<usize> {
     FAULTS.lines().position(|row| row
         .split_once(" | ")
-        .is_some_and(|(found, _)| found == name))
+        .is_some_and(|(known, _)| known == name))
 }
 
 // A pair whose names are no faults', or stand in the other order, would never be looked up.

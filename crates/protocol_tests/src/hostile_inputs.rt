@@ -17,7 +17,7 @@ use stark_support::{
     ExtensionField, Field, GrindingChallenger, JsonCodec, NeverNull, PrimeField64, TwoAdicField,
     list_from_json, lists_from_json,
 };
-use stark_test_rows::{apart, shown};
+use stark_test_cases::{apart, shown};
 use std::alloc::Global;
 use std::fmt::Debug;
 use std::test::Fail;
@@ -40,12 +40,12 @@ fn air_of<F: JsonCodec + Drop>(alloc: Global, value: &Value) -> Result<NamedAir<
     let periodic = value.get("periodic").ok_or("no columns")?;
     Ok(NamedAir::Declaring(DeclaringAir {
         reads_next: flag_at(value, "next")?,
-        fixed: if flag_at(value, "fixed")? {
+        preprocessed: if flag_at(value, "fixed")? {
             Some(1)
         } else {
             None
         },
-        reads_fixed_next: flag_at(value, "fixed_next")?,
+        reads_preprocessed_next: flag_at(value, "fixed_next")?,
         periodic: lists_from_json(alloc, periodic)
             .ok()
             .ok_or("other columns")?,
@@ -72,7 +72,7 @@ fn key_of<K: JsonCodec + Drop>(
 }
 
 /// The opened preprocessed rows; none where the current one is missing.
-fn fixed_rows_of<EF: JsonCodec + Drop>(
+fn preprocessed_rows_of<EF: JsonCodec + Drop>(
     alloc: Global,
     value: &Value,
 ) -> Result<Option<PreprocessedOpenedValues<EF>>, Fail> {
@@ -93,7 +93,7 @@ fn proof_of<K: NeverNull + Drop, EF: JsonCodec + Drop, P: JsonCodec + Drop, F: F
 ) -> Result<Proof<K, EF, P, F>, Fail> {
     let json = value.get("proof").ok_or("no proof")?;
     let mut proof: Proof<K, EF, P, F> = Proof::from_json(alloc, json).ok().ok_or("another proof")?;
-    proof.opened_values.preprocessed = fixed_rows_of(alloc, value)?;
+    proof.opened_values.preprocessed = preprocessed_rows_of(alloc, value)?;
     Ok(proof)
 }
 
@@ -103,7 +103,7 @@ struct Input<K, EF, P, F> {
     air: NamedAir<F>,
     key: Option<PreprocessedVerifierKey<K>>,
     proof: Proof<K, EF, P, F>,
-    publics: Vec<F>,
+    public_values: Vec<F>,
 }
 
 fn input_of<K: NeverNull + Drop, EF: JsonCodec + Drop, P: JsonCodec + Drop, F: Field + NeverNull>(
@@ -114,7 +114,7 @@ fn input_of<K: NeverNull + Drop, EF: JsonCodec + Drop, P: JsonCodec + Drop, F: F
         air: air_of(alloc, value)?,
         key: key_of(alloc, value)?,
         proof: proof_of(alloc, value)?,
-        publics: list_at(alloc, value, "publics")?,
+        public_values: list_at(alloc, value, "publics")?,
     })
 }
 
@@ -130,7 +130,7 @@ where
     PcsError<SC>: Debug,
 {
     let (air, proof, key) = (&input.air, &input.proof, input.key.as_ref());
-    let answer = verify_with_preprocessed(alloc, config, air, proof, &input.publics, key);
+    let answer = verify_with_preprocessed(alloc, config, air, proof, &input.public_values, key);
     shown(alloc, &answer)
 }
 

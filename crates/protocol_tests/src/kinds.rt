@@ -40,9 +40,9 @@ pub struct DeclaringAir<F> {
     /// Whether the next row is read.
     pub reads_next: bool,
     /// The width of the preprocessed trace, which has no rows; none without one.
-    pub fixed: Option<usize>,
+    pub preprocessed: Option<usize>,
     /// Whether the preprocessed column's next row is read.
-    pub reads_fixed_next: bool,
+    pub reads_preprocessed_next: bool,
     /// The periodic columns.
     pub periodic: Vec<Vec<F>>,
     /// The bound on the degree multiple.
@@ -65,7 +65,7 @@ pub enum NamedAir<F> {
 pub struct ReadRows<'a, F, EF> {
     pub local: &'a [EF],
     pub next: &'a [EF],
-    pub fixed: &'a [EF],
+    pub preprocessed: &'a [EF],
     pub periodic: &'a [EF],
-    pub publics: &'a [F],
+    pub public_values: &'a [F],
 }

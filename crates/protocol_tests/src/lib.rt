@@ -10,6 +10,8 @@ mod answers;
 #[cfg(test)]
 mod calls;
 #[cfg(test)]
+mod cases;
+#[cfg(test)]
 mod chains;
 #[cfg(test)]
 mod constraints;
@@ -34,8 +36,6 @@ mod provers;
 mod proving;
 #[cfg(test)]
 mod quotients;
-#[cfg(test)]
-mod rows;
 #[cfg(test)]
 mod security;
 #[cfg(test)]

@@ -215,8 +215,8 @@ pub fn named_air<F: PrimeField64>(alloc: Global, name: &str) -> Result<NamedAir<
     Ok(NamedAir::Declaring(DeclaringAir {
         hint: Some(name.parse::<usize>()?),
         reads_next: true,
-        fixed: None,
-        reads_fixed_next: false,
+        preprocessed: None,
+        reads_preprocessed_next: false,
         periodic: Vec::new(alloc),
     }))
 }

@@ -15,13 +15,13 @@ use stark_samples::{CounterAir, PreprocessedAir};
 use stark_support::{
     CanObserve, ExtensionChallenger, ExtensionField, FieldChallenger, PrimeField64, TwoAdicField,
 };
-use stark_test_rows::{apart, numbers_in, shown};
+use stark_test_cases::{apart, numbers_in, shown};
 use std::alloc::Global;
 use std::fmt::Debug;
 use std::test::Fail;
 
 // The AIR and the logarithm of the height.
-pub const ROWS: &str = r#"
+pub const CASES: &str = r#"
 # The column 1, 2, 3, 4 on the subgroup of four points: the widths and heights of key and data, and their commitments.
 preprocessed | 2 => 1 2 1 2 [[[6147, 739, 6144, 11549]]] [[[6147, 739, 6144, 11549]]] [[[6147, 739, 6144, 11549]]]
 
@@ -38,7 +38,7 @@ empty trace | 0 => nothing
 empty trace | 3 => nothing
 "#;
 
-// The same over 2013265921, computed in Python by Lagrange's interpolation; the scheme's greatest
+// Over 2013265921, computed in Python by Lagrange's interpolation; the scheme's greatest
 // height is 27.
 pub const OVER_BABY_BEAR: &str = r#"
 preprocessed | 2 => 1 2 1 2 [[[1006632963, 864202256, 1006632960, 1149063664]]] [[[1006632963, 864202256, 1006632960, 1149063664]]] [[[1006632963, 864202256, 1006632960, 1149063664]]]
@@ -70,8 +70,8 @@ where
             // A preprocessed trace is declared, without columns.
             let air: DeclaringAir<F> = DeclaringAir {
                 reads_next: false,
-                fixed: Some(0),
-                reads_fixed_next: false,
+                preprocessed: Some(0),
+                reads_preprocessed_next: false,
                 periodic: Vec::new(alloc),
                 hint: None,
             };

@@ -1,16 +1,16 @@
 //! Proofs and their parts in JSON, and the test of a proof's height.
-use crate::rows::option_in;
+use crate::cases::option_in;
 use p3_uni_stark::{Commitments, OpenedValues, Proof, validate_degree_bits};
 use serde_json::Value;
 use stark_support::{Field, JsonCodec, NeverNull};
-use stark_test_rows::{apart, numbers_in, shown};
+use stark_test_cases::{apart, numbers_in, shown};
 use std::alloc::Global;
 use std::fmt::Debug;
 use std::test::Fail;
 
 // A table's name | what is given. What is read is answered as it is written, or the error by its
 // name and fields.
-pub const ROWS: &str = r#"
+pub const CASES: &str = r#"
 # The preprocessed rows under their rule, with a row that is no array, and fields in their order.
 openings | [1] => WrongKind { field: "" }
 openings | {} => MissingField { field: "trace_local" }

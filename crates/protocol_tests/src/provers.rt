@@ -15,7 +15,7 @@ use stark_support::{
     JsonCodec, NeverNull, PackedExtensionField, PackedField, PrimeField64, RowMajorMatrix,
     TwoAdicField,
 };
-use stark_test_rows::{apart, elements_in, numbers_in};
+use stark_test_cases::{apart, elements_in, numbers_in};
 use std::alloc::Global;
 use std::test::Fail;
 
@@ -53,7 +53,7 @@ sha256 | made | clear | 2 3 | counter | 3 | 5 6 7 8 9 10 11 12 | 5 => accepted
 sha256 | made | masked by 1 2 3 | 2 3 | fibonacci | 2 | 1 1 1 2 2 3 3 5 | 1 1 5 => accepted
 "#;
 
-// The same over 2013265921. The proofs were computed in Python: columns and chunks by Lagrange's
+// Over 2013265921. The proofs were computed in Python: columns and chunks by Lagrange's
 // interpolation, the quotient point by point, masks as the definitions say. Alpha and zeta lie in
 // the extension where the script has other numbers than zeros. The AIR as data has base constraints
 // and one over the extension, a preprocessed and a periodic column: with a trace that satisfies it,
@@ -193,15 +193,15 @@ where
     P: TraceProver<F>,
     A: Air<F>,
 {
-    let (trace, publics) = apart(text)?;
+    let (trace, public_values) = apart(text)?;
     let trace = matrix::<F>(alloc, trace, air.width())?.ok_or("rows that aren't whole")?;
-    let publics = elements_in::<F>(alloc, publics)?;
-    let text = prover.proved_text(alloc, air, log_height, trace, &publics)?;
+    let public_values = elements_in::<F>(alloc, public_values)?;
+    let text = prover.proved_text(alloc, air, log_height, trace, &public_values)?;
     Ok(text.ok_or("a trace that doesn't fit")?)
 }
 
-/// The same of a named AIR, or of one as data: its name or its JSON | the logarithm of the height |
-/// the rest.
+/// The text of a proof of a named AIR, or of one as data, and the verifier's answer: its name or
+/// its JSON | the logarithm of the height | the rest.
 fn text_by_name<F, P>(alloc: Global, prover: &P, text: &str) -> Result<String, Fail>
 where
     F: PrimeField64 + JsonCodec,
@@ -372,8 +372,14 @@ where
     let (from, to) = apart(text)?;
     let changed = MASKED_PROOF.replacen(alloc, from, to, 1)?;
     let config = masked::<F, EF, C>(alloc, challenger, "1")?;
-    let publics = elements_in::<F>(alloc, "5")?;
+    let public_values = elements_in::<F>(alloc, "5")?;
     let air = named_air::<F>(alloc, "counter")?;
-    let answer = masked_reread::<F, EF, C, NamedAir<F>>(alloc, &config, &air, &changed, &publics)?;
+    let answer = masked_reread::<F, EF, C, NamedAir<F>>(
+        alloc,
+        &config,
+        &air,
+        &changed,
+        &public_values,
+    )?;
     Ok(answer.ok_or("no proof")?)
 }

@@ -12,8 +12,8 @@ use stark_support::{
     ExtensionField, Field, GrindingChallenger, JsonCodec, NeverNull, PackedExtensionField,
     PackedField, PrimeField64, RowMajorMatrix, TwoAdicField, value_from_bytes,
 };
+use stark_test_cases::elements_in;
 use stark_test_proofs::{fits, made_by, stands_at};
-use stark_test_rows::elements_in;
 use std::alloc::{AllocError, Global};
 use std::fmt::Debug;
 use std::test::Fail;
@@ -56,7 +56,7 @@ pub trait TraceProver<F: Field> {
         air: &A,
         log_height: usize,
         trace: RowMajorMatrix<F>,
-        publics: &[F],
+        public_values: &[F],
     ) -> Result<Option<String>, AllocError>;
 }
 
@@ -77,12 +77,14 @@ where
         air: &A,
         log_height: usize,
         trace: RowMajorMatrix<Val<SC>>,
-        publics: &[Val<SC>],
+        public_values: &[Val<SC>],
     ) -> Result<Option<String>, AllocError> {
-        if !fits(self, air, log_height, &trace, publics) || !stands_at(alloc, air, log_height)? {
+        if !fits(self, air, log_height, &trace, public_values)
+            || !stands_at(alloc, air, log_height)?
+        {
             return Ok(None);
         }
-        let text = match made_by(alloc, self, air, log_height, trace, publics) {
+        let text = match made_by(alloc, self, air, log_height, trace, public_values) {
             Ok(verified) => text_of_verified::<SC>(alloc, &verified),
             Err(error) => format!(in alloc; "{error:?}"),
         };
@@ -125,7 +127,7 @@ fn reread_by<SC, A>(
     config: &SC,
     air: &A,
     text: &str,
-    publics: &[Val<SC>],
+    public_values: &[Val<SC>],
 ) -> Result<Option<String>, AllocError>
 where
     SC: StarkGenericConfig,
@@ -139,7 +141,7 @@ where
 {
     match proof_in::<Com<SC>, SC::Challenge, PcsProof<SC>, Val<SC>>(alloc, text) {
         Some(proof) => {
-            let answer = verify(alloc, config, air, &proof, publics);
+            let answer = verify(alloc, config, air, &proof, public_values);
             Ok(Some(format!(in alloc; "{answer:?}")?))
         }
         None => Ok(None),
@@ -153,7 +155,7 @@ pub fn masked_reread<F, EF, C, A>(
     config: &MaskedConfig<F, EF, C>,
     air: &A,
     text: &str,
-    publics: &[F],
+    public_values: &[F],
 ) -> Result<Option<String>, AllocError>
 where
     F: TwoAdicField + PrimeField64 + NeverNull,
@@ -161,5 +163,5 @@ where
     C: StarkChallenger<F, EF, ClearCommitment<F>>,
     A: Air<F>,
 {
-    reread_by::<MaskedConfig<F, EF, C>, A>(alloc, config, air, text, publics)
+    reread_by::<MaskedConfig<F, EF, C>, A>(alloc, config, air, text, public_values)
 }

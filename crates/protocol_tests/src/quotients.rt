@@ -15,7 +15,7 @@ use stark_support::{
     CanObserve, DomainShape, ExtensionChallenger, Field, FieldChallenger, PackedExtensionField,
     PackedField, PolynomialSpace, PrimeField64, RowMajorMatrix, TwoAdicField, UnivariateStarkPcs,
 };
-use stark_test_rows::{above, apart, elements_in, numbers_in, shown};
+use stark_test_cases::{above, apart, elements_in, numbers_in, shown};
 use std::alloc::{AllocError, Global};
 use std::fmt::Debug;
 use std::test::Fail;
@@ -24,14 +24,14 @@ use std::test::Fail;
 // with alpha 4. The counter's trace 5, 6 is the line (11 - X) / 2; its quotient is -1 everywhere,
 // and so is that of the trace 5 of height one. Over one row the mixed AIR's folded sum, 16 * (5 -
 // 1) + 4 * (5 - 2) + (5 - 3), is 78, and the vanishing value at 11 is 10.
-pub const ROWS: &str = r#"
+pub const CASES: &str = r#"
 counter | 1 | 0 11 | 5 => Some([Ext4 { c0: 12288, c1: 0, c2: 0, c3: 0 }, Ext4 { c0: 12288, c1: 0, c2: 0, c3: 0 }])
 counter | 1 | 0 4160 11 8140 | 5 => Some([Ext4 { c0: 12288, c1: 0, c2: 0, c3: 0 }, Ext4 { c0: 12288, c1: 0, c2: 0, c3: 0 }, Ext4 { c0: 12288, c1: 0, c2: 0, c3: 0 }, Ext4 { c0: 12288, c1: 0, c2: 0, c3: 0 }])
 counter | 0 | 5 | 5 => Some([Ext4 { c0: 12288, c1: 0, c2: 0, c3: 0 }])
 mixed | 0 | 5 | empty => Some([Ext4 { c0: 9839, c1: 0, c2: 0, c3: 0 }])
 "#;
 
-// The same over 2013265921, on the coset of 31, computed in Python point by point: the folded sum
+// Over 2013265921, on the coset of 31, computed in Python point by point: the folded sum
 // with the selectors as sums, over x^n - 1. First the line again, then columns of no trace.
 pub const OVER_BABY_BEAR: &str = r#"
 counter | 1 | 2013265911 21 | 5 => Some([Ext4 { c0: 2013265920, c1: 0, c2: 0, c3: 0 }, Ext4 { c0: 2013265920, c1: 0, c2: 0, c3: 0 }])
@@ -67,7 +67,7 @@ fn values_beside<'p, SC: StarkGenericConfig, A: Air<Val<SC>>>(
     air: &A,
     log_height: usize,
     column: Vec<Val<SC>>,
-    publics: &'p [Val<SC>],
+    public_values: &'p [Val<SC>],
     alpha: SC::Challenge,
 ) -> Result<Option<Vec<SC::Challenge>>, AllocError>
 where
@@ -76,7 +76,7 @@ where
 {
     let fits = air.preprocessed_width() == 0
         && air.periodic_columns().is_empty()
-        && air.num_public_values() == publics.len();
+        && air.num_public_values() == public_values.len();
     if !fits || log_height > config.pcs().log_max_trace_height() || log_height > 63 {
         return Ok(None);
     }
@@ -93,7 +93,7 @@ where
         alloc,
         config.pcs(),
         air,
-        publics,
+        public_values,
         layout,
         trace_domain,
         apart,
@@ -110,19 +110,19 @@ struct Given<F> {
     air: NamedAir<F>,
     log_height: usize,
     column: Vec<F>,
-    publics: Vec<F>,
+    public_values: Vec<F>,
 }
 
 fn given_in<F: PrimeField64>(alloc: Global, row: &str) -> Result<Given<F>, Fail> {
     let (name, rest) = apart(row)?;
     let (log_height, rest) = apart(rest)?;
-    let (column, publics) = apart(rest)?;
+    let (column, public_values) = apart(rest)?;
     let [log_height] = numbers_in::<1>(log_height)?;
     Ok(Given {
         air: named_air(alloc, name)?,
         log_height: log_height as usize,
         column: elements_in(alloc, column)?,
-        publics: elements_in(alloc, publics)?,
+        public_values: elements_in(alloc, public_values)?,
     })
 }
 
@@ -140,10 +140,18 @@ where
         air,
         log_height,
         column,
-        publics,
+        public_values,
     } = given;
     let alpha = above::<Val<SC>, SC::Challenge>(4);
-    values_beside(alloc, config, &air, log_height, column, &publics, alpha)
+    values_beside(
+        alloc,
+        config,
+        &air,
+        log_height,
+        column,
+        &public_values,
+        alpha,
+    )
 }
 
 /// The answer to a row of this table.

@@ -3,9 +3,9 @@ ghost use Rattle.std.specs.Prelude.{◌≡◌, ◌≤◌, unwrap_or};
 ghost use Rattle.stark_security.specs.Openings.{random_columns};
 
 use crate::calls::{folded, recomposed_of_one};
+use crate::cases::option_in;
 use crate::kinds::{Kind, NamedAir, ReadRows, SizedAir};
 use crate::named_air::named_air;
-use crate::rows::option_in;
 use crate::sizing::kind_in;
 use p3_uni_stark::{OpeningShape, StarkSecurityParams, num_batched_openings, ood_error_bound};
 use stark_air::{Air, AirLayout};
@@ -15,12 +15,12 @@ use stark_support::{
     CanObserve, ExtensionChallenger, ExtensionField, Field, FieldChallenger, FriRegime,
     GrindingSites, LagrangeSelectors, PolynomialSpace, PrimeField64, QuarticBase, TwoAdicField,
 };
-use stark_test_rows::{above, apart, element, numbers_in, shown};
+use stark_test_cases::{above, apart, element, numbers_in, shown};
 use std::alloc::{AllocError, Global};
 use std::test::Fail;
 
 // A table's name | what is given.
-pub const ROWS: &str = r#"
+pub const CASES: &str = r#"
 # The AIR | the height's logarithm and is_zk: the bounds of bad alphas and of bad zetas; none where they are too great.
 bound | counter | 1 0 => Some((1, 3))
 bound | nothing | 1 0 => Some((0, 3))
@@ -101,8 +101,8 @@ fn bound_text<F: Field, EF: ExtensionField<F>, A: Air<F>>(
     text: &str,
 ) -> Result<String, Fail> {
     let [degree_bits, is_zk] = numbers_in::<2>(text)?;
-    let found = bound::<F, EF, A>(alloc, air, degree_bits as usize, is_zk as usize)?;
-    shown(alloc, &found)
+    let value = bound::<F, EF, A>(alloc, air, degree_bits as usize, is_zk as usize)?;
+    shown(alloc, &value)
 }
 
 fn bound_by_name<F: PrimeField64, EF: ExtensionField<F>>(
@@ -131,14 +131,14 @@ fn bound_of_kind<F: Field, EF: ExtensionField<F>>(
 fn batched_openings(rt: HostRuntime) -> Result<(), Fail> {
     let plain = OpeningShape::new();
     let hiding = OpeningShape::hiding(0);
-    let found = [
+    let value = [
         num_batched_openings(100, true, 0, false, 2, 4, plain),
         num_batched_openings(100, true, 0, false, 2, 4, hiding),
         num_batched_openings(100, false, 0, false, 2, 4, plain),
         num_batched_openings(100, true, 6, true, 2, 4, plain),
         num_batched_openings(3, true, 0, false, 1, 4, OpeningShape::Circle),
     ];
-    assert_eq!(rt; found, [208, 212, 108, 220, 20]);
+    assert_eq!(rt; value, [208, 212, 108, 220, 20]);
     Ok(())
 }
 
@@ -154,14 +154,14 @@ fn numbers_of(shape: OpeningShape) -> (OpeningShape, bool, usize, usize) {
 
 #[test]
 fn opening_shapes(rt: HostRuntime) -> Result<(), Fail> {
-    let found = [
+    let value = [
         Default::default(),
         OpeningShape::hiding(3),
         OpeningShape::Circle,
     ]
     .map(numbers_of);
     assert_eq!(rt;
-        format!(in rt.alloc(); "{found:?}")?.as_str(),
+        format!(in rt.alloc(); "{value:?}")?.as_str(),
         "[(TwoAdic, false, 0, 1), (Hiding { num_random_codewords: 3 }, true, 3, 1), (Circle, false, 0, 2)]"
     );
     Ok(())
@@ -237,15 +237,15 @@ fn parameters<F: QuarticBase + TwoAdicField>(alloc: Global, text: &str) -> Resul
     }
     let openings = opening_shape(hides == 1);
     let work = batch_combination as usize;
-    let found = params::<F>(alloc, reads_next == 1, hint, openings, work)?.ok_or("no domain")?;
+    let value = params::<F>(alloc, reads_next == 1, hint, openings, work)?.ok_or("no domain")?;
     Ok(format!(in alloc;
         "{} {} {} {} {} {:?}",
-        found.num_batched_functions,
-        found.num_constraints,
-        found.air_max_constraint_degree,
-        found.num_quotient_chunks,
-        found.max_combo,
-        found.grinding
+        value.num_batched_functions,
+        value.num_constraints,
+        value.air_max_constraint_degree,
+        value.num_quotient_chunks,
+        value.max_combo,
+        value.grinding
     )?)
 }
 
@@ -277,10 +277,10 @@ where
     let mut rows = Vec::new(alloc);
     rows.push(value)?;
     rows.push(next_value)?;
-    let mut publics = Vec::new(alloc);
-    publics.push(element::<F>(5))?;
+    let mut public_values = Vec::new(alloc);
+    public_values.push(element::<F>(5))?;
     let (local, next, none) = (&rows[..1], &rows[1..2], &rows[..0]);
-    if local.len() != 1 || next.len() != 1 || publics.len() != 1 {
+    if local.len() != 1 || next.len() != 1 || public_values.len() != 1 {
         return Err(Fail::new("other rows"));
     }
     let selectors = LagrangeSelectors {
@@ -292,9 +292,9 @@ where
     let read = ReadRows {
         local,
         next,
-        fixed: none,
+        preprocessed: none,
         periodic: none,
-        publics: &publics,
+        public_values: &public_values,
     };
     Ok(folded::<F, EF, C, CounterAir>(&CounterAir, &read, selectors, alpha)?)
 }
@@ -325,15 +325,15 @@ where
         above::<F, EF>(second),
         above::<F, EF>(1),
     );
-    let mut found = Vec::new(alloc);
+    let mut value = Vec::new(alloc);
     for n in 0..numbers {
         let alpha = above::<F, EF>(n);
         let sum = folded_counter::<F, EF, C>(alloc, (first, second), point, alpha)?;
         if sum == EF::ZERO {
-            found.push(n)?;
+            value.push(n)?;
         }
     }
-    shown(alloc, &found)
+    shown(alloc, &value)
 }
 
 /// The domain of two points beside the subgroup of two points.
@@ -353,7 +353,7 @@ where
 {
     let [numbers] = numbers_in::<1>(text)?;
     let domain = beside_two_points::<F>().ok_or("no domain")?;
-    let mut found = Vec::new(alloc);
+    let mut value = Vec::new(alloc);
     for n in 0..numbers {
         let zeta = above::<F, EF>(n);
         let quotient = recomposed_of_one::<F, EF, C>(
@@ -363,8 +363,8 @@ where
             zeta,
         )?.ok_or("not of degree four")?;
         if is_balanced::<F, EF, C>(alloc, zeta, quotient)? {
-            found.push(n)?;
+            value.push(n)?;
         }
     }
-    shown(alloc, &found)
+    shown(alloc, &value)
 }

@@ -1,8 +1,8 @@
 //! How many chunks quotients have, and which powers fold the constraints at which places.
 ghost use Rattle.std.specs.Prelude.{◌≤◌};
 
+use crate::cases::option_in;
 use crate::kinds::{Kind, SizedAir};
-use crate::rows::option_in;
 use stark_air::{AirLayout, BaseAirBuilder, ExtensionBuilder};
 use stark_bench::{CircleShape, Coset};
 use stark_parts::{
@@ -16,13 +16,13 @@ use stark_symbolic::{
     get_all_symbolic_constraints, get_constraint_layout, get_max_constraint_degree_extension,
     get_symbolic_constraints,
 };
-use stark_test_rows::{above, apart, numbers_in, shown};
+use stark_test_cases::{above, apart, numbers_in, shown};
 use std::alloc::{AllocError, Global};
 use std::fmt::Debug;
 use std::test::Fail;
 
 // A table's name | what is given.
-pub const ROWS: &str = r#"
+pub const CASES: &str = r#"
 # What is asked | the author's bound on the degree | is_zk and the trace's length, which decides nothing. Answered are the main
 # and the preprocessed columns, the greatest degree without a bound, and the logarithms of the numbers of chunks: over the
 # field, its extension, a two-adic domain and a circle. A cube has one chunk too few in one part: degree 3 - 1 is 2, and under
@@ -268,6 +268,6 @@ fn refusals<F: PrimeField64>(alloc: Global) -> Result<([bool; 3], usize, usize),
 }
 
 fn refused<F: PrimeField64>(alloc: Global) -> Result<String, Fail> {
-    let found = refusals::<F>(alloc)?;
-    shown(alloc, &found)
+    let value = refusals::<F>(alloc)?;
+    shown(alloc, &value)
 }

@@ -24,7 +24,7 @@ use stark_support::{
     NeverNull, PackedExtensionField, PackedField, PrimeField64, TwoAdicField,
 };
 use stark_symbolic::{BaseEntry, SymbolicConstraint, SymbolicExpression, SymbolicVariable};
-use stark_test_rows::{apart, numbers_in};
+use stark_test_cases::{apart, numbers_in};
 use stark_tree_air::{
     NamedConstraint, TreeAir, TreeAirError, TreeColumns, TreeConstraint, TreeDeclaration,
     TreeExpressionError, TreeList, TreeNode,
@@ -36,7 +36,7 @@ use std::test::Fail;
 type Base = S12289;
 
 // A table's name | what is given.
-pub const ROWS: &str = r#"
+pub const CASES: &str = r#"
 # The AIR | the current row | the next one | the preprocessed one | the periodic values | the public values: the folded sum. The
 # counter: 4 * (4 * (4 - 5)) + 4 * (7 - 4 - 1) is -8, and with 5 in the current row 4. Of the mixed constraints
 # 16 * (5 - 1) + 4 * (5 - 2) + (5 - 3). Then the periodic column less the main one, and 5 * 2 over the extension: 4 * (3 - 5) + 10.
@@ -103,7 +103,7 @@ same | preprocessed | 2 | null | 1 2 3 4 | empty => accepted
 same | periodic | 2 | null | 0 1 0 1 | empty => accepted
 "#;
 
-// The same over 2013265921, computed in Python. The AIR has base constraints and one over the
+// Over 2013265921, computed in Python. The AIR has base constraints and one over the
 // extension, a preprocessed and a periodic column.
 pub const OVER_BABY_BEAR: &str = r#"
 folded | {"width":2,"publics":1,"periodic":[[0,1]],"preprocessed":{"width":1,"rows":[[1],[2],[3],[4]]},"constants":[],"nodes":[["main",0],["main",1],["next",0],["preprocessed",0],["public",0],["periodic",0],["first"],["transition"],["sub",0,4],["mul",6,8],["sub",2,0],["sub",10,3],["mul",7,11],["mul",0,0],["mul",13,5],["sub",1,14]],"constraints":[{"base":9},{"ext":12},{"base":15}]} | 1234567890 987654321 | 2000000000 1789456123 | 16777216 | 1073741824 | 2013265920 => Ext4 { c0: 728324374, c1: 0, c2: 0, c3: 0 }

@@ -15,11 +15,11 @@ use stark_bench::ClearCommitment;
 use stark_clear::{ClearPcs, ClearProof};
 use stark_parts::{StarkChallenger, StarkConfig};
 use stark_support::{ExtensionField, PrimeField64, TwoAdicField};
-use stark_test_rows::{above, apart, element, elements_in, numbers_in};
+use stark_test_cases::{above, apart, element, elements_in, numbers_in};
 use std::alloc::{AllocError, Global};
 use std::test::Fail;
 
-pub const ROWS: &str = r#"
+pub const CASES: &str = r#"
 # zeta 3 is one of the few points at which the trace 5, 7 passes
 script 4 0 0 0 3 0 0 0 | counter | 4 12288 1 0 0 | 6150 6144 | 7 | 5 | none | none | none => Ok(())
 script 4 0 0 0 3 0 0 0 | counter | 5 12288 0 0 0 | 5 | 5 | 5 | none | none | none => Ok(())
@@ -86,7 +86,7 @@ script 4 0 0 0 3 0 0 0 | counter | 4 12288 1 0 0 | 6150 6144 | 7 | 5 | 0 1 | non
 script 4 0 0 0 3 0 0 0 | counter | 4 12288 1 0 0 | 6150 6144 | 7 | 5 | 1 1 | 1 | none => Err(InvalidProofShape(PreprocessedVerifierKeyInconsistency))
 "#;
 
-// The same over 2013265921: the line through 5 and 6 on the points 1 and -1 has the coefficients
+// Over 2013265921: the line through 5 and 6 on the points 1 and -1 has the coefficients
 // 11/2 and -1/2, in Python 1006632966 and 1006632960; its quotient is -1. Behind the accepted proof
 // an opened value is altered, then the next one, the quotient, the public value and the point; then
 // the height, which is at most 27, and once the point is one of order 2^27.
@@ -124,7 +124,7 @@ where
 #[derive(Drop)]
 struct Shown<F, EF> {
     proof: ClearShown<F, EF>,
-    publics: Vec<F>,
+    public_values: Vec<F>,
     key: Option<PreprocessedVerifierKey<ClearCommitment<F>>>,
     bits: usize,
 }
@@ -181,7 +181,7 @@ fn chunk_row<F: PrimeField64, EF: ExtensionField<F>>(
 }
 
 /// The current preprocessed row | the next one.
-fn fixed_rows_in<F: PrimeField64, EF: ExtensionField<F>>(
+fn preprocessed_rows_in<F: PrimeField64, EF: ExtensionField<F>>(
     alloc: Global,
     text: &str,
 ) -> Result<Option<PreprocessedOpenedValues<EF>>, Fail> {
@@ -243,7 +243,7 @@ fn openings_of<F: PrimeField64, EF: ExtensionField<F>>(
     Ok(OpenedValues {
         trace_local,
         trace_next: opened_in::<F, EF>(alloc, next)?,
-        preprocessed: fixed_rows_in::<F, EF>(alloc, rows)?,
+        preprocessed: preprocessed_rows_in::<F, EF>(alloc, rows)?,
         quotient_chunks,
         random: None,
     })
@@ -263,7 +263,7 @@ where
     A: Air<F>,
 {
     let (proof, key) = (&shown.proof, shown.key.as_ref());
-    calls::answer::<F, EF, C, A>(alloc, config, air, proof, &shown.publics, key)
+    calls::answer::<F, EF, C, A>(alloc, config, air, proof, &shown.public_values, key)
 }
 
 /// The parts of a row: the numbers of a proof | the column | the next value | the public values |
@@ -273,7 +273,7 @@ struct Parts<'a> {
     numbers: [u32; 5],
     column: &'a str,
     next: &'a str,
-    publics: &'a str,
+    public_values: &'a str,
     key: &'a str,
     rows: &'a str,
 }
@@ -282,13 +282,13 @@ fn parts_in(text: &str) -> Result<Parts<'_>, Fail> {
     let (numbers, rest) = apart(text)?;
     let (column, rest) = apart(rest)?;
     let (next, rest) = apart(rest)?;
-    let (publics, rest) = apart(rest)?;
+    let (public_values, rest) = apart(rest)?;
     let (key, rows) = apart(rest)?;
     Ok(Parts {
         numbers: numbers_in::<5>(numbers)?,
         column,
         next,
-        publics,
+        public_values,
         key,
         rows,
     })
@@ -302,7 +302,7 @@ fn shown_in<F: PrimeField64, EF: ExtensionField<F>>(
     let [_local, _chunk, _degree_bits, _witness, bits] = parts.numbers;
     Ok(Shown {
         proof: proof_of::<F, EF>(alloc, &parts)?,
-        publics: elements_in::<F>(alloc, parts.publics)?,
+        public_values: elements_in::<F>(alloc, parts.public_values)?,
         key: key_in::<F>(alloc, parts.key)?,
         bits: bits as usize,
     })

@@ -31,8 +31,8 @@ read_columns true width = range_with_len 0 width
 read_columns false width = []
 
 -- Main columns and public values alone.
-abbrev pub main_trace_layout : (width publics : ℕ) (reads_next_row : Bool) → Layout
-main_trace_layout width publics reads_next_row = record { main = width; main_next = next_width (read_columns reads_next_row width) width; preprocessed = 0; preprocessed_next = 0; publics = publics; periodics = 0 }
+abbrev pub main_trace_layout : (width public_values : ℕ) (reads_next_row : Bool) → Layout
+main_trace_layout width public_values reads_next_row = record { main = width; main_next = next_width (read_columns reads_next_row width) width; preprocessed = 0; preprocessed_next = 0; public_values = public_values; periodics = 0 }
 
 -- Whatever AIR, the counts of its layout are those of what it declares.
 abbrev pub AreDeclared : {A F : Type 0} → (A → Layout) → (A → Option (Trace F)) → (A → List (List F)) → (A → List ℕ) → (A → List ℕ) → Type 0

@@ -8,7 +8,7 @@ pub record Layout : Type 0 where
   pub main_next : ℕ
   pub preprocessed : ℕ
   pub preprocessed_next : ℕ
-  pub publics : ℕ
+  pub public_values : ℕ
   pub periodics : ℕ
 
 -- The first has at least what the second asks.
@@ -17,7 +17,7 @@ pub record Covers (have : Layout) (want : Layout) : Type 0 where
   pub main_next : want.main_next ≤ have.main_next
   pub preprocessed : want.preprocessed ≤ have.preprocessed
   pub preprocessed_next : want.preprocessed_next ≤ have.preprocessed_next
-  pub publics : want.publics ≤ have.publics
+  pub public_values : want.public_values ≤ have.public_values
   pub periodics : want.periodics ≤ have.periodics
 
 -- The layout has every leaf of a tree.
@@ -27,7 +27,7 @@ TreeWithin l (main_current c) = c < l.main
 TreeWithin l (main_next c) = c < l.main_next
 TreeWithin l (preprocessed_current c) = c < l.preprocessed
 TreeWithin l (preprocessed_next c) = c < l.preprocessed_next
-TreeWithin l (public_value i) = i < l.publics
+TreeWithin l (public_value i) = i < l.public_values
 TreeWithin l (periodic_value c) = c < l.periodics
 TreeWithin l first_row = Unit {0}
 TreeWithin l last_row = Unit {0}

@@ -6,12 +6,12 @@ use Rattle.stark_air.specs.Value.{Environment}
 
 -- The rows' values; past the ends stand the fillers, which no constraint of an AIR within the layout reads.
 abbrev pub environment_of : {F : Type 0} {E : Type 0} → Operations F E → F → E → List E → List E → List E → List E → List F → List E → E → E → E → Environment E
-environment_of o blank filler current next fixed_current fixed_next publics periodic first last change = record {
+environment_of o blank filler current next preprocessed_current preprocessed_next public_values periodic first last change = record {
   main_current = λ c. slice_index_or current c filler;
   main_next = λ c. slice_index_or next c filler;
-  preprocessed_current = λ c. slice_index_or fixed_current c filler;
-  preprocessed_next = λ c. slice_index_or fixed_next c filler;
-  public_value = λ i. o.embed (slice_index_or publics i blank);
+  preprocessed_current = λ c. slice_index_or preprocessed_current c filler;
+  preprocessed_next = λ c. slice_index_or preprocessed_next c filler;
+  public_value = λ i. o.embed (slice_index_or public_values i blank);
   periodic_value = λ c. slice_index_or periodic c filler;
   first_row = first;
   last_row = last;
@@ -19,11 +19,11 @@ environment_of o blank filler current next fixed_current fixed_next publics peri
 }
 
 abbrev pub layout_of : {F : Type 0} {E : Type 0} → List E → List E → List E → List E → List F → List E → Layout
-layout_of current next fixed_current fixed_next publics periodic = record {
+layout_of current next preprocessed_current preprocessed_next public_values periodic = record {
   main = length current;
   main_next = length next;
-  preprocessed = length fixed_current;
-  preprocessed_next = length fixed_next;
-  publics = length publics;
+  preprocessed = length preprocessed_current;
+  preprocessed_next = length preprocessed_next;
+  public_values = length public_values;
   periodics = length periodic;
 }

@@ -53,7 +53,7 @@ pub record Shows {V : Type 0} {E : Type 0} (from_gives : V → E → Type 0) (st
 
 -- What a builder lends shows its row: public values and periodic ones,
 abbrev pub ShowsPublicValues : {S V E : Type 0} → (V → E → Type 0) → (E → E → Type 0) → (S → Environment E) → (S → Layout) → S → List V → Type 0
-ShowsPublicValues gives stands environment layout s values = Shows gives stands (environment s).public_value (layout s).publics (slice_get values)
+ShowsPublicValues gives stands environment layout s values = Shows gives stands (environment s).public_value (layout s).public_values (slice_get values)
 
 abbrev pub ShowsPeriodicValues : {S V E : Type 0} → (V → E → Type 0) → (E → E → Type 0) → (S → Environment E) → (S → Layout) → S → List V → Type 0
 ShowsPeriodicValues gives stands environment layout s values = Shows gives stands (environment s).periodic_value (layout s).periodics (slice_get values)

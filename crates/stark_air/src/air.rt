@@ -54,7 +54,7 @@ pub trait BaseAir<F> {
 
     /// How many public values there are, 0 without any.
     fn num_public_values(&self) -> usize
-        ensures { result ≡ (layout self.now).publics };
+        ensures { result ≡ (layout self.now).public_values };
 
     /// The periodic columns, each by the values that it repeats down the trace; none without any.
     fn periodic_columns(&self) -> &[Vec<F>]

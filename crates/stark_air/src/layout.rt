@@ -34,7 +34,7 @@ impl AirLayout {
     pub fn from_air<F, A: BaseAir<F>>(air: &A) -> AirLayout
         ensures preprocessed_width { result.preprocessed_width ≡ (A.layout air.now).preprocessed }
         ensures main_width { result.main_width ≡ (A.layout air.now).main }
-        ensures num_public_values { result.num_public_values ≡ (A.layout air.now).publics }
+        ensures num_public_values { result.num_public_values ≡ (A.layout air.now).public_values }
         ensures num_periodic_columns { result.num_periodic_columns ≡ (A.layout air.now).periodics }
         ensures covers { Covers (symbolic_layout result) (A.layout air.now) }
     {

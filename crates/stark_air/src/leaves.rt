@@ -5,7 +5,7 @@ use crate::builder::BaseAirBuilder;
 
 /// The public value of this number.
 pub fn public_value<AB: BaseAirBuilder>(builder: &AB, index: usize) -> AB::Expr
-    requires { index < (AB.layout builder.now).publics }
+    requires { index < (AB.layout builder.now).public_values }
     ensures { AB.Expr.stands ((AB.environment builder.now).public_value index) result }
 {
     builder.public_values()[index].into()

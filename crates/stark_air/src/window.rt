@@ -66,7 +66,7 @@ impl<'a, T> RowWindow<'a, T> {
         }
     }
 
-    /// The same rows, in a window that names `F`.
+    /// The window of these rows that names `F`.
     pub fn over<F>(self) -> RowWindow<'a, T, F>
         ensures current { result.current.now ≡ self.entry.current.now }
         ensures next { result.next.now ≡ self.entry.next.now }

@@ -5,7 +5,7 @@ use Rattle.serde_json.specs.View.{items_of}
 use Rattle.serde_json.specs.Written.{has_float, items_have_float}
 use Rattle.stark_support.specs.JsonFacts.{list_written}
 use Rattle.stark_proof.specs.ProofJson.{commitments_writing, nonzero, openings_writing, preprocessed_local, preprocessed_next, proof_object, proof_writing, value_or_null}
-use Rattle.stark_proof.specs.ProofView.{OpeningsView, ProofView}
+use Rattle.stark_proof.specs.ProofView.{OpeningsView}
 use Rattle.stark_proof.specs.declared.values.Commitments.{Commitments}
 use Rattle.stark_answers.specs.Prove.{HasNoFloat}
 

@@ -144,11 +144,11 @@ module _ {S F E C T P X Y : Type 0} (ops : ProtocolOps S F E C (Listed F) T P X 
   key_interpolates (Some key) is =
       let fields = ops.opening.fields in
       let made = is.3 in
-      let held = made.columns in
-      let stands = clear.stands s is.2.commitment is.2.prover_data (record { domain = natural_coset fields.base (log_rows + zk_bits ops.opening.is_zk); columns = held } ∷ []) made.stands in
-      let listed : only_matrix key.commitment ≡ held = ap only_matrix (made.same ∙ stands.0) in
-      let below : AllByRecursion (HasDegreeBelow (2 ^ log_rows)) held
-      = subst (λ bits. AllByRecursion (HasDegreeBelow (2 ^ bits)) held) (unmasked ops.opening.is_zk log_rows clear.plain) (all_below (2 ^ (log_rows + zk_bits ops.opening.is_zk)) held stands.1.0) in
+      let made_columns = made.columns in
+      let stands = clear.stands s is.2.commitment is.2.prover_data (record { domain = natural_coset fields.base (log_rows + zk_bits ops.opening.is_zk); columns = made_columns } ∷ []) made.stands in
+      let listed : only_matrix key.commitment ≡ made_columns = ap only_matrix (made.same ∙ stands.0) in
+      let below : AllByRecursion (HasDegreeBelow (2 ^ log_rows)) made_columns
+      = subst (λ bits. AllByRecursion (HasDegreeBelow (2 ^ bits)) made_columns) (unmasked ops.opening.is_zk log_rows clear.plain) (all_below (2 ^ (log_rows + zk_bits ops.opening.is_zk)) made_columns stands.1.0) in
       subst (λ d. InterpolateDeclared fields.base fields.root log_rows d (only_matrix key.commitment)) (sym is.1)
       (subst (λ cs. InterpolateDeclared fields.base fields.root log_rows (Some is.0) cs) (sym listed) (made.takes, below))
 

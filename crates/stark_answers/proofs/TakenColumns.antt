@@ -47,13 +47,13 @@ module _ {F E : Type 0} (ring : RingOps E) (embed : F → E) where
   chunks_taken coset zeta (c ∷ cs) (r ∷ rs) h =
       ap (λ w. w ∷ rs) (placed c zeta r h.0.0) ∙ ap (λ ws. map (λ p. value_over ring embed p zeta) c ∷ ws) (chunks_taken coset zeta cs rs h.1)
 
-  fixed_taken : (coset : TwoAdicCoset F) (zeta next : E) (key : Option (PreprocessedVerifierKey (Listed F))) (rows : Option (PreprocessedView E)) → (key ≡ None → rows ≡ None)
+  preprocessed_taken : (coset : TwoAdicCoset F) (zeta next : E) (key : Option (PreprocessedVerifierKey (Listed F))) (rows : Option (PreprocessedView E)) → (key ≡ None → rows ≡ None)
       → AllByRecursion (RoundIsTrue ring embed) (preprocessed_rounds coset zeta next key rows)
       → IfSome rows (λ r. r.local ≡ values_at ring (embedded_polynomials embed (key_columns key)) zeta)
       × IfSome rows (λ r. IfSome r.next (λ row. row ≡ values_at ring (embedded_polynomials embed (key_columns key)) next))
-  fixed_taken coset zeta next key None both h = (tt, tt)
-  fixed_taken coset zeta next None (Some rows) both h = absurd (let clash : Some rows ≡ None = both refl in cc)
-  fixed_taken coset zeta next (Some key) (Some rows) both h =
+  preprocessed_taken coset zeta next key None both h = (tt, tt)
+  preprocessed_taken coset zeta next None (Some rows) both h = absurd (let clash : Some rows ≡ None = both refl in cc)
+  preprocessed_taken coset zeta next (Some key) (Some rows) both h =
       rows_taken (only_matrix key.commitment) zeta next rows.local rows.next (only_true key.commitment (coset, row_points zeta next rows.local rows.next) h.0)
 
   -- values of other columns with the same rows
@@ -61,24 +61,24 @@ module _ {F E : Type 0} (ring : RingOps E) (embed : F → E) where
       → (x : E) (row : List E) → row ≡ values_at ring (embedded_polynomials embed columns) x → row ≡ values_at ring (embedded_polynomials embed others) x
   same_taken columns others same x row is = is ∙ values_of_embedded ring embed x columns ∙ same x ∙ sym (values_of_embedded ring embed x others)
 
-module _ {F E : Type 0} (i : AirInstance F E) (coset : TwoAdicCoset F) (zeta : E) (key : Option (PreprocessedVerifierKey (Listed F))) (trace quotient_chunks : Listed F) (opened : OpeningsView E) (publics : List F) where
+module _ {F E : Type 0} (i : AirInstance F E) (coset : TwoAdicCoset F) (zeta : E) (key : Option (PreprocessedVerifierKey (Listed F))) (trace quotient_chunks : Listed F) (opened : OpeningsView E) (public_values : List F) where
   -- Where all claims of a proof without a random commitment are true, the lists in its commitments and others with the same rows
   -- as those in the key's take the opened values.
   pub commitments_take : (preprocessed : List (List F)) → ((x : E) → map (λ p. value_over i.ring i.embed p x) (key_columns key) ≡ map (λ p. value_over i.ring i.embed p x) preprocessed)
       → (key ≡ None → opened.preprocessed ≡ None)
       → AllByRecursion (RoundIsTrue i.ring i.embed) (claims_of coset zeta (next_point i i.ring (λ c. c) zeta) key trace quotient_chunks None opened)
-      → TakeOpenedValues i (record { main = embedded_polynomials i.embed (only_matrix trace); preprocessed = embedded_polynomials i.embed preprocessed; publics = publics })
+      → TakeOpenedValues i (record { main = embedded_polynomials i.embed (only_matrix trace); preprocessed = embedded_polynomials i.embed preprocessed; public_values = public_values })
       (map (embedded_polynomials i.embed) quotient_chunks) zeta opened
   commitments_take preprocessed same both claims =
       let next = next_point i i.ring (λ c. c) zeta in
       let rows = rows_taken i.ring i.embed (only_matrix trace) zeta next opened.trace_local opened.trace_next (only_true i.ring i.embed trace (coset, row_points zeta next opened.trace_local opened.trace_next) claims.0) in
-      let fixed = fixed_taken i.ring i.embed coset zeta next key opened.preprocessed both claims.1.1 in
+      let taken = preprocessed_taken i.ring i.embed coset zeta next key opened.preprocessed both claims.1.1 in
       let other = same_taken i.ring i.embed (key_columns key) preprocessed same in
       record {
         local = rows.0;
         next = rows.1;
-        preprocessed_local = IfSome_then opened.preprocessed fixed.0 (λ r is. other zeta r.local is);
-        preprocessed_next = IfSome_then opened.preprocessed fixed.1 (λ r opens. IfSome_then r.next opens (λ row is. other next row is));
+        preprocessed_local = IfSome_then opened.preprocessed taken.0 (λ r is. other zeta r.local is);
+        preprocessed_next = IfSome_then opened.preprocessed taken.1 (λ r opens. IfSome_then r.next opens (λ row is. other next row is));
         quotient = chunks_taken i.ring i.embed coset zeta quotient_chunks opened.quotient_chunks claims.1.0 ∙ sym (chunk_values_of_embedded i.ring i.embed zeta quotient_chunks);
       }
 

@@ -44,16 +44,16 @@ module _ {S F E C K T P X Y : Type 0} (ops : ProtocolOps S F E C K T P X Y) (log
 
 module _ {S F E C K T P X Y : Type 0} (ops : ProtocolOps S F E C K T P X Y) (log_rows : ℕ) where
   -- The verdict of the answer of a configuration's parts.
-  pub is_verdict : (air : CheckedAir F) (held scheme : S) (start first_state : C) (bits ood_bits first_bits alpha_bits : ℕ) (publics : List F) (proof : ProofView K E P F) (answer : Result (Unit {0}) (VerificationError X)) (v : Verdict)
-      → v ≡ verdict_of_answer answer → held ≡ scheme → start ≡ first_state → bits ≡ ood_bits
-      → first_bits ≡ alpha_bits → IsAnswerWithKey ops log_rows held air.preprocessed_trace (λ key. instance_of air held start bits first_bits publics key) proof answer
-      → (v ≡ verdict.Refused refusal.OutOfMemory) ⊎ IsVerdict ops log_rows scheme first_state air proof publics ood_bits alpha_bits v
+  pub is_verdict : (air : CheckedAir F) (given_scheme scheme : S) (start first_state : C) (bits ood_bits first_bits alpha_bits : ℕ) (public_values : List F) (proof : ProofView K E P F) (answer : Result (Unit {0}) (VerificationError X)) (v : Verdict)
+      → v ≡ verdict_of_answer answer → given_scheme ≡ scheme → start ≡ first_state → bits ≡ ood_bits
+      → first_bits ≡ alpha_bits → IsAnswerWithKey ops log_rows given_scheme air.preprocessed_trace (λ key. instance_of air given_scheme start bits first_bits public_values key) proof answer
+      → (v ≡ verdict.Refused refusal.OutOfMemory) ⊎ IsVerdict ops log_rows scheme first_state air proof public_values ood_bits alpha_bits v
   unfolding IsVerdict
-  is_verdict air held scheme start first_state bits ood_bits first_bits alpha_bits publics proof answer v is named begins asks asks_first found =
-      subst (λ k. (v ≡ verdict.Refused refusal.OutOfMemory) ⊎ IsVerdict ops log_rows k first_state air proof publics ood_bits alpha_bits v) named
-      (subst (λ s. (v ≡ verdict.Refused refusal.OutOfMemory) ⊎ IsVerdict ops log_rows held s air proof publics ood_bits alpha_bits v) begins
-      (subst (λ n. (v ≡ verdict.Refused refusal.OutOfMemory) ⊎ IsVerdict ops log_rows held start air proof publics n alpha_bits v) asks
-      (subst (λ n. (v ≡ verdict.Refused refusal.OutOfMemory) ⊎ IsVerdict ops log_rows held start air proof publics bits n v) asks_first
+  is_verdict air given_scheme scheme start first_state bits ood_bits first_bits alpha_bits public_values proof answer v is named begins asks asks_first found =
+      subst (λ k. (v ≡ verdict.Refused refusal.OutOfMemory) ⊎ IsVerdict ops log_rows k first_state air proof public_values ood_bits alpha_bits v) named
+      (subst (λ s. (v ≡ verdict.Refused refusal.OutOfMemory) ⊎ IsVerdict ops log_rows given_scheme s air proof public_values ood_bits alpha_bits v) begins
+      (subst (λ n. (v ≡ verdict.Refused refusal.OutOfMemory) ⊎ IsVerdict ops log_rows given_scheme start air proof public_values n alpha_bits v) asks
+      (subst (λ n. (v ≡ verdict.Refused refusal.OutOfMemory) ⊎ IsVerdict ops log_rows given_scheme start air proof public_values bits n v) asks_first
       (elim found [
         | inl memory ↦ inl (is ∙ ap verdict_of_answer memory)
         | inr exact ↦ inr (exact.0, exact.1, verdict_tells _ _ answer v is exact.2)

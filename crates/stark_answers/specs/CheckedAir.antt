@@ -31,4 +31,4 @@ checked_air layout next_columns periodic_columns degree_hint constraints preproc
 
 -- Its widths and counts, and whether the next row is read.
 abbrev pub shape_of : {F : Type 0} → CheckedAir F → CheckShape
-shape_of air = record { width = air.layout.main; num_public_values = air.layout.publics; reads_next = opens_next_row air.next_columns; preprocessed_width = air.layout.preprocessed }
+shape_of air = record { width = air.layout.main; num_public_values = air.layout.public_values; reads_next = opens_next_row air.next_columns; preprocessed_width = air.layout.preprocessed }

@@ -42,47 +42,47 @@ BeginsInForm {K} {E} {P} {F} form file = (p : ProofView K E P F) → BeginsAsFor
 
 -- A trace of an AIR's width, and public values as many as the AIR's: 2 ^ height rows, with height + zk at most a greatest one, and
 -- 2 ^ log_rows beside preprocessed columns.
-pub record IsTraceFor {F : Type 0} (layout : Layout) (log_rows : ℕ) (trace : Trace F) (num_publics zk greatest : ℕ) : Type 0 where
+pub record IsTraceFor {F : Type 0} (layout : Layout) (log_rows : ℕ) (trace : Trace F) (num_public_values zk greatest : ℕ) : Type 0 where
   pub columns : 0 < trace.width
   pub width : trace.width ≡ layout.main
   pub height : ℕ
   pub rows : length trace.values ≡ 2 ^ height * trace.width
   pub within : height + zk ≤ greatest
-  pub fixed_rows : 0 < layout.preprocessed → height ≡ log_rows
-  pub publics : num_publics ≡ layout.publics
+  pub preprocessed_rows : 0 < layout.preprocessed → height ≡ log_rows
+  pub public_values : num_public_values ≡ layout.public_values
 
 -- It has no more rows than a scheme has room for.
 abbrev pub IsTraceForScheme : {S F E C K T P X Y : Type 0} → SchemeOps S F E C K T P X Y → S → Bool → Layout → ℕ → Trace F → ℕ → Type 0
-IsTraceForScheme scheme s is_zk layout log_rows trace num_publics = IsTraceFor layout log_rows trace num_publics (zk_bits is_zk) (scheme.log_max_trace_height s)
+IsTraceForScheme scheme s is_zk layout log_rows trace num_public_values = IsTraceFor layout log_rows trace num_public_values (zk_bits is_zk) (scheme.log_max_trace_height s)
 
 module _ {S F E C K T P X Y : Type 0} (ops : ProtocolOps S F E C K T P X Y) (log_rows : ℕ) where
-  -- What is held of an AIR's preprocessed columns: nothing without any, else what is set up for them at 2 ^ log_rows rows.
-  abbrev pub IsHeld : S → Option (Trace F) → Option (PreprocessedProverData K T) → Type 0
-  IsHeld scheme declared None = has_columns declared ≡ false
-  IsHeld scheme declared (Some held) = (trace : Trace F) × (declared ≡ Some trace) × (key : PreprocessedVerifierKey K)
-      × IsSetUp ops.opening.scheme scheme ops.opening.fields.base ops.opening.fields.root ops.opening.is_zk log_rows trace held key
+  -- The prover's data of an AIR's preprocessed columns: none without any, else what is set up for them at 2 ^ log_rows rows.
+  abbrev pub IsSetUpData : S → Option (Trace F) → Option (PreprocessedProverData K T) → Type 0
+  IsSetUpData scheme declared None = has_columns declared ≡ false
+  IsSetUpData scheme declared (Some preprocessed_data) = (trace : Trace F) × (declared ≡ Some trace) × (key : PreprocessedVerifierKey K)
+      × IsSetUp ops.opening.scheme scheme ops.opening.fields.base ops.opening.fields.root ops.opening.is_zk log_rows trace preprocessed_data key
 
 module _ {S F E C K T P X Y : Type 0} (ops : ProtocolOps S F E C K T P X Y) (coordinates : E → List F) where
-  -- A proof of a trace of 2 ^ height rows, made with what is held, which stands for these fixed columns, of which all of acceptance holds but that zeta may lie in H and
+  -- A proof of a trace of 2 ^ height rows, made with data that stand for these preprocessed columns, of which all of acceptance holds but that zeta may lie in H and
   -- the equation may fail.
-  pub record IsMadeOf (i : Instance S F C K) (held : Option (PreprocessedProverData K T)) (height : ℕ) (trace : Trace F) (p : ProofView K E P F) : Type 0 where
-    pub fixed : List (List F)
-    pub of_trace : IsProofOfTrace ops i coordinates held height trace fixed p
+  pub record IsMadeOf (i : Instance S F C K) (preprocessed_data : Option (PreprocessedProverData K T)) (height : ℕ) (trace : Trace F) (p : ProofView K E P F) : Type 0 where
+    pub preprocessed : List (List F)
+    pub of_trace : IsProofOfTrace ops i coordinates preprocessed_data height trace preprocessed p
     pub acceptable : IsAcceptable ops i p
 
   -- The first cause why there is none.
   abbrev pub IsCause : Instance S F C K → Option (PreprocessedProverData K T) → ℕ → Trace F → ProvingError Y → Type 0
-  IsCause i held height trace error = ProverFault ops i coordinates held height (height + zk_bits ops.opening.is_zk) trace error
+  IsCause i preprocessed_data height trace error = ProverFault ops i coordinates preprocessed_data height (height + zk_bits ops.opening.is_zk) trace error
 
   -- The answer is such a proof, or the first cause why there is none.
   abbrev pub IsAnswer : Instance S F C K → Option (PreprocessedProverData K T) → ℕ → Trace F → Result (Proof K E P F) (ProvingError Y) → Type 0
-  IsAnswer i held height trace (Ok proof) = IsMadeOf i held height trace (proof_view proof)
-  IsAnswer i held height trace (Err error) = IsCause i held height trace error
+  IsAnswer i preprocessed_data height trace (Ok proof) = IsMadeOf i preprocessed_data height trace (proof_view proof)
+  IsAnswer i preprocessed_data height trace (Err error) = IsCause i preprocessed_data height trace error
 
-  -- It is, with what is held of the AIR's preprocessed columns; or memory was wanting.
-  unfoldable pub AnswersWithHeld : ℕ → S → Option (Trace F) → (Option (PreprocessedProverData K T) → Instance S F C K) → ℕ → Trace F → Result (Proof K E P F) (ProvingError Y) → Type 0
-  AnswersWithHeld log_rows scheme declared instance height trace answer = (answer ≡ Err ProvingError.OutOfMemory)
-      ⊎ ((held : Option (PreprocessedProverData K T)) × IsHeld ops log_rows scheme declared held × IsAnswer (instance held) held height trace answer)
+  -- It is, with the data of the AIR's preprocessed columns; or memory was wanting.
+  unfoldable pub AnswersWithData : ℕ → S → Option (Trace F) → (Option (PreprocessedProverData K T) → Instance S F C K) → ℕ → Trace F → Result (Proof K E P F) (ProvingError Y) → Type 0
+  AnswersWithData log_rows scheme declared instance height trace answer = (answer ≡ Err ProvingError.OutOfMemory)
+      ⊎ ((preprocessed_data : Option (PreprocessedProverData K T)) × IsSetUpData ops log_rows scheme declared preprocessed_data × IsAnswer (instance preprocessed_data) preprocessed_data height trace answer)
 
 -- The text is a proof's line, unless the proof's JSON had a float.
 abbrev pub IsWrittenLine : {K E P F Z : Type 0} → (ProofView K E P F → Data) → Proof K E P F → String Z → Type 0
@@ -125,16 +125,16 @@ module _ {K E P F Y : Type 0} (form : ProofForm) (file : ProofView K E P F → L
 
 -- By the form that is asked for and the files of proofs in it.
 module _ {S F E C K T P X Y : Type 0} (ops : ProtocolOps S F E C K T P X Y) (coordinates : E → List F) (form : ProofForm) (file : ProofView K E P F → List ℕ) (log_rows : ℕ) where
-  -- With the scheme and what is held of the AIR's preprocessed columns, the finding is a proof of the trace, or names the first cause
+  -- With the scheme and the data of the AIR's preprocessed columns, the finding is a proof of the trace, or names the first cause
   -- why there is none.
   unfoldable pub IsProved : S → C → CheckedAir F → ℕ → Trace F → List F → ℕ → ℕ → Finding → Type 0
-  IsProved scheme first_state air height trace publics ood_bits alpha_bits f = (held : Option (PreprocessedProverData K T)) × IsHeld ops log_rows scheme air.preprocessed_trace held
-      × TellsProver form file (IsMadeOf ops coordinates (instance_of air scheme first_state ood_bits alpha_bits publics (option_map key_of held)) held height trace)
-      (IsCause ops coordinates (instance_of air scheme first_state ood_bits alpha_bits publics (option_map key_of held)) held height trace) f
+  IsProved scheme first_state air height trace public_values ood_bits alpha_bits f = (preprocessed_data : Option (PreprocessedProverData K T)) × IsSetUpData ops log_rows scheme air.preprocessed_trace preprocessed_data
+      × TellsProver form file (IsMadeOf ops coordinates (instance_of air scheme first_state ood_bits alpha_bits public_values (option_map key_of preprocessed_data)) preprocessed_data height trace)
+      (IsCause ops coordinates (instance_of air scheme first_state ood_bits alpha_bits public_values (option_map key_of preprocessed_data)) preprocessed_data height trace) f
 
 module _ {S F E C K T P X Y : Type 0} (ops : ProtocolOps S F E C K T P X Y) (coordinates : E → List F) (file : ProofView K E P F → List ℕ) (log_rows : ℕ) where
   -- The bytes are the file of a proof of the trace.
   unfoldable pub IsProofFile : S → C → CheckedAir F → ℕ → Trace F → List F → ℕ → ℕ → List ℕ → Type 0
-  IsProofFile scheme first_state air height trace publics ood_bits alpha_bits bytes = (held : Option (PreprocessedProverData K T)) × IsHeld ops log_rows scheme air.preprocessed_trace held
-      × (p : ProofView K E P F) × IsMadeOf ops coordinates (instance_of air scheme first_state ood_bits alpha_bits publics (option_map key_of held)) held height trace p
+  IsProofFile scheme first_state air height trace public_values ood_bits alpha_bits bytes = (preprocessed_data : Option (PreprocessedProverData K T)) × IsSetUpData ops log_rows scheme air.preprocessed_trace preprocessed_data
+      × (p : ProofView K E P F) × IsMadeOf ops coordinates (instance_of air scheme first_state ood_bits alpha_bits public_values (option_map key_of preprocessed_data)) preprocessed_data height trace p
       × (bytes ≡ file p)

@@ -1,5 +1,5 @@
 -- What is said where a prover's findings are.
-use Rattle.std.specs.Prelude.{◌≡◌, ℕ, List, Option, codes, refl}
+use Rattle.std.specs.Prelude.{◌≡◌, ℕ, List, refl}
 use Rattle.std.proofs.Common.{◌∙◌, inl, inr, subst, sym}
 use Rattle.serde_json.specs.Data.{Data}
 use Rattle.stark_air.specs.Declaration.{Trace}
@@ -105,24 +105,24 @@ module _ {K E P F Y : Type 0} (form : ProofForm) (file : ProofView K E P F → L
   tells_no_satisfied (inl made) = made.0
   tells_no_satisfied (inr fault) = let clash : finding.Satisfied ≡ _ = fault.2 in cc
 
-module _ {S F E C K T P X Y : Type 0} (ops : ProtocolOps S F E C K T P X Y) (coordinates : E → List F) (form : ProofForm) (file : ProofView K E P F → List ℕ) (begins : BeginsInForm form file) (log_rows : ℕ) (scheme : S) (first_state : C) (air : CheckedAir F) (height : ℕ) (trace : Trace F) (publics : List F) (ood_bits alpha_bits : ℕ) where
-  pub begins_alone : (f : Finding) → IsProved ops coordinates form file log_rows scheme first_state air height trace publics ood_bits alpha_bits f → BeginsAsItsKind f
+module _ {S F E C K T P X Y : Type 0} (ops : ProtocolOps S F E C K T P X Y) (coordinates : E → List F) (form : ProofForm) (file : ProofView K E P F → List ℕ) (begins : BeginsInForm form file) (log_rows : ℕ) (scheme : S) (first_state : C) (air : CheckedAir F) (height : ℕ) (trace : Trace F) (public_values : List F) (ood_bits alpha_bits : ℕ) where
+  pub begins_alone : (f : Finding) → IsProved ops coordinates form file log_rows scheme first_state air height trace public_values ood_bits alpha_bits f → BeginsAsItsKind f
   unfolding IsProved
   begins_alone f proved = tells_begin form file begins _ _ f proved.2
 
-  pub file_alone : (f : Finding) → IsProved ops coordinates form file log_rows scheme first_state air height trace publics ood_bits alpha_bits f
-      → WhereProof (λ other bytes. (other ≡ form) × IsProofFile ops coordinates file log_rows scheme first_state air height trace publics ood_bits alpha_bits bytes) f
+  pub file_alone : (f : Finding) → IsProved ops coordinates form file log_rows scheme first_state air height trace public_values ood_bits alpha_bits f
+      → WhereProof (λ other bytes. (other ≡ form) × IsProofFile ops coordinates file log_rows scheme first_state air height trace public_values ood_bits alpha_bits bytes) f
   unfolding IsProved IsProofFile
   file_alone f proved = λ other is. let made = tells_file form file begins _ _ f proved.2 other is in (made.0, (proved.0, proved.1, made.1, made.2, made.3))
 
-  pub no_text_alone : (f : Finding) → IsProved ops coordinates form file log_rows scheme first_state air height trace publics ood_bits alpha_bits f → IsText f → ⊥
+  pub no_text_alone : (f : Finding) → IsProved ops coordinates form file log_rows scheme first_state air height trace public_values ood_bits alpha_bits f → IsText f → ⊥
   unfolding IsProved
   no_text_alone f proved is = tells_no_text form file begins _ _ f proved.2 is
 
-  pub accepted_alone : IsProved ops coordinates form file log_rows scheme first_state air height trace publics ood_bits alpha_bits (finding.Verdict verdict.Accepted) → ⊥
+  pub accepted_alone : IsProved ops coordinates form file log_rows scheme first_state air height trace public_values ood_bits alpha_bits (finding.Verdict verdict.Accepted) → ⊥
   unfolding IsProved
   accepted_alone proved = tells_no_accepted form file begins _ _ proved.2
 
-  pub satisfied_alone : IsProved ops coordinates form file log_rows scheme first_state air height trace publics ood_bits alpha_bits finding.Satisfied → ⊥
+  pub satisfied_alone : IsProved ops coordinates form file log_rows scheme first_state air height trace public_values ood_bits alpha_bits finding.Satisfied → ⊥
   unfolding IsProved
   satisfied_alone proved = tells_no_satisfied form file begins _ _ proved.2

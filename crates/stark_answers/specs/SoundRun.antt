@@ -46,7 +46,7 @@ module _ {S F E C T P X Y : Type 0} (ops : ProtocolOps S F E C (Listed F) T P X 
   committed_columns preprocessed = record {
     main = embedded_polynomials ops.opening.fields.embed (only_matrix proof.commitments.trace);
     preprocessed = embedded_polynomials ops.opening.fields.embed preprocessed;
-    publics = i.public_values;
+    public_values = i.public_values;
   }
 
   -- The quotient's chunks as the proof's commitment lists them.
@@ -81,12 +81,12 @@ module _ {S F E C T P X Y : Type 0} (ops : ProtocolOps S F E C (Listed F) T P X 
 module _ {S F E C T P X Y : Type 0} (ops : ProtocolOps S F E C (Listed F) T P X Y) (log_rows : ℕ) where
   -- It is so of a proof for an AIR, with the scheme and the AIR's key, whose preprocessed columns have 2 ^ log_rows rows.
   unfoldable pub IsSoundWithKey : S → C → CheckedAir F → ProofView (Listed F) E P F → List F → ℕ → ℕ → Type 0
-  IsSoundWithKey scheme first_state air proof publics ood_bits alpha_bits = (key : Option (PreprocessedVerifierKey (Listed F))) × IsKey ops log_rows scheme air.preprocessed_trace key
-      × ColumnsAreSound ops (instance_of air scheme first_state ood_bits alpha_bits publics key) proof log_rows air.preprocessed_trace
+  IsSoundWithKey scheme first_state air proof public_values ood_bits alpha_bits = (key : Option (PreprocessedVerifierKey (Listed F))) × IsKey ops log_rows scheme air.preprocessed_trace key
+      × ColumnsAreSound ops (instance_of air scheme first_state ood_bits alpha_bits public_values key) proof log_rows air.preprocessed_trace
 
 module _ {S F E C K T P X Y : Type 0} (ops : ProtocolOps S F E C K T P X Y) (log_rows : ℕ) where
   -- Whatever columns and chunks take a proof's opened values, with the scheme and the AIR's key: where they break a constraint, alpha is
   -- bad for them or zeta is. That there are some is what a scheme promises.
   unfoldable pub IsSoundOfTaken : S → C → CheckedAir F → ProofView K E P F → List F → ℕ → ℕ → Type 0
-  IsSoundOfTaken scheme first_state air proof publics ood_bits alpha_bits = (key : Option (PreprocessedVerifierKey K)) × IsKey ops log_rows scheme air.preprocessed_trace key
-      × BreakingNeedsBadChallenges ops (instance_of air scheme first_state ood_bits alpha_bits publics key) proof
+  IsSoundOfTaken scheme first_state air proof public_values ood_bits alpha_bits = (key : Option (PreprocessedVerifierKey K)) × IsKey ops log_rows scheme air.preprocessed_trace key
+      × BreakingNeedsBadChallenges ops (instance_of air scheme first_state ood_bits alpha_bits public_values key) proof

@@ -11,12 +11,12 @@ rows_of rows = map (λ row. row.items) rows
 
 -- The trace has 2 ^ log_height rows, 1 to 2 ^ greatest, and as many as these beside preprocessed columns, which have 2 ^ log_rows; its
 -- rows are as wide, and the public values as many, as the shape says.
-pub record FitsShape {F : Type 0} (shape : CheckShape) (log_rows greatest : ℕ) (rows : List (List F)) (public_values : List F) (log_height : ℕ) : Type 0 where
+pub record FitsShape {F : Type 0} (shape : CheckShape) (log_rows greatest : ℕ) (rows : List (List F)) (values : List F) (log_height : ℕ) : Type 0 where
   pub height : length rows ≡ 2 ^ log_height
   pub within : log_height ≤ greatest
-  pub fixed_rows : 0 < shape.preprocessed_width → log_height ≡ log_rows
+  pub preprocessed_rows : 0 < shape.preprocessed_width → log_height ≡ log_rows
   pub widths : list_all (λ row. length row == shape.width) rows ≡ true
-  pub publics : length public_values ≡ shape.num_public_values
+  pub public_values : length values ≡ shape.num_public_values
 
 -- The trace of these rows.
 abbrev pub trace_of : {F : Type 0} → ℕ → List (List F) → Trace F

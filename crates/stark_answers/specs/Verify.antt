@@ -65,5 +65,5 @@ module _ {S F E C K T P X Y : Type 0} (ops : ProtocolOps S F E C K T P X Y) (log
 module _ {S F E C K T P X Y : Type 0} (ops : ProtocolOps S F E C K T P X Y) (log_rows : ℕ) where
   -- With the scheme and the AIR's key, the verdict says whether the proof is accepted, or names its first fault.
   unfoldable pub IsVerdict : S → C → CheckedAir F → ProofView K E P F → List F → ℕ → ℕ → Verdict → Type 0
-  IsVerdict scheme first_state air proof publics ood_bits alpha_bits v = (key : Option (PreprocessedVerifierKey K)) × IsKey ops log_rows scheme air.preprocessed_trace key
-      × TellsProof (Accepted ops (instance_of air scheme first_state ood_bits alpha_bits publics key) proof) (FirstFault ops (instance_of air scheme first_state ood_bits alpha_bits publics key) proof) v
+  IsVerdict scheme first_state air proof public_values ood_bits alpha_bits v = (key : Option (PreprocessedVerifierKey K)) × IsKey ops log_rows scheme air.preprocessed_trace key
+      × TellsProof (Accepted ops (instance_of air scheme first_state ood_bits alpha_bits public_values key) proof) (FirstFault ops (instance_of air scheme first_state ood_bits alpha_bits public_values key) proof) v

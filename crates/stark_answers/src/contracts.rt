@@ -8,7 +8,7 @@ ghost use Rattle.stark_transcript.specs.declared.error.VerificationError.{Verifi
 ghost use Rattle.stark_proof.specs.ProofView.{proof_view};
 ghost use Rattle.stark_proof.specs.declared.values.Proof.{Proof};
 ghost use Rattle.stark_prover.specs.ProofOfTrace.{key_of};
-ghost use Rattle.stark_answers.specs.Prove.{AnswersWithHeld};
+ghost use Rattle.stark_answers.specs.Prove.{AnswersWithData};
 ghost use Rattle.stark_answers.specs.Verify.{IsAnswerWithKey};
 
 use p3_uni_stark::{StarkInstance, StarkOperations};
@@ -38,10 +38,10 @@ where
 
     ghost proves = { λ log_rows config air trace public_values answer. (height : ℕ)
         → length trace.values.items ≡ 2 ^ height * trace.width
-        → AnswersWithHeld ⟦<SC as StarkOperations>⟧.operations SC.Challenge.coordinates log_rows
-        (SC.config.scheme config) (A.preprocessed_trace air) (λ held.
-        ⟦<SC as StarkInstance<A>>⟧.instance config air public_values (option_map key_of held))
-        height (trace_of trace) answer };
+        → AnswersWithData ⟦<SC as StarkOperations>⟧.operations SC.Challenge.coordinates log_rows
+        (SC.config.scheme config) (A.preprocessed_trace air) (λ preprocessed_data.
+        ⟦<SC as StarkInstance<A>>⟧.instance config air public_values
+        (option_map key_of preprocessed_data)) height (trace_of trace) answer };
 
     ghost verifies = { λ log_rows config air proof public_values answer.
         IsAnswerWithKey ⟦<SC as StarkOperations>⟧.operations log_rows (SC.config.scheme config)

@@ -79,7 +79,7 @@ impl Report<Verdict> {
         }
     }
 
-    /// The same report, whose answer is a finding.
+    /// The report with its verdict as a finding.
     pub fn as_finding(self) -> Report<Finding>
         ensures { result.answer ≡ Finding.Verdict self.answer }
     {

@@ -16,10 +16,10 @@ pub fn log_rows_of<F: Field, A: Air<F>>(
     greatest: usize,
 ) -> Result<Option<usize>, AllocError>
     requires { greatest ≤ 63 }
-    ensures height { IfOk result (λ found.
-        IfSome found (λ log_rows. HasHeight log_rows (A.preprocessed_trace air.now))) }
-    ensures within { IfOk result (λ found. IfSome found (λ log_rows. log_rows ≤ greatest)) }
-    ensures none { IfOk result (λ found. IsNone found → (log_rows : ℕ) → log_rows ≤ greatest
+    ensures height { IfOk result (λ answer.
+        IfSome answer (λ log_rows. HasHeight log_rows (A.preprocessed_trace air.now))) }
+    ensures within { IfOk result (λ answer. IfSome answer (λ log_rows. log_rows ≤ greatest)) }
+    ensures none { IfOk result (λ answer. IsNone answer → (log_rows : ℕ) → log_rows ≤ greatest
         → HasHeight log_rows (A.preprocessed_trace air.now) → ⊥) }
 {
     let Some(trace) = air.preprocessed_trace(alloc)? else {

@@ -22,7 +22,7 @@ use std::alloc::{AllocError, Global};
 pub trait WrittenProof: Sized {
     /// The finding is this proof in a form: the bytes that `stark_proof_bytes` gives, or its JSON
     /// without spaces and a newline, unless that had a float.
-    ghost found: { ProofForm → Self → Finding → Type 0 };
+    ghost finds: { ProofForm → Self → Finding → Type 0 };
 }
 
 impl<Com, Challenge, PcsProof, Val> WrittenProof for Proof<Com, Challenge, PcsProof, Val>
@@ -32,7 +32,7 @@ where
     PcsProof: JsonCodec + BytesCodec + Drop,
     Val: Field + NeverNull + BytesCodec,
 {
-    ghost found = { λ form proof. IsWritten (proof_writing Com.writing Challenge.writing
+    ghost finds = { λ form proof. IsWritten (proof_writing Com.writing Challenge.writing
         PcsProof.writing Val.writing Val.eq Val.ring.zero)
         (codecs Com.bytes Challenge.bytes PcsProof.bytes Val.bytes) form (proof_view proof) };
 }
@@ -65,7 +65,7 @@ where
     PcsProof: JsonCodec + BytesCodec + Drop,
     Val: Field + NeverNull + BytesCodec,
     ensures { IfOk result
-        (⟦<Proof<Com, Challenge, PcsProof, Val> as WrittenProof>⟧.found form proof.now) }
+        (⟦<Proof<Com, Challenge, PcsProof, Val> as WrittenProof>⟧.finds form proof.now) }
 {
     match form {
         ProofForm::Json => Ok(Finding::Proof(line_of_proof(alloc, proof)?)),
@@ -86,7 +86,7 @@ where
     PcsProof: JsonCodec + BytesCodec + Drop,
     Val: Field + NeverNull + BytesCodec,
     ensures { OrNoMemory (TellsAnswer
-        (⟦<Proof<Com, Challenge, PcsProof, Val> as WrittenProof>⟧.found form) answer.now) result }
+        (⟦<Proof<Com, Challenge, PcsProof, Val> as WrittenProof>⟧.finds form) answer.now) result }
 {
     match answer {
         Ok(proof) => match written_proof(alloc, form, proof) {

@@ -74,7 +74,7 @@ module _ {C M K : Type 0} {G : Ghosts M} (passes : C → ℕ → Residue M K G �
   search_laws no_bits keeps = record {
     no_bits_pass = no_bits;
     no_bits_keep = keeps;
-    found_passes = λ s bits w e. let f = mapped (least (λ n. passes s bits (residue n)) G.MODULUS) w e in
+    ground_passes = λ s bits w e. let f = mapped (least (λ n. passes s bits (residue n)) G.MODULUS) w e in
         ap (passes s bits) (sym f.1.1) ∙ least_passes (λ n. passes s bits (residue n)) G.MODULUS f.0 f.1.0;
     none_passes = λ s bits e w. ap (passes s bits) (sym (residue_of_value w))
         ∙ least_none (λ n. passes s bits (residue n)) G.MODULUS (unmapped (least (λ n. passes s bits (residue n)) G.MODULUS) e) w.value w.in_range;

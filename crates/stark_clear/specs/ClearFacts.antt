@@ -7,7 +7,7 @@ use Rattle.stark_support.specs.Ring.{RingOps}
 use Rattle.stark_support.specs.Coset.{coset_size}
 use Rattle.stark_support.specs.Claims.{RoundClaim}
 use Rattle.stark_support.specs.Polynomial.{HasDegreeBelow}
-use Rattle.stark_support.specs.Scheme.{CommittedMatrix, CommittingCalls, HasDegreesBelowSize, OpenedRound, RoundStands, SchemeLaws, handed, row_at, true_claim, true_matrices, true_matrix_claims, true_values}
+use Rattle.stark_support.specs.Scheme.{CommittedMatrix, CommittingCalls, HasDegreesBelowSize, OpenedRound, RoundStands, SchemeLaws, handed, row_at, true_claim, true_matrix_claims, true_values}
 use Rattle.stark_support.specs.Faults.{PlaceByPlace, no_first_fault}
 use Rattle.stark_clear.specs.ClearClaims.{ClaimsAreTrue, ClaimsFault, HasValue, HasValues, MatrixHasShape, MatrixIsTrue, RoundHasShape, RoundIsTrue}
 use Rattle.stark_columns.specs.Columns.{IsFull, columns_of}

@@ -22,11 +22,11 @@ abbrev pub no_memory : Finding
 no_memory = finding.Verdict verdict.OutOfMemory
 
 -- Over what a verifier, a check and a prover say of a statement and a proof or a trace, and what is shown of a statement.
-module _ (verdict_on : List ℕ → List ℕ → Verdict → Type 0) (sound : List ℕ → List ℕ → Type 0) (found : TraceTask → List ℕ → List ℕ → Finding → Type 0) (proof_file : List ℕ → List ℕ → ProofForm → List ℕ → Type 0) (shown : List ℕ → Finding → Type 0) where
+module _ (verdict_on : List ℕ → List ℕ → Verdict → Type 0) (sound : List ℕ → List ℕ → Type 0) (finds : TraceTask → List ℕ → List ℕ → Finding → Type 0) (proof_file : List ℕ → List ℕ → ProofForm → List ℕ → Type 0) (shown : List ℕ → Finding → Type 0) where
   -- This is what is found of the bytes of a statement and of the second input; a finding is of its task, and a proof one of the trace.
   unfoldable pub IsFinding : Verb → List ℕ × List ℕ → Finding → Type 0
   IsFinding Verify input f = (v : Verdict) × (f ≡ finding.Verdict v) × verdict_on input.0 input.1 v × (v ≡ verdict.Accepted → sound input.0 input.1)
-  IsFinding (Trace asked) input f = found asked input.0 input.1 f × IsOfTrace asked f × WhereProof (proof_file input.0 input.1) f
+  IsFinding (Trace asked) input f = finds asked input.0 input.1 f × IsOfTrace asked f × WhereProof (proof_file input.0 input.1) f
   IsFinding Show input f = shown input.0 f × IsOfShowing f
 
   -- A run said what is found of these inputs, or that memory is wanting.
@@ -79,5 +79,5 @@ WritesText shown verb known old new = (f : Finding) × ((verb ≡ Show) × (inpu
 
 -- A run was asked to check, and said that a trace satisfies the AIR of a statement, which it does.
 abbrev pub SaysSatisfied : (TraceTask → List ℕ → List ℕ → Finding → Type 0) → Verb → Option (List ℕ × List ℕ) → Option (List ℕ) → Option (List ℕ) → Type 0
-SaysSatisfied found verb known old new = ((verb ≡ Trace Check) × (input : List ℕ × List ℕ) × IsInput known input × found Check input.0 input.1 finding.Satisfied)
+SaysSatisfied finds verb known old new = ((verb ≡ Trace Check) × (input : List ℕ × List ℕ) × IsInput known input × finds Check input.0 input.1 finding.Satisfied)
     × Appends old new (finding_bytes finding.Satisfied)

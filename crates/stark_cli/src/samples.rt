@@ -95,7 +95,7 @@ fn answer(alloc: Global, command: Command, bytes: &[u8]) -> Finding
 /// Finds a verdict or a proof, or fails by the reader alone.
 fn find<R: Source>(alloc: Global, words: &[String], reader: &mut R) -> Result<Finding, RunEnd>
     requires { R.has_failed reader.old ≡ false }
-    ensures found { IfOk result (Found lacks_memory
+    ensures finds { IfOk result (Found lacks_memory
         (⟦<SampleAir as SampleFindings>⟧.finding (command_of (map string_bytes words.now)))
         (R.remaining reader.old)) }
     ensures other_words { command_of (map string_bytes words.now) ≡ None → result
@@ -114,16 +114,16 @@ fn find<R: Source>(alloc: Global, words: &[String], reader: &mut R) -> Result<Fi
 }
 
 /// Writes what was found, or nothing where the reader failed.
-fn tell_found<W: Sink>(found: Result<Finding, RunEnd>, writer: &mut W) -> RunEnd
-    requires kind { IfErr found (λ e. e ≡ RunEnd.InputFailed) }
+fn tell_finding<W: Sink>(finding: Result<Finding, RunEnd>, writer: &mut W) -> RunEnd
+    requires kind { IfErr finding (λ e. e ≡ RunEnd.InputFailed) }
     requires fresh_writer { W.has_failed writer.old ≡ false }
-    ensures says { IfOk found (λ f.
+    ensures says { IfOk finding (λ f.
         Says result f (W.contents writer.old) (W.contents writer.new)) }
     ensures silent { result ≡ RunEnd.InputFailed → writer.new ≡ writer.old }
-    ensures input_failed { (result ≡ RunEnd.InputFailed) ↔ (is_err found ≡ true) }
+    ensures input_failed { (result ≡ RunEnd.InputFailed) ↔ (is_err finding ≡ true) }
     ensures output_failed { (result ≡ RunEnd.OutputFailed) ↔ (W.has_failed writer.new ≡ true) }
 {
-    match found {
+    match finding {
         Ok(finding) => tell(&finding, writer),
         Err(end) => end,
     }
@@ -175,5 +175,5 @@ pub fn run<R: Source, W: Sink>(
     ensures accepted_end { ⟦<SampleAir as SampleFindings>⟧.ends (map string_bytes words.now)
         (⟦<W as RunWith<R>>⟧.run reader.old writer.old writer.new) result }
 {
-    tell_found(find(alloc, words, reader), writer)
+    tell_finding(find(alloc, words, reader), writer)
 }

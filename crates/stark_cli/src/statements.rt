@@ -53,7 +53,7 @@ pub trait StatementFindings {
     ghost shown: { List ℕ → Finding → Type 0 };
 
     /// It found this, or memory was wanting.
-    ghost found: { Verb → Option (List ℕ × List ℕ) → Finding → Type 0 };
+    ghost finds: { Verb → Option (List ℕ × List ℕ) → Finding → Type 0 };
 
     /// It said what is found of inputs that are known.
     ghost says: { Verb → Exchange (List ℕ × List ℕ) → RunEnd → Type 0 };
@@ -76,23 +76,23 @@ pub trait StatementFindings {
 impl<A: StatementAnswers> StatementFindings for A {
     ghost finding = { IsFinding A.verdict
         A.sound
-        A.found
+        A.finds
         A.proof_file
         A.showing };
 
     ghost shown = { A.showing };
 
-    ghost found = { λ verb. Found no_memory
+    ghost finds = { λ verb. Found no_memory
         (IsFinding A.verdict
         A.sound
-        A.found
+        A.finds
         A.proof_file
         A.showing verb) };
 
     ghost says = { λ verb run end. IfSome run.input (λ input. SaysOf no_memory
         (IsFinding A.verdict
         A.sound
-        A.found
+        A.finds
         A.proof_file
         A.showing verb) input end run.old run.new) };
 
@@ -112,7 +112,7 @@ impl<A: StatementAnswers> StatementFindings for A {
         run.old run.new
         ⊎ (WritesText A.showing verb run.input run.old
         run.new
-        ⊎ SaysSatisfied A.found verb run.input run.old
+        ⊎ SaysSatisfied A.finds verb run.input run.old
         run.new)) };
 }
 
@@ -142,7 +142,7 @@ impl<A: StatementAnswers> DeliveryFindings for A {
         → (AcceptsInput A.verdict verb run.input
         × Appends run.old run.new (line_of Verdict.Accepted))
         ⊎ (WritesText A.showing verb run.input run.old run.new
-        ⊎ SaysSatisfied A.found verb run.input run.old run.new) };
+        ⊎ SaysSatisfied A.finds verb run.input run.old run.new) };
 }
 
 /// What is found of the bytes of both.
@@ -191,7 +191,7 @@ fn find<A: StatementAnswers, S: Source, R: Source, P: Progress>(
 ) -> Result<Report<Finding>, RunEnd>
     requires first { S.has_failed statement.old ≡ false }
     requires behind { R.has_failed second.old ≡ false }
-    ensures found { IfOk result (λ r. ⟦<A as StatementFindings>⟧.found verb
+    ensures finds { IfOk result (λ r. ⟦<A as StatementFindings>⟧.finds verb
         (both (S.remaining statement.old) (R.remaining second.old)) r.answer) }
     ensures kind { IfErr result (λ e. e ≡ RunEnd.InputFailed) }
     ensures failed { (is_err result ≡ true)
@@ -212,20 +212,20 @@ fn find<A: StatementAnswers, S: Source, R: Source, P: Progress>(
 }
 
 /// Writes what was found, or nothing where a reader failed.
-fn tell_found<W: Sink, P: Progress>(
-    found: Result<Report<Finding>, RunEnd>,
+fn tell_finding<W: Sink, P: Progress>(
+    finding: Result<Report<Finding>, RunEnd>,
     writer: &mut W,
     progress: &mut P,
 ) -> Ended
-    requires kind { IfErr found (λ e. e ≡ RunEnd.InputFailed) }
+    requires kind { IfErr finding (λ e. e ≡ RunEnd.InputFailed) }
     requires fresh_writer { W.has_failed writer.old ≡ false }
-    ensures says { IfOk found (λ report.
+    ensures says { IfOk finding (λ report.
         Says result.end report.answer (W.contents writer.old) (W.contents writer.new)) }
     ensures silent { result.end ≡ RunEnd.InputFailed → writer.new ≡ writer.old }
-    ensures input_failed { (result.end ≡ RunEnd.InputFailed) ↔ (is_err found ≡ true) }
+    ensures input_failed { (result.end ≡ RunEnd.InputFailed) ↔ (is_err finding ≡ true) }
     ensures output_failed { (result.end ≡ RunEnd.OutputFailed) ↔ (W.has_failed writer.new ≡ true) }
 {
-    match found {
+    match finding {
         Ok(report) => {
             tell_proof(&report.answer, progress);
             Ended {
@@ -286,45 +286,45 @@ pub fn run<A: StatementAnswers, S: Source, R: Source, W: Sink, P: Progress>(
         (⟦<W as RunWithBoth<S, R>>⟧.run statement.old second.old writer.old writer.new)
         result.end }
 {
-    let found = find::<A, S, R, P>(alloc, verb, statement, second, progress);
-    tell_found(found, writer, progress)
+    let finding = find::<A, S, R, P>(alloc, verb, statement, second, progress);
+    tell_finding(finding, writer, progress)
 }
 
 /// Writes a proof that was found to the output, and what else was found to the writer; nothing
 /// where a reader failed.
-fn deliver_found<O: Sink, W: Sink, P: Progress>(
-    found: Result<Report<Finding>, RunEnd>,
+fn deliver_finding<O: Sink, W: Sink, P: Progress>(
+    finding: Result<Report<Finding>, RunEnd>,
     output: &mut O,
     writer: &mut W,
     progress: &mut P,
 ) -> Delivered
-    requires kind { IfErr found (λ e. e ≡ RunEnd.InputFailed) }
+    requires kind { IfErr finding (λ e. e ≡ RunEnd.InputFailed) }
     requires fresh_output { O.has_failed output.old ≡ false }
     requires fresh_writer { W.has_failed writer.old ≡ false }
-    ensures proof { IfOk found (λ report. result.is_proof ≡ true
+    ensures proof { IfOk finding (λ report. result.is_proof ≡ true
         → SaidProof result.ended.end report.answer (O.contents output.old)
         (O.contents output.new)) }
     ensures read { result.is_proof ≡ true → result.ended.end ≡ RunEnd.InputFailed → ⊥ }
     ensures kept { result.is_proof ≡ true → writer.new ≡ writer.old }
-    ensures answer { IfOk found (λ report. result.is_proof ≡ false
+    ensures answer { IfOk finding (λ report. result.is_proof ≡ false
         → SaidAnswer result.ended.end report.answer (W.contents writer.old)
         (W.contents writer.new)) }
     ensures untouched { result.is_proof ≡ false → output.new ≡ output.old }
     ensures silent { result.ended.end ≡ RunEnd.InputFailed → writer.new ≡ writer.old }
-    ensures input_failed { (result.ended.end ≡ RunEnd.InputFailed) ↔ (is_err found ≡ true) }
+    ensures input_failed { (result.ended.end ≡ RunEnd.InputFailed) ↔ (is_err finding ≡ true) }
     ensures output_failed { (result.ended.end ≡ RunEnd.OutputFailed)
         ↔ ((O.has_failed output.new ≡ true) ⊎ (W.has_failed writer.new ≡ true)) }
 {
-    match found {
+    match finding {
         Ok(report) => {
             tell_proof(&report.answer, progress);
-            let told = tell_apart(&report.answer, output, writer);
+            let delivery = tell_apart(&report.answer, output, writer);
             Delivered {
                 ended: Ended {
-                    end: told.end,
+                    end: delivery.end,
                     reason: report.reason,
                 },
-                is_proof: told.is_proof,
+                is_proof: delivery.is_proof,
             }
         }
         Err(end) => Delivered {
@@ -369,6 +369,6 @@ pub fn run_to<A: StatementAnswers, S: Source, R: Source, O: Sink, W: Sink, P: Pr
     ensures output_failed { (result.ended.end ≡ RunEnd.OutputFailed)
         ↔ ((O.has_failed output.new ≡ true) ⊎ (W.has_failed writer.new ≡ true)) }
 {
-    let found = find::<A, S, R, P>(alloc, verb, statement, second, progress);
-    deliver_found(found, output, writer, progress)
+    let finding = find::<A, S, R, P>(alloc, verb, statement, second, progress);
+    deliver_finding(finding, output, writer, progress)
 }

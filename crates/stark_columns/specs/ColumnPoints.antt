@@ -2,7 +2,7 @@
 use Rattle.std.specs.Prelude.{◌≡◌, ℕ, ◌+◌, ◌*◌, ◌/◌, ◌^◌, ◌<◌, List, length, map}
 use Rattle.std.specs.List.{AllByRecursion}
 use Rattle.stark_support.specs.Ring.{RingOps}
-use Rattle.stark_support.specs.Coset.{TwoAdicCoset, coset_size, coset_from}
+use Rattle.stark_support.specs.Coset.{TwoAdicCoset, coset_size}
 use Rattle.stark_support.specs.Points.{powers_from}
 use Rattle.stark_support.specs.Polynomial.{value}
 use Rattle.stark_support.specs.Scheme.{TakesRows, matrix_row, natural_coset, HasRows}

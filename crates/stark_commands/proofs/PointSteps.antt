@@ -97,45 +97,45 @@ module _ (air : CheckedAir Base) (log_chunks : ℕ) (m : CheckNumbers) where
       ap (λ b. if b then found_at_point air log_chunks m else BadInput) (sym (eq-eqb (length m.chunks) (2 ^ log_chunks) count)) ∙ within_domain within
 
   -- What the equation over the lists in memory tells is told of the numbers.
-  pub told_of_numbers : (coset : TwoAdicCoset Base) (local next fixed_local fixed_next periodic : List Extension) (publics : List Base) (q : Extension) (v : Verdict)
-      → coset ≡ trace_coset m.log_height → local ≡ m.local → next ≡ m.next → fixed_local ≡ m.preprocessed_local → fixed_next ≡ zeros air.layout.preprocessed → periodic ≡ periodic_values air m → publics ≡ m.publics
+  pub told_of_numbers : (coset : TwoAdicCoset Base) (local next preprocessed_local preprocessed_next periodic : List Extension) (public_values : List Base) (q : Extension) (v : Verdict)
+      → coset ≡ trace_coset m.log_height → local ≡ m.local → next ≡ m.next → preprocessed_local ≡ m.preprocessed_local → preprocessed_next ≡ zeros air.layout.preprocessed → periodic ≡ periodic_values air m → public_values ≡ m.public_values
       → q ≡ quotient log_chunks m
       → EquationVerdict residue_ring elements element_of (subgroup_of inverse_of element_of root coset) air.constraints
-      (record { local = local; next = next; preprocessed_local = fixed_local; preprocessed_next = fixed_next; periodic = periodic; publics = publics }) m.zeta m.alpha q v
+      (record { local = local; next = next; preprocessed_local = preprocessed_local; preprocessed_next = preprocessed_next; periodic = periodic; public_values = public_values }) m.zeta m.alpha q v
       → TellsEquation (IsBalanced air log_chunks m) v
-  told_of_numbers coset local next fixed_local fixed_next periodic publics q v ec el en ef eg er ep eq h =
+  told_of_numbers coset local next preprocessed_local preprocessed_next periodic public_values q v ec el en ef eg er ep eq h =
       let at : TwoAdicCoset Base → OpenedRows Base Extension → Extension → Type 0 = λ c rows t.
       EquationVerdict residue_ring elements element_of (subgroup_of inverse_of element_of root c) air.constraints rows m.zeta m.alpha t v in
       let rows : List Extension → List Extension → List Extension → List Extension → List Extension → List Base → OpenedRows Base Extension = λ l x f g r p.
-      record { local = l; next = x; preprocessed_local = f; preprocessed_next = g; periodic = r; publics = p } in
-      let same : rows local next fixed_local fixed_next periodic publics ≡ opened_rows air m =
-      ap (λ l. rows l next fixed_local fixed_next periodic publics) el ∙
-      ap (λ x. rows m.local x fixed_local fixed_next periodic publics) en ∙
-      ap (λ f. rows m.local m.next f fixed_next periodic publics) ef ∙
-      ap (λ g. rows m.local m.next m.preprocessed_local g periodic publics) eg ∙
-      ap (λ r. rows m.local m.next m.preprocessed_local (zeros air.layout.preprocessed) r publics) er ∙
+      record { local = l; next = x; preprocessed_local = f; preprocessed_next = g; periodic = r; public_values = p } in
+      let same : rows local next preprocessed_local preprocessed_next periodic public_values ≡ opened_rows air m =
+      ap (λ l. rows l next preprocessed_local preprocessed_next periodic public_values) el ∙
+      ap (λ x. rows m.local x preprocessed_local preprocessed_next periodic public_values) en ∙
+      ap (λ f. rows m.local m.next f preprocessed_next periodic public_values) ef ∙
+      ap (λ g. rows m.local m.next m.preprocessed_local g periodic public_values) eg ∙
+      ap (λ r. rows m.local m.next m.preprocessed_local (zeros air.layout.preprocessed) r public_values) er ∙
       ap (λ p. rows m.local m.next m.preprocessed_local (zeros air.layout.preprocessed) (periodic_values air m) p) ep in
       subst (λ t. at (trace_coset m.log_height) (opened_rows air m) t) eq
       (subst (λ o. at (trace_coset m.log_height) o q) same
-      (subst (λ c. at c (rows local next fixed_local fixed_next periodic publics) q) ec h))
+      (subst (λ c. at c (rows local next preprocessed_local preprocessed_next periodic public_values) q) ec h))
 
 -- Rows of an AIR's widths and counts have what it reads.
-pub rows_cover : (layout : Layout) (fixed : Option (Trace Base)) (columns : List (List Base)) (main_next fixed_next : List ℕ) (rows : OpenedRows Base Extension)
-    → IsDeclared layout fixed columns main_next fixed_next → length rows.local ≡ layout.main → length rows.next ≡ layout.main
+pub rows_cover : (layout : Layout) (preprocessed : Option (Trace Base)) (columns : List (List Base)) (main_next preprocessed_next : List ℕ) (rows : OpenedRows Base Extension)
+    → IsDeclared layout preprocessed columns main_next preprocessed_next → length rows.local ≡ layout.main → length rows.next ≡ layout.main
     → length rows.preprocessed_local ≡ layout.preprocessed → length rows.preprocessed_next ≡ layout.preprocessed
-    → length rows.publics ≡ layout.publics → length rows.periodic ≡ length columns → Covers (opened_layout rows) layout
-rows_cover layout fixed columns main_next fixed_next rows declared local next fixed_local fixed_after publics periodic = record {
+    → length rows.public_values ≡ layout.public_values → length rows.periodic ≡ length columns → Covers (opened_layout rows) layout
+rows_cover layout preprocessed columns main_next preprocessed_next rows declared local next preprocessed_local preprocessed_after public_values periodic = record {
   main = omega (arith, local);
   main_next = omega (arith, next, declared.main_next_row, next_at_most main_next layout.main);
-  preprocessed = omega (arith, fixed_local);
-  preprocessed_next = omega (arith, fixed_after, declared.preprocessed_next_row, next_at_most fixed_next layout.preprocessed);
-  publics = omega (arith, publics);
+  preprocessed = omega (arith, preprocessed_local);
+  preprocessed_next = omega (arith, preprocessed_after, declared.preprocessed_next_row, next_at_most preprocessed_next layout.preprocessed);
+  public_values = omega (arith, public_values);
   periodics = omega (arith, periodic, declared.periodic_columns);
 }
 
 -- The widths and counts that numbers of a shape have.
 pub record AreWidths (shape : CheckShape) (m : CheckNumbers) : Type 0 where
-  pub publics : length m.publics ≡ shape.num_public_values
+  pub public_values : length m.public_values ≡ shape.num_public_values
   pub local : length m.local ≡ shape.width
   pub next : length m.next ≡ shape.width
   pub preprocessed_local : length m.preprocessed_local ≡ shape.preprocessed_width
@@ -146,9 +146,9 @@ widths_of shape m h =
     let last = and_parts _ (list_all (λ chunk. length chunk == 4) m.chunks) h in
     let fourth = and_parts _ (length m.preprocessed_local == shape.preprocessed_width) last.0 in
     let third = and_parts _ (length m.next == shape.width) fourth.0 in
-    let first = and_parts (length m.publics == shape.num_public_values) (length m.local == shape.width) third.0 in
+    let first = and_parts (length m.public_values == shape.num_public_values) (length m.local == shape.width) third.0 in
     record {
-      publics = eqb-true _ _ first.0;
+      public_values = eqb-true _ _ first.0;
       local = eqb-true _ _ first.1;
       next = eqb-true _ _ third.1;
       preprocessed_local = eqb-true _ _ fourth.1;
@@ -196,17 +196,17 @@ module _ (air : CheckedAir Base) (m : CheckNumbers) where
 
 -- What the equation at zeta tells over the columns and the chunks in memory is told of the numbers.
 module _ (air : CheckedAir Base) (log_chunks : ℕ) (m : CheckNumbers) {V W : Type 0} (items : V → List Base) (columns : List V) (parts : W → List Extension) (chunks : List W) where
-  pub told_at_zeta : (coset whole : TwoAdicCoset Base) (local next fixed_local fixed_next : List Extension) (publics : List Base) (v : Verdict)
+  pub told_at_zeta : (coset whole : TwoAdicCoset Base) (local next preprocessed_local preprocessed_next : List Extension) (public_values : List Base) (v : Verdict)
       → coset ≡ trace_coset m.log_height → whole ≡ quotient_coset residue_ring (residue 11) (trace_coset m.log_height) log_chunks
-      → local ≡ m.local → next ≡ m.next → fixed_local ≡ m.preprocessed_local → fixed_next ≡ zeros air.layout.preprocessed → publics ≡ m.publics
+      → local ≡ m.local → next ≡ m.next → preprocessed_local ≡ m.preprocessed_local → preprocessed_next ≡ zeros air.layout.preprocessed → public_values ≡ m.public_values
       → map items columns ≡ air.periodic_columns → map parts chunks ≡ m.chunks
       → PointVerdict residue_ring residue_inverse root elements inverse_of element_of (basis_of residue_ring) coset whole log_chunks air.constraints items columns parts chunks
-      (λ periodic. record { local = local; next = next; preprocessed_local = fixed_local; preprocessed_next = fixed_next; periodic = periodic; publics = publics }) m.zeta m.alpha v
+      (λ periodic. record { local = local; next = next; preprocessed_local = preprocessed_local; preprocessed_next = preprocessed_next; periodic = periodic; public_values = public_values }) m.zeta m.alpha v
       → TellsEquation (IsBalanced air log_chunks m) v
   unfolding PointVerdict
-  told_at_zeta coset whole local next fixed_local fixed_next publics v ec ew el en ef eg ep columned chunked h =
-      told_of_numbers air log_chunks m coset local next fixed_local fixed_next
-      (map (λ v. periodic_value residue_ring residue_inverse (root coset.log_size) (coset_size coset) elements element_of (items v) m.zeta) columns) publics
+  told_at_zeta coset whole local next preprocessed_local preprocessed_next public_values v ec ew el en ef eg ep columned chunked h =
+      told_of_numbers air log_chunks m coset local next preprocessed_local preprocessed_next
+      (map (λ v. periodic_value residue_ring residue_inverse (root coset.log_size) (coset_size coset) elements element_of (items v) m.zeta) columns) public_values
       (recomposition elements elements (λ c. c) inverse_of (2 ^ (whole.log_size - log_chunks)) (basis_of residue_ring) (chunk_shifts residue_ring root element_of whole log_chunks) (map parts chunks) m.zeta) v
       ec el en ef eg (values_of_columns air m items columns columned coset.log_size (ap (λ (c : TwoAdicCoset Base). c.log_size) ec)) ep
       (quotient_is air m log_chunks whole (map parts chunks) ew chunked) h

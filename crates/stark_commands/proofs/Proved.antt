@@ -1,5 +1,5 @@
 -- What a prover's answer says of a trace, with the challenger that is named.
-use Rattle.std.proofs.Common.{◌≡◌, ◌⊎◌, inl, inr, refl, sym, subst, ℕ, false, List, Option, Some, None}
+use Rattle.std.proofs.Common.{◌≡◌, ◌⊎◌, inl, inr, refl, sym, subst, ℕ, false, List, Option, Some}
 use Rattle.serde_json.specs.Written.{has_float}
 use Rattle.stark_support.specs.JsonFacts.{list_written}
 use Rattle.stark_air.specs.Declaration.{Trace}
@@ -38,25 +38,25 @@ no_float = no_float_in_proof (commitment_written base_written) (element_written 
 
 module _ {S H R T X Y : Type 0} (hashing_ops : ProtocolOps S Base Extension H (Listed Base) T ClearProof X Y) (script_ops : ProtocolOps S Base Extension R (Listed Base) T ClearProof X Y) (coordinates : Extension → List Base)
     (log_rows : ℕ) (scheme : S) (hashing_start : H) (script_start : List Base → R) where
-  pub proved_by_hashing : (air : CheckedAir Base) (height : ℕ) (trace : Trace Base) (publics : List Base) (ood_bits alpha_bits : ℕ) (named : NamedChallenger) (start : H) (f : Finding) → named ≡ hashing → start ≡ hashing_start
-      → (f ≡ no_memory) ⊎ IsProved hashing_ops coordinates Json (json_line program_writing) log_rows scheme start air height trace publics ood_bits alpha_bits f
-      → (f ≡ no_memory) ⊎ IsProvedBy hashing_ops script_ops coordinates log_rows scheme hashing_start script_start air height trace publics ood_bits alpha_bits named f
+  pub proved_by_hashing : (air : CheckedAir Base) (height : ℕ) (trace : Trace Base) (public_values : List Base) (ood_bits alpha_bits : ℕ) (named : NamedChallenger) (start : H) (f : Finding) → named ≡ hashing → start ≡ hashing_start
+      → (f ≡ no_memory) ⊎ IsProved hashing_ops coordinates Json (json_line program_writing) log_rows scheme start air height trace public_values ood_bits alpha_bits f
+      → (f ≡ no_memory) ⊎ IsProvedBy hashing_ops script_ops coordinates log_rows scheme hashing_start script_start air height trace public_values ood_bits alpha_bits named f
   unfolding IsProvedBy
-  proved_by_hashing air height trace publics ood_bits alpha_bits named start f is begins proved =
-      subst (λ n. (f ≡ no_memory) ⊎ IsProvedBy hashing_ops script_ops coordinates log_rows scheme hashing_start script_start air height trace publics ood_bits alpha_bits n f) (sym is)
-      (subst (λ s. (f ≡ no_memory) ⊎ IsProved hashing_ops coordinates Json (json_line program_writing) log_rows scheme s air height trace publics ood_bits alpha_bits f) begins proved)
+  proved_by_hashing air height trace public_values ood_bits alpha_bits named start f is begins proved =
+      subst (λ n. (f ≡ no_memory) ⊎ IsProvedBy hashing_ops script_ops coordinates log_rows scheme hashing_start script_start air height trace public_values ood_bits alpha_bits n f) (sym is)
+      (subst (λ s. (f ≡ no_memory) ⊎ IsProved hashing_ops coordinates Json (json_line program_writing) log_rows scheme s air height trace public_values ood_bits alpha_bits f) begins proved)
 
-  pub proved_by_script : (air : CheckedAir Base) (height : ℕ) (trace : Trace Base) (publics : List Base) (ood_bits alpha_bits : ℕ) (named : NamedChallenger) (numbers : List Base) (start : R) (f : Finding) → named ≡ scripted numbers → start ≡ script_start numbers
-      → (f ≡ no_memory) ⊎ IsProved script_ops coordinates Json (json_line program_writing) log_rows scheme start air height trace publics ood_bits alpha_bits f
-      → (f ≡ no_memory) ⊎ IsProvedBy hashing_ops script_ops coordinates log_rows scheme hashing_start script_start air height trace publics ood_bits alpha_bits named f
+  pub proved_by_script : (air : CheckedAir Base) (height : ℕ) (trace : Trace Base) (public_values : List Base) (ood_bits alpha_bits : ℕ) (named : NamedChallenger) (numbers : List Base) (start : R) (f : Finding) → named ≡ scripted numbers → start ≡ script_start numbers
+      → (f ≡ no_memory) ⊎ IsProved script_ops coordinates Json (json_line program_writing) log_rows scheme start air height trace public_values ood_bits alpha_bits f
+      → (f ≡ no_memory) ⊎ IsProvedBy hashing_ops script_ops coordinates log_rows scheme hashing_start script_start air height trace public_values ood_bits alpha_bits named f
   unfolding IsProvedBy
-  proved_by_script air height trace publics ood_bits alpha_bits named numbers start f is begins proved =
-      subst (λ n. (f ≡ no_memory) ⊎ IsProvedBy hashing_ops script_ops coordinates log_rows scheme hashing_start script_start air height trace publics ood_bits alpha_bits n f) (sym is)
-      (subst (λ s. (f ≡ no_memory) ⊎ IsProved script_ops coordinates Json (json_line program_writing) log_rows scheme s air height trace publics ood_bits alpha_bits f) begins proved)
+  proved_by_script air height trace public_values ood_bits alpha_bits named numbers start f is begins proved =
+      subst (λ n. (f ≡ no_memory) ⊎ IsProvedBy hashing_ops script_ops coordinates log_rows scheme hashing_start script_start air height trace public_values ood_bits alpha_bits n f) (sym is)
+      (subst (λ s. (f ≡ no_memory) ⊎ IsProved script_ops coordinates Json (json_line program_writing) log_rows scheme s air height trace public_values ood_bits alpha_bits f) begins proved)
 
   -- of what was read in the AIR's widths and counts
   pub proved_shaped : (air : CheckedAir Base) (shape : CheckShape) (m : TraceNumbers) (height : ℕ) (trace : Trace Base) (listed : List Base) (f : Finding) → shape ≡ shape_of air → HasTraceShape shape log_rows m height
-      → trace ≡ trace_of air.layout.main m.rows → listed ≡ m.publics
+      → trace ≡ trace_of air.layout.main m.rows → listed ≡ m.public_values
       → (f ≡ no_memory) ⊎ IsProvedBy hashing_ops script_ops coordinates log_rows scheme hashing_start script_start air height trace listed m.ood_bits m.alpha_bits m.challenger f
       → (f ≡ no_memory) ⊎ IsProvedRead hashing_ops script_ops coordinates log_rows scheme hashing_start script_start air (Some m) f
   unfolding IsProvedRead

@@ -1,16 +1,14 @@
 -- Where an AIR's verifier accepts, the columns that the proof lists are sound.
-use Rattle.std.proofs.Common.{◌≡◌, ◌⊎◌, ◌∙◌, inl, inr, refl, rules, subst, sym, ℕ, ◌≤◌, List, Option, None, Some, Result, Ok, Err}
+use Rattle.std.proofs.Common.{◌≡◌, ◌⊎◌, ◌∙◌, inl, inr, refl, rules, subst, sym, ℕ, List, Option, None, Some}
 use Rattle.stark_air.specs.Declaration.{IsDeclared}
 use Rattle.stark_air.specs.Layout.{LeavesWithin}
-use Rattle.stark_proof.specs.ProofView.{ProofView}
 use Rattle.stark_protocol.specs.Instance.{ProtocolOps}
 use Rattle.stark_answers.specs.CheckedAir.{CheckedAir}
 use Rattle.stark_commands.specs.Airs.{sample}
 use Rattle.stark_commands.specs.Input.{Base, Extension}
 use Rattle.stark_commands.specs.ProofInput.{NamedChallenger, ProofNumbers, hashing, scripted}
 use Rattle.stark_commands.specs.SoundRun.{IsSoundBy, IsSoundlyRead}
-use Rattle.stark_answers.specs.SoundRun.{IsSoundWithKey, Listed}
-use Rattle.stark_answers.specs.Verify.{IsVerdict, instance_of}
+use Rattle.stark_answers.specs.SoundRun.{Listed}
 use Rattle.stark_commands.specs.Verify.{IsVerdictBy, IsVerified}
 use Rattle.stark_answers.specs.declared.verdict.Verdict.{Verdict}
 use Rattle.stark_answers.specs.declared.verdict.Refusal.TheVariants as refusal
@@ -50,8 +48,8 @@ module _ {S H R T P X Y : Type 0} (hashing_ops : ProtocolOps S Base Extension H 
   accepted_soundly_by : (m : ProofNumbers (Listed Base) P) (named : NamedChallenger) → IsVerdictBy hashing_ops script_ops log_rows scheme hashing_start script_start air m named verdict.Accepted
       → IsSoundBy hashing_ops script_ops log_rows scheme hashing_start script_start air m named
   unfolding IsVerdictBy IsSoundBy
-  accepted_soundly_by m hashing found = accepted_soundly hashing_ops log_rows hashing_clear air within is_declared scheme hashing_start m.proof m.publics m.ood_bits m.alpha_bits found
-  accepted_soundly_by m (scripted numbers) found = accepted_soundly script_ops log_rows script_clear air within is_declared scheme (script_start numbers) m.proof m.publics m.ood_bits m.alpha_bits found
+  accepted_soundly_by m hashing found = accepted_soundly hashing_ops log_rows hashing_clear air within is_declared scheme hashing_start m.proof m.public_values m.ood_bits m.alpha_bits found
+  accepted_soundly_by m (scripted numbers) found = accepted_soundly script_ops log_rows script_clear air within is_declared scheme (script_start numbers) m.proof m.public_values m.ood_bits m.alpha_bits found
 
   -- What the verifier of an AIR accepts, whose constraints read within what it declares, is sound.
   pub verified_soundly : (read : Option (ProofNumbers (Listed Base) P)) → IsVerified hashing_ops script_ops log_rows scheme hashing_start script_start air read verdict.Accepted

@@ -1,7 +1,6 @@
 -- The sample AIRs, and what each declares.
-use Rattle.std.specs.Prelude.{ℕ, List, [], ◌∷◌, Option, None, Some}
+use Rattle.std.specs.Prelude.{ℕ, [], ◌∷◌, None, Some}
 use Rattle.stark_air.specs.Declaration.{Trace}
-use Rattle.stark_air.specs.Tree.{Constraint}
 use Rattle.stark_support.specs.Logarithm.{IsCeilingOfLog}
 use Rattle.stark_parts.specs.Sizing.{constraint_degree, quotient_multiple}
 use Rattle.stark_samples.specs.Samples.{column_layout, counter_layout, counter_constraints, cubic_constraints, fibonacci_layout, fibonacci_constraints, periodic_layout, periodic_constraints, preprocessed_layout, preprocessed_constraints, pair_layout, pair_constraints}

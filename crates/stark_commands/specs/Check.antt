@@ -58,7 +58,7 @@ opened_rows air m = record {
   preprocessed_local = m.preprocessed_local;
   preprocessed_next = zeros air.layout.preprocessed;
   periodic = periodic_values air m;
-  publics = m.publics;
+  public_values = m.public_values;
 }
 
 -- The quotient's value at zeta: its chunks stand on the parts of the coset of the field's generator.

@@ -25,7 +25,7 @@ elements = ext4_ring residue_ring (residue 11)
 -- the numbers of a check; a next row that it doesn't read is zeros, a preprocessed row that it doesn't read has no value
 pub record CheckNumbers : Type 0 where
   pub log_height : ℕ
-  pub publics : List Base
+  pub public_values : List Base
   pub local : List Extension
   pub next : List Extension
   pub preprocessed_local : List Extension
@@ -50,14 +50,14 @@ row_or_zeros key width is_read d = if is_read then get key d >>= array_at (eleme
 unfoldable pub numbers_at : CheckShape → Data → Option CheckNumbers
 numbers_at shape d = do
   log_height ← get (codes "log_height") d >>= log_height_at
-  publics ← get (codes "publics") d >>= array_at base_at
+  public_values ← get (codes "publics") d >>= array_at base_at
   local ← get (codes "local") d >>= array_at (element_at base_at)
   next ← row_or_zeros (codes "next") shape.width shape.reads_next d
   preprocessed_local ← row_or_zeros (codes "preprocessed_local") 0 (nat_lt 0 shape.preprocessed_width) d
   alpha ← get (codes "alpha") d >>= element_at base_at
   zeta ← get (codes "zeta") d >>= element_at base_at
   chunks ← get (codes "chunks") d >>= array_at (array_at (element_at base_at))
-  Some (record { log_height = log_height; publics = publics; local = local; next = next; preprocessed_local = preprocessed_local; alpha = alpha; zeta = zeta; chunks = chunks })
+  Some (record { log_height = log_height; public_values = public_values; local = local; next = next; preprocessed_local = preprocessed_local; alpha = alpha; zeta = zeta; chunks = chunks })
 
 -- the numbers that the bytes spell
 unfoldable pub numbers_in : CheckShape → List ℕ → Option CheckNumbers
@@ -66,5 +66,5 @@ numbers_in shape bytes = json_of bytes >>= numbers_at shape
 -- the widths and counts are those of the shape, and each chunk has four coordinates
 abbrev pub has_shape : CheckShape → CheckNumbers → Bool
 has_shape shape m =
-    length m.publics == shape.num_public_values && length m.local == shape.width && length m.next == shape.width && length m.preprocessed_local == shape.preprocessed_width
+    length m.public_values == shape.num_public_values && length m.local == shape.width && length m.next == shape.width && length m.preprocessed_local == shape.preprocessed_width
     && list_all (λ chunk. length chunk == 4) m.chunks

@@ -6,7 +6,7 @@ use Rattle.stark_commands.specs.Input.{CheckNumbers}
 abbrev pub numbers : CheckInput → CheckNumbers
 numbers c = record {
   log_height = c.log_height;
-  publics = c.publics.items;
+  public_values = c.public_values.items;
   local = c.local.items;
   next = c.next.items;
   preprocessed_local = c.preprocessed_local.items;

@@ -21,7 +21,7 @@ module _ {F E : Type 0} (opened : OpenedPoint F E) where
     preprocessed_local = opened.preprocessed_local.now;
     preprocessed_next = opened.preprocessed_next.now;
     periodic = periodic;
-    publics = opened.publics.now;
+    public_values = opened.public_values.now;
   }
 
   -- They are as wide as an AIR of this layout asks; and with any values of so many periodic columns.

@@ -23,7 +23,7 @@ pub data NamedChallenger : Type 0 where
 -- before alpha.
 pub record ProofNumbers (K : Type 0) (P : Type 0) : Type 0 where
   pub proof : ProofView K Extension P Base
-  pub publics : List Base
+  pub public_values : List Base
   pub challenger : NamedChallenger
   pub ood_bits : ℕ
   pub alpha_bits : ℕ
@@ -59,11 +59,11 @@ module _ {K : Type 0} {P : Type 0} (commitment : Data → Option K) (argument : 
   unfoldable pub proof_numbers_at : Data → Option (ProofNumbers K P)
   proof_numbers_at d = do
     proof ← get (codes "proof") d >>= λ p. ok_of (proof_reading commitment (element_at base_at) argument base_at residue_ring.zero p)
-    publics ← get (codes "publics") d >>= array_at base_at
+    public_values ← get (codes "publics") d >>= array_at base_at
     challenger ← get (codes "challenger") d >>= challenger_at
     ood_bits ← bits_at (get (codes "ood_bits") d)
     alpha_bits ← bits_at (get (codes "alpha_bits") d)
-    Some (record { proof = proof; publics = publics; challenger = challenger; ood_bits = ood_bits; alpha_bits = alpha_bits })
+    Some (record { proof = proof; public_values = public_values; challenger = challenger; ood_bits = ood_bits; alpha_bits = alpha_bits })
 
   -- what the bytes spell
   unfoldable pub proof_numbers_in : List ℕ → Option (ProofNumbers K P)
@@ -75,7 +75,7 @@ named_challenger Sha256 = hashing
 named_challenger (Script numbers) = scripted numbers.items
 
 abbrev pub proof_numbers : {K : Type 0} {P : Type 0} → ProofInput K P → ProofNumbers K P
-proof_numbers input = record { proof = proof_view input.proof; publics = input.publics.items; challenger = named_challenger input.challenger; ood_bits = input.ood_bits; alpha_bits = input.alpha_bits }
+proof_numbers input = record { proof = proof_view input.proof; public_values = input.public_values.items; challenger = named_challenger input.challenger; ood_bits = input.ood_bits; alpha_bits = input.alpha_bits }
 
 -- A script has some number.
 abbrev pub HasSomeNumber : ChosenChallenger → Type 0

@@ -44,7 +44,7 @@ fn check_columns<A: Air<F12289>>(
         next: &input.next,
         preprocessed_local: &input.preprocessed_local,
         preprocessed_next: &preprocessed_next,
-        publics: &input.publics,
+        public_values: &input.public_values,
         chunks: &input.chunks,
         zeta: input.zeta,
         alpha: input.alpha,

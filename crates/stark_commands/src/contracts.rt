@@ -98,7 +98,7 @@ impl<A: Air<F12289>> ProgramAir for A {
         (⟦<A as DeclaredAir<F12289>>⟧.declared air)
         (record {
           proof = proof;
-          publics = public_values;
+          public_values = public_values;
           challenger = named;
           ood_bits = ood_bits;
           alpha_bits = alpha_bits;

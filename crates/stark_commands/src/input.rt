@@ -23,7 +23,7 @@ pub struct CheckInput {
     /// The exponent of the size of the trace's domain.
     pub log_height: u64,
     /// The public values.
-    pub publics: Vec<F12289>,
+    pub public_values: Vec<F12289>,
     /// The row of the trace at the point.
     pub local: Vec<Extension>,
     /// The row at the next point, zeros where it isn't read.
@@ -43,7 +43,7 @@ impl CheckInput {
     pub fn has_shape(&self, shape: CheckShape) -> bool
         ensures { result ≡ has_shape shape (numbers self.now) }
     {
-        self.publics.len() == shape.num_public_values
+        self.public_values.len() == shape.num_public_values
             && self.local.len() == shape.width
             && self.next.len() == shape.width
             && self.preprocessed_local.len() == shape.preprocessed_width
@@ -104,7 +104,7 @@ fn numbers_of(alloc: Global, shape: CheckShape, value: &Value) -> Result<CheckIn
 {
     let has_preprocessed = shape.preprocessed_width > 0;
     let log_height = log_height_of(field_of(value, "log_height")?)?;
-    let publics = list_from_json::<F12289>(alloc, field_of(value, "publics")?)?;
+    let public_values = list_from_json::<F12289>(alloc, field_of(value, "publics")?)?;
     let local = list_from_json::<Extension>(alloc, field_of(value, "local")?)?;
     let next = row_or_zeros(alloc, value, "next", shape.width, shape.reads_next)?;
     let preprocessed_local = row_or_zeros(alloc, value, "preprocessed_local", 0, has_preprocessed)?;
@@ -113,7 +113,7 @@ fn numbers_of(alloc: Global, shape: CheckShape, value: &Value) -> Result<CheckIn
     let chunks = lists_from_json::<Extension>(alloc, field_of(value, "chunks")?)?;
     Ok(CheckInput {
         log_height,
-        publics,
+        public_values,
         local,
         next,
         preprocessed_local,

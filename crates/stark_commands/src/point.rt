@@ -31,7 +31,7 @@ pub struct OpenedPoint<'a, F, EF> {
     pub next: &'a [EF],
     pub preprocessed_local: &'a [EF],
     pub preprocessed_next: &'a [EF],
-    pub publics: &'a [F],
+    pub public_values: &'a [F],
     pub chunks: &'a [Vec<EF>],
     pub zeta: EF,
     pub alpha: EF,
@@ -87,20 +87,20 @@ pub fn check_equation<SC: StarkGenericConfig, A: Air<Val<SC>>>(
     ensures { TellsQuotient ⟦<SC as StarkFields>⟧.fields (SC.Pcs.Domain.coset_of trace_domain)
         (A.constraints air.now) opened.now periodic.now quotient result }
 {
-    let found = verify_constraints::<SC, A, NoScheme>(
+    let answer = verify_constraints::<SC, A, NoScheme>(
         air,
         opened.local,
         opened.next,
         Some(opened.preprocessed_local),
         Some(opened.preprocessed_next),
         periodic,
-        opened.publics,
+        opened.public_values,
         trace_domain,
         opened.zeta,
         opened.alpha,
         quotient,
     );
-    match found {
+    match answer {
         Ok(()) => Verdict::Accepted,
         Err(error) => match error {
             VerificationError::OutOfMemory => Verdict::Refused(Refusal::OutOfMemory),

@@ -30,7 +30,7 @@ pub enum ChosenChallenger {
 #[derive(Debug, Drop)]
 pub struct ProofInput<Com, PcsProof> {
     pub proof: Proof<Com, Extension, PcsProof, F12289>,
-    pub publics: Vec<F12289>,
+    pub public_values: Vec<F12289>,
     pub challenger: ChosenChallenger,
     /// How many bits of work are asked for before the point out of the domain.
     pub ood_bits: usize,
@@ -102,13 +102,13 @@ fn proof_input_of<Com: NeverNull + Drop, PcsProof: JsonCodec + Drop>(
     ensures some { IfOk result (λ input. HasSomeNumber input.challenger) }
 {
     let proof = proof_from_json(alloc, field_of(value, "proof")?)?;
-    let publics = list_from_json::<F12289>(alloc, field_of(value, "publics")?)?;
+    let public_values = list_from_json::<F12289>(alloc, field_of(value, "publics")?)?;
     let challenger = challenger_from_json(alloc, field_of(value, "challenger")?)?;
     let ood_bits = bits_from_json(value.get("ood_bits"))?;
     let alpha_bits = bits_from_json(value.get("alpha_bits"))?;
     Ok(ProofInput {
         proof,
-        publics,
+        public_values,
         challenger,
         ood_bits,
         alpha_bits,

@@ -25,7 +25,7 @@ use p3_uni_stark::{Proof, ProvingError, StarkOperations};
 use stark_air::Air;
 use stark_answers::{
     AnswersWithColumns, CheckShape, DeclaredAir, Finding, ProofForm, Refusal, Report, Verdict,
-    finding_of_proof, prove_with_held, values_of, words_of_failure,
+    finding_of_proof, prove_with_own_columns, values_of, words_of_failure,
 };
 use stark_bench::{ClearCommitment, F12289, ScriptChallenger, Sha256Challenger};
 use stark_clear::{ClearProof, ClearProverError};
@@ -77,35 +77,35 @@ impl ProvedInput for SampleAir {
         (⟦<Extension as ExtensionField<F12289>>⟧.coordinates) 2 clear_pcs (replicate 32 0)
         (λ numbers. (numbers, 0)) (sample air) (trace_numbers_in input) line };
 
-    ghost finds_proofs = { λ air input f found. proved_line
+    ghost finds_proofs = { λ air input f finds. proved_line
         (⟦<ProgramConfig<Sha256Challenger<F12289>> as StarkOperations>⟧.operations)
         (⟦<ProgramConfig<ScriptChallenger<F12289>> as StarkOperations>⟧.operations)
         (⟦<Extension as ExtensionField<F12289>>⟧.coordinates) 2 clear_pcs (replicate 32 0)
-        (λ numbers. (numbers, 0)) (sample air) (trace_numbers_in input) f found };
+        (λ numbers. (numbers, 0)) (sample air) (trace_numbers_in input) f finds };
 
-    ghost begins = { λ air input f found. proved_begins
+    ghost begins = { λ air input f finds. proved_begins
         (⟦<ProgramConfig<Sha256Challenger<F12289>> as StarkOperations>⟧.operations)
         (⟦<ProgramConfig<ScriptChallenger<F12289>> as StarkOperations>⟧.operations)
         (⟦<Extension as ExtensionField<F12289>>⟧.coordinates) 2 clear_pcs (replicate 32 0)
-        (λ numbers. (numbers, 0)) (sample air) (trace_numbers_in input) f found };
+        (λ numbers. (numbers, 0)) (sample air) (trace_numbers_in input) f finds };
 
-    ghost accepts_none = { λ air input found. proved_accepts_none
+    ghost accepts_none = { λ air input finds. proved_accepts_none
         (⟦<ProgramConfig<Sha256Challenger<F12289>> as StarkOperations>⟧.operations)
         (⟦<ProgramConfig<ScriptChallenger<F12289>> as StarkOperations>⟧.operations)
         (⟦<Extension as ExtensionField<F12289>>⟧.coordinates) 2 clear_pcs (replicate 32 0)
-        (λ numbers. (numbers, 0)) (sample air) (trace_numbers_in input) found };
+        (λ numbers. (numbers, 0)) (sample air) (trace_numbers_in input) finds };
 
-    ghost satisfies_none = { λ air input found. proved_satisfies_none
+    ghost satisfies_none = { λ air input finds. proved_satisfies_none
         (⟦<ProgramConfig<Sha256Challenger<F12289>> as StarkOperations>⟧.operations)
         (⟦<ProgramConfig<ScriptChallenger<F12289>> as StarkOperations>⟧.operations)
         (⟦<Extension as ExtensionField<F12289>>⟧.coordinates) 2 clear_pcs (replicate 32 0)
-        (λ numbers. (numbers, 0)) (sample air) (trace_numbers_in input) found };
+        (λ numbers. (numbers, 0)) (sample air) (trace_numbers_in input) finds };
 
-    ghost shows_none = { λ air input f found is. proved_no_text
+    ghost shows_none = { λ air input f finds is. proved_no_text
         (⟦<ProgramConfig<Sha256Challenger<F12289>> as StarkOperations>⟧.operations)
         (⟦<ProgramConfig<ScriptChallenger<F12289>> as StarkOperations>⟧.operations)
         (⟦<Extension as ExtensionField<F12289>>⟧.coordinates) 2 clear_pcs (replicate 32 0)
-        (λ numbers. (numbers, 0)) (sample air) (trace_numbers_in input) f found is };
+        (λ numbers. (numbers, 0)) (sample air) (trace_numbers_in input) f finds is };
 }
 
 /// The answer with the scheme in the clear that stops nowhere, over any field and extension: a call
@@ -116,7 +116,7 @@ fn prove_in_the_clear<F, EF, C, A>(
     air: &A,
     log_rows: usize,
     trace: RowMajorMatrix<F>,
-    publics: &[F],
+    public_values: &[F],
 ) -> Result<Proof<ClearCommitment<F>, EF, ClearProof, F>, ProvingError<ClearProverError>>
 where
     F: PrimeField64 + TwoAdicField + PackedField,
@@ -124,14 +124,14 @@ where
     C: StarkChallenger<F, EF, ClearCommitment<F>>,
     A: Air<F>,
     requires fitting { IsTraceFor (A.layout air.now) log_rows
-        (trace_of trace) (length publics.now) 0 F.TWO_ADICITY }
+        (trace_of trace) (length public_values.now) 0 F.TWO_ADICITY }
     requires height { HasHeight log_rows (A.preprocessed_trace air.now) }
     requires within { log_rows ≤ F.TWO_ADICITY }
     requires stops_nowhere { config.now.pcs ≡ clear_pcs }
     ensures { ⟦<ClearConfig<F, EF, C> as AnswersWithColumns<A>>⟧.proves log_rows config.now air.now
-        trace publics.now result }
+        trace public_values.now result }
 {
-    prove_with_held(alloc, config, air, log_rows, trace, publics)
+    prove_with_own_columns(alloc, config, air, log_rows, trace, public_values)
 }
 
 /// What is written of a trace's proof, with a challenger in its first state, and so many bits of
@@ -142,7 +142,7 @@ fn prove_trace<C, A>(
     log_rows: usize,
     challenger: C,
     trace: RowMajorMatrix<F12289>,
-    publics: &[F12289],
+    public_values: &[F12289],
     ood_bits: usize,
     alpha_bits: usize,
 ) -> Report<Finding>
@@ -150,14 +150,14 @@ where
     C: StarkChallenger<F12289, Extension, ClearCommitment<F12289>>,
     A: Air<F12289>,
     requires fitting { IsTraceFor (A.layout air.now) log_rows
-        (trace_of trace) (length publics.now) 0 12 }
+        (trace_of trace) (length public_values.now) 0 12 }
     requires height { HasHeight log_rows (A.preprocessed_trace air.now) }
     requires within { log_rows ≤ 12 }
-    ensures { ⟦<C as ProgramRun<A>>⟧.finds log_rows challenger air.now trace publics.now ood_bits
-        alpha_bits result.answer }
+    ensures { ⟦<C as ProgramRun<A>>⟧.finds log_rows challenger air.now trace public_values.now
+        ood_bits alpha_bits result.answer }
 {
     let config: ProgramConfig<C> = clear_config(challenger, ood_bits, alpha_bits);
-    let answer = prove_in_the_clear(alloc, &config, air, log_rows, trace, publics);
+    let answer = prove_in_the_clear(alloc, &config, air, log_rows, trace, public_values);
     Report {
         answer: finding_of_proof(alloc, ProofForm::Json, &answer),
         reason: words_of_failure(alloc, &answer),
@@ -173,26 +173,40 @@ fn prove_by<A: Air<F12289>>(
     challenger: ChosenChallenger,
     sha256: Sha256Challenger<F12289>,
     trace: RowMajorMatrix<F12289>,
-    publics: &[F12289],
+    public_values: &[F12289],
     ood_bits: usize,
     alpha_bits: usize,
 ) -> Report<Finding>
     requires fitting { IsTraceFor (A.layout air.now) log_rows
-        (trace_of trace) (length publics.now) 0 12 }
+        (trace_of trace) (length public_values.now) 0 12 }
     requires height { HasHeight log_rows (A.preprocessed_trace air.now) }
     requires within { log_rows ≤ 12 }
     requires some { HasSomeNumber challenger }
-    ensures { ⟦<A as ProgramAir>⟧.finds log_rows sha256 air.now trace publics.now ood_bits
+    ensures { ⟦<A as ProgramAir>⟧.finds log_rows sha256 air.now trace public_values.now ood_bits
         alpha_bits (named_challenger challenger) result.answer }
 {
     match challenger {
         ChosenChallenger::Sha256 => prove_trace(
-            alloc, air, log_rows, sha256, trace, publics, ood_bits, alpha_bits,
+            alloc,
+            air,
+            log_rows,
+            sha256,
+            trace,
+            public_values,
+            ood_bits,
+            alpha_bits,
         ),
         ChosenChallenger::Script(numbers) => {
             let script = ScriptChallenger::new(numbers);
             prove_trace(
-                alloc, air, log_rows, script, trace, publics, ood_bits, alpha_bits,
+                alloc,
+                air,
+                log_rows,
+                script,
+                trace,
+                public_values,
+                ood_bits,
+                alpha_bits,
             )
         }
     }
@@ -221,7 +235,7 @@ fn prove_read<A: Air<F12289>>(
     };
     let TraceInput {
         rows,
-        publics,
+        public_values,
         challenger,
         ood_bits,
         alpha_bits,
@@ -231,7 +245,15 @@ fn prove_read<A: Air<F12289>>(
     };
     let trace = RowMajorMatrix::new(values, shape.width);
     prove_by(
-        alloc, air, log_rows, challenger, sha256, trace, &publics, ood_bits, alpha_bits,
+        alloc,
+        air,
+        log_rows,
+        challenger,
+        sha256,
+        trace,
+        &public_values,
+        ood_bits,
+        alpha_bits,
     )
 }
 

@@ -18,7 +18,7 @@ use std::alloc::Global;
 pub struct TraceInput {
     /// The rows of the trace.
     pub rows: Vec<Vec<F12289>>,
-    pub publics: Vec<F12289>,
+    pub public_values: Vec<F12289>,
     pub challenger: ChosenChallenger,
     /// How many bits of work are asked for before the point out of the domain.
     pub ood_bits: usize,
@@ -35,7 +35,7 @@ impl TraceInput {
         ensures none { IsNone result → (log_height : ℕ)
             → HasTraceShape shape log_rows (trace_numbers self.now) log_height → ⊥ }
     {
-        log_height_of_rows(&self.rows, &self.publics, shape, log_rows, 12)
+        log_height_of_rows(&self.rows, &self.public_values, shape, log_rows, 12)
     }
 }
 
@@ -47,13 +47,13 @@ fn trace_input_of(alloc: Global, value: &Value) -> Result<TraceInput, JsonFault>
     ensures some { IfOk result (λ input. HasSomeNumber input.challenger) }
 {
     let rows = lists_from_json::<F12289>(alloc, field_of(value, "trace")?)?;
-    let publics = list_from_json::<F12289>(alloc, field_of(value, "publics")?)?;
+    let public_values = list_from_json::<F12289>(alloc, field_of(value, "publics")?)?;
     let challenger = challenger_from_json(alloc, field_of(value, "challenger")?)?;
     let ood_bits = bits_from_json(value.get("ood_bits"))?;
     let alpha_bits = bits_from_json(value.get("alpha_bits"))?;
     Ok(TraceInput {
         rows,
-        publics,
+        public_values,
         challenger,
         ood_bits,
         alpha_bits,

@@ -60,7 +60,7 @@ fn verify_in_the_clear<F, EF, C, A>(
     air: &A,
     log_rows: usize,
     proof: &Proof<ClearCommitment<F>, EF, ClearProof, F>,
-    publics: &[F],
+    public_values: &[F],
 ) -> Result<(), VerificationError<ClearError>>
 where
     F: PrimeField64 + TwoAdicField,
@@ -71,9 +71,9 @@ where
     requires within { log_rows ≤ F.TWO_ADICITY }
     requires stops_nowhere { config.now.pcs ≡ clear_pcs }
     ensures { ⟦<ClearConfig<F, EF, C> as AnswersWithColumns<A>>⟧.verifies log_rows config.now
-        air.now proof.now publics.now result }
+        air.now proof.now public_values.now result }
 {
-    verify_with_key(alloc, config, air, log_rows, proof, publics)
+    verify_with_key(alloc, config, air, log_rows, proof, public_values)
 }
 
 /// What the verifier answers for a proof, with a challenger in its first state, and so many bits of
@@ -85,7 +85,7 @@ fn verify_proof<C, A>(
     log_rows: usize,
     challenger: C,
     proof: &ProgramProof,
-    publics: &[F12289],
+    public_values: &[F12289],
     ood_bits: usize,
     alpha_bits: usize,
 ) -> Report<Verdict>
@@ -95,10 +95,10 @@ where
     requires height { HasHeight log_rows (A.preprocessed_trace air.now) }
     requires within { log_rows ≤ 12 }
     ensures { ⟦<C as ProgramRun<A>>⟧.judges log_rows challenger air.now (proof_view proof.now)
-        publics.now ood_bits alpha_bits result.answer }
+        public_values.now ood_bits alpha_bits result.answer }
 {
     let config: ProgramConfig<C> = clear_config(challenger, ood_bits, alpha_bits);
-    let answer = verify_in_the_clear(alloc, &config, air, log_rows, proof, publics);
+    let answer = verify_in_the_clear(alloc, &config, air, log_rows, proof, public_values);
     Report {
         answer: verdict_of(&answer),
         reason: words_of_refusal(alloc, &answer),
@@ -112,28 +112,42 @@ fn verify_by<A: Air<F12289>>(
     log_rows: usize,
     challenger: ChosenChallenger,
     proof: &ProgramProof,
-    publics: &[F12289],
+    public_values: &[F12289],
     ood_bits: usize,
     alpha_bits: usize,
 ) -> Verdict
     requires height { HasHeight log_rows (A.preprocessed_trace air.now) }
     requires within { log_rows ≤ 12 }
     requires some { HasSomeNumber challenger }
-    ensures { ⟦<A as ProgramAir>⟧.judges log_rows air.now (proof_view proof.now) publics.now
+    ensures { ⟦<A as ProgramAir>⟧.judges log_rows air.now (proof_view proof.now) public_values.now
         (named_challenger challenger) ood_bits alpha_bits result }
 {
     match challenger {
         ChosenChallenger::Sha256 => {
             let sha256 = Sha256Challenger::new();
             verify_proof(
-                alloc, air, log_rows, sha256, proof, publics, ood_bits, alpha_bits,
+                alloc,
+                air,
+                log_rows,
+                sha256,
+                proof,
+                public_values,
+                ood_bits,
+                alpha_bits,
             )
             .answer
         }
         ChosenChallenger::Script(numbers) => {
             let script = ScriptChallenger::new(numbers);
             verify_proof(
-                alloc, air, log_rows, script, proof, publics, ood_bits, alpha_bits,
+                alloc,
+                air,
+                log_rows,
+                script,
+                proof,
+                public_values,
+                ood_bits,
+                alpha_bits,
             )
             .answer
         }
@@ -152,13 +166,20 @@ fn verify_input<A: Air<F12289>>(alloc: Global, air: &A, log_rows: usize, bytes: 
         Ok(input) => {
             let ProofInput {
                 proof,
-                publics,
+                public_values,
                 challenger,
                 ood_bits,
                 alpha_bits,
             } = input;
             verify_by(
-                alloc, air, log_rows, challenger, &proof, &publics, ood_bits, alpha_bits,
+                alloc,
+                air,
+                log_rows,
+                challenger,
+                &proof,
+                &public_values,
+                ood_bits,
+                alpha_bits,
             )
         }
         Err(JsonFault::Invalid) => Verdict::BadInput,

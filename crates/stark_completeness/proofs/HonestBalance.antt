@@ -27,61 +27,61 @@ use Rattle.stark_completeness.proofs.RowSatisfactionSteps.{satisfied_by_rows, ro
 -- ---- satisfaction
 
 module _ {F E : Type 0} (fields : FieldsOps F E) (coordinates : E → List F) (lawful : AreLawful fields coordinates) (constraints : List (Constraint F)) (periodic : List (List F)) (log_size : ℕ)
-    (rows : TraceRows F) (main_width fixed_width : ℕ) (main fixed : List (List F))
+    (rows : TraceRows F) (main_width preprocessed_width : ℕ) (main preprocessed : List (List F))
     (main_takes : TakesRows fields.base fields.root (natural_coset fields.base log_size) main_width rows.main main)
-    (fixed_takes : TakesRows fields.base fields.root (natural_coset fields.base log_size) fixed_width rows.preprocessed fixed) where
-  values_on_group : AreValuesOfColumns (air_over fields constraints periodic log_size) (rows_on_group (air_over fields constraints periodic log_size) rows) (columns_above fields.embed main fixed rows.publics)
+    (preprocessed_takes : TakesRows fields.base fields.root (natural_coset fields.base log_size) preprocessed_width rows.preprocessed preprocessed) where
+  values_on_group : AreValuesOfColumns (air_over fields constraints periodic log_size) (rows_on_group (air_over fields constraints periodic log_size) rows) (columns_above fields.embed main preprocessed rows.public_values)
   values_on_group =
       let group = natural_coset fields.base log_size in
       let at = λ (columns : List (List F)) (k : ℕ). ap (λ x. row_at fields.ring (λ c. c) (map (map fields.embed) columns) (fields.embed x)) (one_mul lawful.base.of_ring (power fields.base (fields.root log_size) k)) in
       record {
         main = λ k below. embedded_rows lawful.embeds fields.root group main_width rows.main main main_takes k below ∙ at main k;
-        preprocessed = λ k below. embedded_rows lawful.embeds fields.root group fixed_width rows.preprocessed fixed fixed_takes k below ∙ at fixed k;
-        publics = refl;
+        preprocessed = λ k below. embedded_rows lawful.embeds fields.root group preprocessed_width rows.preprocessed preprocessed preprocessed_takes k below ∙ at preprocessed k;
+        public_values = refl;
       }
 
   module _ (l : Layout) (leaves : LeavesWithin l constraints) (within : log_size ≤ fields.adicity) (fitting : All (λ column. ColumnFits (2 ^ log_size) (length column)) periodic) where
     -- Columns that take a trace's rows satisfy an AIR where the trace does in each row,
-    pub satisfied_by_trace : HoldsInEachRow (air_over fields constraints periodic log_size) rows → Satisfies (air_over fields constraints periodic log_size) (columns_above fields.embed main fixed rows.publics)
+    pub satisfied_by_trace : HoldsInEachRow (air_over fields constraints periodic log_size) rows → Satisfies (air_over fields constraints periodic log_size) (columns_above fields.embed main preprocessed rows.public_values)
     satisfied_by_trace =
         satisfied_by_rows (air_over fields constraints periodic log_size) lawful.base lawful.extension lawful.embeds fields.adicity fields.root fields.generator lawful.two_adic refl within l leaves fitting rows
-        (columns_above fields.embed main fixed rows.publics) values_on_group
+        (columns_above fields.embed main preprocessed rows.public_values) values_on_group
 
     -- and only there.
-    pub trace_of_satisfied : Satisfies (air_over fields constraints periodic log_size) (columns_above fields.embed main fixed rows.publics) → HoldsInEachRow (air_over fields constraints periodic log_size) rows
+    pub trace_of_satisfied : Satisfies (air_over fields constraints periodic log_size) (columns_above fields.embed main preprocessed rows.public_values) → HoldsInEachRow (air_over fields constraints periodic log_size) rows
     trace_of_satisfied =
         rows_of_satisfied (air_over fields constraints periodic log_size) lawful.base lawful.extension lawful.embeds fields.adicity fields.root fields.generator lawful.two_adic refl within l leaves fitting rows
-        (columns_above fields.embed main fixed rows.publics) values_on_group
+        (columns_above fields.embed main preprocessed rows.public_values) values_on_group
 
 -- Both at once, of all rows and columns.
 pub row_by_row : {F E : Type 0} (fields : FieldsOps F E) (coordinates : E → List F) → AreLawful fields coordinates → (constraints : List (Constraint F)) (periodic : List (List F)) (log_size : ℕ) (l : Layout)
     → LeavesWithin l constraints → log_size ≤ fields.adicity → All (λ column. ColumnFits (2 ^ log_size) (length column)) periodic → IsSatisfiedByRows fields constraints periodic log_size
-row_by_row fields coordinates lawful constraints periodic log_size l leaves within fitting = λ rows main_width fixed_width main fixed main_takes fixed_takes. (
-  satisfied_by_trace fields coordinates lawful constraints periodic log_size rows main_width fixed_width main fixed main_takes fixed_takes l leaves within fitting,
-  trace_of_satisfied fields coordinates lawful constraints periodic log_size rows main_width fixed_width main fixed main_takes fixed_takes l leaves within fitting,
+row_by_row fields coordinates lawful constraints periodic log_size l leaves within fitting = λ rows main_width preprocessed_width main preprocessed main_takes preprocessed_takes. (
+  satisfied_by_trace fields coordinates lawful constraints periodic log_size rows main_width preprocessed_width main preprocessed main_takes preprocessed_takes l leaves within fitting,
+  trace_of_satisfied fields coordinates lawful constraints periodic log_size rows main_width preprocessed_width main preprocessed main_takes preprocessed_takes l leaves within fitting,
 )
 
 -- ---- the verifier's equation
 
 -- The equation holds at each zeta at which the opened values are true.
 pub honest_is_balanced : {S F E C K T P X Y : Type 0} (ops : ProtocolOps S F E C K T P X Y) (i : Instance S F C K) (p : ProofView K E P F) (coordinates : E → List F) → AreLawful ops.opening.fields coordinates
-    → LeavesWithin i.layout i.constraints → (declared_fixed : Option (Trace F)) → IsDeclared i.layout declared_fixed i.periodic_columns i.main_next_columns i.preprocessed_next_columns
+    → LeavesWithin i.layout i.constraints → (declared_preprocessed : Option (Trace F)) → IsDeclared i.layout declared_preprocessed i.periodic_columns i.main_next_columns i.preprocessed_next_columns
     → (height : ℕ) → AreProofSizes ops.opening.fields.adicity ops.opening.is_zk height p.degree_bits (log_parts ops i p)
-    → (main fixed : List (List F)) → FitCommitted p.degree_bits main fixed
-    → Satisfies (air_over ops.opening.fields i.constraints i.periodic_columns height) (columns_above ops.opening.fields.embed main fixed i.public_values)
+    → (main preprocessed : List (List F)) → FitCommitted p.degree_bits main preprocessed
+    → Satisfies (air_over ops.opening.fields i.constraints i.periodic_columns height) (columns_above ops.opening.fields.embed main preprocessed i.public_values)
     → HasSmallBound i.constraints height p.degree_bits (log_parts ops i p)
     → (rows : RowsOnCoset F)
-    → AreRowsOfColumns ops.opening.fields (quotient_coset ops.opening.fields.base ops.opening.fields.generator (natural_coset ops.opening.fields.base p.degree_bits) (log_parts ops i p)) main fixed i.public_values rows
+    → AreRowsOfColumns ops.opening.fields (quotient_coset ops.opening.fields.base ops.opening.fields.generator (natural_coset ops.opening.fields.base p.degree_bits) (log_parts ops i p)) main preprocessed i.public_values rows
     → (alpha : E) (chunks : List (QuotientChunk F))
     → AreChunksOfQuotient ops.opening.fields coordinates (air_over ops.opening.fields i.constraints i.periodic_columns height) ops.opening.is_zk p.degree_bits (log_parts ops i p) rows alpha chunks
-    → (zeta : E) → AreTrueOpenings ops.opening.fields ops.opening.is_zk i.main_next_columns i.preprocessed_next_columns main fixed chunks zeta (next_point ops.opening p.degree_bits zeta) p.opened_values
+    → (zeta : E) → AreTrueOpenings ops.opening.fields ops.opening.is_zk i.main_next_columns i.preprocessed_next_columns main preprocessed chunks zeta (next_point ops.opening p.degree_bits zeta) p.opened_values
     → IsBalanced ops i p alpha zeta
-honest_is_balanced ops i p coordinates lawful leaves declared_fixed declared height sizes main fixed fit satisfied small rows are_rows alpha chunks committed zeta opened =
+honest_is_balanced ops i p coordinates lawful leaves declared_preprocessed declared height sizes main preprocessed fit satisfied small rows are_rows alpha chunks committed zeta opened =
     let fields = ops.opening.fields in
     let is_zk = ops.opening.is_zk in
     record {
-      equation = honest_equation fields coordinates lawful i.constraints i.periodic_columns i.layout leaves is_zk height p.degree_bits (log_parts ops i p) sizes main fixed i.public_values fit satisfied small rows are_rows alpha chunks committed
-          declared_fixed i.main_next_columns i.preprocessed_next_columns declared zeta p.opened_values
-          (subst (λ k. AreTrueOpenings fields is_zk i.main_next_columns i.preprocessed_next_columns main fixed chunks zeta (fields.ring.mul (fields.embed (fields.root k)) zeta) p.opened_values)
+      equation = honest_equation fields coordinates lawful i.constraints i.periodic_columns i.layout leaves is_zk height p.degree_bits (log_parts ops i p) sizes main preprocessed i.public_values fit satisfied small rows are_rows alpha chunks committed
+          declared_preprocessed i.main_next_columns i.preprocessed_next_columns declared zeta p.opened_values
+          (subst (λ k. AreTrueOpenings fields is_zk i.main_next_columns i.preprocessed_next_columns main preprocessed chunks zeta (fields.ring.mul (fields.embed (fields.root k)) zeta) p.opened_values)
           (sym (own_height is_zk height p.degree_bits sizes.committed)) opened);
     }

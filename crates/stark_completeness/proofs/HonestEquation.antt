@@ -61,16 +61,16 @@ own_height false height degree_bits is = omega arith
 module _ {F E : Type 0} (fields : FieldsOps F E) (coordinates : E → List F) (lawful : AreLawful fields coordinates)
     (constraints : List (Constraint F)) (periodic : List (List F)) (l : Layout) (leaves : LeavesWithin l constraints)
     (is_zk : Bool) (log_size degree_bits log_parts : ℕ) (sizes : AreProofSizes fields.adicity is_zk log_size degree_bits log_parts)
-    (main fixed : List (List F)) (publics : List F) (fit : FitCommitted degree_bits main fixed)
-    (satisfied : Satisfies (air_over fields constraints periodic log_size) (columns_above fields.embed main fixed publics))
+    (main preprocessed : List (List F)) (public_values : List F) (fit : FitCommitted degree_bits main preprocessed)
+    (satisfied : Satisfies (air_over fields constraints periodic log_size) (columns_above fields.embed main preprocessed public_values))
     (small : HasSmallBound constraints log_size degree_bits log_parts)
-    (rows : RowsOnCoset F) (are_rows : AreRowsOfColumns fields (quotient_coset fields.base fields.generator (natural_coset fields.base degree_bits) log_parts) main fixed publics rows)
+    (rows : RowsOnCoset F) (are_rows : AreRowsOfColumns fields (quotient_coset fields.base fields.generator (natural_coset fields.base degree_bits) log_parts) main preprocessed public_values rows)
     (alpha : E) (chunks : List (QuotientChunk F)) (committed : AreChunksOfQuotient fields coordinates (air_over fields constraints periodic log_size) is_zk degree_bits log_parts rows alpha chunks) where
   abbrev air : AirInstance F E
   air = air_over fields constraints periodic log_size
 
   abbrev columns : Columns F E
-  columns = columns_above fields.embed main fixed publics
+  columns = columns_above fields.embed main preprocessed public_values
 
   abbrev domain : TwoAdicCoset F
   domain = quotient_coset fields.base fields.generator (natural_coset fields.base degree_bits) log_parts
@@ -103,7 +103,7 @@ module _ {F E : Type 0} (fields : FieldsOps F E) (coordinates : E → List F) (l
       (kept_difference lawful.embeds.keeps _ _ _ _ (kept_power lawful.embeds.keeps x (fields.embed x) (2 ^ log_size) refl) lawful.embeds.keeps.one ∙ e)
 
   columns_fit : ColumnsFit (2 ^ degree_bits) columns
-  columns_fit = record { main = embedded_fit fields.embed (2 ^ degree_bits) main fit.main_degrees; preprocessed = embedded_fit fields.embed (2 ^ degree_bits) fixed fit.fixed_degrees }
+  columns_fit = record { main = embedded_fit fields.embed (2 ^ degree_bits) main fit.main_degrees; preprocessed = embedded_fit fields.embed (2 ^ degree_bits) preprocessed fit.preprocessed_degrees }
 
   -- the quotient of the folded constraint
   abbrev quotient : List E
@@ -118,9 +118,9 @@ module _ {F E : Type 0} (fields : FieldsOps F E) (coordinates : E → List F) (l
         embedded_rows lawful.embeds fields.root domain (length main) rows.main main are_rows.main_rows k (subst (λ n. k < n) are_rows.size below)
         ∙ ap (λ x. row_at fields.ring (λ c. c) columns.main (fields.embed x)) (sym (are_rows.point k));
     preprocessed = λ k below.
-        embedded_rows lawful.embeds fields.root domain (length fixed) rows.preprocessed fixed are_rows.fixed_rows k (subst (λ n. k < n) are_rows.size below)
+        embedded_rows lawful.embeds fields.root domain (length preprocessed) rows.preprocessed preprocessed are_rows.preprocessed_rows k (subst (λ n. k < n) are_rows.size below)
         ∙ ap (λ x. row_at fields.ring (λ c. c) columns.preprocessed (fields.embed x)) (sym (are_rows.point k));
-    publics = are_rows.same_publics;
+    public_values = are_rows.same_public_values;
   }
 
   -- The pointwise quotient is the quotient's value.
@@ -149,28 +149,28 @@ module _ {F E : Type 0} (fields : FieldsOps F E) (coordinates : E → List F) (l
       (chunks_fit is_zk log_size degree_bits log_parts sizes.committed) fields.dimension fields.basis coordinates lawful.is_basis quotient
       (matrix_row (flat_map coordinates committed.values) fields.dimension) flat_rows is_zk chunks committed.chunked quotient_short zeta
 
-  module _ (declared_fixed : Option (Trace F)) (main_next fixed_next : List ℕ) (declared : IsDeclared l declared_fixed periodic main_next fixed_next) (zeta : E) (opened : OpeningsView E)
-      (true_values : AreTrueOpenings fields is_zk main_next fixed_next main fixed chunks zeta (fields.ring.mul (fields.embed (fields.root log_size)) zeta) opened) where
+  module _ (declared_preprocessed : Option (Trace F)) (main_next preprocessed_next : List ℕ) (declared : IsDeclared l declared_preprocessed periodic main_next preprocessed_next) (zeta : E) (opened : OpeningsView E)
+      (true_values : AreTrueOpenings fields is_zk main_next preprocessed_next main preprocessed chunks zeta (fields.ring.mul (fields.embed (fields.root log_size)) zeta) opened) where
     over_height : EquationHolds fields.base fields.ring fields.embed (group air) constraints
-        (rows_of fields.ring.zero l.main l.preprocessed opened (periodic_values fields periodic log_size zeta) publics) zeta alpha
+        (rows_of fields.ring.zero l.main l.preprocessed opened (periodic_values fields periodic log_size zeta) public_values) zeta alpha
         (recomposition fields.ring fields.ring (λ c. c) fields.inverse (2 ^ log_size) fields.basis (chunk_shifts fields.base fields.root fields.embed domain (log_parts + zk_bits is_zk)) opened.quotient_chunks zeta)
     over_height =
         let over = λ (values : List (List E)). recomposition fields.ring fields.ring (λ c. c) fields.inverse (2 ^ log_size) fields.basis
         (chunk_shifts fields.base fields.root fields.embed domain (log_parts + zk_bits is_zk)) values zeta in
         ap (folded fields.ring alpha)
         (same_constraints fields.ring fields.embed l
-        (opened_environment fields.base fields.ring fields.embed (group air) (rows_of fields.ring.zero l.main l.preprocessed opened (periodic_values fields periodic log_size zeta) publics) zeta)
+        (opened_environment fields.base fields.ring fields.embed (group air) (rows_of fields.ring.zero l.main l.preprocessed opened (periodic_values fields periodic log_size zeta) public_values) zeta)
         (environment_at air fields.ring (λ c. c) columns zeta)
-        (opened_leaves fields constraints periodic log_size l declared_fixed main_next fixed_next declared is_zk main fixed chunks publics zeta opened true_values) constraints leaves) ∙
+        (opened_leaves fields constraints periodic log_size l declared_preprocessed main_next preprocessed_next declared is_zk main preprocessed chunks public_values zeta opened true_values) constraints leaves) ∙
         folded_divides air lawful.extension order columns satisfied alpha zeta ∙
         ap (fields.ring.mul (subgroup_vanishing fields.ring (2 ^ log_size) zeta)) (sym (ap over true_values.quotient ∙ recomposed zeta))
 
     -- The verifier's equation holds, at each zeta.
     pub honest_equation : EquationHolds fields.base fields.ring fields.embed (subgroup_of fields.inverse fields.embed fields.root (trace_coset fields.base is_zk degree_bits)) constraints
-        (rows_of fields.ring.zero l.main l.preprocessed opened (periodic_values fields periodic (log_height is_zk degree_bits) zeta) publics) zeta alpha
+        (rows_of fields.ring.zero l.main l.preprocessed opened (periodic_values fields periodic (log_height is_zk degree_bits) zeta) public_values) zeta alpha
         (quotient_value fields degree_bits log_parts is_zk opened.quotient_chunks zeta)
     honest_equation =
         subst (λ (k : ℕ). EquationHolds fields.base fields.ring fields.embed (subgroup_of fields.inverse fields.embed fields.root (natural_coset fields.base k)) constraints
-        (rows_of fields.ring.zero l.main l.preprocessed opened (periodic_values fields periodic k zeta) publics) zeta alpha
+        (rows_of fields.ring.zero l.main l.preprocessed opened (periodic_values fields periodic k zeta) public_values) zeta alpha
         (recomposition fields.ring fields.ring (λ c. c) fields.inverse (2 ^ k) fields.basis (chunk_shifts fields.base fields.root fields.embed domain (log_parts + zk_bits is_zk)) opened.quotient_chunks zeta))
         (own_height is_zk log_size degree_bits sizes.committed) over_height

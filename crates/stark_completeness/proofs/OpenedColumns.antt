@@ -49,21 +49,21 @@ module _ {F E : Type 0} (fields : FieldsOps F E) where
   preprocessed_next_leaf next_columns width n None filler columns x declared is none c below = empty_leaf columns x (none refl) c
   preprocessed_next_leaf next_columns width n (Some rows) filler columns x declared is none c below = next_leaf next_columns width n rows.next filler columns x declared (is rows refl) c below
 
-  module _ (constraints : List (Constraint F)) (periodic : List (List F)) (log_size : ℕ) (l : Layout) (declared_fixed : Option (Trace F)) (main_next fixed_next : List ℕ) (declared : IsDeclared l declared_fixed periodic main_next fixed_next)
-      (is_zk : Bool) (main fixed : List (List F)) (chunks : List (QuotientChunk F)) (publics : List F) (zeta : E) (opened : OpeningsView E)
-      (true_values : AreTrueOpenings fields is_zk main_next fixed_next main fixed chunks zeta (fields.ring.mul (fields.embed (fields.root log_size)) zeta) opened) where
+  module _ (constraints : List (Constraint F)) (periodic : List (List F)) (log_size : ℕ) (l : Layout) (declared_preprocessed : Option (Trace F)) (main_next preprocessed_next : List ℕ) (declared : IsDeclared l declared_preprocessed periodic main_next preprocessed_next)
+      (is_zk : Bool) (main preprocessed : List (List F)) (chunks : List (QuotientChunk F)) (public_values : List F) (zeta : E) (opened : OpeningsView E)
+      (true_values : AreTrueOpenings fields is_zk main_next preprocessed_next main preprocessed chunks zeta (fields.ring.mul (fields.embed (fields.root log_size)) zeta) opened) where
     -- The opened values' leaves are the columns'.
     pub opened_leaves : AgreeWithin l
-        (opened_environment fields.base fields.ring fields.embed (group (air_over fields constraints periodic log_size)) (rows_of fields.ring.zero l.main l.preprocessed opened (periodic_values fields periodic log_size zeta) publics) zeta)
-        (environment_at (air_over fields constraints periodic log_size) fields.ring (λ c. c) (columns_above fields.embed main fixed publics) zeta)
+        (opened_environment fields.base fields.ring fields.embed (group (air_over fields constraints periodic log_size)) (rows_of fields.ring.zero l.main l.preprocessed opened (periodic_values fields periodic log_size zeta) public_values) zeta)
+        (environment_at (air_over fields constraints periodic log_size) fields.ring (λ c. c) (columns_above fields.embed main preprocessed public_values) zeta)
     opened_leaves =
         let next_zeta = fields.ring.mul (fields.embed (fields.root log_size)) zeta in
         record {
           main_current = λ c below. column_leaf opened.trace_local main zeta true_values.local c;
           main_next = λ c below. next_leaf main_next l.main l.main_next opened.trace_next (replicate l.main fields.ring.zero) main next_zeta declared.main_next_row true_values.next c below;
-          preprocessed_current = λ c below. preprocessed_leaf opened.preprocessed fixed zeta true_values.preprocessed_local true_values.no_preprocessed c;
+          preprocessed_current = λ c below. preprocessed_leaf opened.preprocessed preprocessed zeta true_values.preprocessed_local true_values.no_preprocessed c;
           preprocessed_next = λ c below.
-              preprocessed_next_leaf fixed_next l.preprocessed l.preprocessed_next opened.preprocessed (replicate l.preprocessed fields.ring.zero) fixed next_zeta
+              preprocessed_next_leaf preprocessed_next l.preprocessed l.preprocessed_next opened.preprocessed (replicate l.preprocessed fields.ring.zero) preprocessed next_zeta
               declared.preprocessed_next_row true_values.preprocessed_next true_values.no_preprocessed c below;
           public_value = λ k below. refl;
           periodic_value = λ c below. mapped_or_filler (λ column. periodic_value fields.base fields.base_inverse (fields.root log_size) (2 ^ log_size) fields.ring fields.embed column zeta) periodic c [] fields.ring.zero refl;

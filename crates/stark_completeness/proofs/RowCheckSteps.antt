@@ -86,13 +86,13 @@ next_within (c ∷ cs) width = omega arith
 -- Rows of the same values have the same leaves.
 module _ {F : Type 0} (ring : RingOps F) where
   abbrev leaves : List F → List F → List F → List F → List F → List F → F → F → F → Environment F
-  leaves main next fixed fixed_next publics periodic first last change = environment_of (ring_operations ring (λ c. c)) ring.zero ring.zero main next fixed fixed_next publics periodic first last change
+  leaves main next preprocessed preprocessed_next public_values periodic first last change = environment_of (ring_operations ring (λ c. c)) ring.zero ring.zero main next preprocessed preprocessed_next public_values periodic first last change
 
-  pub same_leaves : (publics : List F) {m n f h p m' n' f' h' p' : List F} {a b c a' b' c' : F} → m ≡ m' → n ≡ n' → f ≡ f' → h ≡ h' → p ≡ p' → a ≡ a' → b ≡ b' → c ≡ c'
-      → leaves m n f h publics p a b c ≡ leaves m' n' f' h' publics p' a' b' c'
-  same_leaves publics {m} {n} {f} {h} {p} {m'} {n'} {f'} {h'} {p'} {a} {b} {c} {a'} {b'} {c'} em en ef eh ep ea eb ec =
-      ap (λ x. leaves x n f h publics p a b c) em ∙ ap (λ x. leaves m' x f h publics p a b c) en ∙ ap (λ x. leaves m' n' x h publics p a b c) ef ∙ ap (λ x. leaves m' n' f' x publics p a b c) eh
-      ∙ ap (λ x. leaves m' n' f' h' publics x a b c) ep ∙ ap (λ x. leaves m' n' f' h' publics p' x b c) ea ∙ ap (λ x. leaves m' n' f' h' publics p' a' x c) eb ∙ ap (λ x. leaves m' n' f' h' publics p' a' b' x) ec
+  pub same_leaves : (public_values : List F) {m n f h p m' n' f' h' p' : List F} {a b c a' b' c' : F} → m ≡ m' → n ≡ n' → f ≡ f' → h ≡ h' → p ≡ p' → a ≡ a' → b ≡ b' → c ≡ c'
+      → leaves m n f h public_values p a b c ≡ leaves m' n' f' h' public_values p' a' b' c'
+  same_leaves public_values {m} {n} {f} {h} {p} {m'} {n'} {f'} {h'} {p'} {a} {b} {c} {a'} {b'} {c'} em en ef eh ep ea eb ec =
+      ap (λ x. leaves x n f h public_values p a b c) em ∙ ap (λ x. leaves m' x f h public_values p a b c) en ∙ ap (λ x. leaves m' n' x h public_values p a b c) ef ∙ ap (λ x. leaves m' n' f' x public_values p a b c) eh
+      ∙ ap (λ x. leaves m' n' f' h' public_values x a b c) ep ∙ ap (λ x. leaves m' n' f' h' public_values p' x b c) ea ∙ ap (λ x. leaves m' n' f' h' public_values p' a' x c) eb ∙ ap (λ x. leaves m' n' f' h' public_values p' a' b' x) ec
 
 module _ {F E : Type 0} (i : AirInstance F E) (rows : TraceRows F) where
   -- Where no value is found that isn't zero, the row breaks nothing,
@@ -123,9 +123,9 @@ module _ {F E : Type 0} (i : AirInstance F E) (rows : TraceRows F) where
 
 module _ {F : Type 0} where
   -- Matrices of the same values and widths have the same rows.
-  pub same_rows : (publics : List F) {v v' : List F} {w w' : ℕ} {f f' : List F} {u u' : ℕ} → v ≡ v' → w ≡ w' → f ≡ f' → u ≡ u' → rows_in v w f u publics ≡ rows_in v' w' f' u' publics
-  same_rows publics {v} {v'} {w} {w'} {f} {f'} {u} {u'} ev ew ef eu =
-      ap (λ x. rows_in x w f u publics) ev ∙ ap (λ x. rows_in v' x f u publics) ew ∙ ap (λ x. rows_in v' w' x u publics) ef ∙ ap (λ x. rows_in v' w' f' x publics) eu
+  pub same_rows : (public_values : List F) {v v' : List F} {w w' : ℕ} {f f' : List F} {u u' : ℕ} → v ≡ v' → w ≡ w' → f ≡ f' → u ≡ u' → rows_in v w f u public_values ≡ rows_in v' w' f' u' public_values
+  same_rows public_values {v} {v'} {w} {w'} {f} {f'} {u} {u'} ev ew ef eu =
+      ap (λ x. rows_in x w f u public_values) ev ∙ ap (λ x. rows_in v' x f u public_values) ew ∙ ap (λ x. rows_in v' w' x u public_values) ef ∙ ap (λ x. rows_in v' w' f' x public_values) eu
 
   -- What is said of a violation.
   pub follows_of : (A B : ConstraintViolation F → Type 0) → ((v : ConstraintViolation F) → A v → B v) → (e : ConstraintCheckError F) → IsRefusedOr A e → IsRefusedOr B e

@@ -25,8 +25,8 @@ module _ {F : Type 0} where
     pub main_width : t.main.width ≡ l.main
     pub main_rows : length t.main.values.now ≡ 2 ^ t.log_height * t.main.width
     pub main_next : l.main_next ≤ l.main
-    pub fixed_width : t.preprocessed.width ≡ l.preprocessed
-    pub fixed_rows : length t.preprocessed.values.now ≡ 2 ^ t.log_height * t.preprocessed.width
-    pub fixed_next : l.preprocessed_next ≤ l.preprocessed
-    pub publics : length t.public_values.now ≡ l.publics
+    pub preprocessed_width : t.preprocessed.width ≡ l.preprocessed
+    pub preprocessed_rows : length t.preprocessed.values.now ≡ 2 ^ t.log_height * t.preprocessed.width
+    pub preprocessed_next : l.preprocessed_next ≤ l.preprocessed
+    pub public_values : length t.public_values.now ≡ l.public_values
     pub periodics : length t.periodic_columns.now ≡ l.periodics

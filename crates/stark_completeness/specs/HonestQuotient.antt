@@ -22,12 +22,12 @@ pub record AreLawful {F E : Type 0} (fields : FieldsOps F E) (coordinates : E �
   pub is_basis : IsBasis fields.ring fields.embed fields.dimension fields.basis coordinates
 
 -- The rows on a coset are those of columns, by the number of the point.
-pub record AreRowsOfColumns {F E : Type 0} (fields : FieldsOps F E) (coset : TwoAdicCoset F) (main fixed : List (List F)) (publics : List F) (rows : RowsOnCoset F) : Type 0 where
+pub record AreRowsOfColumns {F E : Type 0} (fields : FieldsOps F E) (coset : TwoAdicCoset F) (main preprocessed : List (List F)) (public_values : List F) (rows : RowsOnCoset F) : Type 0 where
   pub size : rows.size ≡ coset_size coset
   pub point : (k : ℕ) → rows.point k ≡ coset_point fields.base fields.root coset k
   pub main_rows : TakesRows fields.base fields.root coset (length main) rows.main main
-  pub fixed_rows : TakesRows fields.base fields.root coset (length fixed) rows.preprocessed fixed
-  pub same_publics : rows.publics ≡ publics
+  pub preprocessed_rows : TakesRows fields.base fields.root coset (length preprocessed) rows.preprocessed preprocessed
+  pub same_public_values : rows.public_values ≡ public_values
 
 -- A trace of 2 ^ height rows is committed at 2 ^ degree_bits, twice as many in zero knowledge, and the field has the roots of
 -- one of its quotient's domain.
@@ -36,9 +36,9 @@ pub record AreProofSizes (adicity : ℕ) (is_zk : Bool) (height degree_bits log_
   pub within : degree_bits + log_parts ≤ adicity
 
 -- The degrees of all columns are below the committed height.
-pub record FitCommitted {F : Type 0} (degree_bits : ℕ) (main fixed : List (List F)) : Type 0 where
+pub record FitCommitted {F : Type 0} (degree_bits : ℕ) (main preprocessed : List (List F)) : Type 0 where
   pub main_degrees : AllByRecursion (HasDegreeBelow (2 ^ degree_bits)) main
-  pub fixed_degrees : AllByRecursion (HasDegreeBelow (2 ^ degree_bits)) fixed
+  pub preprocessed_degrees : AllByRecursion (HasDegreeBelow (2 ^ degree_bits)) preprocessed
 
 -- The chunks are those of the pointwise quotient at alpha over rows on the quotient's domain, flattened in coordinates.
 pub record AreChunksOfQuotient {F E : Type 0} (fields : FieldsOps F E) (coordinates : E → List F) (air : AirInstance F E) (is_zk : Bool) (degree_bits log_parts : ℕ)

@@ -40,18 +40,18 @@ base_air ring inverse root constraints periodic log_size = record {
 
 -- The rows of two matrices, each with its values and its width, and public values.
 abbrev pub rows_in : {F : Type 0} → List F → ℕ → List F → ℕ → List F → TraceRows F
-rows_in values width fixed fixed_width publics = record { main = matrix_row values width; preprocessed = matrix_row fixed fixed_width; publics = publics }
+rows_in values width preprocessed preprocessed_width public_values = record { main = matrix_row values width; preprocessed = matrix_row preprocessed preprocessed_width; public_values = public_values }
 
 -- The rows of a trace, those of a preprocessed one, and the public values.
 abbrev pub trace_rows : {F : Type 0} → Trace F → Option (Trace F) → List F → TraceRows F
-trace_rows trace preprocessed publics = rows_in trace.values trace.width (matrix_or_empty preprocessed).values (matrix_or_empty preprocessed).width publics
+trace_rows trace preprocessed public_values = rows_in trace.values trace.width (matrix_or_empty preprocessed).values (matrix_or_empty preprocessed).width public_values
 
 -- A trace of 2 ^ log_size rows, a preprocessed one beside it, and public values, as a layout has them.
-pub record AreLaidOut {F : Type 0} (l : Layout) (adicity : ℕ) (log_size : ℕ) (trace : Trace F) (preprocessed : Option (Trace F)) (publics : List F) : Type 0 where
+pub record AreLaidOut {F : Type 0} (l : Layout) (adicity : ℕ) (log_size : ℕ) (trace : Trace F) (preprocessed_trace : Option (Trace F)) (public_values : List F) : Type 0 where
   pub within : log_size ≤ adicity
   pub main : HasShape l.main (2 ^ log_size) trace
-  pub fixed : HasShape l.preprocessed (2 ^ log_size) (matrix_or_empty preprocessed)
-  pub number : length publics ≡ l.publics
+  pub preprocessed : HasShape l.preprocessed (2 ^ log_size) (matrix_or_empty preprocessed_trace)
+  pub number : length public_values ≡ l.public_values
 
 -- A periodic column's entry in row k.
 abbrev pub entry_in_row : {F : Type 0} → F → ℕ → List F → F
@@ -66,7 +66,7 @@ pub record IsFirstNonzero {F : Type 0} (zero : F) (values : List F) (place : ℕ
 -- All of the values are zero, or this is the first that isn't.
 abbrev pub IsFoundIn : {F : Type 0} → F → List F → Option (ℕ × F) → Type 0
 IsFoundIn zero values None = AllByRecursion (λ c. c ≡ zero) values
-IsFoundIn zero values (Some found) = IsFirstNonzero zero values found.0 found.1
+IsFoundIn zero values (Some broken) = IsFirstNonzero zero values broken.0 broken.1
 
 module _ {F E : Type 0} (i : AirInstance F E) (rows : TraceRows F) where
   -- The constraints' values in row k.
@@ -84,14 +84,14 @@ module _ {F E : Type 0} (i : AirInstance F E) (rows : TraceRows F) where
     pub before : (k : ℕ) → k < violation.row → HoldsInRow i rows k
     pub broken : IsBrokenIn violation.row violation
 
-module _ {F : Type 0} (ring : RingOps F) (inverse : F → F) (root : ℕ → F) (adicity : ℕ) (constraints : List (Constraint F)) (periodic : List (List F)) (trace : Trace F) (preprocessed : Option (Trace F)) (publics : List F) where
+module _ {F : Type 0} (ring : RingOps F) (inverse : F → F) (root : ℕ → F) (adicity : ℕ) (constraints : List (Constraint F)) (periodic : List (List F)) (trace : Trace F) (preprocessed : Option (Trace F)) (public_values : List F) where
   -- Each constraint is zero in each row of a trace, where the field has a domain of as many points.
   abbrev pub IsSatisfiedByTrace : Type 0
-  IsSatisfiedByTrace = (log_size : ℕ) → length trace.values ≡ 2 ^ log_size * trace.width → log_size ≤ adicity → HoldsInEachRow (base_air ring inverse root constraints periodic log_size) (trace_rows trace preprocessed publics)
+  IsSatisfiedByTrace = (log_size : ℕ) → length trace.values ≡ 2 ^ log_size * trace.width → log_size ≤ adicity → HoldsInEachRow (base_air ring inverse root constraints periodic log_size) (trace_rows trace preprocessed public_values)
 
   -- It is the first row of a trace that breaks a constraint, and in it the first constraint.
   abbrev pub IsFirstOfTrace : ConstraintViolation F → Type 0
-  IsFirstOfTrace violation = (log_size : ℕ) → length trace.values ≡ 2 ^ log_size * trace.width → IsFirstViolation (base_air ring inverse root constraints periodic log_size) (trace_rows trace preprocessed publics) violation
+  IsFirstOfTrace violation = (log_size : ℕ) → length trace.values ≡ 2 ^ log_size * trace.width → IsFirstViolation (base_air ring inverse root constraints periodic log_size) (trace_rows trace preprocessed public_values) violation
 
 -- Memory was refused, or this holds of the violation.
 abbrev pub IsRefusedOr : {F : Type 0} → (ConstraintViolation F → Type 0) → ConstraintCheckError F → Type 0

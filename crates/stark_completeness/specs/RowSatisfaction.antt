@@ -19,7 +19,7 @@ use Rattle.stark_completeness.specs.TrueOpenings.{air_over, columns_above}
 pub record TraceRows (F : Type 0) : Type 0 where
   pub main : ℕ → List F
   pub preprocessed : ℕ → List F
-  pub publics : List F
+  pub public_values : List F
 
 module _ {F E : Type 0} (i : AirInstance F E) where
   -- the point of row k
@@ -40,13 +40,13 @@ module _ {F E : Type 0} (i : AirInstance F E) where
   module _ (rows : TraceRows F) where
     -- The rows at the points of H.
     abbrev pub rows_on_group : RowsOnCoset F
-    rows_on_group = record { size = height i; point = row_point; main = rows.main; preprocessed = rows.preprocessed; publics = rows.publics }
+    rows_on_group = record { size = height i; point = row_point; main = rows.main; preprocessed = rows.preprocessed; public_values = rows.public_values }
 
     -- The leaves of a constraint in row k: the row, the one after it, the public values, the periodic columns' entries, and the
     -- selectors at the row's point.
     abbrev pub leaves_in_row : ℕ → Environment F
     leaves_in_row k =
-        environment_of (ring_operations i.base (λ c. c)) i.base.zero i.base.zero (rows.main k) (rows.main (row_after k)) (rows.preprocessed k) (rows.preprocessed (row_after k)) rows.publics (map (periodic_entry k) i.periodic)
+        environment_of (ring_operations i.base (λ c. c)) i.base.zero i.base.zero (rows.main k) (rows.main (row_after k)) (rows.preprocessed k) (rows.preprocessed (row_after k)) rows.public_values (map (periodic_entry k) i.periodic)
         (first_row_selector i.base (λ c. c) row_group (row_point k)) (last_row_selector i.base (λ c. c) row_group (row_point k)) (transition_selector i.base (λ c. c) row_group (row_point k))
 
     -- Each constraint's tree is zero in row k.
@@ -61,8 +61,8 @@ module _ {F E : Type 0} (i : AirInstance F E) where
 -- each row.
 abbrev pub IsSatisfiedByRows : {F E : Type 0} → FieldsOps F E → List (Constraint F) → List (List F) → ℕ → Type 0
 IsSatisfiedByRows {F = F} fields constraints periodic log_size =
-    (rows : TraceRows F) (main_width fixed_width : ℕ) (main fixed : List (List F))
+    (rows : TraceRows F) (main_width preprocessed_width : ℕ) (main preprocessed : List (List F))
     → TakesRows fields.base fields.root (natural_coset fields.base log_size) main_width rows.main main
-    → TakesRows fields.base fields.root (natural_coset fields.base log_size) fixed_width rows.preprocessed fixed
-    → (HoldsInEachRow (air_over fields constraints periodic log_size) rows → Satisfies (air_over fields constraints periodic log_size) (columns_above fields.embed main fixed rows.publics))
-    × (Satisfies (air_over fields constraints periodic log_size) (columns_above fields.embed main fixed rows.publics) → HoldsInEachRow (air_over fields constraints periodic log_size) rows)
+    → TakesRows fields.base fields.root (natural_coset fields.base log_size) preprocessed_width rows.preprocessed preprocessed
+    → (HoldsInEachRow (air_over fields constraints periodic log_size) rows → Satisfies (air_over fields constraints periodic log_size) (columns_above fields.embed main preprocessed rows.public_values))
+    × (Satisfies (air_over fields constraints periodic log_size) (columns_above fields.embed main preprocessed rows.public_values) → HoldsInEachRow (air_over fields constraints periodic log_size) rows)

@@ -169,10 +169,10 @@ fn check_row<F: TwoAdicField, A: Air<F>>(
     let periodic_values = periodic_entries(trace.periodic_columns, row, lent)?;
     let lent = mem::replace(&mut buffers.constraint_values, Vec::new(alloc));
     let values = values_of(air, trace, selectors, row, &periodic_values, lent)?;
-    let found = first_nonzero(&values);
+    let broken = first_nonzero(&values);
     buffers.periodic_values = periodic_values;
     buffers.constraint_values = values;
-    match found {
+    match broken {
         None => Ok(()),
         Some((constraint, value)) => Err(ConstraintCheckError::Violation(ConstraintViolation {
             row,

@@ -24,7 +24,7 @@ pub fn check_declared<F: TwoAdicField, A: Air<F>>(
     requires width { trace.now.width ≡ (A.layout air.now).main }
     requires height { (height : ℕ) × (length trace.now.values.items ≡ 2 ^ height * trace.now.width)
         × HasHeight height (A.preprocessed_trace air.now) }
-    requires publics { length public_values.now ≡ (A.layout air.now).publics }
+    requires public_values { length public_values.now ≡ (A.layout air.now).public_values }
     ensures satisfied { IfOk result (λ _. ⟦<A as RowChecks<F>>⟧.is_satisfied air.now
         (trace_of trace.now) (A.preprocessed_trace air.now) public_values.now) }
     ensures broken { IfViolation result (⟦<A as RowChecks<F>>⟧.is_first_violation air.now

@@ -8,7 +8,7 @@ use Rattle.std.proofs.Math.Nat.{suc-mul, div-mul-le_self, lt-div-mul-add}
 use Rattle.stark_support.specs.Ring.{RingOps, RingLaws, difference}
 use Rattle.stark_support.specs.Powers.{power}
 use Rattle.stark_support.specs.PowerFacts.{power-add}
-use Rattle.stark_dft.specs.Passes.{AreWritten, IsEvaluatedBelow, IsInterpolatedBelow, entry, doubled, point_at, odd_part, opposite_difference}
+use Rattle.stark_dft.specs.Passes.{AreWritten, IsEvaluatedBelow, entry, doubled, point_at, odd_part, opposite_difference}
 
 -- the end of a block lies within all of them
 pub block_end : (b blocks h low : ℕ) → low ≡ b * h → b < blocks → low + h ≤ blocks * h

@@ -85,17 +85,17 @@ module _ {K : Type 0} {ring : RingOps K} (laws : RingLaws ring) where
   strided_length f q h (suc n) = ap suc (strided_length f (q + h) h n)
 
   -- The columns of what was interpolated from the picked rows take the values that were picked.
-  pub are_columns : (root : ℕ → K) (coset : TwoAdicCoset K) (values : List K) (first step width size : ℕ) (rows found : List K) (columns : List (List K)) → ArePicked values first step width (coset_size coset * width) rows
-      → AreRowsOn ring root coset width found rows → AreSplit ring found width (coset_size coset) size width columns → AreColumns ring root coset values first step width size columns
-  are_columns root coset values first step width size rows found columns picked on split = record {
+  pub are_columns : (root : ℕ → K) (coset : TwoAdicCoset K) (values : List K) (first step width size : ℕ) (rows coefficients : List K) (columns : List (List K)) → ArePicked values first step width (coset_size coset * width) rows
+      → AreRowsOn ring root coset width coefficients rows → AreSplit ring coefficients width (coset_size coset) size width columns → AreColumns ring root coset values first step width size columns
+  are_columns root coset values first step width size rows coefficients columns picked on split = record {
     count = split.number;
     column = split.column;
     takes = λ c r p h below.
         let inside : c < width = omega (arith, slice_get_within columns c p h, split.number) in
         sym (picked.each r c inside (place_of (coset_size coset) width r c below inside)) ∙ on.value_at r c below inside ∙ ap Some (sym (split.same c p h (coset_point ring root coset r)));
     plain = λ c p h.
-        let long = strided_length (entry ring found) c width (coset_size coset) in
-        record { coefficients = strided (entry ring found) c width (coset_size coset); bounded = omega (arith, long); same = split.same c p h };
+        let long = strided_length (entry ring coefficients) c width (coset_size coset) in
+        record { coefficients = strided (entry ring coefficients) c width (coset_size coset); bounded = omega (arith, long); same = split.same c p h };
   }
 
 -- A sequence that is listed one after the other.

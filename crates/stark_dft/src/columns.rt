@@ -185,10 +185,10 @@ pub fn interpolate_columns<F: TwoAdicField>(
 {
     let height = 1 << log_size;
     let rows = picked_rows(alloc, values, first, step, width, height)?;
-    let found = interpolated(alloc, shift, log_size, width, rows)?;
+    let coefficients = interpolated(alloc, shift, log_size, width, rows)?;
     let mut columns = Vec::new(alloc);
     for column in 0..width {
-        let p = strided_column(alloc, &found, column, width, height, size)?;
+        let p = strided_column(alloc, &coefficients, column, width, height, size)?;
         columns.push(p)?;
     }
     Ok(columns)

@@ -62,7 +62,7 @@ FindsHeight fields s rounds (Err error) = ClaimsFault fields s rounds error
 
 -- The first round whose rows don't lead to its root; none where all do.
 abbrev pub FindsInputFault : {F E : Type 0} → FriFields F E → (List ℕ → List ℕ) → ℕ → ℕ → List (RoundRead E) → List (InputOpening F) → Option ℕ → Type 0
-FindsInputFault fields hash bits place rounds inputs found = FindsFirstFault (InputLeads fields hash bits place) (zip rounds inputs) found
+FindsInputFault fields hash bits place rounds inputs fault = FindsFirstFault (InputLeads fields hash bits place) (zip rounds inputs) fault
 
 -- The query's first fault; none where it holds.
 abbrev pub FindsQueryFault : {F E : Type 0} → FriFields F E → (List ℕ → List ℕ) → Target E → QueryAt F E → Option QueryFault → Type 0
@@ -72,7 +72,7 @@ FindsQueryFault fields hash target q (Some fault) = QueryFails fields hash targe
 -- Each query holds; or this is the first that doesn't, and its first fault.
 abbrev pub FindsFault : {F E : Type 0} → FriFields F E → (List ℕ → List ℕ) → Target E → List (QueryAt F E) → Option (ℕ × QueryFault) → Type 0
 FindsFault fields hash target queries None = AllByRecursion (QueryHolds fields hash target) queries
-FindsFault fields hash target queries (Some found) = IsFirstFaultWith (QueryHolds fields hash target) (QueryFails fields hash target found.1) queries found.0
+FindsFault fields hash target queries (Some fault) = IsFirstFaultWith (QueryHolds fields hash target) (QueryFails fields hash target fault.1) queries fault.0
 
 -- What the queries are checked against, of what was drawn.
 abbrev pub target_by : {F E : Type 0} → List (RoundRead E) → ℕ → Drawn E → FriProofView F E → Target E

@@ -42,11 +42,11 @@ module _ {F E D : Type 0} (fields : FriFields F E) (coset_of : D → TwoAdicCose
   module _ (hash : List ℕ → List ℕ) where
     -- The first fault of a query; none where it holds.
     abbrev pub FindsFaultIn : ℕ → QueryProof F E → Option QueryFault → Type 0
-    FindsFaultIn place query found = FindsQueryFault fields hash target_of (place, query) found
+    FindsFaultIn place query fault = FindsQueryFault fields hash target_of (place, query) fault
 
     -- Each query holds; or this is the first that doesn't, and its first fault.
     abbrev pub FindsFirstQuery : Option (ℕ × QueryFault) → Type 0
-    FindsFirstQuery found = FindsFault fields hash target_of queries_of found
+    FindsFirstQuery fault = FindsFault fields hash target_of queries_of fault
 
     -- Where it is true, the four hold.
     abbrev pub FourHoldIf : List ℕ → List (QueryProof F E) → Bool → Type 0

@@ -42,8 +42,8 @@ module _ {F E : Type 0} (fields : FriFields F E) where
 
   -- The pair at a place, and what it folds to.
   abbrev pub FoldsTo : TwoAdicCoset E → E → ℕ → E → E → Pair E × E → Type 0
-  FoldsTo c beta place v sibling found = found ≡ (pair_on c place v sibling, next_at fields c beta place v sibling)
+  FoldsTo c beta place v sibling folded = folded ≡ (pair_on c place v sibling, next_at fields c beta place v sibling)
 
   -- The first fold whose pair doesn't lead to its root; none where all do.
   abbrev pub FindsLayerFault : (List ℕ → List ℕ) → ℕ → List (Phase F) → List (LayerOpening E) → List (Pair E) → Option ℕ → Type 0
-  FindsLayerFault hash bits phases layers pairs found = FindsFirstFault (PairLeads hash) (openings_of bits (map phase_root phases) layers pairs) found
+  FindsLayerFault hash bits phases layers pairs fault = FindsFirstFault (PairLeads hash) (openings_of bits (map phase_root phases) layers pairs) fault

@@ -29,8 +29,8 @@ digest_at d = option_map bytes_of (root_at d)
 abbrev pub digest_written : List ℕ → Data
 digest_written digest = string (encode_lower digest)
 
-each_step : (found : Option Root) (rest : Option (List Root)) →
-    (option_map bytes_of found >>= λ x. option_map (λ xs. x ∷ xs) (option_map digests_of rest)) ≡ option_map digests_of (found >>= λ r. option_map (λ rs. r ∷ rs) rest)
+each_step : (decoded : Option Root) (rest : Option (List Root)) →
+    (option_map bytes_of decoded >>= λ x. option_map (λ xs. x ∷ xs) (option_map digests_of rest)) ≡ option_map digests_of (decoded >>= λ r. option_map (λ rs. r ∷ rs) rest)
 each_step None rest = refl
 each_step (Some r) None = refl
 each_step (Some r) (Some rs) = refl
@@ -53,7 +53,7 @@ same_roots (x ∷ xs) [] e = absurd (cc)
 same_roots (x ∷ xs) (y ∷ ys) e =
     ap (λ r. r ∷ xs) (same_root x y (ap (first_or []) e)) ∙ ap (λ rs. y ∷ rs) (same_roots xs ys (ap (drop 1) e))
 
-some_digests : (found : Option (List Root)) (path : List Root) → option_map digests_of found ≡ Some (digests_of path) → found ≡ Some path
+some_digests : (decoded : Option (List Root)) (path : List Root) → option_map digests_of decoded ≡ Some (digests_of path) → decoded ≡ Some path
 some_digests None path e = absurd (cc)
 some_digests (Some roots) path e = ap Some (same_roots roots path (ap (λ o. unwrap_or o []) e))
 
@@ -61,7 +61,7 @@ some_digests (Some roots) path e = ap Some (same_roots roots path (ap (λ o. unw
 pub each_root : (ds : Items) (path : List Root) → each_at digest_at ds ≡ Some (digests_of path) → each_at root_at ds ≡ Some path
 each_root ds path e = some_digests (each_at root_at ds) path (sym (each_digest ds) ∙ e)
 
-no_digests : (found : Option (List Root)) → option_map digests_of found ≡ None → found ≡ None
+no_digests : (decoded : Option (List Root)) → option_map digests_of decoded ≡ None → decoded ≡ None
 no_digests None e = refl
 no_digests (Some roots) e = absurd (cc)
 

@@ -18,8 +18,8 @@ pub(crate) fn value_under<T: JsonCodec>(
 ) -> Result<T, JsonFault>
     ensures { Gives (λ x. x) result (value_under T.reading name.now (view value.now)) }
 {
-    let found = field_of(value, name)?;
-    T::from_json(alloc, found)
+    let member = field_of(value, name)?;
+    T::from_json(alloc, member)
 }
 
 /// The values of the array under a name.
@@ -30,8 +30,8 @@ pub(crate) fn list_under<T: JsonCodec + Drop>(
 ) -> Result<Vec<T>, JsonFault>
     ensures { Gives items_of result (list_under T.reading name.now (view value.now)) }
 {
-    let found = field_of(value, name)?;
-    list_from_json(alloc, found)
+    let member = field_of(value, name)?;
+    list_from_json(alloc, member)
 }
 
 /// The rows of the array of arrays under a name.
@@ -42,8 +42,8 @@ pub(crate) fn rows_under<T: JsonCodec + Drop>(
 ) -> Result<Vec<Vec<T>>, JsonFault>
     ensures { Gives rows_of result (rows_under T.reading name.now (view value.now)) }
 {
-    let found = field_of(value, name)?;
-    lists_from_json(alloc, found)
+    let member = field_of(value, name)?;
+    lists_from_json(alloc, member)
 }
 
 /// The array of values.

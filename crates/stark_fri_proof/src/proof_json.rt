@@ -134,7 +134,7 @@ fn value_field<T: JsonCodec>(
     ensures { Finds (λ x. x) result (value_field T.reading field (view value.now)) }
 {
     match value_under(alloc, value, field.name()) {
-        Ok(found) => Ok(found),
+        Ok(value) => Ok(value),
         Err(JsonFault::Invalid) => Err(FriProofFault::Refused(field)),
         Err(JsonFault::OutOfMemory) => Err(FriProofFault::OutOfMemory),
     }
@@ -149,7 +149,7 @@ fn list_field<T: JsonCodec + Drop>(
     ensures { Finds items_of result (list_field T.reading field (view value.now)) }
 {
     match list_under(alloc, value, field.name()) {
-        Ok(found) => Ok(found),
+        Ok(value) => Ok(value),
         Err(JsonFault::Invalid) => Err(FriProofFault::Refused(field)),
         Err(JsonFault::OutOfMemory) => Err(FriProofFault::OutOfMemory),
     }

@@ -132,12 +132,12 @@ fn rows_are_answered(rt: HostRuntime) -> Result<(), Fail> {
         if !row.is_empty() && !row.starts_with('#') {
             let (input, expected) = row.split_once(" => ").ok_or("a row without an answer")?;
             let (table, text) = input.split_once(" | ").ok_or("no bar")?;
-            let found = if table == "parameters" {
+            let actual = if table == "parameters" {
                 of_parameters(alloc, text)?
             } else {
                 of_proof(alloc, text)?
             };
-            assert_eq!(rt; found.as_str(), expected, "{input}");
+            assert_eq!(rt; actual.as_str(), expected, "{input}");
             count = count.saturating_add(1);
         }
     }

@@ -277,7 +277,7 @@ where
     ) -> Result<(OpenedRounds<EF>, FriProof<F, EF>), SchemeFault<FriProverError>>
         ensures true_values { IfOk result (OpensTrueValues ⟦<FriPcs<F, H> as Pcs<EF, C>>⟧.scheme
             EF.ring EF.embed self.now rounds.entry) }
-        ensures whole { IfOk result (ProvesTrueClaims ⟦<FriPcs<F, H> as Pcs<EF, C>>⟧.scheme EF.ring
+        ensures holds { IfOk result (ProvesTrueClaims ⟦<FriPcs<F, H> as Pcs<EF, C>>⟧.scheme EF.ring
             EF.embed self.now rounds.entry challenger.old _preprocessed_index) }
         ensures refused { IfRefusal result (RefusesRoundsIn ⟦<FriPcs<F, H> as Pcs<EF, C>>⟧.scheme
             self.now rounds.entry challenger.old _preprocessed_index) }

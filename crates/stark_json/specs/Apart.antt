@@ -66,4 +66,4 @@ rows_apart rows = option_map lists_of rows
 
 -- the value that a document is, whose rows may be apart at a path
 abbrev pub document_data : List (List ℕ) → Document → Data
-document_data path found = joined path (rows_apart found.rows) (view found.value)
+document_data path document = joined path (rows_apart document.rows) (view document.value)

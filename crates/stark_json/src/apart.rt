@@ -19,8 +19,8 @@ pub(crate) fn read_at(
     path: &[&str],
     depth: usize,
 ) -> Result<(Value, Option<NumberRows>), Unread>
-    ensures read { IfOk result (λ found. value_at depth reader.old
-        ≡ Some (joined (names_of path.now) (rows_apart found.1) (view found.0), reader.new)) }
+    ensures read { IfOk result (λ value. value_at depth reader.old
+        ≡ Some (joined (names_of path.now) (rows_apart value.1) (view value.0), reader.new)) }
     ensures shorter { OnOk result (length reader.new < length reader.old) }
 {
     let Some((name, path)) = path.split_first() else {
@@ -47,11 +47,11 @@ fn read_members_at(
     path: &[&str],
     depth: usize,
 ) -> Result<(Map<String, Value>, Option<NumberRows>), Unread>
-    ensures read { IfOk result (λ found. members_at depth reader.old
-        ≡ Some (found_members name.now path.now found.1 found.0.entries, reader.new)) }
+    ensures read { IfOk result (λ object. members_at depth reader.old
+        ≡ Some (found_members name.now path.now object.1 object.0.entries, reader.new)) }
     ensures shorter { OnOk result (length reader.new < length reader.old) }
 {
-    let mut found = Map::new(alloc);
+    let mut object = Map::new(alloc);
     let mut rows = None;
     let mut seen = false;
     'members: while let Some(key) = reader.next_key()? {
@@ -63,11 +63,11 @@ fn read_members_at(
             seen = true;
             let (member, apart) = read_at(alloc, reader, path, depth)?;
             rows = apart;
-            drop(found.insert(owned, member)?);
+            drop(object.insert(owned, member)?);
         } else {
             let member = read(alloc, reader, depth)?;
-            drop(found.insert(owned, member)?);
+            drop(object.insert(owned, member)?);
         }
     }
-    Ok((found, rows))
+    Ok((object, rows))
 }

@@ -25,8 +25,8 @@ pub struct Document {
 
 /// What a text spells, with its rows apart.
 fn read_document(alloc: Global, text: &str, path: &[&str]) -> Result<Document, Unread>
-    ensures { IfOk result (λ found.
-        read text.now ≡ Some (document_data (names_of path.now) found)) }
+    ensures { IfOk result (λ document.
+        read text.now ≡ Some (document_data (names_of path.now) document)) }
 {
     let mut scratch = Scratch::new(alloc);
     let mut reader = Reader::new(text, &mut scratch)?;

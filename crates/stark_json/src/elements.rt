@@ -13,12 +13,12 @@ use std::alloc::Global;
 fn list_of_numbers<T: JsonCodec + Drop>(alloc: Global, numbers: &[u32]) -> Result<Vec<T>, JsonFault>
     ensures { Gives (λ v. v.items) result (array_at T.reading (row_data numbers.now)) }
 {
-    let mut found = Vec::new(alloc);
+    let mut elements = Vec::new(alloc);
     for number in numbers {
         let element = T::from_json(alloc, &Value::from(*number))?;
-        found.push(element)?;
+        elements.push(element)?;
     }
-    Ok(found)
+    Ok(elements)
 }
 
 /// The first numbers, this many or all, and those behind.
@@ -42,13 +42,13 @@ pub fn lists_of_numbers<T: JsonCodec + Drop>(
     ensures { Gives (λ v. map (λ list. list.items) v.items) result
         (array_at (array_at T.reading) (rows_data (lists_of rows.now))) }
 {
-    let mut found = Vec::new(alloc);
+    let mut lists = Vec::new(alloc);
     let mut rest = rows.numbers.as_slice();
     for length in &rows.lengths {
         let (row, more) = split_front(rest, *length);
         let list = list_of_numbers(alloc, row)?;
-        found.push(list)?;
+        lists.push(list)?;
         rest = more;
     }
-    Ok(found)
+    Ok(lists)
 }

@@ -17,7 +17,7 @@ pub(crate) fn whole_number(text: &str) -> Option<u64>
     Numeral::scan(digits).to_u64()
 }
 
-/// The same of a number below 2^32.
+/// The number, below 2^32, that digits spell.
 pub(crate) fn small_number(text: &str) -> Option<u32>
     ensures { IfSome result (λ n. number_of text.now ≡ Some (unsigned n)) }
 {

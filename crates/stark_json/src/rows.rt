@@ -57,7 +57,7 @@ fn read_numbers(reader: &mut Reader<'_>, numbers: &mut Vec<u32>, depth: usize) -
     Ok(())
 }
 
-/// The same of the array of numbers that is next, where arrays nest so deep at most.
+/// Adds the numbers of the array that is next, where arrays nest so deep at most.
 fn read_row(reader: &mut Reader<'_>, numbers: &mut Vec<u32>, depth: usize) -> Result<(), Unread>
     ensures read { OnOk result (AddsRow depth numbers.old.items numbers.new.items
         reader.old reader.new) }
@@ -73,8 +73,8 @@ fn read_row(reader: &mut Reader<'_>, numbers: &mut Vec<u32>, depth: usize) -> Re
 
 /// The arrays of numbers up to the end of an array.
 fn read_more(alloc: Global, reader: &mut Reader<'_>, depth: usize) -> Result<NumberRows, Unread>
-    ensures read { IfOk result (λ found. items_at depth reader.old
-        ≡ Some (items_of (map row_data (lists_of found)), reader.new)) }
+    ensures read { IfOk result (λ rows. items_at depth reader.old
+        ≡ Some (items_of (map row_data (lists_of rows)), reader.new)) }
     ensures shorter { OnOk result (length reader.new < length reader.old) }
 {
     let mut numbers = Vec::new(alloc);
@@ -93,8 +93,8 @@ pub(crate) fn read_rows(
     reader: &mut Reader<'_>,
     depth: usize,
 ) -> Result<NumberRows, Unread>
-    ensures read { IfOk result (λ found.
-        value_at depth reader.old ≡ Some (rows_data (lists_of found), reader.new)) }
+    ensures read { IfOk result (λ rows.
+        value_at depth reader.old ≡ Some (rows_data (lists_of rows), reader.new)) }
     ensures shorter { OnOk result (length reader.new < length reader.old) }
 {
     if depth == 0 {

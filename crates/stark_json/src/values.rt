@@ -12,8 +12,8 @@ use std::alloc::Global;
 /// The value that is next, in which arrays and objects nest so deep at most.
 #[cycle(read)]
 pub(crate) fn read(alloc: Global, reader: &mut Reader<'_>, depth: usize) -> Result<Value, Unread>
-    ensures read { IfOk result (λ found.
-        value_at depth reader.old ≡ Some (view found, reader.new)) }
+    ensures read { IfOk result (λ value.
+        value_at depth reader.old ≡ Some (view value, reader.new)) }
     ensures shorter { OnOk result (length reader.new < length reader.old) }
 {
     let token = reader.next().ok_or(Unread::Unknown)?;
@@ -36,16 +36,16 @@ pub(crate) fn read(alloc: Global, reader: &mut Reader<'_>, depth: usize) -> Resu
 /// The items up to the end of an array.
 #[cycle(read)]
 fn read_items(alloc: Global, reader: &mut Reader<'_>, depth: usize) -> Result<Vec<Value>, Unread>
-    ensures read { IfOk result (λ found.
-        items_at depth reader.old ≡ Some (items_view found.items, reader.new)) }
+    ensures read { IfOk result (λ items.
+        items_at depth reader.old ≡ Some (items_view items.items, reader.new)) }
     ensures shorter { OnOk result (length reader.new < length reader.old) }
 {
-    let mut found = Vec::new(alloc);
+    let mut values = Vec::new(alloc);
     'items: while !reader.take_end_array() {
         let item = read(alloc, reader, depth)?;
-        found.push(item)?;
+        values.push(item)?;
     }
-    Ok(found)
+    Ok(values)
 }
 
 /// The members up to the end of an object.
@@ -55,15 +55,15 @@ fn read_members(
     reader: &mut Reader<'_>,
     depth: usize,
 ) -> Result<Map<String, Value>, Unread>
-    ensures read { IfOk result (λ found.
-        members_at depth reader.old ≡ Some (members_view found.entries, reader.new)) }
+    ensures read { IfOk result (λ object.
+        members_at depth reader.old ≡ Some (members_view object.entries, reader.new)) }
     ensures shorter { OnOk result (length reader.new < length reader.old) }
 {
-    let mut found = Map::new(alloc);
+    let mut object = Map::new(alloc);
     'members: while let Some(name) = reader.next_key()? {
         let key = String::from_str(alloc, name)?;
         let member = read(alloc, reader, depth)?;
-        drop(found.insert(key, member)?);
+        drop(object.insert(key, member)?);
     }
-    Ok(found)
+    Ok(object)
 }

@@ -5,7 +5,7 @@ use Rattle.stark_air.specs.Tree.{Tree, main_current, preprocessed_current}
 
 -- 40 main columns, of which the next row is read, 14 of the program, and three public values.
 abbrev pub machine_layout : Layout
-machine_layout = record { main = 40; main_next = 40; preprocessed = 14; preprocessed_next = 0; publics = 3; periodics = 0 }
+machine_layout = record { main = 40; main_next = 40; preprocessed = 14; preprocessed_next = 0; public_values = 3; periodics = 0 }
 
 -- the place of the instruction that comes next,
 abbrev pub pc : {F : Type 0} → Tree F

@@ -33,13 +33,13 @@ decoded_in_range text bytes e =
     let digits : length text ≡ 64 = decode_sized-ok text 32 bytes e in (decode_of-ok text bytes (sym (decode_sized-twice text 32 digits) ∙ e)).3
 
 -- The root of the bytes that were found in a text.
-abbrev pub root_found : (text : List ℕ) (found : Result (List ℕ) FromHexError) → decode_sized text 32 ≡ found → Option Root
-root_found text (Ok bytes) e = Some (record { bytes = bytes; sized = decoded_sized text bytes e; in_range = decoded_in_range text bytes e })
-root_found text (Err fault) e = None
+abbrev pub root_decoded : (text : List ℕ) (decoded : Result (List ℕ) FromHexError) → decode_sized text 32 ≡ decoded → Option Root
+root_decoded text (Ok bytes) e = Some (record { bytes = bytes; sized = decoded_sized text bytes e; in_range = decoded_in_range text bytes e })
+root_decoded text (Err fault) e = None
 
 -- The root that a text spells: of 64 hexadecimal digits the 32 bytes, and of any other text none.
 abbrev pub root_in_text : List ℕ → Option Root
-root_in_text text = root_found text (decode_sized text 32) refl
+root_in_text text = root_decoded text (decode_sized text 32) refl
 
 -- A text that spells a root.
 unfoldable pub root_at : Data → Option Root
@@ -51,12 +51,12 @@ root_written x = string (encode_lower x.bytes)
 
 -- ---- what is read
 
-found_is : (text : List ℕ) (x : Root) (found : Result (List ℕ) FromHexError) (e : decode_sized text 32 ≡ found) → found ≡ Ok x.bytes → root_found text found e ≡ Some x
-found_is text x (Ok bytes) e is = let same : bytes ≡ x.bytes = ap (λ (r : Result (List ℕ) FromHexError). result_unwrap_or r []) is in ap Some (same_root _ x same)
-found_is text x (Err fault) e is = cc is
+decoded_is : (text : List ℕ) (x : Root) (decoded : Result (List ℕ) FromHexError) (e : decode_sized text 32 ≡ decoded) → decoded ≡ Ok x.bytes → root_decoded text decoded e ≡ Some x
+decoded_is text x (Ok bytes) e is = let same : bytes ≡ x.bytes = ap (λ (r : Result (List ℕ) FromHexError). result_unwrap_or r []) is in ap Some (same_root _ x same)
+decoded_is text x (Err fault) e is = cc is
 
 text_is_root : (text : List ℕ) (x : Root) → decode_sized text 32 ≡ Ok x.bytes → root_in_text text ≡ Some x
-text_is_root text x is = found_is text x (decode_sized text 32) refl is
+text_is_root text x is = decoded_is text x (decode_sized text 32) refl is
 
 pub value_is_root : (d : Data) (text : List ℕ) (x : Root) → as_str d ≡ Some text → decode_sized text 32 ≡ Ok x.bytes → root_at d ≡ Some x
 unfolding root_at

@@ -109,9 +109,9 @@ pub fn path_in(
     layers: &[Vec<[u8; 32]>],
     index: usize,
 ) -> Result<Option<Vec<[u8; 32]>>, AllocError>
-    ensures path { IfOk result (λ found. IfSome found
+    ensures path { IfOk result (λ path. IfSome path
         (λ path. IsPathIn (digests_in layers.now) index path.items)) }
-    ensures is_found { IfOk result (λ found. IsSome found ↔ HasPath (digests_in layers.now) index) }
+    ensures is_found { IfOk result (λ path. IsSome path ↔ HasPath (digests_in layers.now) index) }
 {
     let Some(last) = layers.len().checked_sub(1) else {
         return Ok(None);

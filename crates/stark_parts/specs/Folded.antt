@@ -43,12 +43,12 @@ module _ {E : Type 0} {ring : RingOps E} (laws : RingLaws ring) where
       accumulated_from a ring.zero cs ∙ ap (λ z. ring.add z (folded ring a cs)) (zero_mul laws _) ∙ zero_add laws _
 
   -- The same, where the values are those of four rows by other names.
-  pub folded_rows : (a start total : E) (values : List E → List E → List E → List E → List E) {r s t u current next fixed_current fixed_next : List E} → total ≡ accumulated ring a start (values r s t u) → start ≡ ring.zero → r ≡ current → s ≡ next → t ≡ fixed_current → u ≡ fixed_next → total ≡ folded ring a (values current next fixed_current fixed_next)
-  folded_rows a start total values {r} {s} {t} {u} {current} {next} {fixed_current} {fixed_next} carried from_zero same_r same_s same_t same_u =
+  pub folded_rows : (a start total : E) (values : List E → List E → List E → List E → List E) {r s t u current next preprocessed_current preprocessed_next : List E} → total ≡ accumulated ring a start (values r s t u) → start ≡ ring.zero → r ≡ current → s ≡ next → t ≡ preprocessed_current → u ≡ preprocessed_next → total ≡ folded ring a (values current next preprocessed_current preprocessed_next)
+  folded_rows a start total values {r} {s} {t} {u} {current} {next} {preprocessed_current} {preprocessed_next} carried from_zero same_r same_s same_t same_u =
       carried ∙
       ap (λ (z : E). accumulated ring a z (values r s t u)) from_zero ∙
       accumulated_is_folded a (values r s t u) ∙
       ap (λ (x : List E). folded ring a (values x s t u)) same_r ∙
       ap (λ (x : List E). folded ring a (values current x t u)) same_s ∙
       ap (λ (x : List E). folded ring a (values current next x u)) same_t ∙
-      ap (λ (x : List E). folded ring a (values current next fixed_current x)) same_u
+      ap (λ (x : List E). folded ring a (values current next preprocessed_current x)) same_u

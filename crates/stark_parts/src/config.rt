@@ -130,7 +130,7 @@ impl<P, Challenge, Challenger> StarkConfig<P, Challenge, Challenger> {
         }
     }
 
-    /// The same configuration, which asks for so many bits of work before the out-of-domain point.
+    /// The configuration, but that it asks for so many bits of work before the out-of-domain point.
     pub fn with_ood_proof_of_work_bits(self, bits: usize) -> StarkConfig<P, Challenge, Challenger>
         ensures { result ≡ record self { ood_proof_of_work_bits = bits } }
     {
@@ -140,7 +140,7 @@ impl<P, Challenge, Challenger> StarkConfig<P, Challenge, Challenger> {
         }
     }
 
-    /// The same configuration, which asks for so many bits of work before alpha.
+    /// The configuration, but that it asks for so many bits of work before alpha.
     pub fn with_constraint_proof_of_work_bits(
         self,
         bits: usize,
@@ -153,7 +153,7 @@ impl<P, Challenge, Challenger> StarkConfig<P, Challenge, Challenger> {
         }
     }
 
-    /// The same configuration, which asks for so many bits of work before the challenges of
+    /// The configuration, but that it asks for so many bits of work before the challenges of
     /// lookups.
     pub fn with_lookup_proof_of_work_bits(
         self,

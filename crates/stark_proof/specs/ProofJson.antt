@@ -80,7 +80,7 @@ optional field reading d = optional_at reading (get field d)
 
 -- a field in whose place a value stands where it is missing or null
 abbrev pub optional_or : {A : Type 0} {X : Type 0} → A → List ℕ → (Data → Result A (DecodeFault X)) → Data → Result A (DecodeFault X)
-optional_or value field reading d = optional field reading d >>= λ found. Ok (unwrap_or found value)
+optional_or value field reading d = optional field reading d >>= λ given. Ok (unwrap_or given value)
 
 -- what a codec reads
 abbrev pub value_at : {A : Type 0} {X : Type 0} → (Data → Option A) → List ℕ → Data → Result A (DecodeFault X)

@@ -18,7 +18,7 @@ pub(crate) fn required<'a>(
         (ok_or (get field.now (view value.now)) (missing_field field.now)) }
 {
     match value.get(field) {
-        Some(found) => Ok(found),
+        Some(member) => Ok(member),
         None => Err(ProofDecodeError::MissingField { field }),
     }
 }
@@ -31,7 +31,7 @@ fn value_from_json<T: JsonCodec>(
     ensures { Decodes (λ x. x) proof_fault result (value_at T.reading field.now (view value.now)) }
 {
     match T::from_json(alloc, value) {
-        Ok(found) => Ok(found),
+        Ok(member) => Ok(member),
         Err(JsonFault::Invalid) => Err(ProofDecodeError::Element { field }),
         Err(JsonFault::OutOfMemory) => Err(ProofDecodeError::OutOfMemory),
     }
@@ -46,8 +46,8 @@ pub(crate) fn required_value<T: JsonCodec>(
     ensures { Decodes (λ x. x) proof_fault result
         (required field.now (value_at T.reading field.now) (view value.now)) }
 {
-    let found = required(value, field)?;
-    value_from_json(alloc, found, field)
+    let member = required(value, field)?;
+    value_from_json(alloc, member, field)
 }
 
 /// The value under a name; None where it is missing or null.
@@ -59,13 +59,13 @@ pub(crate) fn optional_value<T: JsonCodec>(
     ensures { Decodes (λ x. x) proof_fault result
         (optional field.now (value_at T.reading field.now) (view value.now)) }
 {
-    let Some(found) = value.get(field) else {
+    let Some(member) = value.get(field) else {
         return Ok(None);
     };
-    if found.is_null() {
+    if member.is_null() {
         return Ok(None);
     }
-    let read = value_from_json(alloc, found, field)?;
+    let read = value_from_json(alloc, member, field)?;
     Ok(Some(read))
 }
 

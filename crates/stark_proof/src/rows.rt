@@ -17,7 +17,7 @@ fn required<'a>(value: &'a Value, field: &'static str) -> Result<&'a Value, Open
         (ok_or (get field.now (view value.now)) (missing_field field.now)) }
 {
     match value.get(field) {
-        Some(found) => Ok(found),
+        Some(member) => Ok(member),
         None => Err(OpeningsDecodeError::MissingField { field }),
     }
 }
@@ -65,8 +65,8 @@ pub(crate) fn required_row<E: JsonCodec + Drop>(
     ensures { Decodes (λ row. row.items) openings_fault result
         (required field.now (row_at E.reading field.now) (view value.now)) }
 {
-    let found = required(value, field)?;
-    row_from_json(alloc, found, field)
+    let member = required(value, field)?;
+    row_from_json(alloc, member, field)
 }
 
 /// The rows under a required name.
@@ -78,8 +78,8 @@ pub(crate) fn required_rows<E: JsonCodec + Drop>(
     ensures { Decodes (λ rows. map (λ row. row.items) rows.items) openings_fault result
         (required field.now (rows_at E.reading field.now) (view value.now)) }
 {
-    let found = required(value, field)?;
-    let Some(values) = found.as_array() else {
+    let member = required(value, field)?;
+    let Some(values) = member.as_array() else {
         return Err(OpeningsDecodeError::WrongKind { field });
     };
     each_row_from_json(alloc, values, field)
@@ -94,13 +94,13 @@ pub(crate) fn optional_row<E: JsonCodec + Drop>(
     ensures { Decodes (option_map (λ row. row.items)) openings_fault result
         (optional field.now (row_at E.reading field.now) (view value.now)) }
 {
-    let Some(found) = value.get(field) else {
+    let Some(member) = value.get(field) else {
         return Ok(None);
     };
-    if found.is_null() {
+    if member.is_null() {
         return Ok(None);
     }
-    let row = row_from_json(alloc, found, field)?;
+    let row = row_from_json(alloc, member, field)?;
     Ok(Some(row))
 }
 

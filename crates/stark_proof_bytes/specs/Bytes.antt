@@ -143,4 +143,4 @@ module _ {A : Type 0} (ops : BytesOps A) where
 
 -- what is read after a list's first members
 abbrev pub behind : {A : Type 0} → List A → Result (List A × List ℕ) BytesFault → Result (List A × List ℕ) BytesFault
-behind found reading = reading >>= λ xs end. Ok (found ++ xs, end)
+behind front reading = reading >>= λ xs end. Ok (front ++ xs, end)

@@ -26,7 +26,7 @@ step_of (Ok p) f out e = record { value = p.0; rest = p.1; read = refl; after = 
 step_of (Err fault) f out e = absurd (cc)
 
 abbrev pub TakenAs : {A : Type 0} → A → List ℕ → A → List ℕ → Type 0
-TakenAs {A} x r y s = let found : Result (A × List ℕ) BytesFault = Ok (x, r) in found ≡ Ok (y, s)
+TakenAs {A} x r y s = let front : Result (A × List ℕ) BytesFault = Ok (x, r) in front ≡ Ok (y, s)
 
 pub same_ok : {A : Type 0} (x y : A) (r s : List ℕ) → TakenAs x r y s → (x ≡ y) × (r ≡ s)
 same_ok {A} x y r s e =
@@ -46,9 +46,9 @@ pub bytes_left : (bytes front rest : List ℕ) → bytes ≡ front ++ rest → A
 bytes_left bytes front rest e are = bytes_behind front rest (subst AreBytes e are)
 
 -- What is found is put before what is read in two steps or in one.
-regrouped : {A : Type 0} (found : List A) (x : A) (r : Result (List A × List ℕ) BytesFault) → behind found (r >>= λ ys end. Ok (x ∷ ys, end)) ≡ behind (found ++ x ∷ []) r
-regrouped found x (Ok p) = λ i. Ok (sym (append_assoc found (x ∷ []) p.0) i, p.1)
-regrouped found x (Err fault) = refl
+regrouped : {A : Type 0} (front : List A) (x : A) (r : Result (List A × List ℕ) BytesFault) → behind front (r >>= λ ys end. Ok (x ∷ ys, end)) ≡ behind (front ++ x ∷ []) r
+regrouped front x (Ok p) = λ i. Ok (sym (append_assoc front (x ∷ []) p.0) i, p.1)
+regrouped front x (Err fault) = refl
 
 -- ---- numbers
 
@@ -280,21 +280,21 @@ module _ {A : Type 0} (ops : BytesOps A) (laws : BytesLaws ops) where
 
   -- ---- a loop's step
 
-  pub one_more : (n m : ℕ) (bytes : List ℕ) (x : A) (rest : List ℕ) (found : List A) → n ≡ suc m → ops.reading bytes ≡ Ok (x, rest)
-      → behind found (each_reading ops n bytes) ≡ behind (found ++ x ∷ []) (each_reading ops m rest)
-  one_more n m bytes x rest found is read =
-      ap (λ k. behind found (each_reading ops k bytes)) is
-      ∙ ap (λ r. behind found (r >>= λ y mid. each_reading ops m mid >>= λ ys end. Ok (y ∷ ys, end))) read
-      ∙ regrouped found x (each_reading ops m rest)
+  pub one_more : (n m : ℕ) (bytes : List ℕ) (x : A) (rest : List ℕ) (front : List A) → n ≡ suc m → ops.reading bytes ≡ Ok (x, rest)
+      → behind front (each_reading ops n bytes) ≡ behind (front ++ x ∷ []) (each_reading ops m rest)
+  one_more n m bytes x rest front is read =
+      ap (λ k. behind front (each_reading ops k bytes)) is
+      ∙ ap (λ r. behind front (r >>= λ y mid. each_reading ops m mid >>= λ ys end. Ok (y ∷ ys, end))) read
+      ∙ regrouped front x (each_reading ops m rest)
 
-  pub no_more : (n m : ℕ) (bytes : List ℕ) (fault : BytesFault) (found : List A) → n ≡ suc m → ops.reading bytes ≡ Err fault → behind found (each_reading ops n bytes) ≡ Err fault
-  no_more n m bytes fault found is read =
-      ap (λ k. behind found (each_reading ops k bytes)) is
-      ∙ ap (λ r. behind found (r >>= λ y mid. each_reading ops m mid >>= λ ys end. Ok (y ∷ ys, end))) read
+  pub no_more : (n m : ℕ) (bytes : List ℕ) (fault : BytesFault) (front : List A) → n ≡ suc m → ops.reading bytes ≡ Err fault → behind front (each_reading ops n bytes) ≡ Err fault
+  no_more n m bytes fault front is read =
+      ap (λ k. behind front (each_reading ops k bytes)) is
+      ∙ ap (λ r. behind front (r >>= λ y mid. each_reading ops m mid >>= λ ys end. Ok (y ∷ ys, end))) read
 
-  pub all_read : (n : ℕ) (bytes : List ℕ) (found : List A) → n ≡ 0 → behind found (each_reading ops n bytes) ≡ Ok (found, bytes)
-  all_read n bytes found is =
-      ap (λ k. behind found (each_reading ops k bytes)) is ∙ (λ i. Ok (append-nil found i, bytes))
+  pub all_read : (n : ℕ) (bytes : List ℕ) (front : List A) → n ≡ 0 → behind front (each_reading ops n bytes) ≡ Ok (front, bytes)
+  all_read n bytes front is =
+      ap (λ k. behind front (each_reading ops k bytes)) is ∙ (λ i. Ok (append-nil front i, bytes))
 
 -- A fault of a part is one of the whole.
 pub told_more : {A B : Type 0} (e : BytesFault) (inner : Result A BytesFault) (outer : Result B BytesFault) → ((fault : BytesFault) → inner ≡ Err fault → outer ≡ Err fault)

@@ -21,12 +21,12 @@ fn read_matrices<F: BytesCodec + Drop>(
         ((commitment_ops F.bytes).reading reader.old) }
 {
     let count = reader.next_count()?;
-    let mut found = Vec::new(alloc);
+    let mut matrices = Vec::new(alloc);
     for _place in 0..count {
         let matrix = read_lists(alloc, &mut *reader)?;
-        found.push(matrix)?;
+        matrices.push(matrix)?;
     }
-    Ok(found)
+    Ok(matrices)
 }
 
 /// Appends how many matrices there are, and each in turn.

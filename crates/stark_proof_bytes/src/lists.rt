@@ -28,12 +28,12 @@ pub fn read_list<T: BytesCodec + Drop>(
     ensures { Takes items_of result reader.new ((list_ops T.bytes).reading reader.old) }
 {
     let count = reader.next_count()?;
-    let mut found = Vec::new(alloc);
+    let mut values = Vec::new(alloc);
     for _place in 0..count {
         let value = T::read_from(alloc, &mut *reader)?;
-        found.push(value)?;
+        values.push(value)?;
     }
-    Ok(found)
+    Ok(values)
 }
 
 /// Appends how many members there are, and each in turn.
@@ -58,12 +58,12 @@ pub fn read_lists<T: BytesCodec + Drop>(
         ((list_ops (list_ops T.bytes)).reading reader.old) }
 {
     let count = reader.next_count()?;
-    let mut found = Vec::new(alloc);
+    let mut lists = Vec::new(alloc);
     for _place in 0..count {
         let list = read_list(alloc, &mut *reader)?;
-        found.push(list)?;
+        lists.push(list)?;
     }
-    Ok(found)
+    Ok(lists)
 }
 
 /// Appends how many lists there are, and each in turn.

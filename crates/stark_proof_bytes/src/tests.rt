@@ -83,8 +83,8 @@ fn rows_are_answered(rt: HostRuntime) -> Result<(), Fail> {
             let (input, expected) = row.split_once(" => ").ok_or("a row without an answer")?;
             let (scheme, digits) = input.split_once(" | ").ok_or("no bar")?;
             let bytes = hex::decode(alloc, digits).ok().ok_or("no digits")?;
-            let found = answer(alloc, scheme, &bytes)?;
-            assert_eq!(rt; found.as_str(), expected, "{input}");
+            let actual = answer(alloc, scheme, &bytes)?;
+            assert_eq!(rt; actual.as_str(), expected, "{input}");
             count = count.saturating_add(1);
         }
     }

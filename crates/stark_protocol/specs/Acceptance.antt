@@ -39,13 +39,13 @@ preprocessed_next filler (Some rows) = unwrap_or rows.next filler
 -- The leaves' values, of an AIR of these widths: the opened rows, zeros for the next rows that aren't opened, the periodic
 -- columns' values and the public values.
 abbrev pub rows_of : {F E : Type 0} → E → ℕ → ℕ → OpeningsView E → List E → List F → OpenedRows F E
-rows_of zero width preprocessed_width opened periodic publics = record {
+rows_of zero width preprocessed_width opened periodic public_values = record {
   local = opened.trace_local;
   next = unwrap_or opened.trace_next (replicate width zero);
   preprocessed_local = preprocessed_local opened.preprocessed;
   preprocessed_next = preprocessed_next (replicate preprocessed_width zero) opened.preprocessed;
   periodic = periodic;
-  publics = publics;
+  public_values = public_values;
 }
 
 -- an error of the proof's shape, among a verifier's
@@ -85,7 +85,7 @@ module _ {S F E C K T P X Y : Type 0} (ops : ProtocolOps S F E C K T P X Y) (i :
   domain_fault = quotient_fault log_parts (zk_bits ops.opening.is_zk) p.degree_bits ops.opening.fields.adicity (ops.opening.scheme.log_max_trace_height i.scheme)
 
   abbrev pub values_fault : Option InvalidProofShapeError
-  values_fault = opened_fault i.layout.publics (length i.public_values) (opens_next_row i.main_next_columns) i.layout.main (2 ^ (log_parts + zk_bits ops.opening.is_zk)) ops.opening.fields.dimension p.opened_values
+  values_fault = opened_fault i.layout.public_values (length i.public_values) (opens_next_row i.main_next_columns) i.layout.main (2 ^ (log_parts + zk_bits ops.opening.is_zk)) ops.opening.fields.dimension p.opened_values
       i.constraint_bits (ops.opening.fields.same p.alpha_pow_witness ops.opening.fields.base.zero) i.ood_bits (ops.opening.fields.same p.ood_pow_witness ops.opening.fields.base.zero)
 
   abbrev pub shape_fault : Option (VerificationError X)

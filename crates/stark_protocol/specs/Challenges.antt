@@ -18,8 +18,8 @@ paired first (Err failure) state = fails failure state
 
 -- Alpha and zeta, in the replay of commitments, public values and both witnesses, alpha's right behind the public values.
 abbrev pub challenges_outcome : {C F E K : Type 0} → SpongeOps C F E K → StarkShape → K → Option K → List F → F → K → Option K → F → C → PhaseOutcome C (E × E) StarkTranscriptFailure
-challenges_outcome ops shape trace preprocessed publics alpha_witness quotient random witness start =
-    let first = constraint_outcome ops shape trace preprocessed publics alpha_witness start in
+challenges_outcome ops shape trace preprocessed public_values alpha_witness quotient random witness start =
+    let first = constraint_outcome ops shape trace preprocessed public_values alpha_witness start in
     continued first.answer first.state (λ alpha.
     let second = ood_outcome ops shape quotient random witness first.state in
     paired alpha second.answer second.state)

@@ -20,7 +20,7 @@ pub record OpenedRows (F : Type 0) (E : Type 0) : Type 0 where
   pub preprocessed_local : List E
   pub preprocessed_next : List E
   pub periodic : List E
-  pub publics : List F
+  pub public_values : List F
 
 -- an absent row has no value
 abbrev pub row_or_empty : {R : Type 0} {E : Type 0} → (R → List E) → Option R → List E
@@ -28,13 +28,13 @@ row_or_empty view None = []
 row_or_empty view (Some row) = view row
 
 abbrev pub opened_layout : {F : Type 0} {E : Type 0} → OpenedRows F E → Layout
-opened_layout rows = layout_of rows.local rows.next rows.preprocessed_local rows.preprocessed_next rows.publics rows.periodic
+opened_layout rows = layout_of rows.local rows.next rows.preprocessed_local rows.preprocessed_next rows.public_values rows.periodic
 
 module _ {F E : Type 0} (base : RingOps F) (ring : RingOps E) (embed : F → E) (subgroup : Subgroup E) where
   -- the leaves of a constraint: the opened values, and the subgroup's selectors at zeta
   abbrev pub opened_environment : OpenedRows F E → E → Environment E
   opened_environment rows zeta =
-      environment_of (ring_operations ring embed) base.zero ring.zero rows.local rows.next rows.preprocessed_local rows.preprocessed_next rows.publics rows.periodic
+      environment_of (ring_operations ring embed) base.zero ring.zero rows.local rows.next rows.preprocessed_local rows.preprocessed_next rows.public_values rows.periodic
       (first_row_selector ring (λ c. c) subgroup zeta) (last_row_selector ring (λ c. c) subgroup zeta) (transition_selector ring (λ c. c) subgroup zeta)
 
   -- the sum over j below n of alpha ^ (n - 1 - j) * C_j, over the opened values

@@ -93,10 +93,10 @@ coset_is {F} c s n size shift log is =
     ap (λ (t : F). let d : TwoAdicCoset F = record { shift = t; log_size = c.log_size } in d) shift ∙ ap (λ (k : ℕ). let d : TwoAdicCoset F = record { shift = s; log_size = k } in d) same
 
 -- The number below 64 whose power of two is the second of a pair.
-pub size_of_sum : (n : ℕ) (found whole : ℕ × ℕ) → whole.1 ≡ 2 ^ n → (n < 64 → Some found ≡ Some whole) → (64 ≤ n → Some found ≡ None) → (n < 64) × (found.1 ≡ 2 ^ n)
-size_of_sum n found whole is fits other = elim (cases_lt n 64) [
-  | inl below ↦ let same : Some found ≡ Some whole = fits below in let one : found ≡ whole = cc in (below, ap (λ (p : ℕ × ℕ). p.1) one ∙ is)
-  | inr above ↦ absurd (let none : Some found ≡ None = other above in cc)
+pub size_of_sum : (n : ℕ) (sum whole : ℕ × ℕ) → whole.1 ≡ 2 ^ n → (n < 64 → Some sum ≡ Some whole) → (64 ≤ n → Some sum ≡ None) → (n < 64) × (sum.1 ≡ 2 ^ n)
+size_of_sum n sum whole is fits other = elim (cases_lt n 64) [
+  | inl below ↦ let same : Some sum ≡ Some whole = fits below in let one : sum ≡ whole = cc in (below, ap (λ (p : ℕ × ℕ). p.1) one ∙ is)
+  | inr above ↦ absurd (let none : Some sum ≡ None = other above in cc)
 ]
 
 pub sum_too_large : (n : ℕ) (whole : ℕ × ℕ) → (n < 64 → None ≡ Some whole) → 64 ≤ n

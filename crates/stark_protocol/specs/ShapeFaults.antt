@@ -89,8 +89,8 @@ randomization_fault false None (Some row) = Some RandomizationError
 randomization_fault false (Some commitment) row = Some RandomizationError
 
 -- There are as many public values as the AIR reads.
-abbrev pub publics_fault : ℕ → ℕ → Option InvalidProofShapeError
-publics_fault expected got = fault_if (not (got == expected)) (PublicValuesLengthMismatch expected got)
+abbrev pub public_values_fault : ℕ → ℕ → Option InvalidProofShapeError
+public_values_fault expected got = fault_if (not (got == expected)) (PublicValuesLengthMismatch expected got)
 
 -- The next row is opened where the AIR reads it, as wide as the AIR, and not where it doesn't.
 abbrev pub trace_next_fault : {E : Type 0} → Bool → ℕ → Option (List E) → Option InvalidProofShapeError
@@ -116,8 +116,8 @@ witness_fault error bits is_zero = fault_if (bits == 0 && not is_zero) error
 
 -- The witness before alpha is tested before that before zeta.
 abbrev pub opened_fault : {E : Type 0} → ℕ → ℕ → Bool → ℕ → ℕ → ℕ → OpeningsView E → ℕ → Bool → ℕ → Bool → Option InvalidProofShapeError
-opened_fault expected_publics publics reads_next width chunks dimension opened alpha_bits alpha_is_zero bits is_zero =
-    option_or (publics_fault expected_publics publics)
+opened_fault expected_public_values public_values reads_next width chunks dimension opened alpha_bits alpha_is_zero bits is_zero =
+    option_or (public_values_fault expected_public_values public_values)
     (option_or (trace_next_fault reads_next width opened.trace_next)
     (option_or (dimensions_fault width chunks dimension opened.trace_local opened.quotient_chunks opened.random)
     (option_or (witness_fault NonCanonicalAlphaPowWitness alpha_bits alpha_is_zero)

@@ -93,25 +93,25 @@ module _ (width declared : ℕ) (is_declared : width ≡ declared) (some : 0 < d
   key_clear = no_denial (nat_lt 0 width && width == declared) PreprocessedVerifierKeyInconsistency (both _ _ (lt-ltb 0 width (omega (arith, is_declared, some))) (eq-eqb width declared is_declared))
 
 module _ {S F E C K T P X Y : Type 0} (ops : ProtocolOps S F E C K T P X Y) (i : Instance S F C K) where
-  fixed_clear : (held : Option (PreprocessedProverData K T)) (fixed : List (List F)) (degree_bits : ℕ) (zeta next_zeta : E) → IsPreprocessedCommitment ops.opening.scheme i.scheme ops.opening.fields.base fixed held
-      → is_some held ≡ ltb 0 i.layout.preprocessed → IfSome held (λ h. h.width ≡ i.layout.preprocessed) → IfSome held (λ h. h.degree_bits ≡ degree_bits)
-      → preprocessed_fault (option_map key_of held) i.layout.preprocessed (opens_next_row i.preprocessed_next_columns) degree_bits (option_map (true_preprocessed ops i fixed zeta next_zeta) (option_map key_of held)) ≡ None
-  fixed_clear None fixed degree_bits zeta next_zeta stands there width same =
+  preprocessed_clear : (preprocessed_data : Option (PreprocessedProverData K T)) (preprocessed : List (List F)) (degree_bits : ℕ) (zeta next_zeta : E) → IsPreprocessedCommitment ops.opening.scheme i.scheme ops.opening.fields.base preprocessed preprocessed_data
+      → is_some preprocessed_data ≡ ltb 0 i.layout.preprocessed → IfSome preprocessed_data (λ h. h.width ≡ i.layout.preprocessed) → IfSome preprocessed_data (λ h. h.degree_bits ≡ degree_bits)
+      → preprocessed_fault (option_map key_of preprocessed_data) i.layout.preprocessed (opens_next_row i.preprocessed_next_columns) degree_bits (option_map (true_preprocessed ops i preprocessed zeta next_zeta) (option_map key_of preprocessed_data)) ≡ None
+  preprocessed_clear None preprocessed degree_bits zeta next_zeta stands there width same =
       none_of _ _ (no_fault (nat_lt 0 i.layout.preprocessed) _ (sym there)) (none_of _ _ (no_fault (nat_lt 0 i.layout.preprocessed) PreprocessedVerifierKeyInconsistency (sym there)) refl)
-  fixed_clear (Some held) fixed degree_bits zeta next_zeta stands there width same =
+  preprocessed_clear (Some preprocessed_data) preprocessed degree_bits zeta next_zeta stands there width same =
       let some : 0 < i.layout.preprocessed = ltb-true 0 i.layout.preprocessed (sym there) in
-      let row : (x : E) → length (values_at ops i fixed x) ≡ held.width = λ x. length-map fixed _ ∙ stands.1 in
-      none_of _ _ (rows_clear held.width i.layout.preprocessed width some (opens_next_row i.preprocessed_next_columns) (values_at ops i fixed zeta) (values_at ops i fixed next_zeta) (row zeta) (row next_zeta))
-      (none_of _ _ (key_clear held.width i.layout.preprocessed width some)
-      (no_denial (held.degree_bits == degree_bits) (PreprocessedDegreeMismatch held.degree_bits degree_bits) (eq-eqb held.degree_bits degree_bits same)))
+      let row : (x : E) → length (values_at ops i preprocessed x) ≡ preprocessed_data.width = λ x. length-map preprocessed _ ∙ stands.1 in
+      none_of _ _ (rows_clear preprocessed_data.width i.layout.preprocessed width some (opens_next_row i.preprocessed_next_columns) (values_at ops i preprocessed zeta) (values_at ops i preprocessed next_zeta) (row zeta) (row next_zeta))
+      (none_of _ _ (key_clear preprocessed_data.width i.layout.preprocessed width some)
+      (no_denial (preprocessed_data.degree_bits == degree_bits) (PreprocessedDegreeMismatch preprocessed_data.degree_bits degree_bits) (eq-eqb preprocessed_data.degree_bits degree_bits same)))
 
 -- ---- a proof of a trace
 
-module _ {S F E C K T P X Y : Type 0} {ops : ProtocolOps S F E C K T P X Y} {i : Instance S F C K} {coordinates : E → List F} {held : Option (PreprocessedProverData K T)} {height : ℕ} {trace : Trace F} {fixed : List (List F)} {p : ProofView K E P F}
-    (made : IsProofOfTrace ops i coordinates held height trace fixed p) where
+module _ {S F E C K T P X Y : Type 0} {ops : ProtocolOps S F E C K T P X Y} {i : Instance S F C K} {coordinates : E → List F} {preprocessed_data : Option (PreprocessedProverData K T)} {height : ℕ} {trace : Trace F} {preprocessed : List (List F)} {p : ProofView K E P F}
+    (made : IsProofOfTrace ops i coordinates preprocessed_data height trace preprocessed p) where
   -- the opened values, as they truly are
   abbrev truly : OpeningsView E
-  truly = true_openings ops i made.columns fixed made.chunks made.random made.zeta (next_point ops.opening p.degree_bits made.zeta)
+  truly = true_openings ops i made.columns preprocessed made.chunks made.random made.zeta (next_point ops.opening p.degree_bits made.zeta)
 
   -- Each chunk has as many columns as the extension has coordinates.
   chunk_width : (k : ℕ) (chunk : QuotientChunk F) → slice_get made.chunks k ≡ Some chunk → (length (values_at ops i (committed_chunk ops.opening.fields.base ops.opening.is_zk chunk).columns made.zeta) == ops.opening.fields.dimension) ≡ true
@@ -130,18 +130,18 @@ module _ {S F E C K T P X Y : Type 0} {ops : ProtocolOps S F E C K T P X Y} {i :
   random_shape (Some columns) (with_masks {commitment = commitment} masked stands) =
       (random_clear ops.opening.is_zk masked commitment (values_at ops i columns made.zeta), eq-eqb _ ops.opening.fields.dimension (length-map columns _ ∙ stands.number))
 
-  module _ (width_is : trace.width ≡ i.layout.main) (publics_are : length i.public_values ≡ i.layout.publics)
-      (there : is_some held ≡ ltb 0 i.layout.preprocessed) (held_width : IfSome held (λ h. h.width ≡ i.layout.preprocessed)) (held_degree : IfSome held (λ h. h.degree_bits ≡ p.degree_bits))
+  module _ (width_is : trace.width ≡ i.layout.main) (public_values_are : length i.public_values ≡ i.layout.public_values)
+      (there : is_some preprocessed_data ≡ ltb 0 i.layout.preprocessed) (data_width : IfSome preprocessed_data (λ h. h.width ≡ i.layout.preprocessed)) (data_degree : IfSome preprocessed_data (λ h. h.degree_bits ≡ p.degree_bits))
       (reflexive : (x : F) → ops.opening.fields.same x x ≡ true) where
     abbrev fault_of : OpeningsView E → Option InvalidProofShapeError
-    fault_of opened = opened_fault i.layout.publics (length i.public_values) (opens_next_row i.main_next_columns) i.layout.main (2 ^ (log_parts ops i p + zk_bits ops.opening.is_zk)) ops.opening.fields.dimension opened
+    fault_of opened = opened_fault i.layout.public_values (length i.public_values) (opens_next_row i.main_next_columns) i.layout.main (2 ^ (log_parts ops i p + zk_bits ops.opening.is_zk)) ops.opening.fields.dimension opened
         i.constraint_bits (ops.opening.fields.same p.alpha_pow_witness ops.opening.fields.base.zero) i.ood_bits (ops.opening.fields.same p.ood_pow_witness ops.opening.fields.base.zero)
 
     values_clear : fault_of truly ≡ None
     values_clear =
         let row : (x : E) → length (values_at ops i made.columns x) ≡ i.layout.main = λ x. length-map made.columns _ ∙ made.committed.takes.count ∙ width_is in
         let count : length truly.quotient_chunks ≡ 2 ^ (log_parts ops i p + zk_bits ops.opening.is_zk) = length-map made.chunks _ ∙ made.quotient.chunked.number in
-        none_of _ _ (no_denial (length i.public_values == i.layout.publics) (PublicValuesLengthMismatch i.layout.publics (length i.public_values)) (eq-eqb (length i.public_values) i.layout.publics publics_are))
+        none_of _ _ (no_denial (length i.public_values == i.layout.public_values) (PublicValuesLengthMismatch i.layout.public_values (length i.public_values)) (eq-eqb (length i.public_values) i.layout.public_values public_values_are))
         (none_of _ _ (next_clear (opens_next_row i.main_next_columns) (values_at ops i made.columns (next_point ops.opening p.degree_bits made.zeta)) i.layout.main (row (next_point ops.opening p.degree_bits made.zeta)))
         (none_of _ _ (no_denial _ OpenedValuesDimensionMismatch (both _ _ (eq-eqb (length truly.trace_local) i.layout.main (row made.zeta))
         (both _ _ (eq-eqb (length truly.quotient_chunks) _ count) (both _ _ chunks_wide (random_shape made.random made.randomization).1))))
@@ -160,21 +160,21 @@ module _ {S F E C K T P X Y : Type 0} {ops : ProtocolOps S F E C K T P X Y} {i :
       shape_clear =
           none_of _ _ (ap (λ fault. of_shape fault) heights_clear)
           (none_of _ _ (ap (λ fault. of_shape fault)
-          (ap (λ key. preprocessed_fault key i.layout.preprocessed (opens_next_row i.preprocessed_next_columns) p.degree_bits p.opened_values.preprocessed) made.key ∙ ap (λ o. preprocessed_fault (option_map key_of held) i.layout.preprocessed (opens_next_row i.preprocessed_next_columns) p.degree_bits o.preprocessed) made.opened ∙
-          ap (λ key. preprocessed_fault (option_map key_of held) i.layout.preprocessed (opens_next_row i.preprocessed_next_columns) p.degree_bits (option_map (true_preprocessed ops i fixed made.zeta (next_point ops.opening p.degree_bits made.zeta)) key)) made.key ∙
-          fixed_clear ops i held fixed p.degree_bits made.zeta (next_point ops.opening p.degree_bits made.zeta) made.preprocessed there held_width held_degree))
+          (ap (λ key. preprocessed_fault key i.layout.preprocessed (opens_next_row i.preprocessed_next_columns) p.degree_bits p.opened_values.preprocessed) made.key ∙ ap (λ o. preprocessed_fault (option_map key_of preprocessed_data) i.layout.preprocessed (opens_next_row i.preprocessed_next_columns) p.degree_bits o.preprocessed) made.opened ∙
+          ap (λ key. preprocessed_fault (option_map key_of preprocessed_data) i.layout.preprocessed (opens_next_row i.preprocessed_next_columns) p.degree_bits (option_map (true_preprocessed ops i preprocessed made.zeta (next_point ops.opening p.degree_bits made.zeta)) key)) made.key ∙
+          preprocessed_clear ops i preprocessed_data preprocessed p.degree_bits made.zeta (next_point ops.opening p.degree_bits made.zeta) made.preprocessed there data_width data_degree))
           (none_of _ _ (ap (λ fault. of_shape fault) made.sized)
           (none_of _ _ (ap (λ o. randomization_fault ops.opening.is_zk p.commitments.random o.random) made.opened ∙ (random_shape made.random made.randomization).0)
           (ap (λ fault. of_shape fault) (ap fault_of made.opened ∙ values_clear)))))
 
       pub acceptable : ops.opening.scheme.IsComplete i.scheme → IsAcceptable ops i p
-      acceptable whole = record {
+      acceptable complete = record {
         alpha = made.alpha;
         zeta = made.zeta;
         shape = shape_clear;
         drawn = made.drawn;
         fitting = made.fitting;
-        opened = record { accepted = made.whole whole };
+        opened = record { accepted = made.complete complete };
       }
 
 -- ---- a prover's answer
@@ -183,23 +183,23 @@ pub still_there : {A B : Type 0} (f : A → B) (o : Option A) → is_some (optio
 still_there f None = refl
 still_there f (Some a) = refl
 
-module _ {S F E C K T P X Y : Type 0} (ops : ProtocolOps S F E C K T P X Y) (i : Instance S F C K) (coordinates : E → List F) (held : Option (PreprocessedProverData K T)) (log_height : ℕ) (trace : Trace F)
-    (width_is : trace.width ≡ i.layout.main) (publics_are : length i.public_values ≡ i.layout.publics) (there : is_some held ≡ ltb 0 i.layout.preprocessed)
-    (stands : (fixed : List (List F)) × IsPreprocessedCommitment ops.opening.scheme i.scheme ops.opening.fields.base fixed held × (length fixed ≡ i.layout.preprocessed))
+module _ {S F E C K T P X Y : Type 0} (ops : ProtocolOps S F E C K T P X Y) (i : Instance S F C K) (coordinates : E → List F) (preprocessed_data : Option (PreprocessedProverData K T)) (log_height : ℕ) (trace : Trace F)
+    (width_is : trace.width ≡ i.layout.main) (public_values_are : length i.public_values ≡ i.layout.public_values) (there : is_some preprocessed_data ≡ ltb 0 i.layout.preprocessed)
+    (stands : (preprocessed : List (List F)) × IsPreprocessedCommitment ops.opening.scheme i.scheme ops.opening.fields.base preprocessed preprocessed_data × (length preprocessed ≡ i.layout.preprocessed))
     (IsHeight : ℕ → Type 0) (known : (height : ℕ) → IsHeight height → log_height ≡ height)
-    (heights : (height : ℕ) × IsHeight height × (height + zk_bits ops.opening.is_zk ≤ ops.opening.scheme.log_max_trace_height i.scheme) × IfSome held (λ h. h.degree_bits ≡ height + zk_bits ops.opening.is_zk))
+    (heights : (height : ℕ) × IsHeight height × (height + zk_bits ops.opening.is_zk ≤ ops.opening.scheme.log_max_trace_height i.scheme) × IfSome preprocessed_data (λ h. h.degree_bits ≡ height + zk_bits ops.opening.is_zk))
     (reflexive : (x : F) → ops.opening.fields.same x x ≡ true) (laws : SchemeLaws ops.opening.scheme) where
   is_height : heights.0 ≡ log_height
   is_height = sym (known heights.0 heights.1)
 
   -- Where the answer is a proof, and for each height that the trace has.
-  pub answer_acceptable : {R : Type 0} (view : R → ProofView K E P F) (r : Result R (ProvingError Y)) → IfOk r (λ proof. (fixed : List (List F)) → IsPreprocessedCommitment ops.opening.scheme i.scheme ops.opening.fields.base fixed held → IsProofOfTrace ops i coordinates held log_height trace fixed (view proof))
+  pub answer_acceptable : {R : Type 0} (view : R → ProofView K E P F) (r : Result R (ProvingError Y)) → IfOk r (λ proof. (preprocessed : List (List F)) → IsPreprocessedCommitment ops.opening.scheme i.scheme ops.opening.fields.base preprocessed preprocessed_data → IsProofOfTrace ops i coordinates preprocessed_data log_height trace preprocessed (view proof))
       → IfOk r (λ proof. (height : ℕ) → IsHeight height → ops.opening.scheme.log_min_trace_height i.scheme ≤ height → ops.opening.scheme.IsComplete i.scheme → IsAcceptable ops i (view proof))
   answer_acceptable view (Ok proof) each =
       let made = each stands.0 stands.1 in
-      let held_width = width_of_columns ops i.scheme held stands.0 i.layout.preprocessed stands.1 stands.2 in
+      let data_width = width_of_columns ops i.scheme preprocessed_data stands.0 i.layout.preprocessed stands.1 stands.2 in
       let bits : (view proof).degree_bits ≡ heights.0 + zk_bits ops.opening.is_zk = made.degree_bits ∙ ap (λ n. n + zk_bits ops.opening.is_zk) (sym is_height) in
-      λ height is_height least whole.
-      acceptable made width_is publics_are there held_width (subst (λ n. IfSome held (λ h. h.degree_bits ≡ n)) (sym bits) heights.3) reflexive laws
-      (omega (arith, least, known height is_height)) (omega (arith, bits, heights.2)) whole
+      λ height is_height least complete.
+      acceptable made width_is public_values_are there data_width (subst (λ n. IfSome preprocessed_data (λ h. h.degree_bits ≡ n)) (sym bits) heights.3) reflexive laws
+      (omega (arith, least, known height is_height)) (omega (arith, bits, heights.2)) complete
   answer_acceptable view (Err error) each = tt

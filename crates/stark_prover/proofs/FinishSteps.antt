@@ -30,51 +30,51 @@ use Rattle.stark_prover.proofs.SizedSteps.{same_height}
 pub height_is : (is_zk : Bool) (degree_bits : ℕ) → zk_bits is_zk ≤ degree_bits → degree_bits ≡ log_height is_zk degree_bits + zk_bits is_zk
 height_is is_zk degree_bits extended = omega (arith, extended)
 
--- The place of the preprocessed round, by what is held or by what the scheme keeps of it.
-place_again : {K T : Type 0} (is_zk : Bool) (held : Option (PreprocessedProverData K T)) → place_of is_zk (option_map (λ of_held. of_held.prover_data) held) ≡ place_of is_zk held
+-- The place of the preprocessed round, by the data or by what the scheme keeps of it.
+place_again : {K T : Type 0} (is_zk : Bool) (preprocessed_data : Option (PreprocessedProverData K T)) → place_of is_zk (option_map (λ of_data. of_data.prover_data) preprocessed_data) ≡ place_of is_zk preprocessed_data
 place_again is_zk None = refl
-place_again is_zk (Some of_held) = refl
+place_again is_zk (Some of_data) = refl
 
-module _ {S F E C K T P X Y : Type 0} {ops : ProtocolOps S F E C K T P X Y} {i : Instance S F C K} {coordinates : E → List F} {held : Option (PreprocessedProverData K T)} {height degree_bits : ℕ} {trace : Trace F} {fixed : List (List F)}
+module _ {S F E C K T P X Y : Type 0} {ops : ProtocolOps S F E C K T P X Y} {i : Instance S F C K} {coordinates : E → List F} {preprocessed_data : Option (PreprocessedProverData K T)} {height degree_bits : ℕ} {trace : Trace F} {preprocessed : List (List F)}
     {commitment : K} {prover_data : T} {alpha : E} {alpha_witness : F} {state : C} {quotient : K} {quotient_data : T} {random : Option K} {random_data : Option T}
-    (bound : IsBoundProof ops i coordinates held height degree_bits trace fixed commitment prover_data alpha alpha_witness state quotient quotient_data random random_data)
+    (bound : IsBoundProof ops i coordinates preprocessed_data height degree_bits trace preprocessed commitment prover_data alpha alpha_witness state quotient quotient_data random random_data)
     {shape : StarkShape} (is_shape : shape ≡ described ops i degree_bits) {given : Option K} (is_given : given ≡ random) where
   -- No witness is found.
-  pub work_refused : (error : GrindExhausted) → IsExhausted ops.sponge shape.ood_pow_bits (ood_events quotient given) state error → ProverFault ops i coordinates held height degree_bits trace (ProvingError.GrindExhausted error.bits)
+  pub work_refused : (error : GrindExhausted) → IsExhausted ops.sponge shape.ood_pow_bits (ood_events quotient given) state error → ProverFault ops i coordinates preprocessed_data height degree_bits trace (ProvingError.GrindExhausted error.bits)
   work_refused error exhausted =
       let bits_are : shape.ood_pow_bits ≡ i.ood_bits = ap (λ s. s.ood_pow_bits) is_shape in
       let at_bits = subst (λ bits. IsExhausted ops.sponge bits (ood_events quotient random) state error) bits_are (subst (λ r. IsExhausted ops.sponge shape.ood_pow_bits (ood_events quotient r) state error) is_given exhausted) in
-      subst (λ bits. ProverFault ops i coordinates held height degree_bits trace (ProvingError.GrindExhausted bits)) (sym at_bits.bits_are) (in_work bound.made bound.randomization at_bits.none_passes)
+      subst (λ bits. ProverFault ops i coordinates preprocessed_data height degree_bits trace (ProvingError.GrindExhausted bits)) (sym at_bits.bits_are) (in_work bound.made bound.randomization at_bits.none_passes)
 
-  module _ {zeta z nz : E} {reads fixed_reads : Bool} {count : ℕ} {random_kept fixed_kept : Option T} (is_zeta : z ≡ zeta) (is_next : nz ≡ next_point ops.opening degree_bits zeta) (is_reads : reads ≡ opens_next_row i.main_next_columns)
-      (is_fixed : fixed_reads ≡ opens_next_row i.preprocessed_next_columns) (is_count : count ≡ 2 ^ log_chunks_of ops i degree_bits) (is_random : random_kept ≡ random_data) (is_held : fixed_kept ≡ option_map (λ of_held. of_held.prover_data) held) where
+  module _ {zeta z nz : E} {reads preprocessed_reads : Bool} {count : ℕ} {random_kept preprocessed_kept : Option T} (is_zeta : z ≡ zeta) (is_next : nz ≡ next_point ops.opening degree_bits zeta) (is_reads : reads ≡ opens_next_row i.main_next_columns)
+      (is_preprocessed : preprocessed_reads ≡ opens_next_row i.preprocessed_next_columns) (is_count : count ≡ 2 ^ log_chunks_of ops i degree_bits) (is_random : random_kept ≡ random_data) (is_data : preprocessed_kept ≡ option_map (λ of_data. of_data.prover_data) preprocessed_data) where
     -- The rounds that are opened.
-    rounds_are : rounds_of z (points_of z nz reads) (points_of z nz fixed_reads) count random_kept prover_data quotient_data fixed_kept ≡ opening_rounds ops i coordinates held height degree_bits trace zeta random_data prover_data quotient_data
+    rounds_are : rounds_of z (points_of z nz reads) (points_of z nz preprocessed_reads) count random_kept prover_data quotient_data preprocessed_kept ≡ opening_rounds ops i coordinates preprocessed_data height degree_bits trace zeta random_data prover_data quotient_data
     rounds_are =
         let next = next_point ops.opening degree_bits zeta in
-        ap (λ x. rounds_of x (points_of x nz reads) (points_of x nz fixed_reads) count random_kept prover_data quotient_data fixed_kept) is_zeta ∙
-        ap (λ x. rounds_of zeta (points_of zeta x reads) (points_of zeta x fixed_reads) count random_kept prover_data quotient_data fixed_kept) is_next ∙
-        ap (λ b. rounds_of zeta (points_of zeta next b) (points_of zeta next fixed_reads) count random_kept prover_data quotient_data fixed_kept) is_reads ∙
-        ap (λ b. rounds_of zeta (points_of zeta next (opens_next_row i.main_next_columns)) (points_of zeta next b) count random_kept prover_data quotient_data fixed_kept) is_fixed ∙
-        ap (λ n. rounds_of zeta (points_of zeta next (opens_next_row i.main_next_columns)) (points_of zeta next (opens_next_row i.preprocessed_next_columns)) n random_kept prover_data quotient_data fixed_kept) is_count ∙
-        ap (λ t. rounds_of zeta (points_of zeta next (opens_next_row i.main_next_columns)) (points_of zeta next (opens_next_row i.preprocessed_next_columns)) (2 ^ log_chunks_of ops i degree_bits) t prover_data quotient_data fixed_kept) is_random ∙
-        ap (λ t. rounds_of zeta (points_of zeta next (opens_next_row i.main_next_columns)) (points_of zeta next (opens_next_row i.preprocessed_next_columns)) (2 ^ log_chunks_of ops i degree_bits) random_data prover_data quotient_data t) is_held
+        ap (λ x. rounds_of x (points_of x nz reads) (points_of x nz preprocessed_reads) count random_kept prover_data quotient_data preprocessed_kept) is_zeta ∙
+        ap (λ x. rounds_of zeta (points_of zeta x reads) (points_of zeta x preprocessed_reads) count random_kept prover_data quotient_data preprocessed_kept) is_next ∙
+        ap (λ b. rounds_of zeta (points_of zeta next b) (points_of zeta next preprocessed_reads) count random_kept prover_data quotient_data preprocessed_kept) is_reads ∙
+        ap (λ b. rounds_of zeta (points_of zeta next (opens_next_row i.main_next_columns)) (points_of zeta next b) count random_kept prover_data quotient_data preprocessed_kept) is_preprocessed ∙
+        ap (λ n. rounds_of zeta (points_of zeta next (opens_next_row i.main_next_columns)) (points_of zeta next (opens_next_row i.preprocessed_next_columns)) n random_kept prover_data quotient_data preprocessed_kept) is_count ∙
+        ap (λ t. rounds_of zeta (points_of zeta next (opens_next_row i.main_next_columns)) (points_of zeta next (opens_next_row i.preprocessed_next_columns)) (2 ^ log_chunks_of ops i degree_bits) t prover_data quotient_data preprocessed_kept) is_random ∙
+        ap (λ t. rounds_of zeta (points_of zeta next (opens_next_row i.main_next_columns)) (points_of zeta next (opens_next_row i.preprocessed_next_columns)) (2 ^ log_chunks_of ops i degree_bits) random_data prover_data quotient_data t) is_data
 
     -- The scheme refuses to open.
     pub opening_refused : {drawn_state : C} (witness : Option F) → (prover_ood_outcome ops.sponge shape quotient given state).answer ≡ Ok (zeta, witness) → drawn_state ≡ (prover_ood_outcome ops.sponge shape quotient given state).state → (error : ProvingError Y)
-        → (error ≡ ProvingError.OutOfMemory) ⊎ IsSchemeFault (codes "opening") (ops.opening.scheme.RefusesOpening i.scheme (rounds_of z (points_of z nz reads) (points_of z nz fixed_reads) count random_kept prover_data quotient_data fixed_kept)
-        drawn_state (place_of ops.opening.is_zk fixed_kept)) error → (error ≡ ProvingError.OutOfMemory) ⊎ ProverFault ops i coordinates held height degree_bits trace error
+        → (error ≡ ProvingError.OutOfMemory) ⊎ IsSchemeFault (codes "opening") (ops.opening.scheme.RefusesOpening i.scheme (rounds_of z (points_of z nz reads) (points_of z nz preprocessed_reads) count random_kept prover_data quotient_data preprocessed_kept)
+        drawn_state (place_of ops.opening.is_zk preprocessed_kept)) error → (error ≡ ProvingError.OutOfMemory) ⊎ ProverFault ops i coordinates preprocessed_data height degree_bits trace error
     opening_refused witness answer is_state error (inl memory) = inl memory
     opening_refused {drawn_state = drawn_state} witness answer is_state error (inr fault) =
         let refused = λ (rounds : List (RoundPoints E T)) (st : C) (place : Option ℕ). IsSchemeFault (codes "opening") (ops.opening.scheme.RefusesOpening i.scheme rounds st place) error in
         let drawn = λ (sh : StarkShape) (r : Option K). prover_ood_outcome ops.sponge sh quotient r state in
         let right : (drawn shape given) ≡ (drawn (described ops i degree_bits) random) = ap (λ sh. drawn sh given) is_shape ∙ ap (drawn (described ops i degree_bits)) is_given in
-        let at_place = subst (λ place. refused (rounds_of z (points_of z nz reads) (points_of z nz fixed_reads) count random_kept prover_data quotient_data fixed_kept) drawn_state place) (ap (place_of ops.opening.is_zk) is_held ∙ place_again ops.opening.is_zk held) fault in
-        let at_state = subst (λ st. refused (rounds_of z (points_of z nz reads) (points_of z nz fixed_reads) count random_kept prover_data quotient_data fixed_kept) st (place_of ops.opening.is_zk held)) (is_state ∙ ap (λ o. o.state) right) at_place in
+        let at_place = subst (λ place. refused (rounds_of z (points_of z nz reads) (points_of z nz preprocessed_reads) count random_kept prover_data quotient_data preprocessed_kept) drawn_state place) (ap (place_of ops.opening.is_zk) is_data ∙ place_again ops.opening.is_zk preprocessed_data) fault in
+        let at_state = subst (λ st. refused (rounds_of z (points_of z nz reads) (points_of z nz preprocessed_reads) count random_kept prover_data quotient_data preprocessed_kept) st (place_of ops.opening.is_zk preprocessed_data)) (is_state ∙ ap (λ o. o.state) right) at_place in
         inr (in_opening bound.made bound.randomization (sym (ap (λ o. o.answer) right) ∙ answer)
-        (subst (λ rounds. refused rounds (drawn (described ops i degree_bits) random).state (place_of ops.opening.is_zk held)) rounds_are at_state))
+        (subst (λ rounds. refused rounds (drawn (described ops i degree_bits) random).state (place_of ops.opening.is_zk preprocessed_data)) rounds_are at_state))
 
-    module _ (key_is : i.key ≡ option_map key_of held) (extended : zk_bits ops.opening.is_zk ≤ degree_bits) (is_height : degree_bits ≡ height + zk_bits ops.opening.is_zk) (same : IfSome held (λ h. h.degree_bits ≡ degree_bits)) where
+    module _ (key_is : i.key ≡ option_map key_of preprocessed_data) (extended : zk_bits ops.opening.is_zk ≤ degree_bits) (is_height : degree_bits ≡ height + zk_bits ops.opening.is_zk) (same : IfSome preprocessed_data (λ h. h.degree_bits ≡ degree_bits)) where
       abbrev next_zeta : E
       next_zeta = next_point ops.opening degree_bits zeta
 
@@ -82,26 +82,26 @@ module _ {S F E C K T P X Y : Type 0} {ops : ProtocolOps S F E C K T P X Y} {i :
       abbrev behind_list : List (OpenedRound F E K T)
       behind_list = (behind_rounds bound.made key_is zeta next_zeta bound.randomization).0
 
-      stand_behind : StandBehind ops.opening.scheme ops.opening.fields.ring ops.opening.fields.embed i.scheme ops.opening.is_zk (rounds_of z (points_of z nz reads) (points_of z nz fixed_reads) count random_kept prover_data quotient_data fixed_kept)
-          behind_list (true_openings ops i bound.columns fixed bound.chunks bound.random_columns zeta next_zeta)
+      stand_behind : StandBehind ops.opening.scheme ops.opening.fields.ring ops.opening.fields.embed i.scheme ops.opening.is_zk (rounds_of z (points_of z nz reads) (points_of z nz preprocessed_reads) count random_kept prover_data quotient_data preprocessed_kept)
+          behind_list (true_openings ops i bound.columns preprocessed bound.chunks bound.random_columns zeta next_zeta)
       stand_behind =
-          subst (λ r. StandBehind ops.opening.scheme ops.opening.fields.ring ops.opening.fields.embed i.scheme ops.opening.is_zk r behind_list (true_openings ops i bound.columns fixed bound.chunks bound.random_columns zeta next_zeta)) (sym rounds_are)
+          subst (λ r. StandBehind ops.opening.scheme ops.opening.fields.ring ops.opening.fields.embed i.scheme ops.opening.is_zk r behind_list (true_openings ops i bound.columns preprocessed bound.chunks bound.random_columns zeta next_zeta)) (sym rounds_are)
           (behind_rounds bound.made key_is zeta next_zeta bound.randomization).1
 
       pub behind : (made : List (OpenedRound F E K T)) × (view : OpeningsView E) × StandBehind ops.opening.scheme ops.opening.fields.ring ops.opening.fields.embed i.scheme ops.opening.is_zk
-          (rounds_of z (points_of z nz reads) (points_of z nz fixed_reads) count random_kept prover_data quotient_data fixed_kept) made view
-      behind = (behind_list, true_openings ops i bound.columns fixed bound.chunks bound.random_columns zeta next_zeta, stand_behind)
+          (rounds_of z (points_of z nz reads) (points_of z nz preprocessed_reads) count random_kept prover_data quotient_data preprocessed_kept) made view
+      behind = (behind_list, true_openings ops i bound.columns preprocessed bound.chunks bound.random_columns zeta next_zeta, stand_behind)
 
       module _ {drawn_state : C} {witness : F} (drawn : ood_outcome ops.sponge shape quotient given witness state ≡ succeeds zeta drawn_state Drawn) (no_work : shape.ood_pow_bits ≡ 0 → witness ≡ ops.opening.fields.base.zero) where
         -- what the opening answers
         abbrev AreValues : OpeningsView E → Type 0
         AreValues opened = (made : List (OpenedRound F E K T)) (view : OpeningsView E) → StandBehind ops.opening.scheme ops.opening.fields.ring ops.opening.fields.embed i.scheme ops.opening.is_zk
-            (rounds_of z (points_of z nz reads) (points_of z nz fixed_reads) count random_kept prover_data quotient_data fixed_kept) made view → opened ≡ view
+            (rounds_of z (points_of z nz reads) (points_of z nz preprocessed_reads) count random_kept prover_data quotient_data preprocessed_kept) made view → opened ≡ view
 
         abbrev IsAccepted : P → Type 0
         IsAccepted proof = (made : List (OpenedRound F E K T)) (view : OpeningsView E) → StandBehind ops.opening.scheme ops.opening.fields.ring ops.opening.fields.embed i.scheme ops.opening.is_zk
-            (rounds_of z (points_of z nz reads) (points_of z nz fixed_reads) count random_kept prover_data quotient_data fixed_kept) made view → ops.opening.scheme.IsComplete i.scheme
-            → ops.opening.scheme.Accepts i.scheme (map (true_claim ops.opening.fields.ring ops.opening.fields.embed) made) proof drawn_state (place_of ops.opening.is_zk fixed_kept)
+            (rounds_of z (points_of z nz reads) (points_of z nz preprocessed_reads) count random_kept prover_data quotient_data preprocessed_kept) made view → ops.opening.scheme.IsComplete i.scheme
+            → ops.opening.scheme.Accepts i.scheme (map (true_claim ops.opening.fields.ring ops.opening.fields.embed) made) proof drawn_state (place_of ops.opening.is_zk preprocessed_kept)
 
         -- The proof.
         abbrev proof_with : OpeningsView E → P → ProofView K E P F
@@ -119,9 +119,9 @@ module _ {S F E C K T P X Y : Type 0} {ops : ProtocolOps S F E C K T P X Y} {i :
             subst (λ r. ood_outcome ops.sponge (described ops i degree_bits) quotient r witness state ≡ succeeds zeta drawn_state Drawn) is_given
             (subst (λ sh. ood_outcome ops.sponge sh quotient given witness state ≡ succeeds zeta drawn_state Drawn) is_shape drawn)
 
-        pub proof_made : (opened : OpeningsView E) (proof : P) → AreValues opened → IsAccepted proof → IsProofOfTrace ops i coordinates held height trace fixed (proof_with opened proof)
-        proof_made opened proof values whole =
-            let are = values behind_list (true_openings ops i bound.columns fixed bound.chunks bound.random_columns zeta next_zeta) stand_behind in
+        pub proof_made : (opened : OpeningsView E) (proof : P) → AreValues opened → IsAccepted proof → IsProofOfTrace ops i coordinates preprocessed_data height trace preprocessed (proof_with opened proof)
+        proof_made opened proof values complete =
+            let are = values behind_list (true_openings ops i bound.columns preprocessed bound.chunks bound.random_columns zeta next_zeta) stand_behind in
             let phases = both_phases ops.sponge (described ops i degree_bits) commitment (option_map (λ key. key.commitment) i.key) i.public_values alpha_witness quotient random witness (seeded ops i degree_bits) state drawn_state alpha zeta bound.made.bound.drawn both in
             record {
               columns = bound.columns;
@@ -144,8 +144,8 @@ module _ {S F E C K T P X Y : Type 0} {ops : ProtocolOps S F E C K T P X Y} {i :
               opened = are;
               no_alpha_work = bound.made.bound.no_work;
               no_work = λ none. no_work (ap (λ s. s.ood_pow_bits) is_shape ∙ none);
-              whole = λ is_whole.
+              complete = λ is_complete.
                   subst (λ st. ops.opening.scheme.Accepts i.scheme (claims_of (natural_coset ops.opening.fields.base degree_bits) zeta next_zeta i.key commitment quotient random opened) proof st (preprocessed_place ops.opening.is_zk i.key)) (sym (ap (λ outcome. outcome.state) phases))
                   (behind_accepts bound.made key_is zeta next_zeta extended same bound.randomization opened are proof drawn_state
-                  (subst (λ place. ops.opening.scheme.Accepts i.scheme (map (true_claim ops.opening.fields.ring ops.opening.fields.embed) behind_list) proof drawn_state place) (ap (place_of ops.opening.is_zk) is_held) (whole behind_list (true_openings ops i bound.columns fixed bound.chunks bound.random_columns zeta next_zeta) stand_behind is_whole)));
+                  (subst (λ place. ops.opening.scheme.Accepts i.scheme (map (true_claim ops.opening.fields.ring ops.opening.fields.embed) behind_list) proof drawn_state place) (ap (place_of ops.opening.is_zk) is_data) (complete behind_list (true_openings ops i bound.columns preprocessed bound.chunks bound.random_columns zeta next_zeta) stand_behind is_complete)));
             }

@@ -41,16 +41,16 @@ stood_for {F = F} laws s base bits columns commitment prover_data stands =
 none_fit : {F : Type 0} (m : ℕ) (columns : List (List F)) → columns ≡ [] → AllByRecursion (HasDegreeBelow m) columns
 none_fit m columns none = subst (AllByRecursion (HasDegreeBelow m)) (sym none) tt
 
-module _ {S F E C K T P X Y : Type 0} {scheme : SchemeOps S F E C K T P X Y} (laws : SchemeLaws scheme) (s : S) (base : RingOps F) (bits : ℕ) (fixed : List (List F)) where
-  fixed_fit : (held : Option (PreprocessedProverData K T)) → IsPreprocessedCommitment scheme s base fixed held → IfSome held (λ h. h.degree_bits ≡ bits) → AllByRecursion (HasDegreeBelow (2 ^ bits)) fixed
-  fixed_fit None none same = none_fit (2 ^ bits) fixed none
-  fixed_fit (Some h) stands same = subst (λ (b : ℕ). AllByRecursion (HasDegreeBelow (2 ^ b)) fixed) same (stood_for laws s base h.degree_bits fixed h.commitment h.prover_data stands.0)
+module _ {S F E C K T P X Y : Type 0} {scheme : SchemeOps S F E C K T P X Y} (laws : SchemeLaws scheme) (s : S) (base : RingOps F) (bits : ℕ) (preprocessed : List (List F)) where
+  preprocessed_fit : (preprocessed_data : Option (PreprocessedProverData K T)) → IsPreprocessedCommitment scheme s base preprocessed preprocessed_data → IfSome preprocessed_data (λ h. h.degree_bits ≡ bits) → AllByRecursion (HasDegreeBelow (2 ^ bits)) preprocessed
+  preprocessed_fit None none same = none_fit (2 ^ bits) preprocessed none
+  preprocessed_fit (Some h) stands same = subst (λ (b : ℕ). AllByRecursion (HasDegreeBelow (2 ^ b)) preprocessed) same (stood_for laws s base h.degree_bits preprocessed h.commitment h.prover_data stands.0)
 
--- Without what is held there are no preprocessed columns.
-none_held : {S F E C K T P X Y A : Type 0} (scheme : SchemeOps S F E C K T P X Y) (s : S) (base : RingOps F) (fixed : List (List F)) (f : PreprocessedVerifierKey K → A) (key : Option (PreprocessedVerifierKey K))
-    (held : Option (PreprocessedProverData K T)) → IsPreprocessedCommitment scheme s base fixed held → key ≡ option_map key_of held → option_map f key ≡ None → fixed ≡ []
-none_held scheme s base fixed f key None none same e = none
-none_held {A = A} scheme s base fixed f key (Some h) stands same e = absurd (let there : ◌≡◌ {A = Option A} (Some (f (key_of h))) None = sym (ap (option_map f) same) ∙ e in cc)
+-- Without data there are no preprocessed columns.
+no_data : {S F E C K T P X Y A : Type 0} (scheme : SchemeOps S F E C K T P X Y) (s : S) (base : RingOps F) (preprocessed : List (List F)) (f : PreprocessedVerifierKey K → A) (key : Option (PreprocessedVerifierKey K))
+    (preprocessed_data : Option (PreprocessedProverData K T)) → IsPreprocessedCommitment scheme s base preprocessed preprocessed_data → key ≡ option_map key_of preprocessed_data → option_map f key ≡ None → preprocessed ≡ []
+no_data scheme s base preprocessed f key None none same e = none
+no_data {A = A} scheme s base preprocessed f key (Some h) stands same e = absurd (let there : ◌≡◌ {A = Option A} (Some (f (key_of h))) None = sym (ap (option_map f) same) ∙ e in cc)
 
 -- What is made of a key is there where the key is.
 made_of_key : {A B : Type 0} (f : A → B) (key : Option A) (rows : B) → option_map f key ≡ Some rows → (k : A) × (rows ≡ f k)
@@ -64,19 +64,19 @@ in_group log_parts is_zk degree_bits adicity greatest clear =
     let last = later_none (fault_if (nat_le 64 (degree_bits + log_parts)) _) _ past in
     ltb-false adicity (degree_bits + log_parts) (not_found (nat_lt adicity (degree_bits + log_parts)) _ last)
 
-module _ {S F E C K T P X Y : Type 0} (ops : ProtocolOps S F E C K T P X Y) (i : Instance S F C K) (coordinates : E → List F) (held : Option (PreprocessedProverData K T)) (height : ℕ) (trace : Trace F) (fixed : List (List F)) (p : ProofView K E P F)
-    (made : IsProofOfTrace ops i coordinates held height trace fixed p) where
-  opened_truly : AreTrueOpenings ops.opening.fields ops.opening.is_zk i.main_next_columns i.preprocessed_next_columns made.columns fixed made.chunks made.zeta (next_point ops.opening p.degree_bits made.zeta) p.opened_values
+module _ {S F E C K T P X Y : Type 0} (ops : ProtocolOps S F E C K T P X Y) (i : Instance S F C K) (coordinates : E → List F) (preprocessed_data : Option (PreprocessedProverData K T)) (height : ℕ) (trace : Trace F) (preprocessed : List (List F)) (p : ProofView K E P F)
+    (made : IsProofOfTrace ops i coordinates preprocessed_data height trace preprocessed p) where
+  opened_truly : AreTrueOpenings ops.opening.fields ops.opening.is_zk i.main_next_columns i.preprocessed_next_columns made.columns preprocessed made.chunks made.zeta (next_point ops.opening p.degree_bits made.zeta) p.opened_values
   opened_truly =
       let next_zeta = next_point ops.opening p.degree_bits made.zeta in
-      let opened : p.opened_values ≡ true_openings ops i made.columns fixed made.chunks made.random made.zeta next_zeta = made.opened in
-      let fixed_is = ap (λ o. o.preprocessed) opened in
+      let opened : p.opened_values ≡ true_openings ops i made.columns preprocessed made.chunks made.random made.zeta next_zeta = made.opened in
+      let preprocessed_is = ap (λ o. o.preprocessed) opened in
       record {
         local = ap (λ o. o.trace_local) opened;
         next = λ e. ap (λ o. o.trace_next) opened ∙ ap (λ b. row_if b (values_at ops i made.columns next_zeta)) e;
-        preprocessed_local = λ rows e. ap (λ r. r.local) (made_of_key _ i.key rows (sym fixed_is ∙ e)).1;
-        preprocessed_next = λ rows e reads. ap (λ r. r.next) (made_of_key _ i.key rows (sym fixed_is ∙ e)).1 ∙ ap (λ b. row_if b (values_at ops i fixed next_zeta)) reads;
-        no_preprocessed = λ e. none_held ops.opening.scheme i.scheme ops.opening.fields.base fixed _ i.key held made.preprocessed made.key (sym fixed_is ∙ e);
+        preprocessed_local = λ rows e. ap (λ r. r.local) (made_of_key _ i.key rows (sym preprocessed_is ∙ e)).1;
+        preprocessed_next = λ rows e reads. ap (λ r. r.next) (made_of_key _ i.key rows (sym preprocessed_is ∙ e)).1 ∙ ap (λ b. row_if b (values_at ops i preprocessed next_zeta)) reads;
+        no_preprocessed = λ e. no_data ops.opening.scheme i.scheme ops.opening.fields.base preprocessed _ i.key preprocessed_data made.preprocessed made.key (sym preprocessed_is ∙ e);
         quotient = ap (λ o. o.quotient_chunks) opened;
       }
 
@@ -86,40 +86,40 @@ module _ {S F E C K T P X Y : Type 0} (ops : ProtocolOps S F E C K T P X Y) (i :
 
   -- The proof is balanced at its own challenges, where the columns satisfy the AIR.
   pub proof_of_trace_is_balanced : AreLawful ops.opening.fields coordinates → SchemeLaws ops.opening.scheme → LeavesWithin i.layout i.constraints
-      → (declared_fixed : Option (Trace F)) → IsDeclared i.layout declared_fixed i.periodic_columns i.main_next_columns i.preprocessed_next_columns
-      → IfSome held (λ h. h.degree_bits ≡ p.degree_bits)
-      → Satisfies (air_of ops i height) (columns_above ops.opening.fields.embed made.columns fixed i.public_values) → HasSmallBound i.constraints height p.degree_bits (log_parts ops i p)
+      → (declared_preprocessed : Option (Trace F)) → IsDeclared i.layout declared_preprocessed i.periodic_columns i.main_next_columns i.preprocessed_next_columns
+      → IfSome preprocessed_data (λ h. h.degree_bits ≡ p.degree_bits)
+      → Satisfies (air_of ops i height) (columns_above ops.opening.fields.embed made.columns preprocessed i.public_values) → HasSmallBound i.constraints height p.degree_bits (log_parts ops i p)
       → IsBalanced ops i p made.alpha made.zeta
-  proof_of_trace_is_balanced lawful laws leaves declared_fixed declared same_height satisfied small =
+  proof_of_trace_is_balanced lawful laws leaves declared_preprocessed declared same_height satisfied small =
       let fields = ops.opening.fields in
-      honest_is_balanced ops i p coordinates lawful leaves declared_fixed declared height (record { committed = made.degree_bits; within = in_group (log_parts ops i p) (zk_bits ops.opening.is_zk) p.degree_bits fields.adicity _ made.sized }) made.columns fixed
+      honest_is_balanced ops i p coordinates lawful leaves declared_preprocessed declared height (record { committed = made.degree_bits; within = in_group (log_parts ops i p) (zk_bits ops.opening.is_zk) p.degree_bits fields.adicity _ made.sized }) made.columns preprocessed
       (record {
         main_degrees = stood_for laws i.scheme fields.base p.degree_bits made.columns p.commitments.trace made.trace_data made.committed.stands;
-        fixed_degrees = fixed_fit laws i.scheme fields.base p.degree_bits fixed held made.preprocessed same_height;
+        preprocessed_degrees = preprocessed_fit laws i.scheme fields.base p.degree_bits preprocessed preprocessed_data made.preprocessed same_height;
       })
-      satisfied small (quotient_rows ops i p.degree_bits made.columns fixed)
+      satisfied small (quotient_rows ops i p.degree_bits made.columns preprocessed)
       (record {
         size = refl;
         point = λ k. refl;
         main_rows = record { count = refl; rows = λ r below. refl };
-        fixed_rows = record { count = refl; rows = λ r below. refl };
-        same_publics = refl;
+        preprocessed_rows = record { count = refl; rows = λ r below. refl };
+        same_public_values = refl;
       })
       made.alpha made.chunks (record { values = made.quotient.values; pointwise = made.quotient.pointwise; chunked = made.quotient.chunked }) made.zeta opened_truly
 
   abbrev pub rows_of_trace : (ℕ → List F) → TraceRows F
-  rows_of_trace fixed_rows = record { main = matrix_row trace.values trace.width; preprocessed = fixed_rows; publics = i.public_values }
+  rows_of_trace preprocessed_rows = record { main = matrix_row trace.values trace.width; preprocessed = preprocessed_rows; public_values = i.public_values }
 
   -- The columns satisfy the AIR where the trace does in each row, beside rows that the preprocessed columns take.
   pub satisfied_in_each_row : AreLawful ops.opening.fields coordinates → LeavesWithin i.layout i.constraints
-      → (fixed_width : ℕ) (fixed_rows : ℕ → List F) → TakesRows ops.opening.fields.base ops.opening.fields.root (natural_coset ops.opening.fields.base height) fixed_width fixed_rows fixed
-      → HoldsInEachRow (air_of ops i height) (rows_of_trace fixed_rows) → Satisfies (air_of ops i height) (columns_above ops.opening.fields.embed made.columns fixed i.public_values)
-  satisfied_in_each_row lawful leaves fixed_width fixed_rows takes holds =
+      → (preprocessed_width : ℕ) (preprocessed_rows : ℕ → List F) → TakesRows ops.opening.fields.base ops.opening.fields.root (natural_coset ops.opening.fields.base height) preprocessed_width preprocessed_rows preprocessed
+      → HoldsInEachRow (air_of ops i height) (rows_of_trace preprocessed_rows) → Satisfies (air_of ops i height) (columns_above ops.opening.fields.embed made.columns preprocessed i.public_values)
+  satisfied_in_each_row lawful leaves preprocessed_width preprocessed_rows takes holds =
       let fields = ops.opening.fields in
       let same : height ≡ log_height ops.opening.is_zk p.degree_bits = own_height ops.opening.is_zk height p.degree_bits made.degree_bits in
       let fits : All (λ column. ColumnFits (2 ^ height) (length column)) i.periodic_columns =
       all_fit (λ column. length column) (2 ^ height) 0 i.periodic_columns (ap (λ (k : ℕ). first_fault (2 ^ k) 0 (map (λ column. length column) i.periodic_columns)) same ∙ made.fitting) in
-      satisfied_by_trace fields coordinates lawful i.constraints i.periodic_columns height (rows_of_trace fixed_rows) trace.width fixed_width made.columns fixed made.committed.takes takes i.layout leaves
+      satisfied_by_trace fields coordinates lawful i.constraints i.periodic_columns height (rows_of_trace preprocessed_rows) trace.width preprocessed_width made.columns preprocessed made.committed.takes takes i.layout leaves
       within_field fits holds
 
   -- It is accepted where the rest of acceptance holds, and zeta lies outside H.

@@ -28,16 +28,16 @@ none_where_same false false missing unexpected same = refl
 pub random_clear : (shape other : StarkShape) {there : Bool} → shape ≡ other → there ≡ other.has_randomization → random_fault shape there ≡ None
 random_clear shape other {there = there} is_shape same = none_where_same _ there _ _ (same ∙ sym (ap (λ (s : StarkShape). s.has_randomization) is_shape))
 
--- What is held is there exactly where a shape of its width, or of the AIR's, has preprocessed columns.
-pub held_clear : {K T : Type 0} (shape other : StarkShape) (held : Option (Bor (PreprocessedProverData K T))) (width : ℕ) → shape ≡ other → other.preprocessed_width ≡ width_in_force (option_map key_of (option_copied held)) width
-    → is_some held ≡ ltb 0 width → IfSome (option_copied held) (λ h. h.width ≡ width) → preprocessed_fault shape (is_some held) ≡ None
-held_clear shape other None width is_shape in_force there same = none_where_same _ false _ _ (there ∙ sym (ap (λ n. ltb 0 n) (ap (λ (s : StarkShape). s.preprocessed_width) is_shape ∙ in_force)))
-held_clear shape other (Some held) width is_shape in_force there same = none_where_same _ true _ _ (there ∙ sym (ap (λ n. ltb 0 n) (ap (λ (s : StarkShape). s.preprocessed_width) is_shape ∙ in_force ∙ same)))
+-- The data are there exactly where a shape of its width, or of the AIR's, has preprocessed columns.
+pub data_clear : {K T : Type 0} (shape other : StarkShape) (preprocessed_data : Option (Bor (PreprocessedProverData K T))) (width : ℕ) → shape ≡ other → other.preprocessed_width ≡ width_in_force (option_map key_of (option_copied preprocessed_data)) width
+    → is_some preprocessed_data ≡ ltb 0 width → IfSome (option_copied preprocessed_data) (λ h. h.width ≡ width) → preprocessed_fault shape (is_some preprocessed_data) ≡ None
+data_clear shape other None width is_shape in_force there same = none_where_same _ false _ _ (there ∙ sym (ap (λ n. ltb 0 n) (ap (λ (s : StarkShape). s.preprocessed_width) is_shape ∙ in_force)))
+data_clear shape other (Some preprocessed_data) width is_shape in_force there same = none_where_same _ true _ _ (there ∙ sym (ap (λ n. ltb 0 n) (ap (λ (s : StarkShape). s.preprocessed_width) is_shape ∙ in_force ∙ same)))
 
 module _ {S F E C K T P X Y : Type 0} {ops : ProtocolOps S F E C K T P X Y} {i : Instance S F C K} where
   -- What a proof is, is said of what it carries.
-  pub proof_by_view : {coordinates : E → List F} {held : Option (PreprocessedProverData K T)} {height : ℕ} {trace : Trace F} {fixed : List (List F)} {proof carried : ProofView K E P F} → proof ≡ carried → IsProofOfTrace ops i coordinates held height trace fixed carried → IsProofOfTrace ops i coordinates held height trace fixed proof
-  proof_by_view {coordinates = coordinates} {held = held} {height = height} {trace = trace} {fixed = fixed} same made = subst (λ p. IsProofOfTrace ops i coordinates held height trace fixed p) (sym same) made
+  pub proof_by_view : {coordinates : E → List F} {preprocessed_data : Option (PreprocessedProverData K T)} {height : ℕ} {trace : Trace F} {preprocessed : List (List F)} {proof carried : ProofView K E P F} → proof ≡ carried → IsProofOfTrace ops i coordinates preprocessed_data height trace preprocessed carried → IsProofOfTrace ops i coordinates preprocessed_data height trace preprocessed proof
+  proof_by_view {coordinates = coordinates} {preprocessed_data = preprocessed_data} {height = height} {trace = trace} {preprocessed = preprocessed} same made = subst (λ p. IsProofOfTrace ops i coordinates preprocessed_data height trace preprocessed p) (sym same) made
 
   -- What is committed to for randomization.
   pub randomization_of : {degree_bits : ℕ} (random : Option (Committed K T)) → is_some random ≡ ops.opening.is_zk
@@ -51,7 +51,7 @@ module _ {S F E C K T P X Y : Type 0} {ops : ProtocolOps S F E C K T P X Y} {i :
   random_where_masked None (without_masks plain) = sym plain
   random_where_masked (Some random) (with_masks masked stands) = sym masked
 
-  pub bound_made : {degree_bits : ℕ} {coordinates : E → List F} {held : Option (PreprocessedProverData K T)} {height : ℕ} {trace : Trace F} {columns fixed : List (List F)} {commitment : K} {prover_data : T} {alpha : E} {alpha_witness : F} {state : C} {quotient : K} {quotient_data : T} {random : Option K} {random_data : Option T}
-      → ((chunks : List (QuotientChunk F)) × HasQuotient ops i coordinates held height degree_bits trace columns fixed commitment prover_data alpha alpha_witness state chunks quotient quotient_data)
-      → ((random_columns : Option (List (List F))) × IsRandomization ops i degree_bits random random_data random_columns) → IsBoundProof ops i coordinates held height degree_bits trace fixed commitment prover_data alpha alpha_witness state quotient quotient_data random random_data
+  pub bound_made : {degree_bits : ℕ} {coordinates : E → List F} {preprocessed_data : Option (PreprocessedProverData K T)} {height : ℕ} {trace : Trace F} {columns preprocessed : List (List F)} {commitment : K} {prover_data : T} {alpha : E} {alpha_witness : F} {state : C} {quotient : K} {quotient_data : T} {random : Option K} {random_data : Option T}
+      → ((chunks : List (QuotientChunk F)) × HasQuotient ops i coordinates preprocessed_data height degree_bits trace columns preprocessed commitment prover_data alpha alpha_witness state chunks quotient quotient_data)
+      → ((random_columns : Option (List (List F))) × IsRandomization ops i degree_bits random random_data random_columns) → IsBoundProof ops i coordinates preprocessed_data height degree_bits trace preprocessed commitment prover_data alpha alpha_witness state quotient quotient_data random random_data
   bound_made {columns = columns} made randomized = record { columns = columns; chunks = made.0; random_columns = randomized.0; made = made.1; randomization = randomized.1 }

@@ -32,25 +32,25 @@ use Rattle.stark_prover.specs.ProverFault.{IsReady, log_chunks_of}
 use Rattle.stark_prover.specs.SchemeFaults.{IsSchemeFault}
 use Rattle.stark_prover.specs.Sizes.{AreDomains}
 
-module _ {F E : Type 0} (i : AirInstance F E) (base : RingOps F) (root : ℕ → F) (coset : TwoAdicCoset F) (main fixed : Trace F) (columns fixed_columns : List (List F)) (publics : List F) (alpha : E)
-    (taken : HasRows base root coset columns main.values main.width) (fixed_taken : HasRows base root coset fixed_columns fixed.values fixed.width) where
+module _ {F E : Type 0} (i : AirInstance F E) (base : RingOps F) (root : ℕ → F) (coset : TwoAdicCoset F) (main preprocessed : Trace F) (columns preprocessed_columns : List (List F)) (public_values : List F) (alpha : E)
+    (taken : HasRows base root coset columns main.values main.width) (preprocessed_taken : HasRows base root coset preprocessed_columns preprocessed.values preprocessed.width) where
   rows : RowsOnCoset F
-  rows = rows_of_columns base root coset columns fixed_columns publics
+  rows = rows_of_columns base root coset columns preprocessed_columns public_values
 
-  same_quotient : (k : ℕ) → k < coset_size coset → pointwise_quotient i (rows_of_matrices base root coset main fixed publics) alpha k ≡ pointwise_quotient i rows alpha k
+  same_quotient : (k : ℕ) → k < coset_size coset → pointwise_quotient i (rows_of_matrices base root coset main preprocessed public_values) alpha k ≡ pointwise_quotient i rows alpha k
   unfolding rows
   same_quotient k below =
       let next = (k + coset_size coset / height i) % coset_size coset in
       let next_below : next < coset_size coset = mod-lt (k + coset_size coset / height i) (omega arith) in
       let x = i.embed (coset_point base root coset k) in
       let over = λ (r s t u : List F). i.ring.mul (folded i.ring alpha (constraint_values (ring_operations i.ring i.embed) (environment_of (ring_operations i.ring i.embed) i.base.zero i.ring.zero (map i.embed r) (map i.embed s) (map i.embed t) (map i.embed u)
-      publics (periodic_row i rows x) (first_row_selector i.ring (λ c. c) (group i) x) (last_row_selector i.ring (λ c. c) (group i) x) (transition_selector i.ring (λ c. c) (group i) x)) i.constraints)) (i.inverse (subgroup_vanishing i.ring (height i) x)) in
+      public_values (periodic_row i rows x) (first_row_selector i.ring (λ c. c) (group i) x) (last_row_selector i.ring (λ c. c) (group i) x) (transition_selector i.ring (λ c. c) (group i) x)) i.constraints)) (i.inverse (subgroup_vanishing i.ring (height i) x)) in
       let m = matrix_row main.values main.width in
-      let f = matrix_row fixed.values fixed.width in
+      let f = matrix_row preprocessed.values preprocessed.width in
       ap (λ r. over r (m next) (f k) (f next)) (taken.takes.rows k below) ∙ ap (λ s. over (rows.main k) s (f k) (f next)) (taken.takes.rows next next_below) ∙
-      ap (λ t. over (rows.main k) (rows.main next) t (f next)) (fixed_taken.takes.rows k below) ∙ ap (λ u. over (rows.main k) (rows.main next) (rows.preprocessed k) u) (fixed_taken.takes.rows next next_below)
+      ap (λ t. over (rows.main k) (rows.main next) t (f next)) (preprocessed_taken.takes.rows k below) ∙ ap (λ u. over (rows.main k) (rows.main next) (rows.preprocessed k) u) (preprocessed_taken.takes.rows next next_below)
 
-  pub over_columns : (values : List E) → ArePointwiseQuotients i (rows_of_matrices base root coset main fixed publics) alpha values → ArePointwiseQuotients i (rows_of_columns base root coset columns fixed_columns publics) alpha values
+  pub over_columns : (values : List E) → ArePointwiseQuotients i (rows_of_matrices base root coset main preprocessed public_values) alpha values → ArePointwiseQuotients i (rows_of_columns base root coset columns preprocessed_columns public_values) alpha values
   unfolding rows
   over_columns values are = record { number = are.number; at_point = λ k below. are.at_point k below ∙ ap (λ v. Some v) (same_quotient k below) }
 
@@ -135,22 +135,22 @@ periodic_fit base is_zk degree_bits columns domain natural fitting =
     subst (λ (d : TwoAdicCoset _). All (λ column. ColumnFits (coset_size d) (length column)) columns) (sym natural) (all_fit (λ column. length column) _ 0 columns fitting)
 
 -- The quotient over the columns, with the domain's names of its sizes.
-module _ {S F E C K T P X Y : Type 0} {ops : ProtocolOps S F E C K T P X Y} {i : Instance S F C K} {coordinates : E → List F} {held : Option (PreprocessedProverData K T)} {log_rows degree_bits : ℕ} {trace : Trace F} {columns fixed : List (List F)} {commitment : K} {prover_data : T}
-    (ready : IsReady ops i coordinates held log_rows degree_bits trace columns fixed commitment prover_data) {alpha : E} {n l : ℕ} {coset : TwoAdicCoset F} (is_height : n ≡ log_rows) (is_coset : coset ≡ quotient_domain ops i degree_bits) (is_count : l ≡ log_chunks_of ops i degree_bits) where
+module _ {S F E C K T P X Y : Type 0} {ops : ProtocolOps S F E C K T P X Y} {i : Instance S F C K} {coordinates : E → List F} {preprocessed_data : Option (PreprocessedProverData K T)} {log_rows degree_bits : ℕ} {trace : Trace F} {columns preprocessed : List (List F)} {commitment : K} {prover_data : T}
+    (ready : IsReady ops i coordinates preprocessed_data log_rows degree_bits trace columns preprocessed commitment prover_data) {alpha : E} {n l : ℕ} {coset : TwoAdicCoset F} (is_height : n ≡ log_rows) (is_coset : coset ≡ quotient_domain ops i degree_bits) (is_count : l ≡ log_chunks_of ops i degree_bits) where
   pub quotient_at : {quotient : K} {quotient_data : T} → ((chunks : List (QuotientChunk F)) × IsQuotientCommitment ops.opening.scheme i.scheme (air_of ops i n) ops.opening.fields.root coordinates ops.opening.fields.dimension ops.opening.is_zk coset l
-      (rows_of_columns ops.opening.fields.base ops.opening.fields.root coset columns fixed i.public_values) alpha chunks quotient quotient_data)
+      (rows_of_columns ops.opening.fields.base ops.opening.fields.root coset columns preprocessed i.public_values) alpha chunks quotient quotient_data)
       → (chunks : List (QuotientChunk F)) × IsQuotientCommitment ops.opening.scheme i.scheme (air_of ops i log_rows) ops.opening.fields.root coordinates ops.opening.fields.dimension ops.opening.is_zk (quotient_domain ops i degree_bits) (log_chunks_of ops i degree_bits)
-      (quotient_rows ops i degree_bits columns fixed) alpha chunks quotient quotient_data
+      (quotient_rows ops i degree_bits columns preprocessed) alpha chunks quotient quotient_data
   quotient_at {quotient = quotient} {quotient_data = quotient_data} made =
       let holds = λ (m : ℕ) (c : TwoAdicCoset F) (k : ℕ). IsQuotientCommitment ops.opening.scheme i.scheme (air_of ops i m) ops.opening.fields.root coordinates ops.opening.fields.dimension ops.opening.is_zk c k
-      (rows_of_columns ops.opening.fields.base ops.opening.fields.root c columns fixed i.public_values) alpha made.0 quotient quotient_data in
+      (rows_of_columns ops.opening.fields.base ops.opening.fields.root c columns preprocessed i.public_values) alpha made.0 quotient quotient_data in
       (made.0, subst (λ m. holds m (quotient_domain ops i degree_bits) (log_chunks_of ops i degree_bits)) is_height (subst (λ c. holds n c (log_chunks_of ops i degree_bits)) is_coset (subst (λ k. holds n coset k) is_count made.1)))
 
   pub refusal_at : {error : ProvingError Y} → (error ≡ ProvingError.OutOfMemory)
-      ⊎ IsQuotientRefusal ops.opening.scheme i.scheme (air_of ops i n) coordinates ops.opening.fields.dimension coset l (rows_of_columns ops.opening.fields.base ops.opening.fields.root coset columns fixed i.public_values) alpha error
+      ⊎ IsQuotientRefusal ops.opening.scheme i.scheme (air_of ops i n) coordinates ops.opening.fields.dimension coset l (rows_of_columns ops.opening.fields.base ops.opening.fields.root coset columns preprocessed i.public_values) alpha error
       → (error ≡ ProvingError.OutOfMemory)
-      ⊎ IsQuotientRefusal ops.opening.scheme i.scheme (air_of ops i log_rows) coordinates ops.opening.fields.dimension (quotient_domain ops i degree_bits) (log_chunks_of ops i degree_bits) (quotient_rows ops i degree_bits columns fixed) alpha error
+      ⊎ IsQuotientRefusal ops.opening.scheme i.scheme (air_of ops i log_rows) coordinates ops.opening.fields.dimension (quotient_domain ops i degree_bits) (log_chunks_of ops i degree_bits) (quotient_rows ops i degree_bits columns preprocessed) alpha error
   refusal_at (inl memory) = inl memory
   refusal_at {error = error} (inr refusal) =
-      let holds = λ (m : ℕ) (c : TwoAdicCoset F) (k : ℕ). IsQuotientRefusal ops.opening.scheme i.scheme (air_of ops i m) coordinates ops.opening.fields.dimension c k (rows_of_columns ops.opening.fields.base ops.opening.fields.root c columns fixed i.public_values) alpha error in
+      let holds = λ (m : ℕ) (c : TwoAdicCoset F) (k : ℕ). IsQuotientRefusal ops.opening.scheme i.scheme (air_of ops i m) coordinates ops.opening.fields.dimension c k (rows_of_columns ops.opening.fields.base ops.opening.fields.root c columns preprocessed i.public_values) alpha error in
       inr (subst (λ m. holds m (quotient_domain ops i degree_bits) (log_chunks_of ops i degree_bits)) is_height (subst (λ c. holds n c (log_chunks_of ops i degree_bits)) is_coset (subst (λ k. holds n coset k) is_count refusal)))

@@ -50,9 +50,9 @@ trace_again : {E : Type 0} (v : OpeningsView E) → head_or [] (head_or [] (rest
 unfolding rest_of head_or
 trace_again v = refl
 
-fixed_again : {E : Type 0} (v : OpeningsView E) → preprocessed_from (tail_of (tail_of (rest_of v))) ≡ v.preprocessed
+last_again : {E : Type 0} (v : OpeningsView E) → preprocessed_from (tail_of (tail_of (rest_of v))) ≡ v.preprocessed
 unfolding rest_of tail_of
-fixed_again v = preprocessed_again v.preprocessed
+last_again v = preprocessed_again v.preprocessed
 
 chunks_of_rest : {E : Type 0} (v : OpeningsView E) → head_or [] (tail_of (rest_of v)) ≡ map (λ chunk. chunk ∷ []) v.quotient_chunks
 unfolding rest_of tail_of head_or
@@ -68,7 +68,7 @@ same_rest v w random rest =
     let rows = sym (trace_again v) ∙ ap (λ l. head_or [] (head_or [] l)) rest ∙ trace_again w in
     let local = sym (local_again v.trace_local v.trace_next) ∙ ap local_of rows ∙ local_again w.trace_local w.trace_next in
     let next = sym (next_again v.trace_local v.trace_next) ∙ ap next_of rows ∙ next_again w.trace_local w.trace_next in
-    let preprocessed = sym (fixed_again v) ∙ ap (λ l. preprocessed_from (tail_of (tail_of l))) rest ∙ fixed_again w in
+    let preprocessed = sym (last_again v) ∙ ap (λ l. preprocessed_from (tail_of (tail_of l))) rest ∙ last_again w in
     let chunks = singles v.quotient_chunks w.quotient_chunks (sym (chunks_of_rest v) ∙ ap (λ l. head_or [] (tail_of l)) rest ∙ chunks_of_rest w) in
     ap (λ (l : List _). view_of l v.trace_next v.preprocessed v.quotient_chunks v.random) local ∙ ap (λ (n : Option (List _)). view_of w.trace_local n v.preprocessed v.quotient_chunks v.random) next ∙
     ap (λ (o : Option (PreprocessedView _)). view_of w.trace_local w.trace_next o v.quotient_chunks v.random) preprocessed ∙ ap (λ (q : List (List _)). view_of w.trace_local w.trace_next w.preprocessed q v.random) chunks ∙

@@ -13,12 +13,12 @@ use Rattle.stark_prover.specs.SchemeFaults.{IsSchemeFault}
 
 -- The rows that columns take on a coset, by the number of the point.
 abbrev pub rows_of_columns : {F : Type 0} → RingOps F → (ℕ → F) → TwoAdicCoset F → List (List F) → List (List F) → List F → RowsOnCoset F
-rows_of_columns base root coset main preprocessed publics = record {
+rows_of_columns base root coset main preprocessed public_values = record {
   size = coset_size coset;
   point = coset_point base root coset;
   main = λ k. row_at base (λ c. c) main (coset_point base root coset k);
   preprocessed = λ k. row_at base (λ c. c) preprocessed (coset_point base root coset k);
-  publics = publics;
+  public_values = public_values;
 }
 
 module _ {S F E C K T P X Y : Type 0} (scheme : SchemeOps S F E C K T P X Y) (s : S) where
@@ -33,10 +33,10 @@ module _ {S F E C K T P X Y : Type 0} (scheme : SchemeOps S F E C K T P X Y) (s 
     pub stands : StandsForColumns base degree_bits columns commitment prover_data
     pub takes : TakesRows base root (natural_coset base log_height) trace.width (matrix_row trace.values trace.width) columns
 
-  -- What is held of a preprocessed trace stands for columns of its width; nothing held stands for none.
+  -- The data of a preprocessed trace stand for columns of its width; no data stand for none.
   abbrev pub IsPreprocessedCommitment : RingOps F → List (List F) → Option (PreprocessedProverData K T) → Type 0
   IsPreprocessedCommitment base columns None = columns ≡ []
-  IsPreprocessedCommitment base columns (Some held) = StandsForColumns base held.degree_bits columns held.commitment held.prover_data × (length columns ≡ held.width)
+  IsPreprocessedCommitment base columns (Some preprocessed_data) = StandsForColumns base preprocessed_data.degree_bits columns preprocessed_data.commitment preprocessed_data.prover_data × (length columns ≡ preprocessed_data.width)
 
   -- The commitment to the chunks of the pointwise quotient over columns, by the scheme's call for a quotient: its values on a coset,
   -- each flattened in the extension's coordinates, are cut in 2 ^ log_chunks chunks.

@@ -10,10 +10,10 @@ use Rattle.stark_protocol.specs.declared.preprocessed.PreprocessedProverData.{Pr
 use Rattle.stark_prover.specs.Heights.{HoldsColumns}
 
 -- A trace has the columns that the AIR declares, at least one, and there are as many public values as it has.
--- What is held of preprocessed columns is there exactly where the AIR has some, and stands for their number.
-pub record FitsAir {S F E C K T P X Y : Type 0} (scheme : SchemeOps S F E C K T P X Y) (s : S) (base : RingOps F) (layout : Layout) (held : Option (Bor (PreprocessedProverData K T))) (trace : RowMajorMatrix F) (public_values : List F) : Type 0 where
+-- The data of preprocessed columns are there exactly where the AIR has some, and stand for their number.
+pub record FitsAir {S F E C K T P X Y : Type 0} (scheme : SchemeOps S F E C K T P X Y) (s : S) (base : RingOps F) (layout : Layout) (preprocessed_data : Option (Bor (PreprocessedProverData K T))) (trace : RowMajorMatrix F) (values : List F) : Type 0 where
   pub columns : 0 < trace.width
   pub width : trace.width ≡ layout.main
-  pub publics : length public_values ≡ layout.publics
-  pub there : is_some held ≡ ltb 0 layout.preprocessed
-  pub stands : HoldsColumns scheme s base (option_copied held) layout.preprocessed
+  pub public_values : length values ≡ layout.public_values
+  pub there : is_some preprocessed_data ≡ ltb 0 layout.preprocessed
+  pub stands : HoldsColumns scheme s base (option_copied preprocessed_data) layout.preprocessed

@@ -10,9 +10,9 @@ use Rattle.stark_prover.specs.CommittedColumns.{IsPreprocessedCommitment}
 abbrev pub IsOfHeight : {F : Type 0} → RowMajorMatrix F → ℕ → Type 0
 IsOfHeight trace height = length trace.values.items ≡ 2 ^ height * trace.width
 
--- What is held of preprocessed columns is committed to at 2 ^ degree_bits rows.
-abbrev pub IsHeldAt : {K T : Type 0} → Option (PreprocessedProverData K T) → ℕ → Type 0
-IsHeldAt held degree_bits = IfSome held (λ h. h.degree_bits ≡ degree_bits)
+-- Preprocessed columns are committed to at 2 ^ degree_bits rows.
+abbrev pub IsCommittedAt : {K T : Type 0} → Option (PreprocessedProverData K T) → ℕ → Type 0
+IsCommittedAt preprocessed_data degree_bits = IfSome preprocessed_data (λ h. h.degree_bits ≡ degree_bits)
 
 module _ {S F E C K T P X Y : Type 0} (scheme : SchemeOps S F E C K T P X Y) (s : S) where
   -- The scheme has room for 2 ^ height rows, twice as many in zero knowledge.
@@ -23,10 +23,10 @@ module _ {S F E C K T P X Y : Type 0} (scheme : SchemeOps S F E C K T P X Y) (s 
   abbrev pub FitsScheme : Bool → RowMajorMatrix F → Type 0
   FitsScheme is_zk trace = (height : ℕ) × IsOfHeight trace height × HasRoom is_zk height
 
-  -- and at which what is held is committed to.
+  -- and at which the preprocessed columns are committed to.
   abbrev pub FitsSchemeBeside : Bool → Option (PreprocessedProverData K T) → RowMajorMatrix F → Type 0
-  FitsSchemeBeside is_zk held trace = (height : ℕ) × IsOfHeight trace height × HasRoom is_zk height × IsHeldAt held (height + zk_bits is_zk)
+  FitsSchemeBeside is_zk preprocessed_data trace = (height : ℕ) × IsOfHeight trace height × HasRoom is_zk height × IsCommittedAt preprocessed_data (height + zk_bits is_zk)
 
-  -- What is held stands for so many columns.
+  -- The data stand for so many columns.
   abbrev pub HoldsColumns : RingOps F → Option (PreprocessedProverData K T) → ℕ → Type 0
-  HoldsColumns base held width = (fixed : List (List F)) × IsPreprocessedCommitment scheme s base fixed held × (length fixed ≡ width)
+  HoldsColumns base preprocessed_data width = (preprocessed : List (List F)) × IsPreprocessedCommitment scheme s base preprocessed preprocessed_data × (length preprocessed ≡ width)

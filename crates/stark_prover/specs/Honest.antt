@@ -31,7 +31,7 @@ module _ {S F E C K T P X Y : Type 0} (ops : ProtocolOps S F E C K T P X Y) (i :
   -- Each constraint is zero in each of the trace's 2 ^ height rows, beside the row after it, round the end, and the declared
   -- preprocessed rows.
   abbrev pub IsSatisfied : ℕ → Option (Trace F) → Trace F → Type 0
-  IsSatisfied height declared trace = HoldsInEachRow (air_of ops i height) (record { main = matrix_row trace.values trace.width; preprocessed = declared_row declared; publics = i.public_values })
+  IsSatisfied height declared trace = HoldsInEachRow (air_of ops i height) (record { main = matrix_row trace.values trace.width; preprocessed = declared_row declared; public_values = i.public_values })
 
   -- The constraints' degrees, over columns committed at 2 ^ (height + is_zk) rows, fit the quotient's domain.
   abbrev pub HasSizedDegrees : ℕ → Type 0
@@ -44,5 +44,5 @@ module _ {S F E C K T P X Y : Type 0} (ops : ProtocolOps S F E C K T P X Y) (i :
 -- With the key that is set up beside what the prover holds, and where the trace satisfies the AIR, the proof is accepted, unless
 -- zeta lies in H.
 abbrev pub IsAcceptedIfHonest : {S F E C K T P X Y : Type 0} → ProtocolOps S F E C K T P X Y → (Option (PreprocessedVerifierKey K) → Instance S F C K) → Option (Trace F) → Option (PreprocessedProverData K T) → ℕ → Trace F → ProofView K E P F → Type 0
-IsAcceptedIfHonest {K = K} ops i declared held height trace p = (key : Option (PreprocessedVerifierKey K)) → AreSetUp ops.opening (i key).scheme height declared held key
+IsAcceptedIfHonest {K = K} ops i declared preprocessed_data height trace p = (key : Option (PreprocessedVerifierKey K)) → AreSetUp ops.opening (i key).scheme height declared preprocessed_data key
     → IsSatisfied ops (i key) height declared trace → HasSizedDegrees ops (i key) height → IsAcceptedOutside ops (i key) p

@@ -18,7 +18,7 @@ use Rattle.stark_prover.specs.CommittedColumns.{IsPreprocessedCommitment, IsQuot
 
 -- The key that corresponds to what a prover holds of a preprocessed trace.
 abbrev pub key_of : {K T : Type 0} → PreprocessedProverData K T → PreprocessedVerifierKey K
-key_of held = record { width = held.width; degree_bits = held.degree_bits; commitment = held.commitment }
+key_of preprocessed_data = record { width = preprocessed_data.width; degree_bits = preprocessed_data.degree_bits; commitment = preprocessed_data.commitment }
 
 -- a row that is opened where it is read
 abbrev pub row_if : {E : Type 0} → Bool → List E → Option (List E)
@@ -36,14 +36,14 @@ module _ {S F E C K T P X Y : Type 0} (ops : ProtocolOps S F E C K T P X Y) (i :
 
   -- The preprocessed columns' values, where there is a key.
   abbrev pub true_preprocessed : List (List F) → E → E → PreprocessedVerifierKey K → PreprocessedView E
-  true_preprocessed fixed zeta next_zeta key = record { local = values_at fixed zeta; next = row_if (opens_next_row i.preprocessed_next_columns) (values_at fixed next_zeta) }
+  true_preprocessed preprocessed zeta next_zeta key = record { local = values_at preprocessed zeta; next = row_if (opens_next_row i.preprocessed_next_columns) (values_at preprocessed next_zeta) }
 
   -- The values of the committed columns at zeta and at the next point, each in its place.
   abbrev pub true_openings : List (List F) → List (List F) → List (QuotientChunk F) → Option (List (List F)) → E → E → OpeningsView E
-  true_openings columns fixed chunks random zeta next_zeta = record {
+  true_openings columns preprocessed chunks random zeta next_zeta = record {
     trace_local = values_at columns zeta;
     trace_next = row_if (opens_next_row i.main_next_columns) (values_at columns next_zeta);
-    preprocessed = option_map (true_preprocessed fixed zeta next_zeta) i.key;
+    preprocessed = option_map (true_preprocessed preprocessed zeta next_zeta) i.key;
     quotient_chunks = map (λ chunk. values_at (committed_chunk ops.opening.fields.base ops.opening.is_zk chunk).columns zeta) chunks;
     random = option_map (λ columns. values_at columns zeta) random;
   }
@@ -59,11 +59,11 @@ module _ {S F E C K T P X Y : Type 0} (ops : ProtocolOps S F E C K T P X Y) (i :
   quotient_domain degree_bits = quotient_coset ops.opening.fields.base ops.opening.fields.generator (natural_coset ops.opening.fields.base degree_bits) (log_parts_of i.constraints i.degree_hint (zk_bits ops.opening.is_zk))
 
   abbrev pub quotient_rows : ℕ → List (List F) → List (List F) → RowsOnCoset F
-  quotient_rows degree_bits columns fixed = rows_of_columns ops.opening.fields.base ops.opening.fields.root (quotient_domain degree_bits) columns fixed i.public_values
+  quotient_rows degree_bits columns preprocessed = rows_of_columns ops.opening.fields.base ops.opening.fields.root (quotient_domain degree_bits) columns preprocessed i.public_values
 
-  -- A proof of a trace of 2 ^ height rows, made with what is held of the preprocessed columns, which stands for these fixed ones.
+  -- A proof of a trace of 2 ^ height rows, made with data that stand for these preprocessed columns.
   -- The instance's key is the one that corresponds to it.
-  pub record IsProofOfTrace (coordinates : E → List F) (held : Option (PreprocessedProverData K T)) (height : ℕ) (trace : Trace F) (fixed : List (List F)) (p : ProofView K E P F) : Type 0 where
+  pub record IsProofOfTrace (coordinates : E → List F) (preprocessed_data : Option (PreprocessedProverData K T)) (height : ℕ) (trace : Trace F) (preprocessed_columns : List (List F)) (p : ProofView K E P F) : Type 0 where
     pub columns : List (List F)
     pub chunks : List (QuotientChunk F)
     pub random : Option (List (List F))
@@ -76,13 +76,13 @@ module _ {S F E C K T P X Y : Type 0} (ops : ProtocolOps S F E C K T P X Y) (i :
     pub fitting : columns_fault ops i p ≡ None
     pub sized : domain_fault ops i p ≡ None
     pub committed : IsTraceCommitment ops.opening.scheme i.scheme ops.opening.fields.base ops.opening.fields.root height p.degree_bits trace columns p.commitments.trace trace_data
-    pub preprocessed : IsPreprocessedCommitment ops.opening.scheme i.scheme ops.opening.fields.base fixed held
-    pub key : i.key ≡ option_map key_of held
+    pub preprocessed : IsPreprocessedCommitment ops.opening.scheme i.scheme ops.opening.fields.base preprocessed_columns preprocessed_data
+    pub key : i.key ≡ option_map key_of preprocessed_data
     pub quotient : IsQuotientCommitment ops.opening.scheme i.scheme (air_of height) ops.opening.fields.root coordinates ops.opening.fields.dimension ops.opening.is_zk (quotient_domain p.degree_bits) (log_parts ops i p + zk_bits ops.opening.is_zk)
-        (quotient_rows p.degree_bits columns fixed) alpha chunks p.commitments.quotient_chunks quotient_data
+        (quotient_rows p.degree_bits columns preprocessed_columns) alpha chunks p.commitments.quotient_chunks quotient_data
     pub randomization : IsRandomization p.degree_bits p.commitments.random random_data random
     pub drawn : (challenges ops i p).answer ≡ Ok (alpha, zeta)
-    pub opened : p.opened_values ≡ true_openings columns fixed chunks random zeta (next_point ops.opening p.degree_bits zeta)
+    pub opened : p.opened_values ≡ true_openings columns preprocessed_columns chunks random zeta (next_point ops.opening p.degree_bits zeta)
     pub no_alpha_work : i.constraint_bits ≡ 0 → p.alpha_pow_witness ≡ ops.opening.fields.base.zero
     pub no_work : i.ood_bits ≡ 0 → p.ood_pow_witness ≡ ops.opening.fields.base.zero
-    pub whole : ops.opening.scheme.IsComplete i.scheme → ops.opening.scheme.Accepts i.scheme (claims ops.opening i.key p zeta) p.opening_proof (challenges ops i p).state (preprocessed_place ops.opening.is_zk i.key)
+    pub complete : ops.opening.scheme.IsComplete i.scheme → ops.opening.scheme.Accepts i.scheme (claims ops.opening i.key p zeta) p.opening_proof (challenges ops i p).state (preprocessed_place ops.opening.is_zk i.key)

@@ -18,13 +18,13 @@ use Rattle.stark_prover.specs.ProverView.{ProverView, own_instance}
 use Rattle.stark_prover.specs.SchemeFaults.{IsOutOfMemoryOr}
 
 module _ {S F E C K T P X Y : Type 0} (ops : ProtocolOps S F E C K T P X Y) (view : ProverView S F E C K T) where
-  -- These columns are what is held of the preprocessed ones.
-  abbrev pub AreHeld : List (List F) → Type 0
-  AreHeld fixed = IsPreprocessedCommitment ops.opening.scheme (own_instance view).scheme ops.opening.fields.base fixed view.preprocessed
+  -- The data stand for these preprocessed columns.
+  abbrev pub ArePreprocessedColumns : List (List F) → Type 0
+  ArePreprocessedColumns preprocessed = IsPreprocessedCommitment ops.opening.scheme (own_instance view).scheme ops.opening.fields.base preprocessed view.preprocessed
 
-  -- A proof of a trace of 2 ^ height rows, with whatever columns are held,
+  -- A proof of a trace of 2 ^ height rows, with whatever preprocessed columns,
   abbrev pub IsProofAt : ℕ → RowMajorMatrix F → Proof K E P F → Type 0
-  IsProofAt height trace proof = (fixed : List (List F)) → AreHeld fixed → IsProofOfTrace ops (own_instance view) view.coordinates view.preprocessed height (trace_of trace) fixed (proof_view proof)
+  IsProofAt height trace proof = (preprocessed : List (List F)) → ArePreprocessedColumns preprocessed → IsProofOfTrace ops (own_instance view) view.coordinates view.preprocessed height (trace_of trace) preprocessed (proof_view proof)
 
   -- and at each height that the trace has;
   abbrev pub IsProofOf : RowMajorMatrix F → Proof K E P F → Type 0
@@ -32,7 +32,7 @@ module _ {S F E C K T P X Y : Type 0} (ops : ProtocolOps S F E C K T P X Y) (vie
 
   -- the same with these columns.
   abbrev pub IsProofWith : List (List F) → RowMajorMatrix F → Proof K E P F → Type 0
-  IsProofWith fixed trace proof = (height : ℕ) → IsOfHeight trace height → IsProofOfTrace ops (own_instance view) view.coordinates view.preprocessed height (trace_of trace) fixed (proof_view proof)
+  IsProofWith preprocessed trace proof = (height : ℕ) → IsOfHeight trace height → IsProofOfTrace ops (own_instance view) view.coordinates view.preprocessed height (trace_of trace) preprocessed (proof_view proof)
 
   -- From the scheme's least height on, and where it refuses no true opening: the proof lacks nothing but the trace's truth,
   abbrev pub IsAcceptableProof : RowMajorMatrix F → Proof K E P F → Type 0

@@ -35,8 +35,8 @@ optional_view round = map (λ r. map (λ m. map (λ p. p.items) m.items) r.items
 
 -- Random commitment, trace, quotient in so many chunks, and preprocessed columns, in this order.
 abbrev pub rounds_of : {E T : Type 0} → E → List E → List E → ℕ → Option T → T → T → Option T → List (RoundPoints E T)
-rounds_of zeta points fixed_points chunks random trace quotient preprocessed =
-    random_points zeta random ++ ((trace, points ∷ []) ∷ (quotient, replicate chunks (zeta ∷ [])) ∷ preprocessed_points fixed_points preprocessed)
+rounds_of zeta points points_of_preprocessed chunks random trace quotient preprocessed =
+    random_points zeta random ++ ((trace, points ∷ []) ∷ (quotient, replicate chunks (zeta ∷ [])) ∷ preprocessed_points points_of_preprocessed preprocessed)
 
 -- The place of the preprocessed round, where there is one.
 abbrev pub place_of : {T : Type 0} → Bool → Option T → Option ℕ
@@ -65,12 +65,12 @@ opened_lists opened =
 
 -- ---- the scheme's answer
 
--- What the scheme answers of these rounds, from this state: of whatever stands behind them the true values, which a whole
+-- What the scheme answers of these rounds, from this state: of whatever stands behind them the true values, which a complete
 -- scheme accepts; or a refusal that it may have.
 pub record IsOpeningAnswer {S F E C K T P X Y O : Type 0} (scheme : SchemeOps S F E C K T P X Y) (ring : RingOps E) (embed : F → E) (s : S) (rounds : List (RoundPoints E T)) (state : C) (index : Option ℕ)
     (view : O → List (List (List (List E)))) (answer : Result (O × P) (ProvingError Y)) : Type 0 where
   pub true_values : IfOk answer (λ opened. (made : List (OpenedRound F E K T)) → AllByRecursion (RoundStands scheme s) made → rounds ≡ map handed made → view opened.0 ≡ map (true_values ring embed) made)
-  pub whole : IfOk answer (λ opened. (made : List (OpenedRound F E K T)) → AllByRecursion (RoundStands scheme s) made → rounds ≡ map handed made → scheme.IsComplete s
+  pub complete : IfOk answer (λ opened. (made : List (OpenedRound F E K T)) → AllByRecursion (RoundStands scheme s) made → rounds ≡ map handed made → scheme.IsComplete s
       → scheme.Accepts s (map (true_claim ring embed) made) opened.1 state index)
   pub fault : IfErr answer (IsOutOfMemoryOr (IsSchemeFault (codes "opening") (scheme.RefusesOpening s rounds state index)))
 

@@ -38,8 +38,8 @@ module _ {S F E C K T P X Y : Type 0} {scheme : SchemeOps S F E C K T P X Y} {s 
   stands_for_set_up = (subst (λ n. StandsForColumns scheme s field n set.columns prover.commitment prover.prover_data) (sym set.prover_degree) set.stands, set.takes.count ∙ sym set.prover_width)
 
   -- which have the declared width.
-  pub held_of_set_up : (fixed : List (List F)) × IsPreprocessedCommitment scheme s field fixed (Some prover) × (length fixed ≡ trace.width)
-  held_of_set_up = (set.columns, stands_for_set_up, set.takes.count)
+  pub data_of_set_up : (preprocessed : List (List F)) × IsPreprocessedCommitment scheme s field preprocessed (Some prover) × (length preprocessed ≡ trace.width)
+  data_of_set_up = (set.columns, stands_for_set_up, set.takes.count)
 
   -- The key is the one that corresponds to it.
   pub key_of_set_up : key ≡ key_of prover

@@ -27,12 +27,12 @@ IsSizeError error outcome = ⊥
 
 -- The error is such a fault, where there is one.
 abbrev pub IsPeriodicFault : {Y : Type 0} → Option PeriodicColumnShapeError → ProvingError Y → Type 0
-IsPeriodicFault found error = IfSome found (λ fault. error ≡ ProvingError.PeriodicColumn fault)
+IsPeriodicFault periodic error = IfSome periodic (λ fault. error ≡ ProvingError.PeriodicColumn fault)
 
 -- The quotient's domain is at fault.
 pub record IsQuotientSizeFault {Y : Type 0} (quotient : Option InvalidProofShapeError) (error : ProvingError Y) : Type 0 where
   pub fault : InvalidProofShapeError
-  pub found : quotient ≡ Some fault
+  pub is_fault : quotient ≡ Some fault
   pub numbers : IsSizeError fault error
 
 -- The first fault of the sizes: of the periodic columns, or else of the quotient's domain.

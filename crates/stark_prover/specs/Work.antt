@@ -4,7 +4,6 @@ use Rattle.std.specs.Option.{option_copied}
 use Rattle.stark_support.specs.Sponge.{Event, SpongeOps, replay}
 use Rattle.stark_transcript.specs.Replay.{PhaseOutcome, constraint_events, constraint_outcome, ood_events, ood_outcome, prover_constraint_outcome, prover_ood_outcome, succeeds}
 use Rattle.stark_transcript.specs.declared.shape.GrindExhausted.{GrindExhausted}
-use Rattle.stark_transcript.specs.declared.shape.StarkShape.{StarkShape}
 use Rattle.stark_transcript.specs.declared.shape.TranscriptPhase.TheVariants.{Bound, Drawn}
 use Rattle.stark_transcript.specs.declared.transcript.prover.StarkProverTranscript.{StarkProverTranscript}
 use Rattle.stark_prover.specs.declared.transcript.BeforeAlpha.{BeforeAlpha}

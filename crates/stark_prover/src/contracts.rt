@@ -10,7 +10,7 @@ ghost use Rattle.stark_transcript.specs.declared.transcript.prover.StarkProverTr
 ghost use Rattle.stark_proof.specs.declared.values.Proof.{Proof};
 ghost use Rattle.stark_prover.specs.ProverView.{ProverView, prover_view};
 ghost use Rattle.stark_prover.specs.Proving.{Completeness, IsAcceptableProof, IsFaultAt, IsFaultOf, IsProofAt, IsProofOf, IsProofWith};
-ghost use Rattle.stark_prover.specs.Stages.{AreDomainsOf, AreFixedRows, AreQuotients, AreTraceRows, HasColumns, HasFixedColumns, IsBound, IsCommitted, IsDomainFault, IsFault, IsFaultBehindColumns, IsOpened, IsProof, IsQuotientOf, IsRefusalOf, IsSeeded, columns_fault_at, described_at, domain_fault_at};
+ghost use Rattle.stark_prover.specs.Stages.{AreDomainsOf, ArePreprocessedRows, AreQuotients, AreTraceRows, HasColumns, HasPreprocessedColumns, IsBound, IsCommitted, IsDomainFault, IsFault, IsFaultBehindColumns, IsOpened, IsProof, IsQuotientOf, IsRefusalOf, IsSeeded, columns_fault_at, described_at, domain_fault_at};
 ghost use Rattle.stark_prover.specs.declared.commit.Committed.{Committed};
 ghost use Rattle.stark_prover.specs.declared.contracts.ProverInputs.{ProverInputs};
 ghost use Rattle.stark_prover.specs.declared.domains.ProverDomains.{ProverDomains};
@@ -180,11 +180,11 @@ pub trait StarkRows<A>: StarkGenericConfig {
 
     ghost has_columns: { Instance → ℕ → Self.Pcs.ProverData → Type 0 };
 
-    ghost has_fixed_columns: { Instance → Type 0 };
+    ghost has_preprocessed_columns: { Instance → Type 0 };
 
     ghost are_trace_rows: { Instance → Self.Pcs.Domain → Self.Pcs.ProverData → Trace → Type 0 };
 
-    ghost are_fixed_rows: { Instance → Self.Pcs.Domain → Option Trace → Type 0 };
+    ghost are_preprocessed_rows: { Instance → Self.Pcs.Domain → Option Trace → Type 0 };
 
     ghost are_quotients: { Instance → ProverDomains Self.Pcs.Domain → Self.Pcs.ProverData
         → Self.Challenge → List Self.Challenge → Type 0 };
@@ -201,13 +201,13 @@ where
     ghost has_columns = { λ i. HasColumns ⟦<SC as StarkOperations>⟧.operations
         (⟦<SC as StarkProverView<A>>⟧.view i) };
 
-    ghost has_fixed_columns = { λ i. HasFixedColumns ⟦<SC as StarkOperations>⟧.operations
-        (⟦<SC as StarkProverView<A>>⟧.view i) };
+    ghost has_preprocessed_columns = { λ i. HasPreprocessedColumns
+        ⟦<SC as StarkOperations>⟧.operations (⟦<SC as StarkProverView<A>>⟧.view i) };
 
     ghost are_trace_rows = { λ i. AreTraceRows ⟦<SC as StarkOperations>⟧.operations
         (⟦<SC as StarkProverView<A>>⟧.view i) SC.Pcs.Domain.coset_of };
 
-    ghost are_fixed_rows = { λ i. AreFixedRows ⟦<SC as StarkOperations>⟧.operations
+    ghost are_preprocessed_rows = { λ i. ArePreprocessedRows ⟦<SC as StarkOperations>⟧.operations
         (⟦<SC as StarkProverView<A>>⟧.view i) SC.Pcs.Domain.coset_of };
 
     ghost are_quotients = { λ i. AreQuotients ⟦<SC as StarkOperations>⟧.operations

@@ -155,7 +155,7 @@ where
     ensures phase { transcript.new.phase ≡ Delegated }
     ensures values { IfOk result (AreTrueValues ⟦<SC as StarkOperations>⟧.operations
         (SC.config.scheme config.now) points of.now) }
-    ensures whole { IfOk result (IsTrueArgument ⟦<SC as StarkOperations>⟧.operations
+    ensures complete { IfOk result (IsTrueArgument ⟦<SC as StarkOperations>⟧.operations
         (SC.config.scheme config.now) points of.now transcript.old.challenger.now) }
     ensures fault { IfErr result (IsOpeningRefusal ⟦<SC as StarkOperations>⟧.operations
         (SC.config.scheme config.now) points of.now transcript.old.challenger.now) }

@@ -137,11 +137,11 @@ pub(crate) fn values_of<EF: Drop>(
     ensures lists { IfOk result (λ values. opened_view opened
         ≡ opened_lists (openings_view values)) }
 {
-    let (random, trace, quotient, fixed) = split_rounds(opened, is_random);
+    let (random, trace, quotient, last) = split_rounds(opened, is_random);
     let random = random_of(random);
     let (trace_local, trace_next) = rows_of_round(trace);
     let quotient_chunks = each_row(alloc, quotient)?;
-    let preprocessed = preprocessed_of(fixed);
+    let preprocessed = preprocessed_of(last);
     Ok(OpenedValues {
         trace_local,
         trace_next,

@@ -6,7 +6,7 @@ ghost use Rattle.stark_support.specs.Scheme.{zk_bits};
 ghost use Rattle.stark_transcript.specs.declared.shape.TranscriptPhase.TheVariants.{Bound, Delegated};
 ghost use Rattle.stark_proof.specs.ProofView.{proof_view};
 ghost use Rattle.stark_prover.specs.Conditions.{FitsAir};
-ghost use Rattle.stark_prover.specs.Heights.{FitsScheme, FitsSchemeBeside, HasRoom, IsHeldAt, IsOfHeight};
+ghost use Rattle.stark_prover.specs.Heights.{FitsScheme, FitsSchemeBeside, HasRoom, IsCommittedAt, IsOfHeight};
 ghost use Rattle.stark_prover.specs.ProverView.{InputsHold, instance_of};
 ghost use Rattle.stark_prover.specs.Stages.{view_of_parts};
 
@@ -59,12 +59,12 @@ where
     prove_with_preprocessed(alloc, config, air, trace, public_values, preprocessed)
 }
 
-/// A proof that a trace satisfies an AIR, with what is held of the AIR's preprocessed columns.
+/// A proof that a trace satisfies an AIR, with the prover's data of the preprocessed columns.
 ///
 /// The trace has `2^height` rows of the AIR's width, at least one column, and is committed at
 /// `2^(height + is_zk)` rows, at most the scheme's greatest height; there are as many public values
-/// as the AIR has. What is held of the preprocessed columns is there exactly where the AIR has
-/// some, has their number, and stands at that committed height. Whether the trace satisfies the AIR
+/// as the AIR has. The data of the preprocessed columns are there exactly where the AIR has some,
+/// have their number, and stand at that committed height. Whether the trace satisfies the AIR
 /// isn't tested: the verifier refuses the proof of one that doesn't, unless a draw is bad
 /// (`ood_error_bound` counts those).
 ///
@@ -126,11 +126,11 @@ where
     requires height { IsOfHeight trace log_height }
     requires within { HasRoom SC.Pcs.scheme (SC.config.scheme instance.now.config.now) SC.Pcs.ZK
         log_height }
-    requires publics { length instance.now.public_values.now
-        ≡ (A.layout instance.now.air.now).publics }
+    requires public_values { length instance.now.public_values.now
+        ≡ (A.layout instance.now.air.now).public_values }
     requires there { is_some instance.now.preprocessed
         ≡ ltb 0 (A.layout instance.now.air.now).preprocessed }
-    requires same { IsHeldAt (option_copied instance.now.preprocessed)
+    requires same { IsCommittedAt (option_copied instance.now.preprocessed)
         (log_height + zk_bits SC.Pcs.ZK) }
     requires stands { InputsHold SC.Pcs.scheme SC.config.scheme SC.Pcs.Domain.Val.ring instance.now
         (A.layout instance.now.air.now).preprocessed }
@@ -247,10 +247,10 @@ where
     ensures fault { IfErr result (⟦<SC as StarkStages<A>>⟧.is_fault_of instance.now
         domains.degree_bits committed.now) }
 {
-    let fixed = commitment_of(instance.preprocessed);
+    let preprocessed = commitment_of(instance.preprocessed);
     let message = BeforeAlpha {
         trace: &committed.commitment,
-        preprocessed: fixed,
+        preprocessed,
         public_values: instance.public_values,
     };
     // Alpha. Bound before it are both traces and the public values: so the values of the n

@@ -25,12 +25,12 @@ fn preprocessed_values<SC: StarkGenericConfig, A: Air<Val<SC>>>(
 ) -> Result<Option<RowMajorMatrix<Val<SC>>>, AllocError>
 where
     SC::Challenger: GrindingChallenger<Witness = Val<SC>>,
-    ensures { IfOk result (⟦<SC as StarkRows<A>>⟧.are_fixed_rows instance.now quotient) }
+    ensures { IfOk result (⟦<SC as StarkRows<A>>⟧.are_preprocessed_rows instance.now quotient) }
 {
     match instance.preprocessed {
-        Some(held) => {
+        Some(preprocessed_data) => {
             let pcs = instance.config.pcs();
-            let data = &held.prover_data;
+            let data = &preprocessed_data.prover_data;
             let rows = pcs.get_evaluations_on_domain_no_random(alloc, data, 0, quotient)?;
             Ok(Some(rows))
         }
@@ -70,9 +70,9 @@ where
     requires domains { ⟦<SC as StarkSizes<A>>⟧.are_domains instance.now domains }
     requires main { ⟦<SC as StarkRows<A>>⟧.has_columns instance.now domains.degree_bits
         prover_data.now }
-    requires fixed { ⟦<SC as StarkRows<A>>⟧.has_fixed_columns instance.now }
-    requires publics { length instance.now.public_values.now
-        ≡ (A.layout instance.now.air.now).publics }
+    requires preprocessed { ⟦<SC as StarkRows<A>>⟧.has_preprocessed_columns instance.now }
+    requires public_values { length instance.now.public_values.now
+        ≡ (A.layout instance.now.air.now).public_values }
     requires periodic { All (λ column.
         ColumnFits (coset_size (SC.Pcs.Domain.coset_of domains.trace)) (length column))
         (A.periodic_columns instance.now.air.now) }
@@ -81,7 +81,7 @@ where
 {
     let quotient = domains.quotient;
     let main = trace_values(alloc, instance, quotient, prover_data)?;
-    let fixed = preprocessed_values(alloc, instance, quotient)?;
+    let preprocessed = preprocessed_values(alloc, instance, quotient)?;
     let values = quotient_values::<SC, A>(
         alloc,
         instance.config.pcs(),
@@ -91,7 +91,7 @@ where
         domains.trace,
         quotient,
         &main,
-        fixed.as_ref(),
+        preprocessed.as_ref(),
         alpha,
     )?;
     Ok(values)

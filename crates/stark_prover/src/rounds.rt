@@ -99,9 +99,9 @@ pub(crate) fn rounds_of<'p, EF: Copy, T>(
     ))?;
     rounds.push((of.quotient, each_at(alloc, zeta, points.chunks)?))?;
     match of.preprocessed {
-        Some(fixed) => {
+        Some(preprocessed) => {
             let rows = points_of(alloc, zeta, next_zeta, points.reads_preprocessed_next)?;
-            rounds.push((fixed, rows))?;
+            rounds.push((preprocessed, rows))?;
             Ok(rounds)
         }
         None => Ok(rounds),

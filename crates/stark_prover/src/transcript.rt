@@ -20,34 +20,41 @@ use stark_support::{
 use stark_transcript::{GrindExhausted, StarkProverTranscript, StarkShape};
 use std::alloc::{AllocError, Global};
 
-/// The preprocessed width: that of what is held, and else the AIR's.
-fn width_in_force<K, T>(held: Option<&PreprocessedProverData<K, T>>, air_width: usize) -> usize
-    ensures { result ≡ width_in_force (option_map key_of (option_copied held.entry)) air_width }
+/// The preprocessed width: that of the data, and else the AIR's.
+fn width_in_force<K, T>(
+    preprocessed_data: Option<&PreprocessedProverData<K, T>>,
+    air_width: usize,
+) -> usize
+    ensures { result ≡ width_in_force (option_map key_of
+        (option_copied preprocessed_data.entry)) air_width }
 {
-    match held {
-        Some(held) => held.width,
+    match preprocessed_data {
+        Some(preprocessed_data) => preprocessed_data.width,
         None => air_width,
     }
 }
 
 /// The commitment to the preprocessed columns, where there are any.
-pub(crate) fn commitment_of<K, T>(held: Option<&PreprocessedProverData<K, T>>) -> Option<&K>
+pub(crate) fn commitment_of<K, T>(
+    preprocessed_data: Option<&PreprocessedProverData<K, T>>,
+) -> Option<&K>
     ensures { option_copied result
-        ≡ option_map (λ key. key.commitment) (option_map key_of (option_copied held.entry)) }
+        ≡ option_map (λ key. key.commitment)
+        (option_map key_of (option_copied preprocessed_data.entry)) }
 {
-    match held {
-        Some(held) => Some(&held.commitment),
+    match preprocessed_data {
+        Some(preprocessed_data) => Some(&preprocessed_data.commitment),
         None => None,
     }
 }
 
 /// What the scheme keeps of the preprocessed columns, where there are any.
-pub(crate) fn data_of<K, T>(held: Option<&PreprocessedProverData<K, T>>) -> Option<&T>
+pub(crate) fn data_of<K, T>(preprocessed_data: Option<&PreprocessedProverData<K, T>>) -> Option<&T>
     ensures { option_copied result
-        ≡ option_map (λ of_held. of_held.prover_data) (option_copied held.entry) }
+        ≡ option_map (λ of_data. of_data.prover_data) (option_copied preprocessed_data.entry) }
 {
-    match held {
-        Some(held) => Some(&held.prover_data),
+    match preprocessed_data {
+        Some(preprocessed_data) => Some(&preprocessed_data.prover_data),
         None => None,
     }
 }
@@ -126,10 +133,10 @@ where
 {
     let (trace, preprocessed) = (message.trace, message.preprocessed);
     let public_values = message.public_values;
-    let (alpha, found) = transcript.constraint_phase::<K>(trace, preprocessed, public_values)?;
+    let (alpha, work) = transcript.constraint_phase::<K>(trace, preprocessed, public_values)?;
     // Where no work is asked for, the witness has its place in the proof all the same, so that each
     // proof has one shape.
-    match found {
+    match work {
         Some(witness) => Ok((alpha, witness)),
         None => Ok((alpha, F::ZERO)),
     }
@@ -161,8 +168,8 @@ where
     ensures exhausted { IfErr result (IsZetaExhausted
         ⟦<C as Sponge<F, EF, K>>⟧.sponge transcript.old message.now) }
 {
-    let (zeta, found) = transcript.ood_phase::<K>(message.quotient, message.random)?;
-    match found {
+    let (zeta, work) = transcript.ood_phase::<K>(message.quotient, message.random)?;
+    match work {
         Some(witness) => Ok((zeta, witness)),
         None => Ok((zeta, F::ZERO)),
     }

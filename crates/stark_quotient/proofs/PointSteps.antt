@@ -43,10 +43,10 @@ next_within [] n width is = omega arith
 next_within (c ∷ columns) n width is = omega arith
 
 -- A value over rows by other names.
-pub over_same_rows : {E A : Type 0} (f : List A → List A → List A → List A → E) (total : E) {r s t u current next fixed_current fixed_next : List A} → total ≡ f r s t u → r ≡ current → s ≡ next → t ≡ fixed_current → u ≡ fixed_next
-    → total ≡ f current next fixed_current fixed_next
-over_same_rows f total {r} {s} {t} {u} {current} {next} {fixed_current} {fixed_next} is same_r same_s same_t same_u =
-    is ∙ ap (λ x. f x s t u) same_r ∙ ap (λ x. f current x t u) same_s ∙ ap (λ x. f current next x u) same_t ∙ ap (λ x. f current next fixed_current x) same_u
+pub over_same_rows : {E A : Type 0} (f : List A → List A → List A → List A → E) (total : E) {r s t u current next preprocessed_current preprocessed_next : List A} → total ≡ f r s t u → r ≡ current → s ≡ next → t ≡ preprocessed_current → u ≡ preprocessed_next
+    → total ≡ f current next preprocessed_current preprocessed_next
+over_same_rows f total {r} {s} {t} {u} {current} {next} {preprocessed_current} {preprocessed_next} is same_r same_s same_t same_u =
+    is ∙ ap (λ x. f x s t u) same_r ∙ ap (λ x. f current x t u) same_s ∙ ap (λ x. f current next x u) same_t ∙ ap (λ x. f current next preprocessed_current x) same_u
 
 module _ {F E : Type 0} {base : RingOps F} {base_inverse : F → F} {ring : RingOps E} {inverse : E → E} {embed : F → E} (base_laws : FieldLaws base base_inverse) (laws : FieldLaws ring inverse) (embeds : IsEmbedding base ring embed)
     (adicity : ℕ) (root : ℕ → F) (generator : F) (two_adic : TwoAdicLaws base adicity root generator) (trace coset : TwoAdicCoset F) (valid : IsTwoAdicCoset base adicity trace) (unshifted : trace.shift ≡ base.one) (disjoint : AreDisjoint base root trace coset)
@@ -66,9 +66,9 @@ module _ {F E : Type 0} {base : RingOps F} {base_inverse : F → F} {ring : Ring
   }
 
   module _ {firsts lasts changes inverses table : List F} {width period : ℕ} (prepared : ArePrepared base base_inverse root trace coset columns firsts lasts changes inverses table width period)
-      (main preprocessed : Trace F) (publics : List F) (k : ℕ) (within : k < coset_size coset) where
+      (main preprocessed : Trace F) (public_values : List F) (k : ℕ) (within : k < coset_size coset) where
     abbrev rows : RowsOnCoset F
-    rows = rows_of_matrices base root coset main preprocessed publics
+    rows = rows_of_matrices base root coset main preprocessed public_values
 
     -- the row of a table has the periodic columns' values
     table_values : (periodic : List F) → length periodic ≡ width → ((c : ℕ) → c < width → slice_get periodic c ≡ table_at table width period k c)
@@ -78,19 +78,19 @@ module _ {F E : Type 0} {base : RingOps F} {base_inverse : F → F} {ring : Ring
         (λ c column listed. values c (subst (λ n. c < n) (sym prepared.periodic.count) (slice_get_within columns c column listed)) ∙ prepared.periodic.value k c column within listed)
 
     -- A folded sum over the rows at a point, times what the list of inverses has there, is the quotient.
-    pub quotient_of_rows : (alpha sum : E) (current next fixed_current fixed_next read_publics periodic : List F) (first last change inverted : F)
-        → sum ≡ folded ring alpha (constraint_values (ring_operations ring embed) (environment_of (ring_operations ring embed) base.zero ring.zero (map embed current) (map embed next) (map embed fixed_current) (map embed fixed_next) read_publics (map embed periodic) (embed first) (embed last) (embed change)) constraints)
-        → read_publics ≡ publics
+    pub quotient_of_rows : (alpha sum : E) (current next preprocessed_current preprocessed_next read_public_values periodic : List F) (first last change inverted : F)
+        → sum ≡ folded ring alpha (constraint_values (ring_operations ring embed) (environment_of (ring_operations ring embed) base.zero ring.zero (map embed current) (map embed next) (map embed preprocessed_current) (map embed preprocessed_next) read_public_values (map embed periodic) (embed first) (embed last) (embed change)) constraints)
+        → read_public_values ≡ public_values
         → current ≡ matrix_row main.values main.width k → next ≡ matrix_row main.values main.width (next_row over_trace rows k)
-        → fixed_current ≡ matrix_row preprocessed.values preprocessed.width k → fixed_next ≡ matrix_row preprocessed.values preprocessed.width (next_row over_trace rows k)
+        → preprocessed_current ≡ matrix_row preprocessed.values preprocessed.width k → preprocessed_next ≡ matrix_row preprocessed.values preprocessed.width (next_row over_trace rows k)
         → length periodic ≡ width → ((c : ℕ) → c < width → slice_get periodic c ≡ table_at table width period k c)
         → slice_get firsts k ≡ Some first → slice_get lasts k ≡ Some last → slice_get changes k ≡ Some change → slice_get inverses k ≡ Some inverted
         → ring.mul sum (embed inverted) ≡ pointwise_quotient over_trace rows alpha k
-    quotient_of_rows alpha sum current next fixed_current fixed_next read_publics periodic first last change inverted sum_is publics_are current_is next_is fixed_is fixed_next_is number values first_is last_is change_is inverted_is =
+    quotient_of_rows alpha sum current next preprocessed_current preprocessed_next read_public_values periodic first last change inverted sum_is public_values_are current_is next_is preprocessed_is preprocessed_next_is number values first_is last_is change_is inverted_is =
         let x = coset_point base root coset k in
         let over = λ (p r s t u : List F). folded ring alpha (constraint_values (ring_operations ring embed) (environment_of (ring_operations ring embed) base.zero ring.zero (map embed r) (map embed s) (map embed t) (map embed u) p (map embed periodic) (embed first) (embed last) (embed change)) constraints) in
         quotient_from_base over_trace base_laws laws embeds (root_nonzero base_laws adicity root generator two_adic trace.log_size valid.within) rows k alpha sum periodic first last change inverted
-        (over_same_rows (over publics) sum (sum_is ∙ ap (λ p. over p current next fixed_current fixed_next) publics_are) current_is next_is fixed_is fixed_next_is) (table_values periodic number values)
+        (over_same_rows (over public_values) sum (sum_is ∙ ap (λ p. over p current next preprocessed_current preprocessed_next) public_values_are) current_is next_is preprocessed_is preprocessed_next_is) (table_values periodic number values)
         (same_Some first _ (sym first_is ∙ prepared.first_row.at_row k within)) (same_Some last _ (sym last_is ∙ prepared.last_row.at_row k within)) (same_Some change _ (sym change_is ∙ prepared.transition.at_row k within))
         (same_Some inverted _ (sym inverted_is ∙ prepared.inv_vanishing.at_row k within) ∙ ap base_inverse (unshifted_vanishing base_laws adicity root generator two_adic trace valid unshifted x))
         (apart_outside base_laws adicity root generator two_adic trace valid unshifted coset disjoint k x refl)

@@ -55,7 +55,7 @@ module _ {F E : Type 0} (i : AirInstance F E) (base_laws : FieldLaws i.base i.ba
   folded_embedded alpha periodic first last change =
       folded i.ring alpha (constraint_values (ring_operations i.ring i.embed)
       (environment_of (ring_operations i.ring i.embed) i.base.zero i.ring.zero (map i.embed (rows.main k)) (map i.embed (rows.main (next_row i rows k))) (map i.embed (rows.preprocessed k)) (map i.embed (rows.preprocessed (next_row i rows k)))
-      rows.publics (map i.embed periodic) (i.embed first) (i.embed last) (i.embed change)) i.constraints)
+      rows.public_values (map i.embed periodic) (i.embed first) (i.embed last) (i.embed change)) i.constraints)
 
   -- The quotient at a point, from what is computed there in the base field.
   pub quotient_from_base : (alpha sum : E) (periodic : List F) (first last change inverted : F)
@@ -75,7 +75,7 @@ module _ {F E : Type 0} (i : AirInstance F E) (base_laws : FieldLaws i.base i.ba
       let e_change = ap i.embed change_is ∙ embedded_transition base_laws laws embeds i.generator i.log_size x generator_nonzero in
       let over = λ (p : List E) (f l c : E). folded i.ring alpha (constraint_values (ring_operations i.ring i.embed)
       (environment_of (ring_operations i.ring i.embed) i.base.zero i.ring.zero (map i.embed (rows.main k)) (map i.embed (rows.main (next_row i rows k))) (map i.embed (rows.preprocessed k)) (map i.embed (rows.preprocessed (next_row i rows k)))
-      rows.publics p f l c) i.constraints) in
+      rows.public_values p f l c) i.constraints) in
       let at = point_above i rows k in
       let first_above : E = first_row_selector i.ring (λ c. c) (group i) at in
       let last_above : E = last_row_selector i.ring (λ c. c) (group i) at in

@@ -16,7 +16,7 @@ pub record PointRow (F : Type 0) : Type 0 where
   pub main_next : List F
   pub preprocessed_current : List F
   pub preprocessed_next : List F
-  pub publics : List F
+  pub public_values : List F
   pub periodic : List F
   pub first_row : F
   pub last_row : F
@@ -27,7 +27,7 @@ module _ {F E : Type 0} (base : RingOps F) (ring : RingOps E) (embed : F → E) 
   abbrev pub row_environment : Environment E
   row_environment =
       environment_of (ring_operations ring embed) base.zero ring.zero
-      (map embed row.main_current) (map embed row.main_next) (map embed row.preprocessed_current) (map embed row.preprocessed_next) row.publics (map embed row.periodic)
+      (map embed row.main_current) (map embed row.main_next) (map embed row.preprocessed_current) (map embed row.preprocessed_next) row.public_values (map embed row.periodic)
       (embed row.first_row) (embed row.last_row) (embed row.transition)
 
   -- The sum over j below n of alpha ^ (n - 1 - j) times constraint j over the row.
@@ -44,29 +44,29 @@ pub record IsLaneRow {F P : Type 0} (lanes : P → List F) (blank : F) (main pre
   pub last_row : slice_index_or (lanes last) i blank ≡ row.last_row
   pub transition : slice_index_or (lanes change) i blank ≡ row.transition
 
--- Packed rows, two one after the other of `width` and two of `fixed_width` columns, with the periodic columns' and the public
--- values, have the lengths that a layout declares.
-pub record FitLayout {F P : Type 0} (l : Layout) (width fixed_width : ℕ) (rows fixed_rows periodic : List P) (public_values : List F) : Type 0 where
+-- Packed rows, two one after the other of `width` and two of `preprocessed_columns` columns, with the periodic columns' and the
+-- public values, have the lengths that a layout declares.
+pub record FitLayout {F P : Type 0} (l : Layout) (width preprocessed_columns : ℕ) (rows preprocessed_rows periodic : List P) (values : List F) : Type 0 where
   pub main : length rows ≡ 2 * width
   pub main_width : width ≡ l.main
-  pub preprocessed : length fixed_rows ≡ 2 * fixed_width
-  pub preprocessed_width : fixed_width ≡ l.preprocessed
-  pub publics : length public_values ≡ l.publics
+  pub preprocessed : length preprocessed_rows ≡ 2 * preprocessed_columns
+  pub preprocessed_width : preprocessed_columns ≡ l.preprocessed
+  pub public_values : length values ≡ l.public_values
   pub periodics : length periodic ≡ l.periodics
 
--- Packed rows in a folder: of `width` and of `fixed_width` columns.
-module _ {F P : Type 0} (width fixed_width : ℕ) (main preprocessed periodic : List P) (publics : List F) where
+-- Packed rows in a folder: of `width` and of `preprocessed_width` columns.
+module _ {F P : Type 0} (width preprocessed_width : ℕ) (main preprocessed periodic : List P) (public_values : List F) where
   abbrev pub packed_environment : Operations F P → F → P → P → P → Environment P
   packed_environment o blank first last change =
-      environment_of o blank first (take width main) (drop width main) (take fixed_width preprocessed) (drop fixed_width preprocessed) publics periodic first last change
+      environment_of o blank first (take width main) (drop width main) (take preprocessed_width preprocessed) (drop preprocessed_width preprocessed) public_values periodic first last change
 
   abbrev pub packed_layout : Layout
-  packed_layout = layout_of (take width main) (drop width main) (take fixed_width preprocessed) (drop fixed_width preprocessed) publics periodic
+  packed_layout = layout_of (take width main) (drop width main) (take preprocessed_width preprocessed) (drop preprocessed_width preprocessed) public_values periodic
 
 -- In each of `number` lanes `packed` is the folded sum of the constraints over the row that packed rows have there.
-abbrev pub AreFoldedRows : {F E P Q : Type 0} (base : RingOps F) (ring : RingOps E) (embed : F → E) (lanes : P → List F) (lanes_above : Q → List E) (number width fixed_width : ℕ)
-    (main preprocessed periodic : List P) (publics : List F) (first last change : P) (alpha : E) (cs : List (Constraint F)) (packed : Q) → Type 0
-AreFoldedRows {F} base ring embed lanes lanes_above number width fixed_width main preprocessed periodic publics first last change alpha cs packed =
+abbrev pub AreFoldedRows : {F E P Q : Type 0} (base : RingOps F) (ring : RingOps E) (embed : F → E) (lanes : P → List F) (lanes_above : Q → List E) (number width preprocessed_width : ℕ)
+    (main preprocessed periodic : List P) (public_values : List F) (first last change : P) (alpha : E) (cs : List (Constraint F)) (packed : Q) → Type 0
+AreFoldedRows {F} base ring embed lanes lanes_above number width preprocessed_width main preprocessed periodic public_values first last change alpha cs packed =
     (i : ℕ) → i < number → (row : PointRow F) → IsLaneRow lanes base.zero main preprocessed periodic first last change i row
-    → length row.main_current ≡ width → length row.preprocessed_current ≡ fixed_width → row.publics ≡ publics
+    → length row.main_current ≡ width → length row.preprocessed_current ≡ preprocessed_width → row.public_values ≡ public_values
     → slice_index_or (lanes_above packed) i ring.zero ≡ folded_over base ring embed row alpha cs

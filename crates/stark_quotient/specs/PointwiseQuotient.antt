@@ -21,7 +21,7 @@ pub record RowsOnCoset (F : Type 0) : Type 0 where
   pub point : ℕ → F
   pub main : ℕ → List F
   pub preprocessed : ℕ → List F
-  pub publics : List F
+  pub public_values : List F
 
 module _ {F E : Type 0} (i : AirInstance F E) (rows : RowsOnCoset F) where
   -- The point of the next row lies as many points further as the coset has for each of H, round the end.
@@ -42,7 +42,7 @@ module _ {F E : Type 0} (i : AirInstance F E) (rows : RowsOnCoset F) where
   leaves_at k =
       environment_of (ring_operations i.ring i.embed) i.base.zero i.ring.zero
       (map i.embed (rows.main k)) (map i.embed (rows.main (next_row k))) (map i.embed (rows.preprocessed k)) (map i.embed (rows.preprocessed (next_row k)))
-      rows.publics (periodic_row (point_above k))
+      rows.public_values (periodic_row (point_above k))
       (first_row_selector i.ring (λ c. c) (group i) (point_above k)) (last_row_selector i.ring (λ c. c) (group i) (point_above k)) (transition_selector i.ring (λ c. c) (group i) (point_above k))
 
   -- the sum over j below n of alpha ^ (n - 1 - j) * C_j over these leaves
@@ -76,12 +76,12 @@ matrix_or_empty (Some matrix) = matrix
 
 -- The rows that matrices have on a coset.
 abbrev pub rows_of_matrices : {F : Type 0} → RingOps F → (ℕ → F) → TwoAdicCoset F → Trace F → Trace F → List F → RowsOnCoset F
-rows_of_matrices base root coset main preprocessed publics = record {
+rows_of_matrices base root coset main preprocessed public_values = record {
   size = coset_size coset;
   point = coset_point base root coset;
   main = matrix_row main.values main.width;
   preprocessed = matrix_row preprocessed.values preprocessed.width;
-  publics = publics;
+  public_values = public_values;
 }
 
 -- A row of a matrix, round the end.

@@ -37,7 +37,7 @@ module _ {S O E C D K T A X Y F : Type 0} (on : OnCoset S O E C D K T A X Y F) w
   pub record FitsRows (layout : Layout) : Type 0 where
     pub main : HasShape layout.main on.size (rows_in on.main.now)
     pub preprocessed : HasShape layout.preprocessed on.size (rows_or_none on.preprocessed)
-    pub publics : length on.public_values.now ≡ layout.publics
+    pub public_values : length on.public_values.now ≡ layout.public_values
 
   -- What was computed ahead is of both domains and these periodic columns.
   abbrev pub HasPrepared : FieldsOps F E → (D → TwoAdicCoset F) → List (List F) → Type 0

@@ -28,7 +28,7 @@ use Rattle.stark_security.specs.SameLeaves.{AgreeWithin, same_constraints}
 pub record AreValuesOfColumns {F E : Type 0} (i : AirInstance F E) (rows : RowsOnCoset F) (columns : Columns F E) : Type 0 where
   pub main : (k : ℕ) → k < rows.size → map i.embed (rows.main k) ≡ row_at i.ring (λ c. c) columns.main (point_above i rows k)
   pub preprocessed : (k : ℕ) → k < rows.size → map i.embed (rows.preprocessed k) ≡ row_at i.ring (λ c. c) columns.preprocessed (point_above i rows k)
-  pub publics : rows.publics ≡ columns.publics
+  pub public_values : rows.public_values ≡ columns.public_values
 
 pub value_leaf : {E : Type 0} (ring : RingOps E) (row : List E) (polynomials : List (List E)) (x : E) → row ≡ row_at ring (λ c. c) polynomials x → (c : ℕ) → slice_index_or row c ring.zero ≡ value ring (slice_index_or polynomials c []) x
 value_leaf ring row polynomials x is c = ap (λ r. slice_index_or r c ring.zero) is ∙ mapped_or_filler (λ p. value ring p x) polynomials c [] ring.zero refl
@@ -90,7 +90,7 @@ module _ {F E : Type 0} (i : AirInstance F E) (laws : FieldLaws i.base i.base_in
       main_next = λ c _. next_leaf rows.main columns.main are.main c;
       preprocessed_current = λ c _. value_leaf i.ring _ columns.preprocessed (point_above i rows k) (are.preprocessed k below) c;
       preprocessed_next = λ c _. next_leaf rows.preprocessed columns.preprocessed are.preprocessed c;
-      public_value = λ n _. ap (λ publics. i.embed (slice_index_or publics n i.base.zero)) are.publics;
+      public_value = λ n _. ap (λ public_values. i.embed (slice_index_or public_values n i.base.zero)) are.public_values;
       periodic_value = λ c _. mapped_or_filler (λ column. periodic_value i.base i.base_inverse i.generator (height i) i.ring i.embed column (point_above i rows k)) i.periodic c [] i.ring.zero refl;
       first_row = refl;
       last_row = refl;

@@ -326,7 +326,7 @@ where
         (coset_size (SC.Pcs.Domain.coset_of quotient_domain)) (rows_in trace.now) }
     requires preprocessed { HasShape (A.layout air.now).preprocessed
         (coset_size (SC.Pcs.Domain.coset_of quotient_domain)) (rows_or_none preprocessed) }
-    requires publics { length public_values.now ≡ (A.layout air.now).publics }
+    requires public_values { length public_values.now ≡ (A.layout air.now).public_values }
     requires periodic { All (λ column.
         ColumnFits (coset_size (SC.Pcs.Domain.coset_of trace_domain)) (length column))
         (A.periodic_columns air.now) }

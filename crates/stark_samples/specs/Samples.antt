@@ -6,10 +6,10 @@ use Rattle.stark_air.specs.Tree.{Constraint, base, extension, constant, main_cur
 
 -- One main column, of which the current row is read, and nothing else.
 abbrev pub column_layout : Layout
-column_layout = record { main = 1; main_next = 0; preprocessed = 0; preprocessed_next = 0; publics = 0; periodics = 0 }
+column_layout = record { main = 1; main_next = 0; preprocessed = 0; preprocessed_next = 0; public_values = 0; periodics = 0 }
 
 abbrev pub counter_layout : Layout
-counter_layout = record { main = 1; main_next = 1; preprocessed = 0; preprocessed_next = 0; publics = 1; periodics = 0 }
+counter_layout = record { main = 1; main_next = 1; preprocessed = 0; preprocessed_next = 0; public_values = 1; periodics = 0 }
 
 -- On the first row the column is the public value.
 abbrev pub counter_starts : {F : Type 0} → Constraint F
@@ -30,7 +30,7 @@ abbrev pub cubic_constraints : {F : Type 0} → List (Constraint F)
 cubic_constraints = cube ∷ []
 
 abbrev pub fibonacci_layout : Layout
-fibonacci_layout = record { main = 2; main_next = 2; preprocessed = 0; preprocessed_next = 0; publics = 3; periodics = 0 }
+fibonacci_layout = record { main = 2; main_next = 2; preprocessed = 0; preprocessed_next = 0; public_values = 3; periodics = 0 }
 
 -- On the first row the column is the public value of its number.
 abbrev pub fibonacci_starts : {F : Type 0} → ℕ → Constraint F
@@ -52,7 +52,7 @@ abbrev pub fibonacci_constraints : {F : Type 0} → List (Constraint F)
 fibonacci_constraints = fibonacci_starts 0 ∷ fibonacci_starts 1 ∷ fibonacci_moves ∷ fibonacci_adds ∷ fibonacci_ends ∷ []
 
 abbrev pub periodic_layout : Layout
-periodic_layout = record { main = 1; main_next = 0; preprocessed = 0; preprocessed_next = 0; publics = 0; periodics = 1 }
+periodic_layout = record { main = 1; main_next = 0; preprocessed = 0; preprocessed_next = 0; public_values = 0; periodics = 1 }
 
 -- The column is the periodic one.
 abbrev pub is_periodic : {F : Type 0} → Constraint F
@@ -62,7 +62,7 @@ abbrev pub periodic_constraints : {F : Type 0} → List (Constraint F)
 periodic_constraints = is_periodic ∷ []
 
 abbrev pub preprocessed_layout : Layout
-preprocessed_layout = record { main = 1; main_next = 0; preprocessed = 1; preprocessed_next = 0; publics = 0; periodics = 0 }
+preprocessed_layout = record { main = 1; main_next = 0; preprocessed = 1; preprocessed_next = 0; public_values = 0; periodics = 0 }
 
 -- The column is the preprocessed one.
 abbrev pub is_preprocessed : {F : Type 0} → Constraint F
@@ -72,7 +72,7 @@ abbrev pub preprocessed_constraints : {F : Type 0} → List (Constraint F)
 preprocessed_constraints = is_preprocessed ∷ []
 
 abbrev pub pair_layout : Layout
-pair_layout = record { main = 2; main_next = 2; preprocessed = 0; preprocessed_next = 0; publics = 1; periodics = 0 }
+pair_layout = record { main = 2; main_next = 2; preprocessed = 0; preprocessed_next = 0; public_values = 1; periodics = 0 }
 
 -- The counter on the left column, and then on the right one, both from the one public value.
 abbrev pub pair_constraints : {F : Type 0} → F → List (Constraint F)

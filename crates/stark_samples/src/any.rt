@@ -24,7 +24,7 @@ pub enum AnySampleAir<F> {
     Preprocessed(PreprocessedAir),
 }
 
-/// What a call answers of the AIR that is held.
+/// What a call answers of the AIR in the case.
 macro_rules! of_held {
     ($any:expr, $air:ident => $call:expr) => {
         match $any {

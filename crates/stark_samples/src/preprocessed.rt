@@ -98,6 +98,6 @@ fn assert_is_preprocessed<AB: AirBuilder>(builder: &mut AB) -> Result<(), AllocE
     let main = builder.main()?;
     let preprocessed = builder.preprocessed()?;
     let x = main.current(0).unwrap();
-    let fixed = preprocessed.current(0).unwrap();
-    builder.assert_eq(x.into(), fixed.into())
+    let value = preprocessed.current(0).unwrap();
+    builder.assert_eq(x.into(), value.into())
 }

@@ -34,7 +34,7 @@ pub record AirInstance (F : Type 0) (E : Type 0) : Type 0 where
 pub record Columns (F : Type 0) (E : Type 0) : Type 0 where
   pub main : List (List E)
   pub preprocessed : List (List E)
-  pub publics : List F
+  pub public_values : List F
 
 module _ {F E : Type 0} (i : AirInstance F E) where
   -- how many rows the trace has
@@ -58,7 +58,7 @@ module _ {F E : Type 0} (i : AirInstance F E) where
       main_next = λ c. value_over ring constant (slice_index_or columns.main c []) (next_point ring constant x);
       preprocessed_current = λ c. value_over ring constant (slice_index_or columns.preprocessed c []) x;
       preprocessed_next = λ c. value_over ring constant (slice_index_or columns.preprocessed c []) (next_point ring constant x);
-      public_value = λ k. constant (i.embed (slice_index_or columns.publics k i.base.zero));
+      public_value = λ k. constant (i.embed (slice_index_or columns.public_values k i.base.zero));
       periodic_value = λ c. periodic_value i.base i.base_inverse i.generator height ring (λ k. constant (i.embed k)) (slice_index_or i.periodic c []) x;
       first_row = first_row_selector ring constant group x;
       last_row = last_row_selector ring constant group x;

@@ -13,7 +13,7 @@ pub record AgreeWithin {E : Type 0} (l : Layout) (e : Environment E) (f : Enviro
   pub main_next : (c : ℕ) → c < l.main_next → e.main_next c ≡ f.main_next c
   pub preprocessed_current : (c : ℕ) → c < l.preprocessed → e.preprocessed_current c ≡ f.preprocessed_current c
   pub preprocessed_next : (c : ℕ) → c < l.preprocessed_next → e.preprocessed_next c ≡ f.preprocessed_next c
-  pub public_value : (k : ℕ) → k < l.publics → e.public_value k ≡ f.public_value k
+  pub public_value : (k : ℕ) → k < l.public_values → e.public_value k ≡ f.public_value k
   pub periodic_value : (c : ℕ) → c < l.periodics → e.periodic_value c ≡ f.periodic_value c
   pub first_row : e.first_row ≡ f.first_row
   pub last_row : e.last_row ≡ f.last_row

@@ -22,14 +22,14 @@ module _ {F : Type 0} where
       let is : length row ≡ w = eqb-true (length row) w (and_parts _ _ all).0 in
       let clash : true ≡ false = sym (subst (λ k. list_all (λ r. length r == k) (row ∷ rows) ≡ true) (sym is) all) ∙ e in absurd (cc)
 
-  module _ (shape : CheckShape) (log_rows greatest : ℕ) (rows : List (List F)) (publics : List F) where
-    pub uneven_unfit : are_even rows ≡ false → (log_height : ℕ) → FitsShape shape log_rows greatest rows publics log_height → ⊥
+  module _ (shape : CheckShape) (log_rows greatest : ℕ) (rows : List (List F)) (public_values : List F) where
+    pub uneven_unfit : are_even rows ≡ false → (log_height : ℕ) → FitsShape shape log_rows greatest rows public_values log_height → ⊥
     uneven_unfit e log_height fits = uneven rows shape.width e fits.widths
 
     -- A trace of 2 ^ n rows has no shape beside preprocessed columns of another height,
-    pub other_height : (height n : ℕ) → height ≡ length rows → height ≡ 2 ^ n → 0 < shape.preprocessed_width → (n ≡ log_rows → ⊥) → (log_height : ℕ) → FitsShape shape log_rows greatest rows publics log_height → ⊥
-    other_height height n counted power some other log_height fits = other (same_exponent n log_height (sym power ∙ counted ∙ fits.height) ∙ fits.fixed_rows some)
+    pub other_height : (height n : ℕ) → height ≡ length rows → height ≡ 2 ^ n → 0 < shape.preprocessed_width → (n ≡ log_rows → ⊥) → (log_height : ℕ) → FitsShape shape log_rows greatest rows public_values log_height → ⊥
+    other_height height n counted power some other log_height fits = other (same_exponent n log_height (sym power ∙ counted ∙ fits.height) ∙ fits.preprocessed_rows some)
 
     -- and none of another width.
-    pub other_width : (height n width : ℕ) → height ≡ length rows → height ≡ 2 ^ n → 0 < 2 ^ n → width ≡ width_of rows → (width ≡ shape.width → ⊥) → (log_height : ℕ) → FitsShape shape log_rows greatest rows publics log_height → ⊥
+    pub other_width : (height n width : ℕ) → height ≡ length rows → height ≡ 2 ^ n → 0 < 2 ^ n → width ≡ width_of rows → (width ≡ shape.width → ⊥) → (log_height : ℕ) → FitsShape shape log_rows greatest rows public_values log_height → ⊥
     other_width height n width counted power some is other log_height fits = other (is ∙ first_width rows shape.width fits.widths (omega arith))

@@ -28,7 +28,7 @@ use Rattle.stark_statement.specs.StatementJson.{StatementFault}
 use Rattle.stark_statement.specs.StatementView.{StatementView}
 use Rattle.stark_answers.specs.CheckedAir.{CheckedAir, checked_air, shape_of}
 use Rattle.stark_answers.specs.Finding.{unjudged_finding}
-use Rattle.stark_answers.specs.Prove.{AnswersWithHeld, HasNoFloat, IsProved, IsWritten, OrNoMemory, TellsAnswer}
+use Rattle.stark_answers.specs.Prove.{AnswersWithData, HasNoFloat, IsProved, IsWritten, OrNoMemory, TellsAnswer}
 use Rattle.stark_answers.specs.Refusals.{verdict_of_answer}
 use Rattle.stark_answers.specs.TraceShape.{FitsShape, trace_of}
 use Rattle.stark_answers.specs.Verdict.{unjudged}
@@ -134,17 +134,17 @@ found_unjudged P f g is (inr found) = elim (kept_finding f) [
 
 module _ {S F E C K T P X Y : Type 0} (ops : ServiceOps S F E C K T P X Y) (scheme : S) (first_state : C) (s : StatementView F) (log_rows : ℕ) (read : Option (ProofView K E P F)) where
   -- What is said of the proof that was read is said of the file.
-  pub verdict_of_read : (air : CheckedAir F) (p : ProofView K E P F) (publics : List F) (ood_bits alpha_bits : ℕ) (answer : Result (Unit {0}) (VerificationError X)) (v w : Verdict) → read ≡ Some p → air ≡ declared_of s.air → publics ≡ s.public_values
+  pub verdict_of_read : (air : CheckedAir F) (p : ProofView K E P F) (public_values : List F) (ood_bits alpha_bits : ℕ) (answer : Result (Unit {0}) (VerificationError X)) (v w : Verdict) → read ≡ Some p → air ≡ declared_of s.air → public_values ≡ s.public_values
       → ood_bits ≡ s.ood_bits → alpha_bits ≡ s.alpha_bits → v ≡ verdict_of_answer answer → w ≡ unjudged v
-      → IsAnswerWithKey ops.protocol log_rows scheme air.preprocessed_trace (λ key. instance_of air scheme first_state ood_bits alpha_bits publics key) p answer
+      → IsAnswerWithKey ops.protocol log_rows scheme air.preprocessed_trace (λ key. instance_of air scheme first_state ood_bits alpha_bits public_values key) p answer
       → (w ≡ verdict.OutOfMemory) ⊎ IsVerdictWithRows ops scheme first_state s log_rows read w
   unfolding IsVerdictWithRows
-  verdict_of_read air p publics ood_bits alpha_bits answer v w is declares lists asks asks_first says unless found =
+  verdict_of_read air p public_values ood_bits alpha_bits answer v w is declares lists asks asks_first says unless found =
       subst (λ r. (w ≡ verdict.OutOfMemory) ⊎ IsVerdictWithRows ops scheme first_state s log_rows r w) (sym is)
       (subst (λ a. (w ≡ verdict.OutOfMemory) ⊎ IsVerdict ops.protocol log_rows scheme first_state a p s.public_values s.ood_bits s.alpha_bits w) declares
       (subst (λ ps. (w ≡ verdict.OutOfMemory) ⊎ IsVerdict ops.protocol log_rows scheme first_state air p ps s.ood_bits s.alpha_bits w) lists
-      (said_unjudged (λ u. IsVerdict ops.protocol log_rows scheme first_state air p publics s.ood_bits s.alpha_bits u) v w unless
-      (is_verdict ops.protocol log_rows air scheme scheme first_state first_state ood_bits s.ood_bits alpha_bits s.alpha_bits publics p answer v says refl refl asks asks_first found))))
+      (said_unjudged (λ u. IsVerdict ops.protocol log_rows scheme first_state air p public_values s.ood_bits s.alpha_bits u) v w unless
+      (is_verdict ops.protocol log_rows air scheme scheme first_state first_state ood_bits s.ood_bits alpha_bits s.alpha_bits public_values p answer v says refl refl asks asks_first found))))
 
   -- A file that spells none is bad input.
   pub verdict_without_proof : (w : Verdict) → (w ≡ verdict.OutOfMemory) ⊎ ((read ≡ None) × (w ≡ verdict.BadInput)) → (w ≡ verdict.OutOfMemory) ⊎ IsVerdictWithRows ops scheme first_state s log_rows read w
@@ -159,22 +159,22 @@ module _ {S F E C K T P X Y : Type 0} (ops : ServiceOps S F E C K T P X Y) (no_f
   most = ops.protocol.opening.scheme.log_max_trace_height scheme
 
   -- What a prover finds of rows in the AIR's widths and counts.
-  pub found_shaped : (air : CheckedAir F) (shape : CheckShape) (height : ℕ) (trace : Trace F) (publics : List F) (ood_bits alpha_bits : ℕ) (answer : Result (Proof K E P F) (ProvingError Y)) (f g : Finding) → shape ≡ shape_of air → air ≡ declared_of s.air
-      → FitsShape shape log_rows most rows publics height → trace ≡ trace_of air.layout.main rows → publics ≡ s.public_values → ood_bits ≡ s.ood_bits → alpha_bits ≡ s.alpha_bits
+  pub found_shaped : (air : CheckedAir F) (shape : CheckShape) (height : ℕ) (trace : Trace F) (public_values : List F) (ood_bits alpha_bits : ℕ) (answer : Result (Proof K E P F) (ProvingError Y)) (f g : Finding) → shape ≡ shape_of air → air ≡ declared_of s.air
+      → FitsShape shape log_rows most rows public_values height → trace ≡ trace_of air.layout.main rows → public_values ≡ s.public_values → ood_bits ≡ s.ood_bits → alpha_bits ≡ s.alpha_bits
       → OrNoMemory (TellsAnswer (λ proof g. IsWritten ops.writing ops.codecs form (proof_view proof) g) answer) f → g ≡ unjudged_finding f
-      → AnswersWithHeld ops.protocol ops.coordinates log_rows scheme air.preprocessed_trace (λ held. instance_of air scheme first_state ood_bits alpha_bits publics (option_map key_of held)) height trace answer
+      → AnswersWithData ops.protocol ops.coordinates log_rows scheme air.preprocessed_trace (λ preprocessed_data. instance_of air scheme first_state ood_bits alpha_bits public_values (option_map key_of preprocessed_data)) height trace answer
       → (g ≡ finding.Verdict verdict.OutOfMemory) ⊎ IsFoundWithRows ops scheme first_state s form log_rows (Some rows) g
   unfolding IsFoundWithRows
-  found_shaped air shape height trace publics ood_bits alpha_bits answer f g same declares fits is lists asks asks_first tells unless answers =
-      elim (found_unjudged (λ h. IsProved ops.protocol ops.coordinates form (proof_file ops form) log_rows scheme first_state air height trace publics s.ood_bits s.alpha_bits h) f g unless
-      (is_proved ops.protocol ops.coordinates form (proof_file ops form) _ (written_exactly ops.writing ops.codecs no_float form) log_rows air scheme scheme first_state first_state ood_bits s.ood_bits alpha_bits s.alpha_bits publics height trace answer f refl refl asks asks_first tells answers)) [
+  found_shaped air shape height trace public_values ood_bits alpha_bits answer f g same declares fits is lists asks asks_first tells unless answers =
+      elim (found_unjudged (λ h. IsProved ops.protocol ops.coordinates form (proof_file ops form) log_rows scheme first_state air height trace public_values s.ood_bits s.alpha_bits h) f g unless
+      (is_proved ops.protocol ops.coordinates form (proof_file ops form) _ (written_exactly ops.writing ops.codecs no_float form) log_rows air scheme scheme first_state first_state ood_bits s.ood_bits alpha_bits s.alpha_bits public_values height trace answer f refl refl asks asks_first tells answers)) [
         | inl memory ↦ inl memory
         | inr proved ↦ inr (inl (
           height,
           subst (λ a. FitsShape (shape_of a) log_rows most rows s.public_values height) declares (subst (λ k. FitsShape k log_rows most rows s.public_values height) same (subst (λ ps. FitsShape shape log_rows most rows ps height) lists fits)),
           subst (λ (a : CheckedAir F). IsProved ops.protocol ops.coordinates form (proof_file ops form) log_rows scheme first_state a height (trace_of a.layout.main rows) s.public_values s.ood_bits s.alpha_bits g) declares
               (subst (λ ps. IsProved ops.protocol ops.coordinates form (proof_file ops form) log_rows scheme first_state air height (trace_of air.layout.main rows) ps s.ood_bits s.alpha_bits g) lists
-              (subst (λ t. IsProved ops.protocol ops.coordinates form (proof_file ops form) log_rows scheme first_state air height t publics s.ood_bits s.alpha_bits g) is proved)),
+              (subst (λ t. IsProved ops.protocol ops.coordinates form (proof_file ops form) log_rows scheme first_state air height t public_values s.ood_bits s.alpha_bits g) is proved)),
         ))
       ]
 

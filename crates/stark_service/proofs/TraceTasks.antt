@@ -67,10 +67,10 @@ columns_height declared log_rows height has same = λ t some wide.
     subst (λ n. length t.values ≡ 2 ^ n * t.width) (sym (same (subst (λ n. 0 < n) (sym (ap trace_width some)) wide))) (has t some wide)
 
 -- Rows in an AIR's widths and counts are a trace for it.
-pub rows_fit : {F : Type 0} (greatest : ℕ) (publics : List F) (log_rows : ℕ) (rows : List (List F)) (air : CheckedAir F) (shape : CheckShape) (height width num : ℕ) (values : List F) → shape ≡ shape_of air → FitsShape shape log_rows greatest rows publics height
-    → 0 < air.layout.main → width ≡ shape.width → values ≡ flat_map (λ row. row) rows → num ≡ length publics → IsTraceFor air.layout log_rows (record { width = width; values = values }) num 0 greatest
-rows_fit greatest publics log_rows rows air shape height width num values same fits main wide is count =
-    trace_fits shape log_rows greatest rows publics height fits air.layout width num values main (ap (λ k. k.width) same) (ap (λ k. k.num_public_values) same) (ap (λ k. k.preprocessed_width) same) wide is count
+pub rows_fit : {F : Type 0} (greatest : ℕ) (public_values : List F) (log_rows : ℕ) (rows : List (List F)) (air : CheckedAir F) (shape : CheckShape) (height width num : ℕ) (values : List F) → shape ≡ shape_of air → FitsShape shape log_rows greatest rows public_values height
+    → 0 < air.layout.main → width ≡ shape.width → values ≡ flat_map (λ row. row) rows → num ≡ length public_values → IsTraceFor air.layout log_rows (record { width = width; values = values }) num 0 greatest
+rows_fit greatest public_values log_rows rows air shape height width num values same fits main wide is count =
+    trace_fits shape log_rows greatest rows public_values height fits air.layout width num values main (ap (λ k. k.width) same) (ap (λ k. k.num_public_values) same) (ap (λ k. k.preprocessed_width) same) wide is count
 
 -- ---- what is told
 

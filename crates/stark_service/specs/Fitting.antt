@@ -17,27 +17,27 @@ use Rattle.stark_service.specs.TraceChecks.{IsCheckedWithRows, OrLacksMemory}
 
 -- Some rows were read.
 abbrev pub AreSomeRows : {F : Type 0} → TraceRows F → Type 0
-AreSomeRows {F} found = (rows : List (List F)) × HasRows found rows
+AreSomeRows {F} table = (rows : List (List F)) × HasRows table rows
 
 -- This is told of the rows that were read, or memory was wanting.
 abbrev pub TellsOfRows : {F : Type 0} → TraceRows F → (Option (List (List F)) → Finding → Type 0) → Finding → Type 0
-TellsOfRows {F} found IsTold f = (rows : List (List F)) → HasRows found rows → OrLacksMemory (IsTold (Some rows)) f
+TellsOfRows {F} table IsTold f = (rows : List (List F)) → HasRows table rows → OrLacksMemory (IsTold (Some rows)) f
 
 -- This holds of the rows that were read.
 abbrev pub OfRead : {F : Type 0} → TraceRows F → (List (List F) → Type 0) → Type 0
-OfRead {F} found Holds = (rows : List (List F)) → HasRows found rows → Holds rows
+OfRead {F} table Holds = (rows : List (List F)) → HasRows table rows → Holds rows
 
 -- The rows are a trace of the AIR's with these public values, of at most 2 ^ greatest rows and as many as its preprocessed columns,
 -- which have 2 ^ log_rows; and this is it.
-pub record IsFitting {F : Type 0} (greatest log_rows : ℕ) (air : CheckedAir F) (publics : List F) (rows : List (List F)) (trace : RowMajorMatrix F) : Type 0 where
+pub record IsFitting {F : Type 0} (greatest log_rows : ℕ) (air : CheckedAir F) (public_values : List F) (rows : List (List F)) (trace : RowMajorMatrix F) : Type 0 where
   pub log_height : ℕ
-  pub fits : FitsShape (shape_of air) log_rows greatest rows publics log_height
+  pub fits : FitsShape (shape_of air) log_rows greatest rows public_values log_height
   pub width : trace.width ≡ (shape_of air).width
   pub values : trace.values.items ≡ flat_map (λ row. row) rows
 
 -- The rows are no such trace.
 abbrev pub IsUnfit : {F : Type 0} → ℕ → ℕ → CheckedAir F → List F → List (List F) → Type 0
-IsUnfit greatest log_rows air publics rows = (log_height : ℕ) → FitsShape (shape_of air) log_rows greatest rows publics log_height → ⊥
+IsUnfit greatest log_rows air public_values rows = (log_height : ℕ) → FitsShape (shape_of air) log_rows greatest rows public_values log_height → ⊥
 
 module _ {F : Type 0} (greatest log_rows : ℕ) (s : StatementView F) where
   -- The rows are a trace for the statement, and this is it.

@@ -56,23 +56,23 @@ bad_no_proof f is form proof = subst (IsProof form) is proof
 -- ---- what a check finds
 
 module _ {F E : Type 0} (fields : FieldsOps F E) (number : F → ℕ) where
-  checked_alone : (asked : TraceTask) (air : CheckedAir F) (list : ListView F) (trace : Trace F) (publics : List F) (f : Finding) → IsCheckedTrace fields number air list trace publics f
+  checked_alone : (asked : TraceTask) (air : CheckedAir F) (list : ListView F) (trace : Trace F) (public_values : List F) (f : Finding) → IsCheckedTrace fields number air list trace public_values f
       → (f ≡ finding.Satisfied → asked ≡ task.Check) → IsOfTrace asked f
-  checked_alone asked air list trace publics finding.Satisfied checked satisfied = record { begins = tt; accepts_none = λ is. cc; shows_none = λ no. no; proves_as_asked = λ form no. absurd no; satisfied_checks = satisfied }
-  checked_alone asked air list trace publics (finding.Broken row) checked satisfied =
+  checked_alone asked air list trace public_values finding.Satisfied checked satisfied = record { begins = tt; accepts_none = λ is. cc; shows_none = λ no. no; proves_as_asked = λ form no. absurd no; satisfied_checks = satisfied }
+  checked_alone asked air list trace public_values (finding.Broken row) checked satisfied =
       record { begins = ap (take 1) checked.2.lines_are; accepts_none = λ is. cc; shows_none = λ no. no; proves_as_asked = λ form no. absurd no; satisfied_checks = satisfied }
-  checked_alone asked air list trace publics (finding.Verdict v) checked satisfied = absurd checked
-  checked_alone asked air list trace publics (finding.Proof line) checked satisfied = absurd checked
-  checked_alone asked air list trace publics (finding.ProofBytes bytes) checked satisfied = absurd checked
-  checked_alone asked air list trace publics (finding.Text text) checked satisfied = absurd checked
+  checked_alone asked air list trace public_values (finding.Verdict v) checked satisfied = absurd checked
+  checked_alone asked air list trace public_values (finding.Proof line) checked satisfied = absurd checked
+  checked_alone asked air list trace public_values (finding.ProofBytes bytes) checked satisfied = absurd checked
+  checked_alone asked air list trace public_values (finding.Text text) checked satisfied = absurd checked
 
-  checked_no_proof : (air : CheckedAir F) (list : ListView F) (trace : Trace F) (publics : List F) (f : Finding) → IsCheckedTrace fields number air list trace publics f → (form : ProofForm) → IsProof form f → ⊥
-  checked_no_proof air list trace publics finding.Satisfied checked form is = is
-  checked_no_proof air list trace publics (finding.Broken row) checked form is = is
-  checked_no_proof air list trace publics (finding.Verdict v) checked form is = is
-  checked_no_proof air list trace publics (finding.Proof line) checked form is = checked
-  checked_no_proof air list trace publics (finding.ProofBytes bytes) checked form is = checked
-  checked_no_proof air list trace publics (finding.Text text) checked form is = is
+  checked_no_proof : (air : CheckedAir F) (list : ListView F) (trace : Trace F) (public_values : List F) (f : Finding) → IsCheckedTrace fields number air list trace public_values f → (form : ProofForm) → IsProof form f → ⊥
+  checked_no_proof air list trace public_values finding.Satisfied checked form is = is
+  checked_no_proof air list trace public_values (finding.Broken row) checked form is = is
+  checked_no_proof air list trace public_values (finding.Verdict v) checked form is = is
+  checked_no_proof air list trace public_values (finding.Proof line) checked form is = checked
+  checked_no_proof air list trace public_values (finding.ProofBytes bytes) checked form is = checked
+  checked_no_proof air list trace public_values (finding.Text text) checked form is = is
 
   module _ (greatest : ℕ) (s : StatementView F) (log_rows : ℕ) where
     rows_checked : (asked : TraceTask) (read : Option (List (List F))) (f : Finding) → IsCheckedWithRows fields number greatest s log_rows read f → (f ≡ finding.Satisfied → asked ≡ task.Check) → IsOfTrace asked f

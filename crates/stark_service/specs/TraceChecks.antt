@@ -42,26 +42,26 @@ pub record TellsBroken {F : Type 0} (number : F → ℕ) (list : ListView F) (vi
 module _ {F E : Type 0} (fields : FieldsOps F E) (number : F → ℕ) where
   -- Each constraint of an AIR is zero in each row of a trace.
   unfoldable pub IsSatisfying : CheckedAir F → Trace F → List F → Type 0
-  IsSatisfying air trace publics =
-      IsSatisfiedByTrace fields.base fields.base_inverse fields.root fields.adicity air.constraints air.periodic_columns trace air.preprocessed_trace publics
+  IsSatisfying air trace public_values =
+      IsSatisfiedByTrace fields.base fields.base_inverse fields.root fields.adicity air.constraints air.periodic_columns trace air.preprocessed_trace public_values
 
   -- It is the first row of a trace that breaks a constraint, and in it the first constraint.
   unfoldable pub IsFirstBroken : CheckedAir F → Trace F → List F → ConstraintViolation F → Type 0
-  IsFirstBroken air trace publics violation =
-      IsFirstOfTrace fields.base fields.base_inverse fields.root fields.adicity air.constraints air.periodic_columns trace air.preprocessed_trace publics violation
+  IsFirstBroken air trace public_values violation =
+      IsFirstOfTrace fields.base fields.base_inverse fields.root fields.adicity air.constraints air.periodic_columns trace air.preprocessed_trace public_values violation
 
   -- The trace satisfies the AIR; or the finding tells the first row that breaks a constraint and in it the first constraint.
   abbrev pub IsCheckedTrace : CheckedAir F → ListView F → Trace F → List F → Finding → Type 0
-  IsCheckedTrace air list trace publics finding.Satisfied = IsSatisfying air trace publics
-  IsCheckedTrace air list trace publics (finding.Broken row) = (violation : ConstraintViolation F) × IsFirstBroken air trace publics violation × TellsBroken number list violation row
-  IsCheckedTrace air list trace publics (finding.Verdict v) = ⊥
-  IsCheckedTrace air list trace publics (finding.Proof line) = ⊥
-  IsCheckedTrace air list trace publics (finding.ProofBytes bytes) = ⊥
-  IsCheckedTrace air list trace publics (finding.Text text) = ⊥
+  IsCheckedTrace air list trace public_values finding.Satisfied = IsSatisfying air trace public_values
+  IsCheckedTrace air list trace public_values (finding.Broken row) = (violation : ConstraintViolation F) × IsFirstBroken air trace public_values violation × TellsBroken number list violation row
+  IsCheckedTrace air list trace public_values (finding.Verdict v) = ⊥
+  IsCheckedTrace air list trace public_values (finding.Proof line) = ⊥
+  IsCheckedTrace air list trace public_values (finding.ProofBytes bytes) = ⊥
+  IsCheckedTrace air list trace public_values (finding.Text text) = ⊥
 
   -- What a check finds of a matrix as a trace of an AIR that is data, by what it declares; or memory was wanting.
   abbrev pub ChecksMatrix : (TreeAir F → CheckedAir F) → TreeAir F → RowMajorMatrix F → List F → Finding → Type 0
-  ChecksMatrix declared air matrix publics f = OrLacksMemory (IsCheckedTrace (declared air) (list_view air.list) (view_of matrix) publics) f
+  ChecksMatrix declared air matrix public_values f = OrLacksMemory (IsCheckedTrace (declared air) (list_view air.list) (view_of matrix) public_values) f
 
   -- The rows are a trace of the AIR's of at most 2 ^ greatest rows, and this is found of it; rows that are none are bad input, and so is
   -- a file that spells no rows.

@@ -53,7 +53,7 @@ fn check_trace<F: PrimeField64 + TwoAdicField, EF: ExtensionField<F>>(
     requires height { IsAsHighAs (⟦<TreeAir<F> as BaseAir<F>>⟧.preprocessed_trace air.now)
         trace.now }
     requires public_values { length public_values.now
-        ≡ (⟦<TreeAir<F> as BaseAir<F>>⟧.layout air.now).publics }
+        ≡ (⟦<TreeAir<F> as BaseAir<F>>⟧.layout air.now).public_values }
     ensures { ChecksMatrix ⟦<EF as FieldPair<F>>⟧.fields F.number_of
         ⟦<TreeAir<F> as DeclaredAir<F>>⟧.declared air.now trace.now public_values.now
         result.answer }

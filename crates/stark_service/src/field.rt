@@ -46,7 +46,7 @@ pub trait ServiceField: Sized {
     ghost sound: { Option FriNumbers → Data → List ℕ → Type 0 };
 
     /// Of the bytes of a trace, by what is asked for it.
-    ghost found: { Option FriNumbers → TraceTask → Data → List ℕ → Finding → Type 0 };
+    ghost finds: { Option FriNumbers → TraceTask → Data → List ℕ → Finding → Type 0 };
 
     /// This is the file of a proof, in a form, of the trace that the bytes spell.
     ghost proof_file: { Option FriNumbers → Data → List ℕ → ProofForm → List ℕ → Type 0 };
@@ -72,7 +72,7 @@ pub trait ServiceField: Sized {
         progress: &mut P,
     ) -> Report<Finding>
         requires { HasRoomFor adicity scheme }
-        ensures found { OrLacksMemory (found (scheme_numbers scheme) asked (data_of value)
+        ensures finds { OrLacksMemory (finds (scheme_numbers scheme) asked (data_of value)
             trace.items) result.answer }
         ensures kind { IsOfTrace asked result.answer }
         ensures proof { WhereProof (proof_file (scheme_numbers scheme) (data_of value)
@@ -96,7 +96,7 @@ impl<M: Modulus> ServiceField for Residue<M, Scalar> {
     ghost sound = { ⟦<Base<M> as ValueAnswers<Ext4<Base<M>>, Hashing<Base<M>>>>⟧.sound
         (replicate 32 0) };
 
-    ghost found = { ⟦<Base<M> as ValueAnswers<Ext4<Base<M>>, Hashing<Base<M>>>>⟧.found
+    ghost finds = { ⟦<Base<M> as ValueAnswers<Ext4<Base<M>>, Hashing<Base<M>>>>⟧.finds
         (replicate 32 0) };
 
     ghost proof_file = { ⟦<Base<M> as ValueAnswers<Ext4<Base<M>>, Hashing<Base<M>>>>⟧.proof_file
@@ -142,7 +142,7 @@ impl ServiceField for F12289 {
     ghost sound = { ⟦<F12289 as ValueAnswers<Ext4<F12289>, Hashing<F12289>>>⟧.sound
         (replicate 32 0) };
 
-    ghost found = { ⟦<F12289 as ValueAnswers<Ext4<F12289>, Hashing<F12289>>>⟧.found
+    ghost finds = { ⟦<F12289 as ValueAnswers<Ext4<F12289>, Hashing<F12289>>>⟧.finds
         (replicate 32 0) };
 
     ghost proof_file = { ⟦<F12289 as ValueAnswers<Ext4<F12289>, Hashing<F12289>>>⟧.proof_file

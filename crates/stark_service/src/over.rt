@@ -37,7 +37,7 @@ pub trait ValueAnswers<EF, C>: Sized {
 
     ghost sound: { C → Option FriNumbers → Data → List ℕ → Type 0 };
 
-    ghost found: { C → Option FriNumbers → TraceTask → Data → List ℕ → Finding → Type 0 };
+    ghost finds: { C → Option FriNumbers → TraceTask → Data → List ℕ → Finding → Type 0 };
 
     ghost proof_file: { C → Option FriNumbers → Data → List ℕ → ProofForm → List ℕ → Type 0 };
 
@@ -58,8 +58,8 @@ where
         (λ s. ⟦<F as FieldAnswers<EF, C>>⟧.sound fresh scheme s proof)
         (statement_reading F.reading d) };
 
-    ghost found = { λ fresh scheme asked d trace. IsSaidOfRead (λ v. Finding.Verdict v)
-        (λ s. ⟦<F as FieldAnswers<EF, C>>⟧.found fresh scheme asked s trace)
+    ghost finds = { λ fresh scheme asked d trace. IsSaidOfRead (λ v. Finding.Verdict v)
+        (λ s. ⟦<F as FieldAnswers<EF, C>>⟧.finds fresh scheme asked s trace)
         (statement_reading F.reading d) };
 
     ghost proof_file = { λ fresh scheme d trace form file. HoldsOfRead
@@ -115,7 +115,7 @@ where
     requires room { HasRoomFor F.TWO_ADICITY scheme }
     requires base { WritesNoFloat F.writing }
     requires extension { WritesNoFloat EF.writing }
-    ensures found { OrLacksMemory (⟦<F as ValueAnswers<EF, C>>⟧.found challenger
+    ensures finds { OrLacksMemory (⟦<F as ValueAnswers<EF, C>>⟧.finds challenger
         (scheme_numbers scheme) asked (data_of value) trace.items) result.answer }
     ensures kind { IsOfTrace asked result.answer }
     ensures proof { WhereProof (⟦<F as ValueAnswers<EF, C>>⟧.proof_file challenger

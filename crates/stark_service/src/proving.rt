@@ -17,7 +17,7 @@ use crate::reading::read_rows;
 use crate::service::ServiceAnswers;
 use stark_air::BaseAir;
 use stark_answers::{
-    Finding, ProofForm, Report, TraceTask, finding_of_proof, log_rows_of, prove_with_held,
+    Finding, ProofForm, Report, TraceTask, finding_of_proof, log_rows_of, prove_with_own_columns,
     words_of_failure,
 };
 use stark_parts::{StarkGenericConfig, Val};
@@ -47,7 +47,7 @@ fn prove_rows<SC: ProvingConfig>(
         (statement_view statement.now) log_rows trace result.answer }
 {
     let public_values = statement.public_values.as_slice();
-    let answer = prove_with_held(
+    let answer = prove_with_own_columns(
         alloc,
         config,
         &statement.air,
@@ -158,7 +158,7 @@ pub fn answer_with<SC: ProvingConfig, P: Progress>(
     requires ready { ⟦<SC as ServiceAnswers>⟧.is_ready config.now
         (statement_view statement.now) }
     requires able { ⟦<SC as ServiceAnswers>⟧.can_prove config.now }
-    ensures found { OrLacksMemory (⟦<SC as ServiceAnswers>⟧.found config.now asked
+    ensures finds { OrLacksMemory (⟦<SC as ServiceAnswers>⟧.finds config.now asked
         (statement_view statement.now) bytes.items) result.answer }
     ensures kind { IsOfTrace asked result.answer }
     ensures proof { WhereProof (⟦<SC as ServiceAnswers>⟧.proof_file config.now

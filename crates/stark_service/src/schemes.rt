@@ -47,7 +47,7 @@ pub trait FieldAnswers<EF, C>: Sized {
     ghost sound: { C → Option FriNumbers → StatementView Self → List ℕ → Type 0 };
 
     /// Of the bytes of a trace, by what is asked for it.
-    ghost found: { C → Option FriNumbers → TraceTask → StatementView Self → List ℕ
+    ghost finds: { C → Option FriNumbers → TraceTask → StatementView Self → List ℕ
         → Finding → Type 0 };
 
     /// This is the file of a proof, in a form, of the trace that the bytes spell.
@@ -79,7 +79,7 @@ where
         (after_statement ⟦<C as CanObserve<F>>⟧.after_observe F.of_number F.number_of s fresh) s
         (⟦<ClearConfig<F, EF, C> as StarkService>⟧.service.reading proof)) };
 
-    ghost found = { λ fresh scheme asked s trace f. ByScheme scheme
+    ghost finds = { λ fresh scheme asked s trace f. ByScheme scheme
         (λ numbers. WithNumbers (λ pcs. pcs.parameters) numbers (λ pcs.
         IsToldOn ⟦<FriConfig<F, EF, C> as StarkService>⟧.service pcs
         (after_statement ⟦<C as CanObserve<F>>⟧.after_observe F.of_number F.number_of s fresh) s
@@ -179,7 +179,7 @@ pub(crate) fn answer_by<
     requires room { HasRoomFor F.TWO_ADICITY scheme }
     requires base { WritesNoFloat F.writing }
     requires extension { WritesNoFloat EF.writing }
-    ensures found { OrLacksMemory (⟦<F as FieldAnswers<EF, C>>⟧.found fresh
+    ensures finds { OrLacksMemory (⟦<F as FieldAnswers<EF, C>>⟧.finds fresh
         (numbers_of scheme) asked (statement_view statement.now) trace.items) result.answer }
     ensures kind { IsOfTrace asked result.answer }
     ensures proof { WhereProof (⟦<F as FieldAnswers<EF, C>>⟧.proof_file fresh

@@ -95,12 +95,12 @@ pub trait ServiceAnswers: StarkGenericConfig {
     ghost tells: { Self → TraceTask → StatementView Self.Pcs.Domain.Val → ℕ
         → Option (List (List Self.Pcs.Domain.Val)) → Finding → Type 0 };
 
-    /// The same of the bytes of a trace.
+    /// By what is asked for the trace that bytes spell.
     ghost tells_of_bytes: { Self → TraceTask → StatementView Self.Pcs.Domain.Val → ℕ → List ℕ
         → Finding → Type 0 };
 
     /// Of the bytes of a trace.
-    ghost found: { Self → TraceTask → StatementView Self.Pcs.Domain.Val → List ℕ
+    ghost finds: { Self → TraceTask → StatementView Self.Pcs.Domain.Val → List ℕ
         → Finding → Type 0 };
 
     /// This is the file of a proof, in a form, of the trace that the bytes spell.
@@ -150,7 +150,7 @@ impl<SC: ServiceConfig> ServiceAnswers for SC {
         ⟦<SC as StarkService>⟧.service (SC.config.scheme config) (SC.config.first_state config) s
         asked log_rows (rows_in ⟦<SC as StarkService>⟧.service.element trace) };
 
-    ghost found = { λ config asked s trace. IsToldOn ⟦<SC as StarkService>⟧.service
+    ghost finds = { λ config asked s trace. IsToldOn ⟦<SC as StarkService>⟧.service
         (SC.config.scheme config) (SC.config.first_state config) s asked
         (rows_in ⟦<SC as StarkService>⟧.service.element trace) };
 

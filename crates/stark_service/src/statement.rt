@@ -40,7 +40,7 @@ pub trait StatementAnswers: Sized {
     ghost sound: { List ℕ → List ℕ → Type 0 };
 
     /// This is found of a statement and a trace, by what is asked for the trace.
-    ghost found: { TraceTask → List ℕ → List ℕ → Finding → Type 0 };
+    ghost finds: { TraceTask → List ℕ → List ℕ → Finding → Type 0 };
 
     /// This is the file of a proof in a form, for the statement, of the trace.
     ghost proof_file: { List ℕ → List ℕ → ProofForm → List ℕ → Type 0 };
@@ -63,7 +63,7 @@ pub trait StatementAnswers: Sized {
         trace: Vec<u8>,
         progress: &mut P,
     ) -> Report<Finding>
-        ensures found { OrLacksMemory (found asked statement.items trace.items) result.answer }
+        ensures finds { OrLacksMemory (finds asked statement.items trace.items) result.answer }
         ensures kind { IsOfTrace asked result.answer }
         ensures proof { WhereProof (proof_file statement.items trace.items) result.answer };
 
@@ -84,7 +84,7 @@ trait ConfiguredAnswers {
 
     ghost sound: { ConfigurationView → Data → List ℕ → Type 0 };
 
-    ghost found: { TraceTask → ConfigurationView → Data → List ℕ → Finding → Type 0 };
+    ghost finds: { TraceTask → ConfigurationView → Data → List ℕ → Finding → Type 0 };
 
     ghost proof_file: { ConfigurationView → Data → List ℕ → ProofForm → List ℕ → Type 0 };
 
@@ -102,10 +102,10 @@ impl ConfiguredAnswers for NamedFields {
         (⟦<KoalaBearField as ServiceField>⟧.sound c.fri d proof)
         (⟦<F12289 as ServiceField>⟧.sound c.fri d proof) };
 
-    ghost found = { λ asked c d trace f. OverField c.field
-        (⟦<BabyBearField as ServiceField>⟧.found c.fri asked d trace f)
-        (⟦<KoalaBearField as ServiceField>⟧.found c.fri asked d trace f)
-        (⟦<F12289 as ServiceField>⟧.found c.fri asked d trace f) };
+    ghost finds = { λ asked c d trace f. OverField c.field
+        (⟦<BabyBearField as ServiceField>⟧.finds c.fri asked d trace f)
+        (⟦<KoalaBearField as ServiceField>⟧.finds c.fri asked d trace f)
+        (⟦<F12289 as ServiceField>⟧.finds c.fri asked d trace f) };
 
     ghost proof_file = { λ c d trace form file. OverField c.field
         (⟦<BabyBearField as ServiceField>⟧.proof_file c.fri d trace form file)
@@ -125,8 +125,8 @@ impl StatementAnswers for NamedFields {
     ghost sound = { λ statement proof. HoldsOfBytes (λ c d.
         ⟦<NamedFields as ConfiguredAnswers>⟧.sound c d proof) statement };
 
-    ghost found = { λ asked statement trace. IsSaidOfBytes (λ v. Finding.Verdict v) (λ c d.
-        ⟦<NamedFields as ConfiguredAnswers>⟧.found asked c d trace) statement };
+    ghost finds = { λ asked statement trace. IsSaidOfBytes (λ v. Finding.Verdict v) (λ c d.
+        ⟦<NamedFields as ConfiguredAnswers>⟧.finds asked c d trace) statement };
 
     ghost proof_file = { λ statement trace form file. HoldsOfBytes (λ c d.
         ⟦<NamedFields as ConfiguredAnswers>⟧.proof_file c d trace form file) statement };
@@ -214,7 +214,7 @@ fn answer_value<P: Progress>(
     progress: &mut P,
 ) -> Report<Finding>
     requires { IsWithinField configuration }
-    ensures found { OrLacksMemory (⟦<NamedFields as ConfiguredAnswers>⟧.found asked
+    ensures finds { OrLacksMemory (⟦<NamedFields as ConfiguredAnswers>⟧.finds asked
         (configuration_view configuration) (data_of value) trace.items) result.answer }
     ensures kind { IsOfTrace asked result.answer }
     ensures proof { WhereProof (⟦<NamedFields as ConfiguredAnswers>⟧.proof_file
@@ -303,7 +303,7 @@ pub fn answer_trace(
     statement: &[u8],
     trace: &[u8],
 ) -> Report<Finding>
-    ensures found { OrLacksMemory (⟦<NamedFields as StatementAnswers>⟧.found asked
+    ensures finds { OrLacksMemory (⟦<NamedFields as StatementAnswers>⟧.finds asked
         statement.now trace.now) result.answer }
     ensures kind { IsOfTrace asked result.answer }
     ensures proof { WhereProof (⟦<NamedFields as StatementAnswers>⟧.proof_file
@@ -320,7 +320,7 @@ pub fn answer_trace(
 
 /// `answer_trace` where a check is asked for.
 pub fn check_statement(alloc: Global, statement: &[u8], trace: &[u8]) -> Report<Finding>
-    ensures found { OrLacksMemory (⟦<NamedFields as StatementAnswers>⟧.found TraceTask.Check
+    ensures finds { OrLacksMemory (⟦<NamedFields as StatementAnswers>⟧.finds TraceTask.Check
         statement.now trace.now) result.answer }
     ensures kind { IsOfTrace TraceTask.Check result.answer }
 {
@@ -329,7 +329,7 @@ pub fn check_statement(alloc: Global, statement: &[u8], trace: &[u8]) -> Report<
 
 /// `answer_trace` where a proof as JSON is asked for of a trace that satisfies its AIR.
 pub fn prove_statement(alloc: Global, statement: &[u8], trace: &[u8]) -> Report<Finding>
-    ensures found { OrLacksMemory (⟦<NamedFields as StatementAnswers>⟧.found
+    ensures finds { OrLacksMemory (⟦<NamedFields as StatementAnswers>⟧.finds
         (TraceTask.Prove ProofForm.Json) statement.now trace.now) result.answer }
     ensures kind { IsOfTrace (TraceTask.Prove ProofForm.Json) result.answer }
     ensures proof { WhereProof (⟦<NamedFields as StatementAnswers>⟧.proof_file

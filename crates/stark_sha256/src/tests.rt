@@ -128,8 +128,8 @@ fn rows_are_answered(rt: HostRuntime) -> Result<(), Fail> {
     for row in ROWS.lines() {
         if !row.is_empty() && !row.starts_with('#') {
             let (input, expected) = row.split_once(" => ").ok_or("a row without an answer")?;
-            let found = answer(rt.alloc(), input)?;
-            assert_eq!(rt; found.as_str(), expected, "{input}");
+            let actual = answer(rt.alloc(), input)?;
+            assert_eq!(rt; actual.as_str(), expected, "{input}");
             count = count.saturating_add(1);
         }
     }

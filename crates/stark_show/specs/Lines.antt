@@ -10,8 +10,8 @@ use Rattle.stark_show.specs.ShownNodes.{written_at}
 
 -- How many columns and values of each kind there are.
 abbrev pub columns_line : ℕ → ℕ → ℕ → ℕ → List ℕ
-columns_line main publics periodic preprocessed =
-    codes "columns: " ++ (decimal main ++ (codes " main, " ++ (decimal publics ++ (codes " public, " ++ (decimal periodic ++ (codes " periodic, " ++ (decimal preprocessed ++ codes " preprocessed\n")))))))
+columns_line main public_values periodic preprocessed =
+    codes "columns: " ++ (decimal main ++ (codes " main, " ++ (decimal public_values ++ (codes " public, " ++ (decimal periodic ++ (codes " periodic, " ++ (decimal preprocessed ++ codes " preprocessed\n")))))))
 
 -- Whether a constraint is one over the base field or over the extension.
 abbrev pub kind_name : TreeConstraint → List ℕ

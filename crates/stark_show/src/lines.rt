@@ -13,15 +13,15 @@ use std::alloc::{AllocError, Global};
 pub fn columns_line(
     alloc: Global,
     main: usize,
-    publics: usize,
+    public_values: usize,
     periodic: usize,
     preprocessed: usize,
 ) -> Result<String, AllocError>
     ensures { IfOk result (λ line. string_bytes line
-        ≡ columns_line main publics periodic preprocessed) }
+        ≡ columns_line main public_values periodic preprocessed) }
 {
     format!(in alloc;
-        "columns: {main} main, {publics} public, {periodic} periodic, {preprocessed} preprocessed\n"
+        "columns: {main} main, {public_values} public, {periodic} periodic, {preprocessed} preprocessed\n"
     )
 }
 

@@ -125,8 +125,8 @@ module _ {F : Type 0} (number_of : F → ℕ) (of_number : ℕ → F) (same_numb
   columns_code : IsCode (columns_words number_of)
   unfolding columns_words
   columns_code = turned_code (λ p. word p.0 ++ (word p.1.0 ++ (counted (elements_words number_of) p.1.1.0 ++ optional (trace_words number_of) p.1.1.1)))
-      (λ (columns : ColumnsView F). (columns.width, (columns.publics, (columns.periodic, columns.preprocessed))))
-      (λ p. record { width = p.0; publics = p.1.0; periodic = p.1.1.0; preprocessed = p.1.1.1 })
+      (λ (columns : ColumnsView F). (columns.width, (columns.public_values, (columns.periodic, columns.preprocessed))))
+      (λ p. record { width = p.0; public_values = p.1.0; periodic = p.1.1.0; preprocessed = p.1.1.1 })
       (λ columns. refl)
       (pair_code word _ word_code (pair_code word _ word_code (pair_code _ _ periodic_code preprocessed_code)))
 

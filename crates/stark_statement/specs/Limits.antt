@@ -53,7 +53,7 @@ module _ {F : Type 0} (columns : ColumnsView F) where
 -- An AIR has no more than this of anything.
 pub record IsWithin {F : Type 0} (limits : AirLimits) (air : AirView F) : Type 0 where
   pub columns : width_of air.columns ≤ limits.columns
-  pub public_values : air.columns.publics ≤ limits.public_values
+  pub public_values : air.columns.public_values ≤ limits.public_values
   pub cells : cells_of air.columns ≤ limits.cells
   pub constants : length air.list.constants ≤ limits.constants
   pub nodes : length air.list.nodes ≤ limits.nodes
@@ -61,8 +61,8 @@ pub record IsWithin {F : Type 0} (limits : AirLimits) (air : AirView F) : Type 0
 
 -- The answer is the error that was found, if one was.
 abbrev pub Tells : Option AirTooLarge → Result (Unit {0}) AirTooLarge → Type 0
-Tells found (Ok nothing) = found ≡ None
-Tells found (Err error) = found ≡ Some error
+Tells fault (Ok nothing) = fault ≡ None
+Tells fault (Err error) = fault ≡ Some error
 
 -- The error, where a limit is passed.
 abbrev pub passed_if : Bool → AirTooLarge → Option AirTooLarge
@@ -73,7 +73,7 @@ module _ {F : Type 0} (limits : AirLimits) where
   abbrev pub columns_passed : ColumnsView F → Option AirTooLarge
   columns_passed columns =
       option_or (passed_if (nat_lt limits.columns (width_of columns)) (Columns columns.width (trace_width columns.preprocessed) limits.columns))
-      (option_or (passed_if (nat_lt limits.public_values columns.publics) (PublicValues columns.publics limits.public_values))
+      (option_or (passed_if (nat_lt limits.public_values columns.public_values) (PublicValues columns.public_values limits.public_values))
       (passed_if (nat_lt limits.cells (cells_of columns)) (Cells limits.cells)))
 
   abbrev pub list_passed : ListView F → Option AirTooLarge

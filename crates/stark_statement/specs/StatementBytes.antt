@@ -68,7 +68,7 @@ module _ {F : Type 0} (number_of : F → ℕ) where
 
   unfoldable pub columns_words : ColumnsView F → List ℕ
   columns_words columns =
-      word columns.width ++ (word columns.publics ++
+      word columns.width ++ (word columns.public_values ++
       (counted elements_words columns.periodic ++ optional trace_words columns.preprocessed))
 
   unfoldable pub list_words : ListView F → List ℕ

@@ -115,9 +115,9 @@ module _ {F : Type 0} (element : Data → Option F) where
   -- the statement, unless the AIR declares another number of public values
   abbrev pub with_count : ConfigurationView → AirView F → List F → ℕ → ℕ → Result (StatementView F) StatementFault
   with_count config air public_values alpha_bits ood_bits =
-      if length public_values == air.columns.publics
+      if length public_values == air.columns.public_values
       then Ok (record { config = config; air = air; public_values = public_values; alpha_bits = alpha_bits; ood_bits = ood_bits })
-      else Err (public_values_count air.columns.publics (length public_values))
+      else Err (public_values_count air.columns.public_values (length public_values))
 
   -- the statement that a JSON value spells, or its first fault
   unfoldable pub statement_reading : Data → Result (StatementView F) StatementFault

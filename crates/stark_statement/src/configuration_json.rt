@@ -66,8 +66,8 @@ fn check_configuration(config: &Value) -> Result<(), ConfigurationError>
 fn given_at<'a>(value: &'a Value, name: &str) -> Option<&'a Value>
     ensures { option_map (λ v. view v.now) result ≡ given_at name.now (view value.now) }
 {
-    let found = value.get(name)?;
-    if found.is_null() { None } else { Some(found) }
+    let member = value.get(name)?;
+    if member.is_null() { None } else { Some(member) }
 }
 
 #[tactic(auto, unfolding(crate::specs::ConfigurationJson::field_named))]
@@ -97,10 +97,10 @@ fn scheme_named(name: &str) -> Option<SchemeName>
 fn field_at(config: &Value) -> Result<FieldName, ConfigurationError>
     ensures { result ≡ field_at (view config.now) }
 {
-    let Some(found) = given_at(config, "field") else {
+    let Some(given) = given_at(config, "field") else {
         return Ok(FieldName::BabyBear);
     };
-    let Some(name) = found.as_str() else {
+    let Some(name) = given.as_str() else {
         return Err(ConfigurationError::WrongKind(ConfigurationMember::Field));
     };
     field_named(name).ok_or(ConfigurationError::UnknownField)
@@ -110,10 +110,10 @@ fn field_at(config: &Value) -> Result<FieldName, ConfigurationError>
 fn scheme_at(config: &Value) -> Result<SchemeName, ConfigurationError>
     ensures { result ≡ scheme_at (view config.now) }
 {
-    let Some(found) = given_at(config, "scheme") else {
+    let Some(given) = given_at(config, "scheme") else {
         return Ok(SchemeName::OfFri);
     };
-    let Some(name) = found.as_str() else {
+    let Some(name) = given.as_str() else {
         return Err(ConfigurationError::WrongKind(ConfigurationMember::Scheme));
     };
     scheme_named(name).ok_or(ConfigurationError::UnknownScheme)
@@ -127,10 +127,10 @@ fn number_at(
 ) -> Result<usize, ConfigurationError>
     ensures { result ≡ number_at member default (view config.now) }
 {
-    let Some(found) = given_at(config, member.name()) else {
+    let Some(given) = given_at(config, member.name()) else {
         return Ok(default);
     };
-    match found.as_u64() {
+    match given.as_u64() {
         Some(number) => Ok(number as usize),
         None => Err(ConfigurationError::WrongKind(member)),
     }
@@ -248,7 +248,8 @@ impl Configuration {
         }
     }
 
-    /// The same of a document.
+    /// What `from_statement` answers of a document's value: the rows that stand apart are no part
+    /// of the configuration.
     pub fn from_document(document: &Document) -> Result<Configuration, StatementError>
         ensures decoded { Decodes configuration_view result
             (configuration_reading (data_of document.now)) }

@@ -62,7 +62,7 @@ fn required<'a>(value: &'a Value, field: &'static str) -> Result<&'a Value, Stat
         (ok_or (get field.now (view value.now)) (missing_field field.now)) }
 {
     match value.get(field) {
-        Some(found) => Ok(found),
+        Some(member) => Ok(member),
         None => Err(StatementError::MissingField { field }),
     }
 }
@@ -92,8 +92,8 @@ pub(crate) fn required_air<F: Field + JsonCodec>(
     ensures { Decodes (λ air. air_view air.declaration air.list) result
         (required field.now (air_joined F.reading (rows_apart rows.now)) (view value.now)) }
 {
-    let found = required(value, field)?;
-    air_at(alloc, found, rows)
+    let member = required(value, field)?;
+    air_at(alloc, member, rows)
 }
 
 fn list_at<F: JsonCodec + Copy>(
@@ -122,21 +122,21 @@ pub(crate) fn required_list<F: JsonCodec + Copy>(
     ensures { Decodes (λ v. v.items) result
         (required field.now (list_at F.reading field.now) (view value.now)) }
 {
-    let found = required(value, field)?;
-    list_at(alloc, found, field)
+    let member = required(value, field)?;
+    list_at(alloc, member, field)
 }
 
 /// The bits of work under a name; 0 where it is missing or null.
 pub(crate) fn bits_at(value: &Value, field: &'static str) -> Result<usize, StatementError>
     ensures { Decodes (λ bits. bits) result (bits_at field.now (view value.now)) }
 {
-    let Some(found) = value.get(field) else {
+    let Some(member) = value.get(field) else {
         return Ok(NO_WORK);
     };
-    if found.is_null() {
+    if member.is_null() {
         return Ok(NO_WORK);
     }
-    match found.as_u64() {
+    match member.as_u64() {
         Some(bits) => Ok(bits as usize),
         None => Err(StatementError::WrongKind { field }),
     }

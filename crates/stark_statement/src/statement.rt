@@ -69,7 +69,7 @@ fn statement_of_parts<F: Field + JsonCodec>(
     })
 }
 
-/// The same of the whole value, with the rows in their place.
+/// The statement that a value spells with the rows in their place.
 fn statement_from_parts<F: Field + JsonCodec>(
     alloc: Global,
     value: &Value,

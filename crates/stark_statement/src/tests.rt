@@ -72,11 +72,11 @@ fn configurations_are_read(rt: HostRuntime) -> Result<(), Fail> {
             let value = value_from_bytes(alloc, text.as_bytes())
                 .ok()
                 .ok_or("no JSON")?;
-            let found = match Configuration::from_statement(&value) {
+            let actual = match Configuration::from_statement(&value) {
                 Ok(config) => spelled(alloc, config)?,
                 Err(error) => format!(in alloc; "{error}")?,
             };
-            assert_eq!(rt; found.as_str(), expected, "{text}");
+            assert_eq!(rt; actual.as_str(), expected, "{text}");
             count = count.saturating_add(1);
         }
     }
@@ -95,7 +95,7 @@ const CELLS: [(usize, usize); 6] = [
 ];
 
 #[test]
-fn fixed_columns_are_fewer_under_a_blowup(rt: HostRuntime) -> Result<(), Fail> {
+fn preprocessed_columns_are_fewer_under_a_blowup(rt: HostRuntime) -> Result<(), Fail> {
     for row in &CELLS {
         let (log_blowup, cells) = *row;
         let parameters = FriParameters::new(log_blowup, 0, 1, 0, 0);
@@ -104,11 +104,11 @@ fn fixed_columns_are_fewer_under_a_blowup(rt: HostRuntime) -> Result<(), Fail> {
             cells,
             ..AirLimits::default()
         };
-        let found = AirLimits::under(SchemeChoice::Fri(parameters));
-        assert_eq!(rt; found, wanted, "{log_blowup}");
+        let actual = AirLimits::under(SchemeChoice::Fri(parameters));
+        assert_eq!(rt; actual, wanted, "{log_blowup}");
     }
-    let found = AirLimits::under(SchemeChoice::Clear);
-    assert_eq!(rt; found, AirLimits::default());
+    let actual = AirLimits::under(SchemeChoice::Clear);
+    assert_eq!(rt; actual, AirLimits::default());
     Ok(())
 }
 

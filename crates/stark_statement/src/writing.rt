@@ -34,12 +34,12 @@ fn labelled(alloc: Global, words: &[u64]) -> Result<Vec<u8>, AllocError>
 /// How many bytes there are, as 8 bytes, and the bytes.
 #[tactic(auto, unfolding(crate::specs::Words::framed))]
 fn framed(alloc: Global, bytes: &[u8]) -> Result<Vec<u8>, AllocError>
-    ensures { IfOk result (λ whole. whole.items ≡ framed bytes.now) }
+    ensures { IfOk result (λ bytes_behind_length. bytes_behind_length.items ≡ framed bytes.now) }
 {
-    let mut whole = Vec::with_capacity(alloc, bytes.len().saturating_add(8))?;
-    whole.extend_from_slice(&number_bytes(bytes.len()))?;
-    whole.extend_from_slice(bytes)?;
-    Ok(whole)
+    let mut bytes_behind_length = Vec::with_capacity(alloc, bytes.len().saturating_add(8))?;
+    bytes_behind_length.extend_from_slice(&number_bytes(bytes.len()))?;
+    bytes_behind_length.extend_from_slice(bytes)?;
+    Ok(bytes_behind_length)
 }
 
 // Each word is a number of 64 bits.

@@ -20,12 +20,12 @@ module _ {K : Type 0} (ring : RingOps K) (inverse : K → K) (points values : Li
       let parts = subst IsWithoutRepeats (from_place points i n x next within is_point) (part_without_repeats points i distinct) in
       not_zero_elsewhere laws x (drop n points) parts.0 (ap (λ p. value ring p x) (sym is) ∙ sym at_is ∙ e)
 
-  pub one_more_found : (found product added found' : List K) (factor : K) → v ≡ get_or values i v → found ≡ interpolation ring inverse (drop n points) (drop n values) → product ≡ polynomial_with_roots ring (drop n points)
-      → factor ≡ ring.mul (difference ring v (value ring found x)) (inverse (value ring product x)) → added ≡ scaled ring factor product → found' ≡ polynomial_sum ring found added
-      → found' ≡ interpolation ring inverse (drop i points) (drop i values)
-  one_more_found found product added found' factor is_value is_found is_product is_factor is_added sum =
-      sum ∙ ap (polynomial_sum ring found) (is_added ∙ ap (λ f. scaled ring f product) is_factor)
-      ∙ ap (λ t. polynomial_sum ring found (scaled ring (ring.mul (difference ring v (value ring found x)) (inverse (value ring t x))) t)) is_product
+  pub one_more_point : (polynomial product added polynomial' : List K) (factor : K) → v ≡ get_or values i v → polynomial ≡ interpolation ring inverse (drop n points) (drop n values) → product ≡ polynomial_with_roots ring (drop n points)
+      → factor ≡ ring.mul (difference ring v (value ring polynomial x)) (inverse (value ring product x)) → added ≡ scaled ring factor product → polynomial' ≡ polynomial_sum ring polynomial added
+      → polynomial' ≡ interpolation ring inverse (drop i points) (drop i values)
+  one_more_point polynomial product added polynomial' factor is_value is_found is_product is_factor is_added sum =
+      sum ∙ ap (polynomial_sum ring polynomial) (is_added ∙ ap (λ f. scaled ring f product) is_factor)
+      ∙ ap (λ t. polynomial_sum ring polynomial (scaled ring (ring.mul (difference ring v (value ring polynomial x)) (inverse (value ring t x))) t)) is_product
       ∙ ap (λ t. polynomial_sum ring t (scaled ring (ring.mul (difference ring v (value ring t x)) (inverse (value ring (polynomial_with_roots ring (drop n points)) x))) (polynomial_with_roots ring (drop n points)))) is_found
       ∙ ap (λ t. interpolation ring inverse t (v ∷ drop n values)) (sym (from_place points i n x next within is_point))
       ∙ ap (interpolation ring inverse (drop i points)) (sym (from_place values i n v next (omega arith) is_value))
@@ -34,7 +34,7 @@ module _ {K : Type 0} (ring : RingOps K) (inverse : K → K) (points values : Li
   one_more_factor product product' is_product times =
       times ∙ ap (times_root ring x) is_product ∙ ap (polynomial_with_roots ring) (sym (from_place points i n x next within is_point))
 
-pub all_found : {K : Type 0} {ring : RingOps K} {inverse : K → K} (laws : FieldLaws ring inverse) (points values found : List K) (index : ℕ) → length points ≡ length values → IsWithoutRepeats points → index ≡ 0
-    → found ≡ interpolation ring inverse (drop index points) (drop index values) → TakesValues ring found points values
-all_found {ring = ring} {inverse = inverse} laws points values found index same_length distinct ended is =
+pub takes_all : {K : Type 0} {ring : RingOps K} {inverse : K → K} (laws : FieldLaws ring inverse) (points values polynomial : List K) (index : ℕ) → length points ≡ length values → IsWithoutRepeats points → index ≡ 0
+    → polynomial ≡ interpolation ring inverse (drop index points) (drop index values) → TakesValues ring polynomial points values
+takes_all {ring = ring} {inverse = inverse} laws points values polynomial index same_length distinct ended is =
     subst (λ p. TakesValues ring p points values) (sym (is ∙ ap (λ i. interpolation ring inverse (drop i points) (drop i values)) ended)) (interpolation_takes_values laws points values same_length distinct)

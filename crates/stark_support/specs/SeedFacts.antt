@@ -10,7 +10,7 @@ use Rattle.stark_support.specs.declared.pattern.Kind.{Kind}
 use Rattle.stark_support.specs.declared.pattern.Kind.TheVariants.{Message, Public, Challenge, Pow, Protocol}
 use Rattle.stark_support.specs.declared.pattern.Length.{Length}
 use Rattle.stark_support.specs.declared.pattern.Length.TheVariants.{Scalar, Fixed, Nothing}
-use Rattle.stark_support.specs.Seed.{Step, number, hierarchy_byte, kind_byte, length_tag, length_number, message, elements, marker, step_bytes, steps_bytes, items_bytes, seed_of, ShapeNumbers, IsBounded, flag, step_if, shape_steps, shape_items, shape_seed, steps_from_alpha, plain_steps, plain_seed}
+use Rattle.stark_support.specs.Seed.{Step, number, hierarchy_byte, kind_byte, length_tag, length_number, message, elements, marker, step_bytes, steps_bytes, items_bytes, seed_of, ShapeNumbers, IsBounded, flag, step_if, shape_steps, shape_items, shape_seed, steps_from_alpha, plain_seed}
 
 -- ---- numbers
 
@@ -155,9 +155,9 @@ if_message : Kind → ℕ → ℕ
 if_message Message rest = suc rest
 if_message _ rest = rest
 
-publics : List StepSays → ℕ
-publics [] = 0
-publics (d ∷ ds) = if_public d.kind (length_number d.length) (publics ds)
+public_count : List StepSays → ℕ
+public_count [] = 0
+public_count (d ∷ ds) = if_public d.kind (length_number d.length) (public_count ds)
 
 pow_bits : List StepSays → ℕ
 pow_bits [] = 0
@@ -176,10 +176,10 @@ messages : List StepSays → ℕ
 messages [] = 0
 messages (d ∷ ds) = if_message d.kind (messages ds)
 
-publics_past : (b : Bool) (label : List ℕ) (rest : List Step) → publics (map said (step_if b (message label) rest)) ≡ publics (map said rest)
-unfolding publics if_public said
-publics_past true label rest = refl
-publics_past false label rest = refl
+public_count_past : (b : Bool) (label : List ℕ) (rest : List Step) → public_count (map said (step_if b (message label) rest)) ≡ public_count (map said rest)
+unfolding public_count if_public said
+public_count_past true label rest = refl
+public_count_past false label rest = refl
 
 bits_past : (b : Bool) (label : List ℕ) (rest : List Step) → pow_bits (map said (step_if b (message label) rest)) ≡ pow_bits (map said rest)
 unfolding pow_bits if_pow said
@@ -288,12 +288,12 @@ module _ (base extension : ℕ) where
     from_first_work : List Step
     from_first_work = step_if (ltb 0 n.constraint_pow_bits) first_work from_alpha
 
-    from_publics : List Step
-    from_publics = elements Public (codes "public_values") (Fixed n.num_public_values) base ∷ from_first_work
+    from_public_values : List Step
+    from_public_values = elements Public (codes "public_values") (Fixed n.num_public_values) base ∷ from_first_work
 
     in_parts : shape_steps base extension n ≡ message (codes "trace_commitment")
-        ∷ step_if (ltb 0 n.preprocessed_width) (message (codes "preprocessed_commitment")) from_publics
-    unfolding from_publics from_first_work first_work from_alpha from_random from_work work last_steps
+        ∷ step_if (ltb 0 n.preprocessed_width) (message (codes "preprocessed_commitment")) from_public_values
+    unfolding from_public_values from_first_work first_work from_alpha from_random from_work work last_steps
     in_parts = refl
 
     few_last : length last_steps ≡ 3
@@ -316,14 +316,14 @@ module _ (base extension : ℕ) where
     unfolding from_first_work
     few_first_work = omega (arith, length_past (ltb 0 n.constraint_pow_bits) first_work from_alpha, few_alpha)
 
-    few_publics : length from_publics ≤ 9
-    unfolding from_publics
-    few_publics = omega (arith, few_first_work)
+    few_public_values : length from_public_values ≤ 9
+    unfolding from_public_values
+    few_public_values = omega (arith, few_first_work)
 
     steps_are_few : length (shape_steps base extension n) ≤ 11
     steps_are_few =
-        let a : length (shape_steps base extension n) ≡ suc (length (step_if (ltb 0 n.preprocessed_width) (message (codes "preprocessed_commitment")) from_publics)) = ap length in_parts in
-        omega (arith, a, length_past (ltb 0 n.preprocessed_width) (message (codes "preprocessed_commitment")) from_publics, few_publics)
+        let a : length (shape_steps base extension n) ≡ suc (length (step_if (ltb 0 n.preprocessed_width) (message (codes "preprocessed_commitment")) from_public_values)) = ap length in_parts in
+        omega (arith, a, length_past (ltb 0 n.preprocessed_width) (message (codes "preprocessed_commitment")) from_public_values, few_public_values)
 
     module _ (fits : IsBounded n) where
       work_fits : StepsFit from_work
@@ -342,15 +342,15 @@ module _ (base extension : ℕ) where
       unfolding from_first_work first_work
       first_work_fits = fits_past (ltb 0 n.constraint_pow_bits) first_work from_alpha (record { label = lit< tt; values = fits.constraint_pow_bits }) alpha_fits
 
-      publics_fit : StepsFit from_publics
-      unfolding from_publics StepsFit
-      publics_fit = (record { label = lit< tt; values = fits.num_public_values }, first_work_fits)
+      public_values_fit : StepsFit from_public_values
+      unfolding from_public_values StepsFit
+      public_values_fit = (record { label = lit< tt; values = fits.num_public_values }, first_work_fits)
 
       steps_fit : StepsFit (shape_steps base extension n)
       unfolding StepsFit
       steps_fit = subst StepsFit (sym in_parts) (
         record { label = lit< tt; values = lit< tt },
-        fits_past (ltb 0 n.preprocessed_width) (message (codes "preprocessed_commitment")) from_publics (record { label = lit< tt; values = lit< tt }) publics_fit,
+        fits_past (ltb 0 n.preprocessed_width) (message (codes "preprocessed_commitment")) from_public_values (record { label = lit< tt; values = lit< tt }) public_values_fit,
       )
 
       items_fit : ItemsFit (shape_items n)
@@ -375,19 +375,19 @@ module _ (base extension : ℕ) where
         ),
       )
 
-    publics_is : publics (map said (shape_steps base extension n)) ≡ n.num_public_values
-    unfolding publics if_public said from_publics
-    publics_is = ap (λ s. publics (map said s)) in_parts ∙ publics_past (ltb 0 n.preprocessed_width) (codes "preprocessed_commitment") from_publics
+    public_count_is : public_count (map said (shape_steps base extension n)) ≡ n.num_public_values
+    unfolding public_count if_public said from_public_values
+    public_count_is = ap (λ s. public_count (map said s)) in_parts ∙ public_count_past (ltb 0 n.preprocessed_width) (codes "preprocessed_commitment") from_public_values
 
     bits_before_is : bits_before (map said (shape_steps base extension n)) ≡ n.constraint_pow_bits
-    unfolding bits_before if_pow if_challenge said from_publics from_first_work first_work from_alpha
-    bits_before_is = ap (λ s. bits_before (map said s)) in_parts ∙ before_past (ltb 0 n.preprocessed_width) (codes "preprocessed_commitment") from_publics
+    unfolding bits_before if_pow if_challenge said from_public_values from_first_work first_work from_alpha
+    bits_before_is = ap (λ s. bits_before (map said s)) in_parts ∙ before_past (ltb 0 n.preprocessed_width) (codes "preprocessed_commitment") from_public_values
         ∙ before_found (ltb 0 n.constraint_pow_bits) n.constraint_pow_bits (codes "alpha_pow") base from_alpha refl
         ∙ if_positive n.constraint_pow_bits
 
     bits_after_is : bits_after (map said (shape_steps base extension n)) ≡ n.ood_pow_bits
-    unfolding bits_after pow_bits if_pow if_challenge said from_publics from_first_work first_work from_alpha from_random from_work work
-    bits_after_is = ap (λ s. bits_after (map said s)) in_parts ∙ after_past (ltb 0 n.preprocessed_width) (codes "preprocessed_commitment") from_publics
+    unfolding bits_after pow_bits if_pow if_challenge said from_public_values from_first_work first_work from_alpha from_random from_work work
+    bits_after_is = ap (λ s. bits_after (map said s)) in_parts ∙ after_past (ltb 0 n.preprocessed_width) (codes "preprocessed_commitment") from_public_values
         ∙ after_past_work (ltb 0 n.constraint_pow_bits) n.constraint_pow_bits (codes "alpha_pow") base from_alpha
         ∙ bits_past n.has_randomization (codes "random_commitment") from_work ∙ bits_found (ltb 0 n.ood_pow_bits) n.ood_pow_bits (codes "ood_pow") base last_steps no_bits
         ∙ if_positive n.ood_pow_bits
@@ -403,14 +403,14 @@ module _ (base extension : ℕ) where
     unfolding messages if_message said from_alpha
     messages_from_alpha = ap (λ k. suc k) messages_from_random
 
-    messages_from_publics : messages (map said from_publics) ≡ suc (flag n.has_randomization)
-    unfolding messages if_message said from_publics from_first_work first_work
-    messages_from_publics = messages_past_work (ltb 0 n.constraint_pow_bits) n.constraint_pow_bits (codes "alpha_pow") base from_alpha ∙ messages_from_alpha
+    messages_from_public_values : messages (map said from_public_values) ≡ suc (flag n.has_randomization)
+    unfolding messages if_message said from_public_values from_first_work first_work
+    messages_from_public_values = messages_past_work (ltb 0 n.constraint_pow_bits) n.constraint_pow_bits (codes "alpha_pow") base from_alpha ∙ messages_from_alpha
 
     messages_is : messages (map said (shape_steps base extension n)) ≡ suc (flag (ltb 0 n.preprocessed_width) + suc (flag n.has_randomization))
     unfolding messages if_message said
     messages_is = ap (λ s. messages (map said s)) in_parts
-        ∙ ap (λ k. suc k) (messages_past (ltb 0 n.preprocessed_width) (codes "preprocessed_commitment") from_publics ∙ ap (λ k. flag (ltb 0 n.preprocessed_width) + k) messages_from_publics)
+        ∙ ap (λ k. suc k) (messages_past (ltb 0 n.preprocessed_width) (codes "preprocessed_commitment") from_public_values ∙ ap (λ k. flag (ltb 0 n.preprocessed_width) + k) messages_from_public_values)
 
   module _ (n m : ShapeNumbers) where
     -- equal steps and equal items are those of equal numbers
@@ -424,7 +424,7 @@ module _ (base extension : ℕ) where
         let num_quotient_chunks : n.num_quotient_chunks ≡ m.num_quotient_chunks = ap (λ s. get_or s 5 0) f in
         let main_row : flag n.opens_main_next_row ≡ flag m.opens_main_next_row = ap (λ s. get_or s 6 0) f in
         let preprocessed_row : flag n.opens_preprocessed_next_row ≡ flag m.opens_preprocessed_next_row = ap (λ s. get_or s 7 0) f in
-        let num_public_values = sym (publics_is n) ∙ ap publics e ∙ publics_is m in
+        let num_public_values = sym (public_count_is n) ∙ ap public_count e ∙ public_count_is m in
         let ood_pow_bits = sym (bits_after_is n) ∙ ap bits_after e ∙ bits_after_is m in
         let constraint_pow_bits = sym (bits_before_is n) ∙ ap bits_before e ∙ bits_before_is m in
         let there : flag (ltb 0 n.preprocessed_width) ≡ flag (ltb 0 m.preprocessed_width) = ap (λ w. flag (ltb 0 w)) preprocessed_width in

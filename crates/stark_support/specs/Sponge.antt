@@ -10,7 +10,7 @@ pub record SpongeOps (C F E K : Type 0) : Type 0 where
   pub after_draw : C → C
   pub passes : C → ℕ → F → Bool
   pub after_check : C → ℕ → F → C
-  pub found : C → ℕ → Option F
+  pub ground_witness : C → ℕ → Option F
 
 -- The state after observing each element of a list in turn.
 abbrev pub observed_all : {C T : Type 0} → (C → T → C) → List T → C → C
@@ -55,11 +55,11 @@ after_search after_check state bits (Some witness) = after_check state bits witn
 after_search after_check state bits None = state
 
 -- Work of no bits is never asked for; what a search finds passes, and where it finds nothing, nothing passes.
-pub record GrindingLaws {C F : Type 0} (passes : C → ℕ → F → Bool) (after_check : C → ℕ → F → C) (found : C → ℕ → Option F) : Type 0 where
+pub record GrindingLaws {C F : Type 0} (passes : C → ℕ → F → Bool) (after_check : C → ℕ → F → C) (ground_witness : C → ℕ → Option F) : Type 0 where
   pub no_bits_pass : (state : C) (witness : F) → passes state 0 witness ≡ true
   pub no_bits_keep : (state : C) (witness : F) → after_check state 0 witness ≡ state
-  pub found_passes : (state : C) (bits : ℕ) (witness : F) → found state bits ≡ Some witness → passes state bits witness ≡ true
-  pub none_passes : (state : C) (bits : ℕ) → found state bits ≡ None → (witness : F) → passes state bits witness ≡ false
+  pub ground_passes : (state : C) (bits : ℕ) (witness : F) → ground_witness state bits ≡ Some witness → passes state bits witness ≡ true
+  pub none_passes : (state : C) (bits : ℕ) → ground_witness state bits ≡ None → (witness : F) → passes state bits witness ≡ false
 
 -- What a draw answers, and the state that it leaves.
 pub record DrawOps (C T : Type 0) : Type 0 where

@@ -73,12 +73,12 @@ pub trait GrindingChallenger {
     ghost after_check: { Self → ℕ → Self.Witness → Self };
 
     /// The witness that a search finds.
-    ghost found: { Self → ℕ → Option Self.Witness };
+    ghost ground_witness: { Self → ℕ → Option Self.Witness };
 
     /// A witness that passes, and the state is that after its check. None if no element passes, and
     /// the state is as before.
     fn grind(&mut self, bits: usize) -> Option<Self::Witness>
-        ensures answer { result ≡ found self.old bits }
+        ensures answer { result ≡ ground_witness self.old bits }
         ensures state { self.new ≡ after_search after_check self.old bits result };
 
     /// Whether the witness passes. At no bits every witness does, and nothing changes.
@@ -86,7 +86,7 @@ pub trait GrindingChallenger {
         ensures answer { result ≡ passes self.old bits witness }
         ensures state { self.new ≡ after_check self.old bits witness };
 
-    ghost grinding: { GrindingLaws passes after_check found };
+    ghost grinding: { GrindingLaws passes after_check ground_witness };
 }
 
 /// All calls of a challenger that a transcript makes, in one record.
@@ -107,7 +107,7 @@ where
       after_draw = ⟦<C as CanSample<EF>>⟧.after_sample;
       passes = ⟦<C as GrindingChallenger>⟧.passes;
       after_check = ⟦<C as GrindingChallenger>⟧.after_check;
-      found = ⟦<C as GrindingChallenger>⟧.found;
+      ground_witness = ⟦<C as GrindingChallenger>⟧.ground_witness;
     } };
 }
 

@@ -57,18 +57,18 @@ pub fn interpolate<F: Field>(
         ≡ interpolation F.ring F.inverse_of points.now values.now) }
     ensures takes { IfOk result (λ p. TakesValues F.ring p.items points.now values.now) }
 {
-    let mut found: Vec<F> = Vec::new(alloc);
+    let mut polynomial: Vec<F> = Vec::new(alloc);
     let mut product: Vec<F> = Vec::new(alloc);
     product.push(F::ONE)?;
     let mut index = points.len();
     while index > 0 {
         index -= 1;
         let point = points[index];
-        let missing = values[index] - polynomial_value(&found, point);
+        let missing = values[index] - polynomial_value(&polynomial, point);
         let factor = missing * polynomial_value(&product, point).inverse();
         let added = polynomial_scaled(alloc, factor, &product)?;
-        found = polynomial_sum(alloc, &found, &added)?;
+        polynomial = polynomial_sum(alloc, &polynomial, &added)?;
         product = times_root(alloc, point, &product)?;
     }
-    Ok(found)
+    Ok(polynomial)
 }

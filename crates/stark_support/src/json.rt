@@ -72,12 +72,12 @@ pub trait NeverNull: JsonCodec {
 fn each_from_json<T: JsonCodec + Drop>(alloc: Global, values: &[Value]) -> Result<Vec<T>, JsonFault>
     ensures { Gives (λ v. v.items) result (each_at T.reading (items_view values.now)) }
 {
-    let mut found = Vec::new(alloc);
+    let mut elements = Vec::new(alloc);
     for value in values {
         let element = T::from_json(alloc, value)?;
-        found.push(element)?;
+        elements.push(element)?;
     }
-    Ok(found)
+    Ok(elements)
 }
 
 /// The values that an array spells, one each.
@@ -101,12 +101,12 @@ fn each_list_from_json<T: JsonCodec + Drop>(
     ensures { Gives (λ v. map (λ list. list.items) v.items) result
         (each_at (array_at T.reading) (items_view values.now)) }
 {
-    let mut found = Vec::new(alloc);
+    let mut lists = Vec::new(alloc);
     for value in values {
         let list = list_from_json(alloc, value)?;
-        found.push(list)?;
+        lists.push(list)?;
     }
-    Ok(found)
+    Ok(lists)
 }
 
 /// The lists of values that an array of arrays spells.
@@ -126,11 +126,11 @@ pub fn lists_from_json<T: JsonCodec + Drop>(
 
 /// What an object has under a key. It takes no memory.
 pub fn field_of<'a>(value: &'a Value, key: &str) -> Result<&'a Value, JsonFault>
-    ensures found { Gives (λ v. view v.now) result (get key.now (view value.now)) }
+    ensures answer { Gives (λ v. view v.now) result (get key.now (view value.now)) }
     ensures no_memory { IfErr result (λ fault. fault ≡ Invalid) }
 {
     match value.get(key) {
-        Some(found) => Ok(found),
+        Some(field) => Ok(field),
         None => Err(JsonFault::Invalid),
     }
 }

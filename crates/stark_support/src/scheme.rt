@@ -258,7 +258,7 @@ where
     ) -> Result<(OpenedRounds<EF>, Self::Proof), SchemeFault<Self::ProverError>>
         ensures true_values { IfOk result (OpensTrueValues Self.scheme EF.ring EF.embed self.now
             rounds.entry) }
-        ensures whole { IfOk result (ProvesTrueClaims Self.scheme EF.ring EF.embed self.now
+        ensures holds { IfOk result (ProvesTrueClaims Self.scheme EF.ring EF.embed self.now
             rounds.entry challenger.old preprocessed_index) }
         ensures refused { IfRefusal result
             (Self.scheme.RefusesOpening self.now (rounds_view rounds.entry) challenger.old

@@ -21,8 +21,8 @@ tree_at other (Some v) = Some (variable_tree v.entry v.index)
 
 -- Each public and periodic value is worth the variable in its place, and every other leaf itself.
 abbrev pub row_environment : {F : Type 0} → List (SymbolicVariable F) → List (SymbolicVariable F) → Environment (Option (Tree F))
-row_environment publics periodic = record symbolic_environment {
-  public_value = λ i. tree_at (public_value i) (slice_get publics i);
+row_environment public_values periodic = record symbolic_environment {
+  public_value = λ i. tree_at (public_value i) (slice_get public_values i);
   periodic_value = λ i. tree_at (periodic_value i) (slice_get periodic i);
 }
 
@@ -30,8 +30,8 @@ row_environment publics periodic = record symbolic_environment {
 pub record AreVariables {F : Type 0} (entry : BaseEntry) (items : List (SymbolicVariable F)) : Type 0 where
   pub each : (i : ℕ) → tree_at (variable_tree entry i) (slice_get items i) ≡ Some (variable_tree entry i)
 
-pub row_is_symbolic : {F : Type 0} (publics periodic : List (SymbolicVariable F)) → AreVariables Public publics → AreVariables Periodic periodic → row_environment publics periodic ≡ symbolic_environment
-row_is_symbolic publics periodic h k = λ j. record symbolic_environment { public_value = λ i. h.each i j; periodic_value = λ i. k.each i j }
+pub row_is_symbolic : {F : Type 0} (public_values periodic : List (SymbolicVariable F)) → AreVariables Public public_values → AreVariables Periodic periodic → row_environment public_values periodic ≡ symbolic_environment
+row_is_symbolic public_values periodic h k = λ j. record symbolic_environment { public_value = λ i. h.each i j; periodic_value = λ i. k.each i j }
 
 abbrev pub variable_gives : {F : Type 0} → SymbolicVariable F → Option (Tree F) → Type 0
 variable_gives v x = x ≡ Some (variable_tree v.entry v.index)

@@ -38,9 +38,9 @@ pub struct SymbolicAirBuilder<F, EF = F> {
 }
 
 /// The expression; Err where memory for a node of it was refused.
-fn whole<F: Field>(x: SymbolicExpression<F>) -> Result<SymbolicExpression<F>, AllocError>
+fn present<F: Field>(x: SymbolicExpression<F>) -> Result<SymbolicExpression<F>, AllocError>
     ensures same { IfOk result (λ y. y ≡ x) }
-    ensures whole { IfOk result (λ _. IsSome x) }
+    ensures present { IfOk result (λ _. IsSome x) }
 {
     if x.is_refused() {
         Err(AllocError)
@@ -170,9 +170,9 @@ impl<F: Field, EF> BaseAirBuilder for SymbolicAirBuilder<F, EF> {
             Asserts (symbolic_operations F.ring) Stands builder_environment
             (after_asserting F.ring) base self.old x self.new) }
         ensures refused { OnErr result (after_asserting F.ring self.old [] self.new) }
-        ensures whole { IfOk result (λ _. IsSome x) }
+        ensures present { IfOk result (λ _. IsSome x) }
     {
-        let x = whole(x)?;
+        let x = present(x)?;
         self.constraints.push(SymbolicConstraint::Base(x))?;
         Ok(())
     }
@@ -201,9 +201,9 @@ impl<F: Field, EF> ExtensionBuilder for SymbolicAirBuilder<F, EF> {
             Asserts (symbolic_operations F.ring) Stands builder_environment
             (after_asserting F.ring) extension self.old x self.new) }
         ensures refused { OnErr result (after_asserting F.ring self.old [] self.new) }
-        ensures whole { IfOk result (λ _. IsSome x) }
+        ensures present { IfOk result (λ _. IsSome x) }
     {
-        let x = whole(x)?;
+        let x = present(x)?;
         self.constraints.push(SymbolicConstraint::Extension(x))?;
         Ok(())
     }

@@ -22,9 +22,9 @@ pub record IsDrawnOutside {S F E C K T P X Y : Type 0} (ops : ProtocolOps S F E 
 -- whose constraints' degrees fit the quotient's domain, unless zeta lies in H.
 pub record IsJudged {S F E C K T P X Y V : Type 0} (ops : ProtocolOps S F E C K T P X Y) (with_key : Option (PreprocessedVerifierKey K) → Instance S F C K) (declared : Option (Trace F)) (height : ℕ) (trace : Trace F)
     (p : ProofView K E P F) (verdict : Result V (VerificationError X)) : Type 0 where
-  pub held : Option (PreprocessedProverData K T)
+  pub preprocessed_data : Option (PreprocessedProverData K T)
   pub key : Option (PreprocessedVerifierKey K)
-  pub set_up : AreSetUp ops.opening (with_key key).scheme height declared held key
+  pub set_up : AreSetUp ops.opening (with_key key).scheme height declared preprocessed_data key
   pub accepted : ops.opening.scheme.log_min_trace_height (with_key key).scheme ≤ height → ops.opening.scheme.IsComplete (with_key key).scheme
       → IsSatisfied ops (with_key key) height declared trace → HasSizedDegrees ops (with_key key) height → IsDrawnOutside ops (with_key key) p
       → IfErr verdict (λ error. error ≡ OutOfMemory)

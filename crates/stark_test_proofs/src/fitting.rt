@@ -16,13 +16,14 @@ pub fn is_trace_of<F, A: BaseAir<F>>(
     air: &A,
     log_height: usize,
     trace: &RowMajorMatrix<F>,
-    publics: &[F],
+    public_values: &[F],
 ) -> bool
     ensures columns { IsTrue result → 0 < trace.now.width }
     ensures width { IsTrue result → trace.now.width ≡ (A.layout air.now).main }
     ensures height { IsTrue result
         → length trace.now.values.items ≡ 2 ^ log_height * trace.now.width }
-    ensures publics { IsTrue result → length publics.now ≡ (A.layout air.now).publics }
+    ensures public_values { IsTrue result
+        → length public_values.now ≡ (A.layout air.now).public_values }
     ensures bounded { IsTrue result → log_height ≤ 12 }
 {
     if log_height > 12 {
@@ -31,7 +32,7 @@ pub fn is_trace_of<F, A: BaseAir<F>>(
     trace.width > 0
         && trace.width == air.width()
         && Some(trace.values.len()) == power_of_two(log_height).checked_mul(trace.width)
-        && publics.len() == air.num_public_values()
+        && public_values.len() == air.num_public_values()
 }
 
 /// Whether such a trace is one, and the configuration has room for it.
@@ -40,7 +41,7 @@ pub fn fits<SC: StarkGenericConfig, A: BaseAir<Val<SC>>>(
     air: &A,
     log_height: usize,
     trace: &RowMajorMatrix<Val<SC>>,
-    publics: &[Val<SC>],
+    public_values: &[Val<SC>],
 ) -> bool
     ensures columns { IsTrue result → 0 < trace.now.width }
     ensures width { IsTrue result → trace.now.width ≡ (A.layout air.now).main }
@@ -48,13 +49,14 @@ pub fn fits<SC: StarkGenericConfig, A: BaseAir<Val<SC>>>(
         → length trace.now.values.items ≡ 2 ^ log_height * trace.now.width }
     ensures within { IsTrue result → log_height + zk_bits SC.Pcs.ZK
         ≤ SC.Pcs.scheme.log_max_trace_height (SC.config.scheme config.now) }
-    ensures publics { IsTrue result → length publics.now ≡ (A.layout air.now).publics }
+    ensures public_values { IsTrue result
+        → length public_values.now ≡ (A.layout air.now).public_values }
     ensures bounded { IsTrue result → log_height ≤ 12 }
 {
     if log_height > 12 || log_height + config.is_zk() > config.pcs().log_max_trace_height() {
         return false;
     }
-    is_trace_of(air, log_height, trace, publics)
+    is_trace_of(air, log_height, trace, public_values)
 }
 
 /// Whether an AIR's preprocessed columns, where it has some, stand at `2^log_height` rows. Err only

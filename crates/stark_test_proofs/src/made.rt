@@ -54,7 +54,7 @@ pub fn made_by<'p, SC: StarkGenericConfig, A: Air<Val<SC>>>(
     air: &A,
     log_height: usize,
     trace: RowMajorMatrix<Val<SC>>,
-    publics: &[Val<SC>],
+    public_values: &[Val<SC>],
 ) -> Result<VerifiedProof<SC>, ProvingError<PcsProverError<SC>>>
 where
     Val<SC>: PackedField,
@@ -66,19 +66,27 @@ where
     requires height { length trace.values.items ≡ 2 ^ log_height * trace.width }
     requires within { log_height + zk_bits SC.Pcs.ZK ≤ SC.Pcs.scheme.log_max_trace_height
         (SC.config.scheme config.now) }
-    requires publics { length publics.now ≡ (A.layout air.now).publics }
-    ensures { IfOk result (⟦<SC as JudgedProofs<A>>⟧.judged config.now air.now publics.now
+    requires public_values { length public_values.now ≡ (A.layout air.now).public_values }
+    ensures { IfOk result (⟦<SC as JudgedProofs<A>>⟧.judged config.now air.now public_values.now
         log_height trace) }
 {
     let keys = setup_preprocessed(alloc, config, air, log_height)?;
     match keys {
         Some((data, key)) => {
-            prove_and_verify(alloc, config, air, trace, publics, Some(&data), Some(&key))
+            prove_and_verify(
+                alloc,
+                config,
+                air,
+                trace,
+                public_values,
+                Some(&data),
+                Some(&key),
+            )
         }
         None => {
             let data: Option<&'p PreprocessedProverData<Com<SC>, PcsProverData<SC>>> = None;
             let key: Option<&'p PreprocessedVerifierKey<Com<SC>>> = None;
-            prove_and_verify(alloc, config, air, trace, publics, data, key)
+            prove_and_verify(alloc, config, air, trace, public_values, data, key)
         }
     }
 }

@@ -31,15 +31,15 @@ pub record AreRows {F : Type 0} (listed : List F) (count length_of_each : ℕ) (
 
 -- What was read are these rows.
 abbrev pub HasRows : {F : Type 0} → TraceRows F → List (List F) → Type 0
-HasRows found rows = AreRows found.values.items found.height found.width rows
+HasRows table rows = AreRows table.values.items table.height table.width rows
 
 -- The text spells rows of one length, and these are they.
 abbrev pub AreRowsIn : {F : Type 0} → TraceRows F → Option (List (List F)) → Type 0
-AreRowsIn {F} found reading = (rows : List (List F)) × (reading ≡ Some rows) × HasRows found rows
+AreRowsIn {F} table reading = (rows : List (List F)) × (reading ≡ Some rows) × HasRows table rows
 
 -- What was read is what reading gives: rows of one length, rows of different lengths, or none; unless memory ran out.
 abbrev pub GivesRows : {F : Type 0} → Result (TraceRows F) RowsFault → Option (List (List F)) → Type 0
-GivesRows {F} (Ok found) reading = AreRowsIn found reading
+GivesRows {F} (Ok table) reading = AreRowsIn table reading
 GivesRows {F} (Err Uneven) reading = (rows : List (List F)) × (reading ≡ Some rows) × (are_even rows ≡ false)
 GivesRows (Err Invalid) reading = reading ≡ None
 GivesRows (Err OutOfMemory) reading = Unit {0}

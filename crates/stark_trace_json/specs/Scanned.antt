@@ -54,4 +54,4 @@ module _ {F : Type 0} (reading : Data → Option F) where
 
   -- the table of these rows
   unfoldable pub HasTable : TraceRows F → List Token → Type 0
-  HasTable found ts = (rows : List (List F)) × HasRows found rows × IsTable rows ts
+  HasTable table ts = (rows : List (List F)) × HasRows table rows × IsTable rows ts

@@ -89,9 +89,9 @@ fn has_no_leading_zero(digits: &[u8]) -> bool
 /// The whole number at the front of a text, in digits alone and with no leading zero, and the text
 /// behind it.
 fn split_number(text: &[u8]) -> Option<(u64, &[u8])>
-    ensures passed { IfSome result (λ found. lex between text.now
-        ≡ token (number (decimal found.0)) ∷ lex between found.1.now) }
-    ensures fits { IfSome result (λ found. found.0 < 2 ^ 64) }
+    ensures passed { IfSome result (λ read. lex between text.now
+        ≡ token (number (decimal read.0)) ∷ lex between read.1.now) }
+    ensures fits { IfSome result (λ read. read.0 < 2 ^ 64) }
 {
     let mut value: u64 = 0;
     let mut at = 0;
@@ -176,9 +176,9 @@ impl<'a> Scanner<'a> {
 
     /// The whole number that is next, and behind it.
     pub(crate) fn number(self) -> Option<(u64, Scanner<'a>)>
-        ensures passed { IfSome result (λ found.
-            ahead self.entry ≡ number (decimal found.0) ∷ ahead found.1) }
-        ensures fits { IfSome result (λ found. found.0 < 2 ^ 64) }
+        ensures passed { IfSome result (λ read.
+            ahead self.entry ≡ number (decimal read.0) ∷ ahead read.1) }
+        ensures fits { IfSome result (λ read. read.0 < 2 ^ 64) }
     {
         if !self.place.may_begin() {
             return None;

@@ -16,7 +16,7 @@ fn read_element<'a, F: JsonCodec + Drop>(
     scanner: Scanner<'a>,
     values: &mut Vec<F>,
 ) -> Result<Option<Scanner<'a>>, AllocError>
-    ensures { IfOk result (λ found. IfSome found (λ rest. HasElement F.reading
+    ensures { IfOk result (λ read. IfSome read (λ rest. HasElement F.reading
         values.old.items values.new.items (ahead scanner.entry) (ahead rest))) }
 {
     let Some((number, rest)) = scanner.number() else {
@@ -37,7 +37,7 @@ fn read_row<'a, F: JsonCodec + Drop>(
     scanner: Scanner<'a>,
     values: &mut Vec<F>,
 ) -> Result<Option<Scanner<'a>>, AllocError>
-    ensures { IfOk result (λ found. IfSome found (λ rest.
+    ensures { IfOk result (λ read. IfSome read (λ rest.
         HasRow F.reading values.old.items values.new.items (ahead scanner.entry) (ahead rest))) }
 {
     let Some(mut items) = scanner.open() else {
@@ -84,7 +84,7 @@ pub(crate) fn read_table<F: JsonCodec + Drop>(
     alloc: Global,
     text: &[u8],
 ) -> Result<Option<TraceRows<F>>, AllocError>
-    ensures { IfOk result (λ found. IfSome found (λ table.
+    ensures { IfOk result (λ read. IfSome read (λ table.
         HasTable F.reading table (tokens text.now))) }
 {
     let Some(mut scanner) = Scanner::new(text).open() else {

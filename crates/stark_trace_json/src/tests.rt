@@ -209,8 +209,8 @@ fn rows_are_read(rt: HostRuntime) -> Result<(), Fail> {
             let (text, expected) = row.split_once(" => ").ok_or("a row without an answer")?;
             let (way, expected) = expected.split_once(" | ").ok_or("no bar")?;
             let bytes = bytes_of(rt.alloc(), text)?;
-            let found = answer(rt.alloc(), &bytes)?;
-            assert_eq!(rt; found.as_str(), expected, "{text}");
+            let actual = answer(rt.alloc(), &bytes)?;
+            assert_eq!(rt; actual.as_str(), expected, "{text}");
             let old = answer_of_lists(rt.alloc(), lists_of(rt.alloc(), &bytes))?;
             assert_eq!(rt; old.as_str(), expected, "{text}");
             let at_once = read_table::<F12289>(rt.alloc(), &bytes)?.is_some();

@@ -20,7 +20,7 @@ element_events xs = map (λ x. element x) xs
 
 -- What is played before the work before alpha.
 abbrev pub constraint_events : {F K : Type 0} → K → Option K → List F → List (Event F K)
-constraint_events trace preprocessed publics = commitment trace ∷ (optional_events preprocessed ++ element_events publics)
+constraint_events trace preprocessed public_values = commitment trace ∷ (optional_events preprocessed ++ element_events public_values)
 
 -- What is played after alpha, before the work and zeta.
 abbrev pub ood_events : {F K : Type 0} → K → Option K → List (Event F K)
@@ -97,9 +97,9 @@ checked ops failure bits witness state =
     (works (ops.draw state) (replay ops (draw_extension ∷ []) state))
 
 abbrev pub constraint_outcome : {C F E K : Type 0} → SpongeOps C F E K → StarkShape → K → Option K → List F → F → C → PhaseOutcome C E StarkTranscriptFailure
-constraint_outcome ops shape trace preprocessed publics witness start =
+constraint_outcome ops shape trace preprocessed public_values witness start =
     unless_fault (preprocessed_fault shape (is_some preprocessed)) (replay ops (commitment trace ∷ []) start)
-    (ends_with Bound (checked ops (AlphaPowWitness shape.constraint_pow_bits) shape.constraint_pow_bits witness (replay ops (constraint_events trace preprocessed publics) start)))
+    (ends_with Bound (checked ops (AlphaPowWitness shape.constraint_pow_bits) shape.constraint_pow_bits witness (replay ops (constraint_events trace preprocessed public_values) start)))
 
 abbrev pub ood_outcome : {C F E K : Type 0} → SpongeOps C F E K → StarkShape → K → Option K → F → C → PhaseOutcome C E StarkTranscriptFailure
 ood_outcome ops shape quotient random witness start =
@@ -116,11 +116,11 @@ searched ops bits None state = stops (record { bits = bits }) state
 abbrev pub ground : {C F E K : Type 0} → SpongeOps C F E K → ℕ → C → Worked C (E × Option F) GrindExhausted
 ground ops bits state =
     cond (ltb 0 bits)
-    (searched ops bits (ops.found state bits) state)
+    (searched ops bits (ops.ground_witness state bits) state)
     (works (ops.draw state, None) (replay ops (draw_extension ∷ []) state))
 
 abbrev pub prover_constraint_outcome : {C F E K : Type 0} → SpongeOps C F E K → StarkShape → K → Option K → List F → C → PhaseOutcome C (E × Option F) GrindExhausted
-prover_constraint_outcome ops shape trace preprocessed publics start = ends_with Bound (ground ops shape.constraint_pow_bits (replay ops (constraint_events trace preprocessed publics) start))
+prover_constraint_outcome ops shape trace preprocessed public_values start = ends_with Bound (ground ops shape.constraint_pow_bits (replay ops (constraint_events trace preprocessed public_values) start))
 
 abbrev pub prover_ood_outcome : {C F E K : Type 0} → SpongeOps C F E K → StarkShape → K → Option K → C → PhaseOutcome C (E × Option F) GrindExhausted
 prover_ood_outcome ops shape quotient random start = ends_with Drawn (ground ops shape.ood_pow_bits (replay ops (ood_events quotient random) start))
@@ -129,14 +129,14 @@ prover_ood_outcome ops shape quotient random start = ends_with Drawn (ground ops
 
 -- The verifier's phase that draws alpha, in a protocol without such work: that of eleven numbers.
 abbrev pub plain_constraint_outcome : {C F E K : Type 0} → SpongeOps C F E K → StarkShape → K → Option K → List F → C → PhaseOutcome C E StarkTranscriptFailure
-plain_constraint_outcome ops shape trace preprocessed publics start =
+plain_constraint_outcome ops shape trace preprocessed public_values start =
     unless_fault (preprocessed_fault shape (is_some preprocessed)) (replay ops (commitment trace ∷ []) start)
-    (draws ops (constraint_events trace preprocessed publics) start Bound)
+    (draws ops (constraint_events trace preprocessed public_values) start Bound)
 
 -- The prover's, with no witness.
 abbrev pub plain_prover_outcome : {C F E K : Type 0} → SpongeOps C F E K → K → Option K → List F → C → PhaseOutcome C (E × Option F) GrindExhausted
-plain_prover_outcome ops trace preprocessed publics start =
-    let events = constraint_events trace preprocessed publics in
+plain_prover_outcome ops trace preprocessed public_values start =
+    let events = constraint_events trace preprocessed public_values in
     succeeds (ops.draw (replay ops events start), None) (replay ops (events ++ draw_extension ∷ []) start) Bound
 
 -- The witness is the prover's own, where there is one.

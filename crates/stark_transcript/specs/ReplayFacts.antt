@@ -10,10 +10,10 @@ use Rattle.stark_transcript.specs.declared.shape.StarkTranscriptFailure.TheVaria
 use Rattle.stark_transcript.specs.declared.shape.TranscriptPhase.TheVariants.{Bound}
 
 -- Where none is asked for, the verifier's phase is that of a protocol without it, whatever the witness.
-pub verifier_without_work : {C F E K : Type 0} (ops : SpongeOps C F E K) (shape : StarkShape) (trace : K) (preprocessed : Option K) (publics : List F) (witness : F) (start : C) → shape.constraint_pow_bits ≡ 0
-    → constraint_outcome ops shape trace preprocessed publics witness start ≡ plain_constraint_outcome ops shape trace preprocessed publics start
-verifier_without_work ops shape trace preprocessed publics witness start none =
-    let events = constraint_events trace preprocessed publics in
+pub verifier_without_work : {C F E K : Type 0} (ops : SpongeOps C F E K) (shape : StarkShape) (trace : K) (preprocessed : Option K) (public_values : List F) (witness : F) (start : C) → shape.constraint_pow_bits ≡ 0
+    → constraint_outcome ops shape trace preprocessed public_values witness start ≡ plain_constraint_outcome ops shape trace preprocessed public_values start
+verifier_without_work ops shape trace preprocessed public_values witness start none =
+    let events = constraint_events trace preprocessed public_values in
     ap (λ (bits : ℕ). unless_fault (preprocessed_fault shape (is_some preprocessed)) (replay ops (commitment trace ∷ []) start)
     (ends_with Bound (checked ops (AlphaPowWitness bits) bits witness (replay ops events start)))) none ∙
     ap (λ state. unless_fault (preprocessed_fault shape (is_some preprocessed)) (replay ops (commitment trace ∷ []) start)
@@ -24,9 +24,9 @@ abbrev drawn_freely : {C F E K : Type 0} → SpongeOps C F E K → C → C → P
 drawn_freely ops before state = succeeds (ops.draw before, None) state Bound
 
 -- The prover's too, which then has no witness.
-pub prover_without_work : {C F E K : Type 0} (ops : SpongeOps C F E K) (shape : StarkShape) (trace : K) (preprocessed : Option K) (publics : List F) (start : C) → shape.constraint_pow_bits ≡ 0
-    → prover_constraint_outcome ops shape trace preprocessed publics start ≡ plain_prover_outcome ops trace preprocessed publics start
-prover_without_work ops shape trace preprocessed publics start none =
-    let events = constraint_events trace preprocessed publics in
+pub prover_without_work : {C F E K : Type 0} (ops : SpongeOps C F E K) (shape : StarkShape) (trace : K) (preprocessed : Option K) (public_values : List F) (start : C) → shape.constraint_pow_bits ≡ 0
+    → prover_constraint_outcome ops shape trace preprocessed public_values start ≡ plain_prover_outcome ops trace preprocessed public_values start
+prover_without_work ops shape trace preprocessed public_values start none =
+    let events = constraint_events trace preprocessed public_values in
     ap (λ (bits : ℕ). ends_with Bound (ground ops bits (replay ops events start))) none ∙
     ap (drawn_freely ops (replay ops events start)) (sym (replay_append ops events (draw_extension ∷ []) start))

@@ -33,7 +33,7 @@ shape_of layout main_next preprocessed_next preprocessed_width log_ext_degree lo
   log_degree = log_degree;
   main_width = layout.main;
   preprocessed_width = preprocessed_width;
-  num_public_values = layout.publics;
+  num_public_values = layout.public_values;
   num_periodic_columns = layout.periodics;
   num_quotient_chunks = num_quotient_chunks;
   opens_main_next_row = opens_next_row main_next;
@@ -46,7 +46,7 @@ shape_of layout main_next preprocessed_next preprocessed_width log_ext_degree lo
 -- A shape counts what an AIR of this layout and these columns of next rows declares,
 pub record HasDeclaredCounts (layout : Layout) (main_next preprocessed_next : List ℕ) (shape : StarkShape) : Type 0 where
   pub main_width : shape.main_width ≡ layout.main
-  pub num_public_values : shape.num_public_values ≡ layout.publics
+  pub num_public_values : shape.num_public_values ≡ layout.public_values
   pub num_periodic_columns : shape.num_periodic_columns ≡ layout.periodics
   pub opens_main_next_row : shape.opens_main_next_row ≡ opens_next_row main_next
   pub opens_preprocessed_next_row : shape.opens_preprocessed_next_row ≡ opens_next_row preprocessed_next

@@ -182,7 +182,7 @@ impl StarkShape {
             ≡ shape_steps 1 EF.DIMENSION (shape_numbers self.now)) }
     {
         let degree = EF::DIMENSION;
-        let publics = Length::Fixed(self.num_public_values);
+        let public_values = Length::Fixed(self.num_public_values);
         let first_work = Length::Fixed(self.constraint_pow_bits);
         let work = Length::Fixed(self.ood_pow_bits);
         let table = [
@@ -191,7 +191,10 @@ impl StarkShape {
                 self.preprocessed_width > 0,
                 message("preprocessed_commitment"),
             ),
-            (true, elements(Kind::Public, "public_values", publics, 1)),
+            (
+                true,
+                elements(Kind::Public, "public_values", public_values, 1),
+            ),
             (
                 self.constraint_pow_bits > 0,
                 elements(Kind::Pow, "alpha_pow", first_work, 1),

@@ -54,10 +54,10 @@ module _ {F : Type 0} (element : Data → Option F) (rows : List (List ℕ)) whe
   unfolding columns_apart columns_at
   columns_are d =
       let width = kept (codes "width") d refl in
-      let publics = kept (codes "publics") d refl in
+      let public_values = kept (codes "publics") d refl in
       let periodic = kept (codes "periodic") d refl in
       let trace = get_same (codes "preprocessed") inner d refl in
-      rw (width, publics, periodic, trace, traces_are (get (codes "preprocessed") d)) refl
+      rw (width, public_values, periodic, trace, traces_are (get (codes "preprocessed") d)) refl
 
   lists_are : (d : Data) → list_reading element (outer d) ≡ list_reading element d
   unfolding list_reading

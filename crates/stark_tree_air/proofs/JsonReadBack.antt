@@ -116,7 +116,7 @@ module _ {F : Type 0} (reading : Data → Option F) (writing : F → Data) (back
   record Has (o : Data) (a : AirView F) : Type 0 where
     is_object : is_some (as_object o) ≡ true
     width : get (codes "width") o ≡ Some (number (unsigned a.columns.width))
-    publics : get (codes "publics") o ≡ Some (number (unsigned a.columns.publics))
+    public_values : get (codes "publics") o ≡ Some (number (unsigned a.columns.public_values))
     periodic : get (codes "periodic") o ≡ Some (list_written (list_written writing) a.columns.periodic)
     preprocessed : get (codes "preprocessed") o ≡ Some (trace_or_null writing a.columns.preprocessed)
     degree : get (codes "max_constraint_degree") o ≡ hint_json a.degree
@@ -127,7 +127,7 @@ module _ {F : Type 0} (reading : Data → Option F) (writing : F → Data) (back
 
   columns_read : (o : Data) (a : AirView F) → Has o a → IsWhole a.columns.preprocessed → columns_at reading o ≡ Ok a.columns
   unfolding columns_at
-  columns_read o a h whole = rw (h.width, h.publics, h.periodic, lists_read (codes "periodic") a.columns.periodic, h.preprocessed, optional_read a.columns.preprocessed whole) refl
+  columns_read o a h whole = rw (h.width, h.public_values, h.periodic, lists_read (codes "periodic") a.columns.periodic, h.preprocessed, optional_read a.columns.preprocessed whole) refl
 
   lists_are_read : (o : Data) (a : AirView F) → Has o a → list_reading reading o ≡ Ok a.list
   unfolding list_reading
@@ -159,10 +159,10 @@ module _ {F : Type 0} (reading : Data → Option F) (writing : F → Data) (back
 
   written_has : (columns : ColumnsView F) (degree count : Option ℕ) (list : ListView F) → Has (air_writing writing (record { columns = columns; degree = degree; count = count; list = list })) (record { columns = columns; degree = degree; count = count; list = list })
   unfolding air_writing columns_writing list_writing
-  written_has columns None None list = record { is_object = refl; width = refl; publics = refl; periodic = refl; preprocessed = refl; degree = refl; count = refl; constants = refl; nodes = refl; constraints = refl }
-  written_has columns None (Some n) list = record { is_object = refl; width = refl; publics = refl; periodic = refl; preprocessed = refl; degree = refl; count = refl; constants = refl; nodes = refl; constraints = refl }
-  written_has columns (Some d) None list = record { is_object = refl; width = refl; publics = refl; periodic = refl; preprocessed = refl; degree = refl; count = refl; constants = refl; nodes = refl; constraints = refl }
-  written_has columns (Some d) (Some n) list = record { is_object = refl; width = refl; publics = refl; periodic = refl; preprocessed = refl; degree = refl; count = refl; constants = refl; nodes = refl; constraints = refl }
+  written_has columns None None list = record { is_object = refl; width = refl; public_values = refl; periodic = refl; preprocessed = refl; degree = refl; count = refl; constants = refl; nodes = refl; constraints = refl }
+  written_has columns None (Some n) list = record { is_object = refl; width = refl; public_values = refl; periodic = refl; preprocessed = refl; degree = refl; count = refl; constants = refl; nodes = refl; constraints = refl }
+  written_has columns (Some d) None list = record { is_object = refl; width = refl; public_values = refl; periodic = refl; preprocessed = refl; degree = refl; count = refl; constants = refl; nodes = refl; constraints = refl }
+  written_has columns (Some d) (Some n) list = record { is_object = refl; width = refl; public_values = refl; periodic = refl; preprocessed = refl; degree = refl; count = refl; constants = refl; nodes = refl; constraints = refl }
 
   pub air_back : (a : AirView F) → IsWhole a.columns.preprocessed → view_fault a.columns a.list ≡ None → air_reading reading (air_writing writing a) ≡ Ok a
   air_back a whole none = air_read (air_writing writing a) a (written_has a.columns a.degree a.count a.list) whole none

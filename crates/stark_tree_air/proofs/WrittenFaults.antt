@@ -40,7 +40,7 @@ node_none l m k (MainCurrent c) f = tested c l.main _ f
 node_none l m k (MainNext c) f = tested c l.main_next _ f
 node_none l m k (PreprocessedCurrent c) f = tested c l.preprocessed _ f
 node_none l m k (PreprocessedNext c) f = tested c l.preprocessed_next _ f
-node_none l m k (PublicValue i) f = tested i l.publics _ f
+node_none l m k (PublicValue i) f = tested i l.public_values _ f
 node_none l m k (PeriodicValue c) f = tested c l.periodics _ f
 node_none l m k FirstRow f = refl
 node_none l m k LastRow f = refl
@@ -146,7 +146,7 @@ folded_within ring have want (main_current i) c h = covered_below i want.main ha
 folded_within ring have want (main_next i) c h = covered_below i want.main_next have.main_next c.main_next h
 folded_within ring have want (preprocessed_current i) c h = covered_below i want.preprocessed have.preprocessed c.preprocessed h
 folded_within ring have want (preprocessed_next i) c h = covered_below i want.preprocessed_next have.preprocessed_next c.preprocessed_next h
-folded_within ring have want (public_value i) c h = covered_below i want.publics have.publics c.publics h
+folded_within ring have want (public_value i) c h = covered_below i want.public_values have.public_values c.public_values h
 folded_within ring have want (periodic_value i) c h = covered_below i want.periodics have.periodics c.periodics h
 folded_within ring have want first_row c h = refl
 folded_within ring have want last_row c h = refl
@@ -169,8 +169,8 @@ air_within ring have want (extension t ∷ cs) c h = both_hold (tree_within have
 
 -- Columns that were copied have all that the AIR reads.
 copied_cover : {F : Type 0} (columns : TreeColumns F) (l : AirLayout) (want : Layout) (trace : Option (Trace F)) (periodic : List (List F)) (mains others : List ℕ) → IsDeclared want trace periodic mains others → Covers (symbolic_layout l) want →
-    l.main_width ≡ want.main → l.preprocessed_width ≡ want.preprocessed → columns.width ≡ want.main → columns.num_public_values ≡ want.publics → map (λ column. column.items) columns.periodic_columns.items ≡ periodic → declared_trace columns.preprocessed_trace ≡ trace → Covers (columns_layout columns) want
-copied_cover {F} columns l want trace periodic mains others declared covers main preprocessed width publics periodics traces =
+    l.main_width ≡ want.main → l.preprocessed_width ≡ want.preprocessed → columns.width ≡ want.main → columns.num_public_values ≡ want.public_values → map (λ column. column.items) columns.periodic_columns.items ≡ periodic → declared_trace columns.preprocessed_trace ≡ trace → Covers (columns_layout columns) want
+copied_cover {F} columns l want trace periodic mains others declared covers main preprocessed width public_values periodics traces =
     let wide : want.preprocessed ≡ trace_width (declared_trace columns.preprocessed_trace) = declared.preprocessed_width ∙ sym (ap trace_width traces) in
     let many : want.periodics ≡ length columns.periodic_columns.items = declared.periodic_columns ∙ sym (ap length periodics) ∙ length-map columns.periodic_columns.items (λ column. column.items) in
     let main_next = covers.main_next in
@@ -180,16 +180,16 @@ copied_cover {F} columns l want trace periodic mains others declared covers main
       main_next = omega (arith, width, main, main_next);
       preprocessed = omega (arith, wide);
       preprocessed_next = omega (arith, wide, preprocessed, preprocessed_next);
-      publics = omega (arith, publics);
+      public_values = omega (arith, public_values);
       periodics = omega (arith, many);
     }
 
 -- So they have what the AIR's constraints read, as these are spelled.
 pub copied_within : {F : Type 0} (ring : RingOps F) (columns : TreeColumns F) (l : AirLayout) (want : Layout) (trace : Option (Trace F)) (periodic : List (List F)) (mains others : List ℕ) (cs : List (Constraint F)) (spelled_cs : List (SymbolicConstraint F)) →
-    IsDeclared want trace periodic mains others → LeavesWithin want cs → Covers (symbolic_layout l) want → l.main_width ≡ want.main → l.preprocessed_width ≡ want.preprocessed → columns.width ≡ want.main → columns.num_public_values ≡ want.publics →
+    IsDeclared want trace periodic mains others → LeavesWithin want cs → Covers (symbolic_layout l) want → l.main_width ≡ want.main → l.preprocessed_width ≡ want.preprocessed → columns.width ≡ want.main → columns.num_public_values ≡ want.public_values →
     map (λ column. column.items) columns.periodic_columns.items ≡ periodic → declared_trace columns.preprocessed_trace ≡ trace → spelled_cs ≡ map (trees.marked_tree ring) cs → all_within (columns_layout columns) spelled_cs ≡ true
-copied_within ring columns l want trace periodic mains others cs spelled_cs declared within covers main preprocessed width publics periodics traces same =
-    ap (all_within (columns_layout columns)) same ∙ air_within ring (columns_layout columns) want cs (copied_cover columns l want trace periodic mains others declared covers main preprocessed width publics periodics traces) within
+copied_within ring columns l want trace periodic mains others cs spelled_cs declared within covers main preprocessed width public_values periodics traces same =
+    ap (all_within (columns_layout columns)) same ∙ air_within ring (columns_layout columns) want cs (copied_cover columns l want trace periodic mains others declared covers main preprocessed width public_values periodics traces) within
 
 one_folded : {F : Type 0} (ring : RingOps F) (c d : Constraint F) → expressed c ≡ trees.marked_tree ring d → c ≡ folded ring d
 one_folded ring (base t) (base u) e = let h : t ≡ constants_folded ring u = cc in ap base h

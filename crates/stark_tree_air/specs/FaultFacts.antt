@@ -35,7 +35,7 @@ node_fits l m k (MainCurrent c) e = smaller c l.main _ e
 node_fits l m k (MainNext c) e = smaller c l.main_next _ e
 node_fits l m k (PreprocessedCurrent c) e = smaller c l.preprocessed _ e
 node_fits l m k (PreprocessedNext c) e = smaller c l.preprocessed_next _ e
-node_fits l m k (PublicValue i) e = smaller i l.publics _ e
+node_fits l m k (PublicValue i) e = smaller i l.public_values _ e
 node_fits l m k (PeriodicValue c) e = smaller c l.periodics _ e
 node_fits l m k FirstRow e = tt
 node_fits l m k LastRow e = tt
@@ -125,7 +125,7 @@ covered_node have want m k (MainCurrent i) c f = let w = c.main in omega arith
 covered_node have want m k (MainNext i) c f = let w = c.main_next in omega arith
 covered_node have want m k (PreprocessedCurrent i) c f = let w = c.preprocessed in omega arith
 covered_node have want m k (PreprocessedNext i) c f = let w = c.preprocessed_next in omega arith
-covered_node have want m k (PublicValue i) c f = let w = c.publics in omega arith
+covered_node have want m k (PublicValue i) c f = let w = c.public_values in omega arith
 covered_node have want m k (PeriodicValue i) c f = let w = c.periodics in omega arith
 covered_node have want m k FirstRow c f = tt
 covered_node have want m k LastRow c f = tt

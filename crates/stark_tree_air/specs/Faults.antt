@@ -40,12 +40,12 @@ tree_layout columns ns =
       main_next = (if reads_main_next ns then columns.width else 0);
       preprocessed = preprocessed;
       preprocessed_next = (if reads_preprocessed_next ns then preprocessed else 0);
-      publics = columns.num_public_values;
+      public_values = columns.num_public_values;
       periodics = length columns.periodic_columns.items;
     }
 
 abbrev pub counted_layout : TreeCounts → Layout
-counted_layout c = record { main = c.main; main_next = c.main_next; preprocessed = c.preprocessed; preprocessed_next = c.preprocessed_next; publics = c.publics; periodics = c.periodics }
+counted_layout c = record { main = c.main; main_next = c.main_next; preprocessed = c.preprocessed; preprocessed_next = c.preprocessed_next; public_values = c.public_values; periodics = c.periodics }
 
 -- The column of a node that is a main column in the next row.
 abbrev pub main_next_column : TreeNode → Option ℕ
@@ -70,7 +70,7 @@ node_fault l m k (MainCurrent c) = leaf_fault k c l.main
 node_fault l m k (MainNext c) = leaf_fault k c l.main_next
 node_fault l m k (PreprocessedCurrent c) = leaf_fault k c l.preprocessed
 node_fault l m k (PreprocessedNext c) = leaf_fault k c l.preprocessed_next
-node_fault l m k (PublicValue i) = leaf_fault k i l.publics
+node_fault l m k (PublicValue i) = leaf_fault k i l.public_values
 node_fault l m k (PeriodicValue c) = leaf_fault k c l.periodics
 node_fault l m k FirstRow = None
 node_fault l m k LastRow = None

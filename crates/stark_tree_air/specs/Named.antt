@@ -18,7 +18,7 @@ columns_layout columns =
       main_next = columns.width;
       preprocessed = preprocessed;
       preprocessed_next = preprocessed;
-      publics = columns.num_public_values;
+      public_values = columns.num_public_values;
       periodics = length columns.periodic_columns.items;
     }
 

@@ -30,10 +30,10 @@ module _ {F : Type 0} (element : Data → Option F) (rows : Option (List (List �
   unfoldable pub columns_apart : Data → Result (ColumnsView F) TreeFault
   columns_apart d = do
     width ← required (codes "width") (number_at (codes "width")) d
-    publics ← required (codes "publics") (number_at (codes "publics")) d
+    public_values ← required (codes "publics") (number_at (codes "publics")) d
     periodic ← required (codes "periodic") (lists_at element (codes "periodic")) d
     preprocessed ← optional (codes "preprocessed") trace_apart d
-    Ok (record { width = width; publics = publics; periodic = periodic; preprocessed = preprocessed })
+    Ok (record { width = width; public_values = public_values; periodic = periodic; preprocessed = preprocessed })
 
   -- the AIR that an object spells whose rows may be apart, or its first fault
   unfoldable pub air_apart : Data → Result (AirView F) TreeFault

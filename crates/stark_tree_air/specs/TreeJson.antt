@@ -50,7 +50,7 @@ abbrev pub ◌>>=◌ : {A : Type 0} {B : Type 0} → Result A TreeFault → (A �
 
 pub record ColumnsView (F : Type 0) : Type 0 where
   pub width : ℕ
-  pub publics : ℕ
+  pub public_values : ℕ
   pub periodic : List (List F)
   pub preprocessed : Option (Trace F)
 
@@ -68,7 +68,7 @@ pub record AirView (F : Type 0) : Type 0 where
 abbrev pub columns_view : {F : Type 0} → TreeColumns F → ColumnsView F
 columns_view columns = record {
   width = columns.width;
-  publics = columns.num_public_values;
+  public_values = columns.num_public_values;
   periodic = map (λ column. column.items) columns.periodic_columns.items;
   preprocessed = declared_trace columns.preprocessed_trace;
 }
@@ -93,7 +93,7 @@ view_layout columns ns =
       main_next = (if reads_main_next ns then columns.width else 0);
       preprocessed = preprocessed;
       preprocessed_next = (if reads_preprocessed_next ns then preprocessed else 0);
-      publics = columns.publics;
+      public_values = columns.public_values;
       periodics = length columns.periodic;
     }
 
@@ -148,10 +148,10 @@ module _ {F : Type 0} (element : Data → Option F) where
   unfoldable pub columns_at : Data → Result (ColumnsView F) TreeFault
   columns_at d = do
     width ← required (codes "width") (number_at (codes "width")) d
-    publics ← required (codes "publics") (number_at (codes "publics")) d
+    public_values ← required (codes "publics") (number_at (codes "publics")) d
     periodic ← required (codes "periodic") (lists_at (codes "periodic")) d
     preprocessed ← optional (codes "preprocessed") trace_at d
-    Ok (record { width = width; publics = publics; periodic = periodic; preprocessed = preprocessed })
+    Ok (record { width = width; public_values = public_values; periodic = periodic; preprocessed = preprocessed })
 
   unfoldable pub list_reading : Data → Result (ListView F) TreeFault
   list_reading d = do
@@ -202,7 +202,7 @@ module _ {F : Type 0} (element : F → Data) where
   columns_writing columns =
       with_member (codes "preprocessed") (trace_or_null columns.preprocessed)
       (with_member (codes "periodic") (list_written (list_written element) columns.periodic)
-      (with_member (codes "publics") (number (unsigned columns.publics))
+      (with_member (codes "publics") (number (unsigned columns.public_values))
       (with_member (codes "width") (number (unsigned columns.width)) no_members)))
 
   unfoldable pub list_writing : ListView F → Members → Members

@@ -16,7 +16,7 @@ pub(crate) struct TreeCounts {
     pub main_next: usize,
     pub preprocessed: usize,
     pub preprocessed_next: usize,
-    pub publics: usize,
+    pub public_values: usize,
     pub periodics: usize,
 }
 
@@ -95,7 +95,7 @@ fn counts<F>(columns: &TreeColumns<F>, constants: usize, nodes: &[TreeNode]) -> 
         } else {
             0
         },
-        publics: columns.num_public_values,
+        public_values: columns.num_public_values,
         periodics: columns.periodic_columns.len(),
     }
 }
@@ -139,7 +139,7 @@ fn node_fault(counts: TreeCounts, place: usize, node: TreeNode) -> Option<TreeAi
         TreeNode::MainNext(column) => leaf_fault(place, column, counts.main_next),
         TreeNode::PreprocessedCurrent(column) => leaf_fault(place, column, counts.preprocessed),
         TreeNode::PreprocessedNext(column) => leaf_fault(place, column, counts.preprocessed_next),
-        TreeNode::PublicValue(index) => leaf_fault(place, index, counts.publics),
+        TreeNode::PublicValue(index) => leaf_fault(place, index, counts.public_values),
         TreeNode::PeriodicValue(column) => leaf_fault(place, column, counts.periodics),
         TreeNode::Sum(left, right) => operands_fault(place, left, right),
         TreeNode::Difference(left, right) => operands_fault(place, left, right),

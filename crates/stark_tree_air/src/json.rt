@@ -69,13 +69,13 @@ fn optional_trace<F: JsonCodec + Copy>(
     ensures { Decodes declared_trace result
         (optional field.now (trace_apart F.reading (rows_apart rows.now)) (view value.now)) }
 {
-    let Some(found) = value.get(field) else {
+    let Some(member) = value.get(field) else {
         return Ok(None);
     };
-    if found.is_null() {
+    if member.is_null() {
         return Ok(None);
     }
-    let trace = trace_from_json(alloc, found, rows)?;
+    let trace = trace_from_json(alloc, member, rows)?;
     Ok(Some(trace))
 }
 

@@ -8,7 +8,7 @@ ghost use Rattle.stark_json.specs.Apart.{lists_of, rows_data};
 ghost use Rattle.stark_tree_air.specs.TreeJson.{Decodes, joined_rows, list_at, lists_at, missing_field, number_at, optional, required, with_number};
 
 use crate::json_error::TreeJsonError;
-use crate::node_json::whole;
+use crate::node_json::whole_number;
 use serde_json::{Map, Value, put};
 use stark_json::{NumberRows, lists_of_numbers};
 use stark_support::{JsonCodec, JsonFault, list_from_json, lists_from_json};
@@ -23,7 +23,7 @@ pub(crate) fn required<'a>(
         (ok_or (get field.now (view value.now)) (missing_field field.now)) }
 {
     match value.get(field) {
-        Some(found) => Ok(found),
+        Some(member) => Ok(member),
         None => Err(TreeJsonError::MissingField { field }),
     }
 }
@@ -31,7 +31,7 @@ pub(crate) fn required<'a>(
 fn number_from_json(value: &Value, field: &'static str) -> Result<usize, TreeJsonError>
     ensures { Decodes (λ n. n) result (number_at field.now (view value.now)) }
 {
-    match whole(value) {
+    match whole_number(value) {
         Some(number) => Ok(number),
         None => Err(TreeJsonError::WrongKind { field }),
     }
@@ -41,8 +41,8 @@ fn number_from_json(value: &Value, field: &'static str) -> Result<usize, TreeJso
 pub(crate) fn required_number(value: &Value, field: &'static str) -> Result<usize, TreeJsonError>
     ensures { Decodes (λ n. n) result (required field.now (number_at field.now) (view value.now)) }
 {
-    let found = required(value, field)?;
-    number_from_json(found, field)
+    let member = required(value, field)?;
+    number_from_json(member, field)
 }
 
 /// The whole number under a name; None where it is missing or null.
@@ -52,13 +52,13 @@ pub(crate) fn optional_number(
 ) -> Result<Option<usize>, TreeJsonError>
     ensures { Decodes (λ n. n) result (optional field.now (number_at field.now) (view value.now)) }
 {
-    let Some(found) = value.get(field) else {
+    let Some(member) = value.get(field) else {
         return Ok(None);
     };
-    if found.is_null() {
+    if member.is_null() {
         return Ok(None);
     }
-    let number = number_from_json(found, field)?;
+    let number = number_from_json(member, field)?;
     Ok(Some(number))
 }
 
@@ -88,8 +88,8 @@ pub(crate) fn required_list<T: JsonCodec + Drop>(
     ensures { Decodes (λ v. v.items) result
         (required field.now (list_at T.reading field.now) (view value.now)) }
 {
-    let found = required(value, field)?;
-    list_at(alloc, found, field)
+    let member = required(value, field)?;
+    list_at(alloc, member, field)
 }
 
 fn lists_at<T: JsonCodec + Drop>(
@@ -119,8 +119,8 @@ pub(crate) fn required_lists<T: JsonCodec + Drop>(
     ensures { Decodes (λ v. map (λ list. list.items) v.items) result
         (required field.now (lists_at T.reading field.now) (view value.now)) }
 {
-    let found = required(value, field)?;
-    lists_at(alloc, found, field)
+    let member = required(value, field)?;
+    lists_at(alloc, member, field)
 }
 
 /// The lists that were given in place of an array of arrays.
@@ -147,7 +147,7 @@ pub(crate) fn joined_rows<F: Copy>(
 ) -> Result<Vec<F>, TreeJsonError>
     ensures joined { Decodes (λ v. v.items) result
         (joined_rows width 0 (map (λ row. row.items) rows.now)) }
-    ensures whole { IfOk result (λ v. length v.items % width ≡ 0) }
+    ensures full_rows { IfOk result (λ v. length v.items % width ≡ 0) }
 {
     let mut values = Vec::new(alloc);
     for (place, row) in rows.iter().enumerate() {

@@ -11,7 +11,7 @@ use stark_support::{JsonCodec, JsonFault};
 use std::alloc::{AllocError, Global};
 
 /// A whole number that fits.
-pub(crate) fn whole(value: &Value) -> Option<usize>
+pub(crate) fn whole_number(value: &Value) -> Option<usize>
     ensures { result ≡ whole_at (view value.now) }
 {
     match value.as_u64() {
@@ -67,8 +67,8 @@ fn node_from_json(value: &Value) -> Option<TreeNode>
     let items = value.as_array()?;
     match items.as_slice() {
         [tag] => selector_named(tag.as_str()?),
-        [tag, place] => single_named(tag.as_str()?, whole(place)?),
-        [tag, left, right] => pair_named(tag.as_str()?, whole(left)?, whole(right)?),
+        [tag, place] => single_named(tag.as_str()?, whole_number(place)?),
+        [tag, left, right] => pair_named(tag.as_str()?, whole_number(left)?, whole_number(right)?),
         _ => None,
     }
 }
@@ -77,8 +77,8 @@ fn constraint_from_json(value: &Value) -> Option<TreeConstraint>
     ensures { result ≡ constraint_reading (view value.now) }
 {
     match (value.get("base"), value.get("ext")) {
-        (Some(place), None) => Some(TreeConstraint::Base(whole(place)?)),
-        (None, Some(place)) => Some(TreeConstraint::Extension(whole(place)?)),
+        (Some(place), None) => Some(TreeConstraint::Base(whole_number(place)?)),
+        (None, Some(place)) => Some(TreeConstraint::Extension(whole_number(place)?)),
         _ => None,
     }
 }

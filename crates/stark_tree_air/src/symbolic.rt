@@ -50,7 +50,7 @@ fn declaration_of<F: Copy, A: BaseAir<F>>(
 ) -> Result<TreeDeclaration<F>, AllocError>
     ensures width { IfOk result (λ d. d.columns.width ≡ (A.layout air.now).main) }
     ensures num_public_values { IfOk result (λ d. d.columns.num_public_values
-        ≡ (A.layout air.now).publics) }
+        ≡ (A.layout air.now).public_values) }
     ensures periodic_columns { IfOk result (λ d.
         map (λ column. column.items) d.columns.periodic_columns.items
         ≡ A.periodic_columns air.now) }
@@ -83,7 +83,7 @@ impl<F: Field> TreeAir<F> {
         ensures width { IfOk result (λ tree. tree.declaration.columns.width
             ≡ (A.layout air.now).main) }
         ensures num_public_values { IfOk result (λ tree. tree.declaration.columns.num_public_values
-            ≡ (A.layout air.now).publics) }
+            ≡ (A.layout air.now).public_values) }
         ensures periodic_columns { IfOk result (λ tree.
             ⟦<TreeAir<F> as BaseAir<F>>⟧.periodic_columns tree ≡ A.periodic_columns air.now) }
         ensures preprocessed_trace { IfOk result (λ tree.

@@ -11,7 +11,7 @@ use Rattle.stark_protocol.specs.Equation.{OpenedRows, opened_layout}
 use Rattle.stark_protocol.specs.Instance.{Instance, ProtocolOps}
 use Rattle.stark_verifier.specs.Checks.{IsShaped}
 use Rattle.stark_verifier.specs.declared.shape.ProofDomains.{ProofDomains}
-use Rattle.stark_verifier.proofs.ShapeSteps.{chunks_counted, chunks_long, one_width, publics_are, rows_cover}
+use Rattle.stark_verifier.proofs.ShapeSteps.{chunks_counted, chunks_long, one_width, public_values_are, rows_cover}
 
 module _ {S F E C K T P X Y D : Type 0} {ops : ProtocolOps S F E C K T P X Y} {coset_of : D → TwoAdicCoset F} {i : Instance S F C K} {p : ProofView K E P F} {domains : ProofDomains D} (shaped : IsShaped ops coset_of i p domains) where
   abbrev alpha_is_zero : Bool
@@ -27,9 +27,9 @@ module _ {S F E C K T P X Y D : Type 0} {ops : ProtocolOps S F E C K T P X Y} {c
   abbrev rows : List E → OpenedRows F E
   rows periodic = rows_of ops.opening.fields.ring.zero i.layout.main i.layout.preprocessed p.opened_values periodic i.public_values
 
-  pub shaped_publics : length i.public_values ≡ i.layout.publics
-  shaped_publics =
-      publics_are i.layout.publics (length i.public_values) (opens_next_row i.main_next_columns) i.layout.main num_chunks ops.opening.fields.dimension p.opened_values i.constraint_bits alpha_is_zero i.ood_bits ood_is_zero shaped.opened
+  pub shaped_public_values : length i.public_values ≡ i.layout.public_values
+  shaped_public_values =
+      public_values_are i.layout.public_values (length i.public_values) (opens_next_row i.main_next_columns) i.layout.main num_chunks ops.opening.fields.dimension p.opened_values i.constraint_bits alpha_is_zero i.ood_bits ood_is_zero shaped.opened
 
   pub shaped_widths : (periodic : List E) → length (rows periodic).preprocessed_local ≡ length (rows periodic).preprocessed_next
   shaped_widths periodic =
@@ -44,8 +44,8 @@ module _ {S F E C K T P X Y D : Type 0} {ops : ProtocolOps S F E C K T P X Y} {c
   shaped_dimension =
       chunks_long ops.opening.fields.ring.zero i.key i.layout i.main_next_columns i.preprocessed_next_columns p.degree_bits p.opened_values i.public_values num_chunks ops.opening.fields.dimension i.constraint_bits alpha_is_zero i.ood_bits ood_is_zero shaped.rows shaped.opened
 
-  pub shaped_covered : (periodic : List E) (fixed : Option (Trace F)) → IsDeclared i.layout fixed i.periodic_columns i.main_next_columns i.preprocessed_next_columns → length periodic ≡ length i.periodic_columns
+  pub shaped_covered : (periodic : List E) (preprocessed : Option (Trace F)) → IsDeclared i.layout preprocessed i.periodic_columns i.main_next_columns i.preprocessed_next_columns → length periodic ≡ length i.periodic_columns
       → Covers (opened_layout (rows periodic)) i.layout
-  shaped_covered periodic fixed declared counted =
+  shaped_covered periodic preprocessed declared counted =
       rows_cover ops.opening.fields.ring.zero i.key i.layout i.main_next_columns i.preprocessed_next_columns p.degree_bits p.opened_values i.public_values num_chunks ops.opening.fields.dimension i.constraint_bits alpha_is_zero i.ood_bits ood_is_zero shaped.rows shaped.opened
-      periodic fixed i.periodic_columns declared counted
+      periodic preprocessed i.periodic_columns declared counted

@@ -15,12 +15,12 @@ module _ {F E : Type 0} (base : RingOps F) (ring : RingOps E) (embed : F → E) 
     (first last transition sum vanishing : E)
     (first_is : first ≡ first_row_selector ring (λ c. c) subgroup zeta) (last_is : last ≡ last_row_selector ring (λ c. c) subgroup zeta) (transition_is : transition ≡ transition_selector ring (λ c. c) subgroup zeta)
     (sum_is : sum ≡ folded ring alpha (constraint_values (ring_operations ring embed)
-    (environment_of (ring_operations ring embed) base.zero ring.zero rows.local rows.next rows.preprocessed_local rows.preprocessed_next rows.publics rows.periodic first last transition) constraints))
+    (environment_of (ring_operations ring embed) base.zero ring.zero rows.local rows.next rows.preprocessed_local rows.preprocessed_next rows.public_values rows.periodic first last transition) constraints))
     (vanishing_is : vanishing ≡ subgroup_vanishing ring subgroup.size zeta) where
   left_side : sum ≡ folded_constraints base ring embed subgroup constraints rows zeta alpha
   left_side =
       let at : E → E → E → E = λ f e t. folded ring alpha (constraint_values (ring_operations ring embed)
-      (environment_of (ring_operations ring embed) base.zero ring.zero rows.local rows.next rows.preprocessed_local rows.preprocessed_next rows.publics rows.periodic f e t) constraints) in
+      (environment_of (ring_operations ring embed) base.zero ring.zero rows.local rows.next rows.preprocessed_local rows.preprocessed_next rows.public_values rows.periodic f e t) constraints) in
       sum_is ∙ ap (λ f. at f last transition) first_is ∙
       ap (λ e. at (first_row_selector ring (λ c. c) subgroup zeta) e transition) last_is ∙
       ap (λ t. at (first_row_selector ring (λ c. c) subgroup zeta) (last_row_selector ring (λ c. c) subgroup zeta) t) transition_is

@@ -12,17 +12,17 @@ use Rattle.stark_protocol.specs.Acceptance.{preprocessed_local}
 use Rattle.stark_protocol.specs.FirstFault.{EquationFault, in_balance}
 
 -- Rows by other names.
-pub rows_are : {F E : Type 0} (rows : OpenedRows F E) (local next fixed_local fixed_next periodic : List E) (publics : List F)
-    → local ≡ rows.local → next ≡ rows.next → fixed_local ≡ rows.preprocessed_local → fixed_next ≡ rows.preprocessed_next → periodic ≡ rows.periodic → publics ≡ rows.publics
-    → (let given : OpenedRows F E = record { local = local; next = next; preprocessed_local = fixed_local; preprocessed_next = fixed_next; periodic = periodic; publics = publics } in given) ≡ rows
-rows_are {F} {E} rows local next fixed_local fixed_next periodic publics el en ef eg er ep =
+pub rows_are : {F E : Type 0} (rows : OpenedRows F E) (local next preprocessed_local preprocessed_next periodic : List E) (public_values : List F)
+    → local ≡ rows.local → next ≡ rows.next → preprocessed_local ≡ rows.preprocessed_local → preprocessed_next ≡ rows.preprocessed_next → periodic ≡ rows.periodic → public_values ≡ rows.public_values
+    → (let given : OpenedRows F E = record { local = local; next = next; preprocessed_local = preprocessed_local; preprocessed_next = preprocessed_next; periodic = periodic; public_values = public_values } in given) ≡ rows
+rows_are {F} {E} rows local next preprocessed_local preprocessed_next periodic public_values el en ef eg er ep =
     let at : List E → List E → List E → List E → List E → List F → OpenedRows F E = λ l x f g r p.
-    record { local = l; next = x; preprocessed_local = f; preprocessed_next = g; periodic = r; publics = p } in
-    ap (λ l. at l next fixed_local fixed_next periodic publics) el ∙
-    ap (λ x. at rows.local x fixed_local fixed_next periodic publics) en ∙
-    ap (λ f. at rows.local rows.next f fixed_next periodic publics) ef ∙
-    ap (λ g. at rows.local rows.next rows.preprocessed_local g periodic publics) eg ∙
-    ap (λ r. at rows.local rows.next rows.preprocessed_local rows.preprocessed_next r publics) er ∙
+    record { local = l; next = x; preprocessed_local = f; preprocessed_next = g; periodic = r; public_values = p } in
+    ap (λ l. at l next preprocessed_local preprocessed_next periodic public_values) el ∙
+    ap (λ x. at rows.local x preprocessed_local preprocessed_next periodic public_values) en ∙
+    ap (λ f. at rows.local rows.next f preprocessed_next periodic public_values) ef ∙
+    ap (λ g. at rows.local rows.next rows.preprocessed_local g periodic public_values) eg ∙
+    ap (λ r. at rows.local rows.next rows.preprocessed_local rows.preprocessed_next r public_values) er ∙
     ap (λ p. at rows.local rows.next rows.preprocessed_local rows.preprocessed_next rows.periodic p) ep
 
 -- A row in which zeros stand in for what isn't opened.

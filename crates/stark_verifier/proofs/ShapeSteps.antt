@@ -14,7 +14,7 @@ use Rattle.stark_protocol.specs.declared.preprocessed.PreprocessedVerifierKey.{P
 use Rattle.stark_protocol.specs.Equation.{opened_layout}
 use Rattle.stark_proof.specs.ProofView.{OpeningsView, PreprocessedView}
 use Rattle.stark_protocol.specs.Acceptance.{preprocessed_local, preprocessed_next, rows_of}
-use Rattle.stark_protocol.specs.ShapeFaults.{dimensions_fault, expected_next, fault_if, key_degree_fault, key_width_fault, opened_fault, preprocessed_fault, preprocessed_rows_fault, publics_fault, random_fits, trace_next_fault, unread_next_fault, width_in_force, width_of, witness_fault}
+use Rattle.stark_protocol.specs.ShapeFaults.{dimensions_fault, expected_next, fault_if, key_degree_fault, key_width_fault, opened_fault, preprocessed_fault, preprocessed_rows_fault, public_values_fault, random_fits, trace_next_fault, unread_next_fault, width_in_force, width_of, witness_fault}
 use Rattle.stark_protocol.specs.AcceptanceFacts.{next_at_most, not_found}
 
 -- the test that an error denies
@@ -34,12 +34,12 @@ next_is_wide zero width wide reads_next None same got unread = length-replicate 
 next_is_wide zero width wide true (Some row) same got unread = got ∙ same
 next_is_wide zero width wide false (Some row) same got unread = absurd (cc)
 
-fixed_widths : {E : Type 0} (zero : E) (width wide : ℕ) (reads_next : Bool) (rows : Option (PreprocessedView E)) → wide ≡ width → preprocessed_rows_fault wide reads_next rows ≡ None
+preprocessed_widths : {E : Type 0} (zero : E) (width wide : ℕ) (reads_next : Bool) (rows : Option (PreprocessedView E)) → wide ≡ width → preprocessed_rows_fault wide reads_next rows ≡ None
     → (length (preprocessed_local rows) ≡ width) × (length (preprocessed_next (replicate width zero) rows) ≡ width)
-fixed_widths zero width wide reads_next None same e =
+preprocessed_widths zero width wide reads_next None same e =
     let none : wide ≤ 0 = ltb-false 0 wide (not_found (nat_lt 0 wide) _ e) in
     (omega (arith, same), omega (arith, same))
-fixed_widths zero width wide reads_next (Some rows) same e =
+preprocessed_widths zero width wide reads_next (Some rows) same e =
     let later = (both_none (fault_if (wide == 0) _) _ e).1 in
     let both = both_none (fault_if (not (length rows.local == wide && width_of rows.next == expected_next reads_next wide)) _) (unread_next_fault reads_next rows.next) later in
     let parts = and_parts (length rows.local == wide) (width_of rows.next == expected_next reads_next wide) (met (length rows.local == wide && width_of rows.next == expected_next reads_next wide) _ both.0) in
@@ -52,42 +52,42 @@ trace_next_width zero false width None e = length-replicate width zero
 trace_next_width zero false width (Some row) e = absurd (cc)
 
 -- as many public values as the AIR reads
-pub publics_are : {E : Type 0} (expected publics : ℕ) (reads_next : Bool) (width count dimension : ℕ) (opened : OpeningsView E) (alpha_bits : ℕ) (alpha_is_zero : Bool) (bits : ℕ) (is_zero : Bool)
-    → opened_fault expected publics reads_next width count dimension opened alpha_bits alpha_is_zero bits is_zero ≡ None → publics ≡ expected
-publics_are expected publics reads_next width count dimension opened alpha_bits alpha_is_zero bits is_zero clear =
-    eqb-true publics expected (met (publics == expected) (PublicValuesLengthMismatch expected publics) (both_none (publics_fault expected publics) _ clear).0)
+pub public_values_are : {E : Type 0} (expected public_values : ℕ) (reads_next : Bool) (width count dimension : ℕ) (opened : OpeningsView E) (alpha_bits : ℕ) (alpha_is_zero : Bool) (bits : ℕ) (is_zero : Bool)
+    → opened_fault expected public_values reads_next width count dimension opened alpha_bits alpha_is_zero bits is_zero ≡ None → public_values ≡ expected
+public_values_are expected public_values reads_next width count dimension opened alpha_bits alpha_is_zero bits is_zero clear =
+    eqb-true public_values expected (met (public_values == expected) (PublicValuesLengthMismatch expected public_values) (both_none (public_values_fault expected public_values) _ clear).0)
 
 -- ---- a proof without a fault
 
 -- The opened rows, public values and chunks of a proof, beside what an AIR declares.
-module _ {F E K : Type 0} (zero : E) (key : Option (PreprocessedVerifierKey K)) (layout : Layout) (main_next fixed_next : List ℕ) (degree_bits : ℕ) (opened : OpeningsView E) (publics : List F) (count dimension alpha_bits : ℕ) (alpha_is_zero : Bool) (bits : ℕ) (is_zero : Bool)
-    (rows_clear : preprocessed_fault key layout.preprocessed (opens_next_row fixed_next) degree_bits opened.preprocessed ≡ None)
-    (values_clear : opened_fault layout.publics (length publics) (opens_next_row main_next) layout.main count dimension opened alpha_bits alpha_is_zero bits is_zero ≡ None) where
-  fixed_widths_are : (length (preprocessed_local opened.preprocessed) ≡ layout.preprocessed) × (length (preprocessed_next (replicate layout.preprocessed zero) opened.preprocessed) ≡ layout.preprocessed)
-  fixed_widths_are =
+module _ {F E K : Type 0} (zero : E) (key : Option (PreprocessedVerifierKey K)) (layout : Layout) (main_next preprocessed_next_columns : List ℕ) (degree_bits : ℕ) (opened : OpeningsView E) (public_values : List F) (count dimension alpha_bits : ℕ) (alpha_is_zero : Bool) (bits : ℕ) (is_zero : Bool)
+    (rows_clear : preprocessed_fault key layout.preprocessed (opens_next_row preprocessed_next_columns) degree_bits opened.preprocessed ≡ None)
+    (values_clear : opened_fault layout.public_values (length public_values) (opens_next_row main_next) layout.main count dimension opened alpha_bits alpha_is_zero bits is_zero ≡ None) where
+  preprocessed_widths_are : (length (preprocessed_local opened.preprocessed) ≡ layout.preprocessed) × (length (preprocessed_next (replicate layout.preprocessed zero) opened.preprocessed) ≡ layout.preprocessed)
+  preprocessed_widths_are =
       let wide = width_in_force key layout.preprocessed in
-      let parts = both_none (preprocessed_rows_fault wide (opens_next_row fixed_next) opened.preprocessed) _ rows_clear in
-      fixed_widths zero layout.preprocessed wide (opens_next_row fixed_next) opened.preprocessed
+      let parts = both_none (preprocessed_rows_fault wide (opens_next_row preprocessed_next_columns) opened.preprocessed) _ rows_clear in
+      preprocessed_widths zero layout.preprocessed wide (opens_next_row preprocessed_next_columns) opened.preprocessed
       (in_force key layout.preprocessed (both_none (key_width_fault key layout.preprocessed) (key_degree_fault key degree_bits) parts.1).0) parts.0
 
   pub one_width : length (preprocessed_local opened.preprocessed) ≡ length (preprocessed_next (replicate layout.preprocessed zero) opened.preprocessed)
-  one_width = fixed_widths_are.0 ∙ sym fixed_widths_are.1
+  one_width = preprocessed_widths_are.0 ∙ sym preprocessed_widths_are.1
 
-  publics_counted : length publics ≡ layout.publics
-  publics_counted = publics_are layout.publics (length publics) (opens_next_row main_next) layout.main count dimension opened alpha_bits alpha_is_zero bits is_zero values_clear
+  public_values_counted : length public_values ≡ layout.public_values
+  public_values_counted = public_values_are layout.public_values (length public_values) (opens_next_row main_next) layout.main count dimension opened alpha_bits alpha_is_zero bits is_zero values_clear
 
-  past_publics : option_or (trace_next_fault (opens_next_row main_next) layout.main opened.trace_next)
+  past_public_values : option_or (trace_next_fault (opens_next_row main_next) layout.main opened.trace_next)
       (option_or (dimensions_fault layout.main count dimension opened.trace_local opened.quotient_chunks opened.random)
       (option_or (witness_fault NonCanonicalAlphaPowWitness alpha_bits alpha_is_zero) (witness_fault NonCanonicalOodPowWitness bits is_zero))) ≡ None
-  past_publics = (both_none (publics_fault layout.publics (length publics)) _ values_clear).1
+  past_public_values = (both_none (public_values_fault layout.public_values (length public_values)) _ values_clear).1
 
   next_width_is : length (unwrap_or opened.trace_next (replicate layout.main zero)) ≡ layout.main
-  next_width_is = trace_next_width zero (opens_next_row main_next) layout.main opened.trace_next (both_none (trace_next_fault (opens_next_row main_next) layout.main opened.trace_next) _ past_publics).0
+  next_width_is = trace_next_width zero (opens_next_row main_next) layout.main opened.trace_next (both_none (trace_next_fault (opens_next_row main_next) layout.main opened.trace_next) _ past_public_values).0
 
   dimensions_are : (length opened.trace_local == layout.main
       && (length opened.quotient_chunks == count && (list_all (λ chunk. length chunk == dimension) opened.quotient_chunks && random_fits dimension opened.random))) ≡ true
   dimensions_are =
-      let past_next = (both_none (trace_next_fault (opens_next_row main_next) layout.main opened.trace_next) _ past_publics).1 in
+      let past_next = (both_none (trace_next_fault (opens_next_row main_next) layout.main opened.trace_next) _ past_public_values).1 in
       met _ OpenedValuesDimensionMismatch (both_none (dimensions_fault layout.main count dimension opened.trace_local opened.quotient_chunks opened.random) _ past_next).0
 
   chunk_dimensions : (length opened.quotient_chunks == count && (list_all (λ chunk. length chunk == dimension) opened.quotient_chunks && random_fits dimension opened.random)) ≡ true
@@ -103,13 +103,13 @@ module _ {F E K : Type 0} (zero : E) (key : Option (PreprocessedVerifierKey K)) 
       λ k d within. eqb-true _ _ (AllPass-from_list_all (λ chunk. length chunk == dimension) opened.quotient_chunks all k d within)
 
   -- The opened rows have what the AIR reads.
-  pub rows_cover : (periodic : List E) (fixed : Option (Trace F)) (columns : List (List F)) → IsDeclared layout fixed columns main_next fixed_next → length periodic ≡ length columns
-      → Covers (opened_layout (rows_of zero layout.main layout.preprocessed opened periodic publics)) layout
-  rows_cover periodic fixed columns declared counted = record {
+  pub rows_cover : (periodic : List E) (preprocessed : Option (Trace F)) (columns : List (List F)) → IsDeclared layout preprocessed columns main_next preprocessed_next_columns → length periodic ≡ length columns
+      → Covers (opened_layout (rows_of zero layout.main layout.preprocessed opened periodic public_values)) layout
+  rows_cover periodic preprocessed columns declared counted = record {
     main = omega (arith, eqb-true (length opened.trace_local) layout.main (and_parts (length opened.trace_local == layout.main) _ dimensions_are).0);
     main_next = omega (arith, next_width_is, declared.main_next_row, next_at_most main_next layout.main);
-    preprocessed = omega (arith, fixed_widths_are.0);
-    preprocessed_next = omega (arith, fixed_widths_are.1, declared.preprocessed_next_row, next_at_most fixed_next layout.preprocessed);
-    publics = omega (arith, publics_counted);
+    preprocessed = omega (arith, preprocessed_widths_are.0);
+    preprocessed_next = omega (arith, preprocessed_widths_are.1, declared.preprocessed_next_row, next_at_most preprocessed_next_columns layout.preprocessed);
+    public_values = omega (arith, public_values_counted);
     periodics = omega (arith, counted, declared.periodic_columns);
   }

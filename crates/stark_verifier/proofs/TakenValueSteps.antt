@@ -65,14 +65,14 @@ module _ {F E : Type 0} (i : AirInstance F E) (columns : Columns F E) (zeta : E)
       ap (λ r. slice_index_or r c i.ring.zero) are ∙ mapped_or_filler (λ column. periodic_value i.base i.base_inverse i.generator (height i) i.ring i.embed column zeta) i.periodic c [] i.ring.zero refl
 
   module _ (l : Layout) (opened : OpeningsView E) (rows : OpenedRows F E) (stand : StandFor l rows opened) (chunks : List (List (List E))) (taken : TakeOpenedValues i columns chunks zeta opened)
-      (same_publics : columns.publics ≡ rows.publics) (periodic_is : rows.periodic ≡ map (λ column. periodic_value i.base i.base_inverse i.generator (height i) i.ring i.embed column zeta) i.periodic) where
+      (same_public_values : columns.public_values ≡ rows.public_values) (periodic_is : rows.periodic ≡ map (λ column. periodic_value i.base i.base_inverse i.generator (height i) i.ring i.embed column zeta) i.periodic) where
     pub agree_within : AgreeWithin l (opened_environment i.base i.ring i.embed (group i) rows zeta) (environment_at i i.ring (λ c. c) columns zeta)
     agree_within = record {
       main_current = λ c below. value_leaf rows.local columns.main zeta (stand.local ∙ taken.local) c;
       main_next = λ c below. optional_leaf l.main_next opened.trace_next rows.next columns.main (next_point i i.ring (λ c. c) zeta) taken.next stand.next stand.no_next c below;
       preprocessed_current = λ c below. preprocessed_leaf l.preprocessed opened.preprocessed rows.preprocessed_local taken.preprocessed_local stand.preprocessed_local stand.no_preprocessed c below;
       preprocessed_next = λ c below. preprocessed_next_leaf l.preprocessed_next opened.preprocessed rows.preprocessed_next (next_point i i.ring (λ c. c) zeta) taken.preprocessed_next stand.preprocessed_next stand.no_preprocessed_next stand.neither c below;
-      public_value = λ k below. ap (λ publics. i.embed (slice_index_or publics k i.base.zero)) (sym same_publics);
+      public_value = λ k below. ap (λ public_values. i.embed (slice_index_or public_values k i.base.zero)) (sym same_public_values);
       periodic_value = λ c below. periodic_leaf rows.periodic periodic_is c;
       first_row = refl;
       last_row = refl;
@@ -93,10 +93,10 @@ pub accepted_needs_bad_draws : {F E : Type 0} (i : AirInstance F E) (laws : Fiel
     → rows.periodic ≡ map (λ column. periodic_value i.base i.base_inverse i.generator (height i) i.ring i.embed column zeta) i.periodic
     → quotient ≡ recomposition i.ring i.ring (λ c. c) i.inverse (height i) i.basis shifts opened.quotient_chunks zeta
     → EquationHolds i.base i.ring i.embed (group i) i.constraints rows zeta alpha quotient
-    → BreakingNeedsBadDraws i shifts opened rows.publics alpha zeta
+    → BreakingNeedsBadDraws i shifts opened rows.public_values alpha zeta
 accepted_needs_bad_draws i laws l opened rows shifts alpha zeta quotient within stand periodic_is recomposed balanced =
-    λ columns chunks same_publics taken breaks. alpha_or_zeta_is_bad i laws columns breaks shifts chunks alpha zeta
-    (balanced_of_opened i columns zeta l opened rows stand chunks taken same_publics periodic_is within shifts alpha quotient recomposed balanced)
+    λ columns chunks same_public_values taken breaks. alpha_or_zeta_is_bad i laws columns breaks shifts chunks alpha zeta
+    (balanced_of_opened i columns zeta l opened rows stand chunks taken same_public_values periodic_is within shifts alpha quotient recomposed balanced)
 
 module _ {F E : Type 0} (ring : RingOps E) (embed : F → E) (x : E) where
   -- The values of polynomials over the base field.

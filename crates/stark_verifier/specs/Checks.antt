@@ -36,7 +36,7 @@ module _ {S F E C K T P X Y : Type 0} (ops : ProtocolOps S F E C K T P X Y) wher
     -- What is to be opened, with 2 ^ log chunks.
     abbrev pub expected_openings : ℕ → ExpectedOpenings
     expected_openings log = record {
-      public_values = i.layout.publics;
+      public_values = i.layout.public_values;
       reads_next = opens_next_row i.main_next_columns;
       width = i.layout.main;
       chunks = 2 ^ log;
@@ -47,7 +47,7 @@ module _ {S F E C K T P X Y : Type 0} (ops : ProtocolOps S F E C K T P X Y) wher
 
     -- The proof's transcript stands at its beginning, and there are as many public values as the AIR has.
     pub record IsOpened (phase : TranscriptPhase) (shape : StarkShape) (state : C) : Type 0 where
-      pub counted : length i.public_values ≡ i.layout.publics
+      pub counted : length i.public_values ≡ i.layout.public_values
       pub is_first : phase ≡ Opened
       pub is_described : shape ≡ described ops i p
       pub is_seeded : state ≡ seeded ops i p
@@ -72,11 +72,11 @@ module _ {S F E C K T P X Y : Type 0} (ops : ProtocolOps S F E C K T P X Y) wher
       pub few : chunks < 64
 
     -- What the proof has where its shape has no fault: rows and chunks that fit, and these domains.
-    pub record IsShaped (found : ProofDomains D) : Type 0 where
+    pub record IsShaped (of : ProofDomains D) : Type 0 where
       pub rows : key_fault ops i p ≡ None
       pub opened : values_fault ops i p ≡ None
-      pub domains : AreDomains found.trace found.committed
-      pub quotient : IsQuotient found.quotient found.log_chunks
+      pub domains : AreDomains of.trace of.committed
+      pub quotient : IsQuotient of.quotient of.log_chunks
       pub extended : zk_bits ops.opening.is_zk ≤ p.degree_bits
 
     -- The point is none of H and no zero of its vanishing polynomial; the periodic columns fit H, and have these values there.

@@ -39,7 +39,7 @@ given_rows local next preprocessed_local preprocessed_next periodic public_value
   preprocessed_local = row_or_empty (λ row. row.now) preprocessed_local;
   preprocessed_next = row_or_empty (λ row. row.now) preprocessed_next;
   periodic = periodic;
-  publics = public_values;
+  public_values = public_values;
 }
 
 -- Rows that the constraints read at a point.
@@ -50,7 +50,7 @@ opened_rows rows = record {
   preprocessed_local = rows.preprocessed.current.now;
   preprocessed_next = rows.preprocessed.next.now;
   periodic = rows.periodic_values.now;
-  publics = rows.public_values.now;
+  public_values = rows.public_values.now;
 }
 
 -- They have what an AIR of this layout reads, if the two preprocessed ones are of one length.

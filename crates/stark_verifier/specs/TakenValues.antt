@@ -27,6 +27,6 @@ module _ {F E : Type 0} (i : AirInstance F E) where
 
   -- Whatever columns and chunks take the opened values: where they break a constraint, alpha is bad, or zeta is.
   abbrev pub BreakingNeedsBadDraws : List E → OpeningsView E → List F → E → E → Type 0
-  BreakingNeedsBadDraws shifts opened publics alpha zeta =
-      (columns : Columns F E) (chunks : List (List (List E))) → columns.publics ≡ publics → TakeOpenedValues columns chunks zeta opened
+  BreakingNeedsBadDraws shifts opened public_values alpha zeta =
+      (columns : Columns F E) (chunks : List (List (List E))) → columns.public_values ≡ public_values → TakeOpenedValues columns chunks zeta opened
       → (Satisfies i columns → ⊥) → IsBadAlpha i columns alpha ⊎ IsBadZeta i columns shifts chunks alpha zeta

@@ -169,8 +169,8 @@ pub fn claims_of<'p, EF: Copy, K, D: PolynomialSpace, P>(
     match key {
         Some(key) => match &opened.preprocessed {
             Some(rows) => {
-                let fixed = preprocessed_round(alloc, domain, zeta, next_zeta, key, rows)?;
-                claims.push(fixed)?;
+                let preprocessed = preprocessed_round(alloc, domain, zeta, next_zeta, key, rows)?;
+                claims.push(preprocessed)?;
                 Ok(claims)
             }
             None => Ok(claims),

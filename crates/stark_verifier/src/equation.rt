@@ -79,12 +79,12 @@ where
     let quotient = quotient_at::<SC>(alloc, &domains.quotient, domains.log_chunks, chunks, zeta)?;
     // A next row that isn't opened is read by no constraint, so zeros stand in for it.
     let next_filler: Vec<SC::Challenge> = zeros(alloc, air.width())?;
-    let fixed_filler: Vec<SC::Challenge> = zeros(alloc, air.preprocessed_width())?;
+    let preprocessed_filler: Vec<SC::Challenge> = zeros(alloc, air.preprocessed_width())?;
     let rows = rows_at_point(
         opened.trace_local.as_slice(),
         row_or(&opened.trace_next, next_filler.as_slice()),
         opened.preprocessed_local(),
-        preprocessed_next(&opened.preprocessed, fixed_filler.as_slice()),
+        preprocessed_next(&opened.preprocessed, preprocessed_filler.as_slice()),
         point.periodic_values.as_slice(),
         on.public_values,
     );

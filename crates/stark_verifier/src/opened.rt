@@ -3,7 +3,7 @@ ghost use Rattle.std.specs.Prelude.{◌≡◌, ◌<◌, ◌==◌, IfErr, IfOk, N
 ghost use Rattle.std.specs.List.{list_all};
 ghost use Rattle.stark_proof.specs.ProofView.{openings_view};
 ghost use Rattle.stark_protocol.specs.Acceptance.{of_shape};
-ghost use Rattle.stark_protocol.specs.ShapeFaults.{publics_fault, random_fits, randomization_fault, trace_next_fault, witness_fault};
+ghost use Rattle.stark_protocol.specs.ShapeFaults.{public_values_fault, random_fits, randomization_fault, trace_next_fault, witness_fault};
 ghost use Rattle.stark_verifier.specs.MemoryAside.{IfErrMemoryAside};
 ghost use Rattle.stark_verifier.specs.Shape.{lengths_fault, row_view, unexpected_fault, witnesses_fault};
 
@@ -54,9 +54,9 @@ pub fn check_randomization<K, R, X>(
 }
 
 /// Whether there are as many public values as the AIR reads.
-fn check_publics(expected: usize, got: usize) -> Result<(), InvalidProofShapeError>
-    ensures clear { IfOk result (λ _. publics_fault expected got ≡ None) }
-    ensures fault { IfErr result (λ error. publics_fault expected got ≡ Some error) }
+fn check_public_values(expected: usize, got: usize) -> Result<(), InvalidProofShapeError>
+    ensures clear { IfOk result (λ _. public_values_fault expected got ≡ None) }
+    ensures fault { IfErr result (λ error. public_values_fault expected got ≡ Some error) }
 {
     // One too few would be read past the end; one too many would be observed and never read, so
     // that a proof would pass as one about it.
@@ -185,7 +185,7 @@ fn check_expected<EF>(
 {
     let (width, chunks, dimension) = (expected.width, expected.chunks, expected.dimension);
     let (alpha_bits, ood_bits) = (expected.alpha_bits, expected.ood_bits);
-    check_publics(expected.public_values, public_values)?;
+    check_public_values(expected.public_values, public_values)?;
     check_trace_next(expected.reads_next, width, &opened.trace_next)?;
     check_dimensions(width, chunks, dimension, opened)?;
     check_witnesses(alpha_bits, alpha_is_zero, ood_bits, ood_is_zero)

@@ -70,8 +70,8 @@ fn settled(rt: &HostRuntime, file: PartialFile<'_>, delivered: &Delivered) -> Ru
     }
 }
 
-/// The same, but for a proof, which is written to a file. Whether that can be made is seen before
-/// anything is read.
+/// Performs a task whose proof goes to a file. Whether that can be made is seen before anything is
+/// read.
 fn perform_to(
     rt: &HostRuntime,
     task: Task<'_>,

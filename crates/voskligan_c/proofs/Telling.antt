@@ -1,10 +1,10 @@
 -- Texts told one behind another.
 use Rattle.std.proofs.Common.{◌≡◌, ℕ, ◌<◌, ◌≤◌, List, [], ◌∷◌, ◌++◌, ◌+◌, length, take, drop, ap, refl, arith}
 use Rattle.std.proofs.lemmas.List.{drop_all, length-append, take-append-le}
-use Rattle.voskligan_c.specs.Message.{told}
+use Rattle.voskligan_c.specs.Message.{written}
 
 -- where the first leaves a byte
-pub told_behind : (a b old : List ℕ) → length a < length old → take (length a) (told a old) ++ told b (drop (length a) (told a old)) ≡ told (a ++ b) old
+pub told_behind : (a b old : List ℕ) → length a < length old → take (length a) (written a old) ++ written b (drop (length a) (written a old)) ≡ written (a ++ b) old
 told_behind a b [] h = absurd (omega arith)
 told_behind [] b (o ∷ []) h = refl
 told_behind [] b (o ∷ (p ∷ bs)) h = refl
@@ -12,7 +12,7 @@ told_behind (x ∷ a) b (o ∷ []) h = absurd (omega arith)
 told_behind (x ∷ a) b (o ∷ (p ∷ bs)) h = ap (λ (l : List ℕ). x ∷ l) (told_behind a b (p ∷ bs) (omega arith))
 
 -- where it leaves none
-pub told_alone : (a b old : List ℕ) → length old ≤ length a → told a old ≡ told (a ++ b) old
+pub told_alone : (a b old : List ℕ) → length old ≤ length a → written a old ≡ written (a ++ b) old
 told_alone a b [] h = refl
 told_alone a b (o ∷ bs) h =
     let n : length (a ++ b) ≡ length a + length b = length-append a b in

@@ -7,7 +7,7 @@ use Rattle.stark_answers.specs.declared.finding.Finding.{Finding}
 use Rattle.stark_answers.specs.declared.finding.Finding.TheVariants as finding
 use Rattle.stark_answers.specs.declared.verdict.Verdict.{Verdict}
 use Rattle.stark_answers.specs.declared.verdict.Verdict.TheVariants as verdict
-use Rattle.voskligan_c.specs.Message.{line_behind, told}
+use Rattle.voskligan_c.specs.Message.{line_behind, written}
 use Rattle.voskligan_c.specs.declared.proof.Handed.{Handed}
 use Rattle.voskligan_c.specs.declared.proof.Handed.TheVariants.{NoProof, NoRoom, Placed}
 
@@ -15,12 +15,12 @@ use Rattle.voskligan_c.specs.declared.proof.Handed.TheVariants.{NoProof, NoRoom,
 -- behind it.
 abbrev pub IsVerdictTold : (Verdict → Type 0) → ℤ → List ℕ → List ℕ → Type 0
 IsVerdictTold IsVerdict status old new =
-    (v : Verdict) × ((reason : Option (List ℕ)) × (((v ≡ verdict.OutOfMemory) ⊎ IsVerdict v) × (status ≡ pos (status_of (end_of v))) × (new ≡ told (line_of v ++ line_behind reason) old)))
+    (v : Verdict) × ((reason : Option (List ℕ)) × (((v ≡ verdict.OutOfMemory) ⊎ IsVerdict v) × (status ≡ pos (status_of (end_of v))) × (new ≡ written (line_of v ++ line_behind reason) old)))
 
 -- The same of what is found of a trace.
 abbrev pub IsFindingTold : (Finding → Type 0) → ℤ → List ℕ → List ℕ → Type 0
 IsFindingTold IsFound status old new =
-    (f : Finding) × ((reason : Option (List ℕ)) × (OrLacksMemory IsFound f × (status ≡ pos (status_of (finding_end f))) × (new ≡ told (finding_bytes f ++ line_behind reason) old)))
+    (f : Finding) × ((reason : Option (List ℕ)) × (OrLacksMemory IsFound f × (status ≡ pos (status_of (finding_end f))) × (new ≡ written (finding_bytes f ++ line_behind reason) old)))
 
 -- the bytes of a proof that was found; none where none was
 abbrev pub proof_of : Finding → List ℕ
@@ -64,4 +64,4 @@ lines_told NoProof f reason = finding_bytes f ++ line_behind reason
 abbrev pub IsProofTold : (Finding → Type 0) → ℤ → ℕ → List ℕ → List ℕ → List ℕ → List ℕ → Type 0
 IsProofTold IsFound status needed old_proof new_proof old new =
     (f : Finding) × ((reason : Option (List ℕ)) × (let handed = handed_of f (length old_proof) in OrLacksMemory IsFound f × (status ≡ pos (status_told handed f))
-    × (needed ≡ length (proof_of f)) × (new_proof ≡ placed (proof_of f) old_proof) × (new ≡ told (lines_told handed f reason) old)))
+    × (needed ≡ length (proof_of f)) × (new_proof ≡ placed (proof_of f) old_proof) × (new ≡ written (lines_told handed f reason) old)))

@@ -2,9 +2,9 @@
 use Rattle.std.specs.Prelude.{ℕ, List, [], ◌∷◌, ◌++◌, length, take, drop, Option, None, Some, String, codes, string_bytes}
 
 -- As much of the text as leaves a byte, a 0 byte, and behind it what was there.
-abbrev pub told : List ℕ → List ℕ → List ℕ
-told text [] = []
-told text (b ∷ bs) = take (length bs) text ++ (0 ∷ drop (length text) bs)
+abbrev pub written : List ℕ → List ℕ → List ℕ
+written text [] = []
+written text (b ∷ bs) = take (length bs) text ++ (0 ∷ drop (length text) bs)
 
 -- the words of a reason
 abbrev pub words_of : {Z : Type 0} → Option (String Z) → Option (List ℕ)

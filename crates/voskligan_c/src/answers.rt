@@ -25,7 +25,7 @@ pub trait ProgramAnswers {
     ghost sound: { List ℕ → List ℕ → Type 0 };
 
     /// This is found of a statement and a trace, by what is asked for the trace.
-    ghost found: { TraceTask → List ℕ → List ℕ → Finding → Type 0 };
+    ghost finds: { TraceTask → List ℕ → List ℕ → Finding → Type 0 };
 
     /// By a check;
     ghost checked: { List ℕ → List ℕ → Finding → Type 0 };
@@ -42,11 +42,11 @@ impl ProgramAnswers for Program {
 
     ghost sound = { ⟦<Judged as Answers>⟧.sound };
 
-    ghost found = { ⟦<Judged as Answers>⟧.found };
+    ghost finds = { ⟦<Judged as Answers>⟧.finds };
 
-    ghost checked = { ⟦<Judged as Answers>⟧.found TraceTask.Check };
+    ghost checked = { ⟦<Judged as Answers>⟧.finds TraceTask.Check };
 
-    ghost proved = { ⟦<Judged as Answers>⟧.found (TraceTask.Prove ProofForm.Json) };
+    ghost proved = { ⟦<Judged as Answers>⟧.finds (TraceTask.Prove ProofForm.Json) };
 
     ghost proof_line = { λ statement trace. ⟦<Judged as Answers>⟧.proof_file statement trace
         ProofForm.Json };

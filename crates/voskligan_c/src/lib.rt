@@ -7,7 +7,7 @@
 ghost use Rattle.std.specs.Prelude.{◌≡◌, ◌≢◌, pos, take};
 ghost use Rattle.stark_answers.specs.declared.finding.Finding.{Finding};
 ghost use Rattle.voskligan_c.specs.Calls.{IsFindingTold, IsProofTold, IsVerdictTold};
-ghost use Rattle.voskligan_c.specs.Message.{told};
+ghost use Rattle.voskligan_c.specs.Message.{written};
 ghost use Rattle.voskligan_c.specs.declared.TheConstants.{VERSION};
 
 mod answers;
@@ -43,7 +43,7 @@ pub extern "C" fn voskligan_verify(
     proof: &[u8],
     message: &mut [u8],
 ) -> i32
-    ensures told { IsVerdictTold (⟦<Program as ProgramAnswers>⟧.verdict statement.now proof.now)
+    ensures answer { IsVerdictTold (⟦<Program as ProgramAnswers>⟧.verdict statement.now proof.now)
         result message.old message.new }
     ensures sound { result ≡ pos 0
         → ⟦<Program as ProgramAnswers>⟧.sound statement.now proof.now }
@@ -63,14 +63,14 @@ pub extern "C" fn voskligan_check(
     trace: &[u8],
     message: &mut [u8],
 ) -> i32
-    ensures told { IsFindingTold (⟦<Program as ProgramAnswers>⟧.checked statement.now trace.now)
+    ensures answer { IsFindingTold (⟦<Program as ProgramAnswers>⟧.checked statement.now trace.now)
         result message.old message.new }
     ensures satisfied { result ≡ pos 0
         → ⟦<Program as ProgramAnswers>⟧.checked statement.now trace.now Finding.Satisfied }
 {
-    let found = check_statement(alloc, statement, trace);
-    tell_report(found.answer.written(), &found.reason, message);
-    i32::from(found.answer.end().status())
+    let report = check_statement(alloc, statement, trace);
+    tell_report(report.answer.written(), &report.reason, message);
+    i32::from(report.answer.end().status())
 }
 
 /// Proves a trace for a statement, from the bytes of both: 0 where the proof stands in `proof`, 1
@@ -89,7 +89,7 @@ pub extern "C" fn voskligan_prove(
     needed: &mut usize,
     message: &mut [u8],
 ) -> i32
-    ensures told { IsProofTold (⟦<Program as ProgramAnswers>⟧.proved statement.now trace.now)
+    ensures answer { IsProofTold (⟦<Program as ProgramAnswers>⟧.proved statement.now trace.now)
         result needed.new proof.old proof.new message.old message.new }
     ensures proved { result ≡ pos 0 → ⟦<Program as ProgramAnswers>⟧.proof_line
         statement.now trace.now (take needed.new proof.new) }
@@ -104,7 +104,7 @@ pub extern "C" fn voskligan_prove(
 /// The library's version, told to `text` as a message is. Answers how many bytes it has.
 #[unsafe(no_mangle)]
 pub extern "C" fn voskligan_version(text: &mut [u8]) -> usize
-    ensures told { text.new ≡ told VERSION.now text.old }
+    ensures written { text.new ≡ written VERSION.now text.old }
     ensures length { result ≡ 5 }
 {
     tell(VERSION, text);

@@ -1,11 +1,11 @@
 //! Texts told to a buffer that a caller gave.
 
 ghost use Rattle.std.specs.Prelude.{◌≡◌, ◌++◌};
-ghost use Rattle.voskligan_c.specs.Message.{line_behind, told, words_of};
+ghost use Rattle.voskligan_c.specs.Message.{line_behind, written, words_of};
 
 /// Tells a text: as much of it as leaves a byte, a 0 byte, and behind it what was there.
 pub(crate) fn tell(text: &[u8], message: &mut [u8])
-    ensures { message.new ≡ told text.now message.old }
+    ensures { message.new ≡ written text.now message.old }
 {
     let Some(last) = message.len().checked_sub(1) else {
         return;
@@ -19,7 +19,7 @@ pub(crate) fn tell(text: &[u8], message: &mut [u8])
 /// Tells two texts as one.
 #[tactic(auto, using(crate::proofs::Telling::told_behind, crate::proofs::Telling::told_alone))]
 fn tell_both(first: &[u8], second: &[u8], message: &mut [u8])
-    ensures { message.new ≡ told (first.now ++ second.now) message.old }
+    ensures { message.new ≡ written (first.now ++ second.now) message.old }
 {
     tell(first, message);
     if first.len() < message.len() {
@@ -31,7 +31,7 @@ fn tell_both(first: &[u8], second: &[u8], message: &mut [u8])
 /// Tells three texts as one.
 #[tactic(auto, using(crate::proofs::Telling::told_behind, crate::proofs::Telling::told_alone))]
 fn tell_three(first: &[u8], second: &[u8], third: &[u8], message: &mut [u8])
-    ensures { message.new ≡ told (first.now ++ (second.now ++ third.now)) message.old }
+    ensures { message.new ≡ written (first.now ++ (second.now ++ third.now)) message.old }
 {
     tell(first, message);
     if first.len() < message.len() {
@@ -43,7 +43,7 @@ fn tell_three(first: &[u8], second: &[u8], third: &[u8], message: &mut [u8])
 /// Tells a line and, where there is a reason, the reason as a second line.
 pub(crate) fn tell_report(line: &[u8], reason: &Option<String>, message: &mut [u8])
     ensures { message.new
-        ≡ told (line.now ++ line_behind (words_of reason.now)) message.old }
+        ≡ written (line.now ++ line_behind (words_of reason.now)) message.old }
 {
     match reason {
         Some(words) => tell_three(line, words.as_bytes(), b"\n", message),

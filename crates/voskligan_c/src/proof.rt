@@ -2,7 +2,7 @@
 
 ghost use Rattle.std.specs.Prelude.{◌≡◌, length, pos};
 ghost use Rattle.voskligan_c.specs.Calls.{handed_of, handed_where, lines_told, placed, proof_of, status_told};
-ghost use Rattle.voskligan_c.specs.Message.{told, words_of};
+ghost use Rattle.voskligan_c.specs.Message.{written, words_of};
 
 use crate::message::{tell, tell_report};
 use stark_answers::{Finding, Report};
@@ -21,19 +21,19 @@ pub(crate) enum Handed {
 impl Handed {
     /// The status of a call that found this: 0 where a proof stands in the buffer, 3 where it is
     /// too small for it, and else that of what was found.
-    pub(crate) fn status(self, found: &Finding) -> i32
-        ensures { result ≡ pos (status_told self found.now) }
+    pub(crate) fn status(self, finding: &Finding) -> i32
+        ensures { result ≡ pos (status_told self finding.now) }
     {
         match self {
             Handed::Placed => 0,
             Handed::NoRoom => 3,
-            Handed::NoProof => i32::from(found.end().status()),
+            Handed::NoProof => i32::from(finding.end().status()),
         }
     }
 
     /// Tells `proved`, `no room`, or what was found and why.
     pub(crate) fn tell(self, report: &Report<Finding>, message: &mut [u8])
-        ensures { message.new ≡ told
+        ensures { message.new ≡ written
             (lines_told self report.now.answer (words_of report.now.reason)) message.old }
     {
         match self {
@@ -60,14 +60,14 @@ fn place(bytes: &[u8], buffer: &mut [u8]) -> Handed
 }
 
 /// Hands the bytes of a proof over, if that is what was found, and tells how many they are.
-pub(crate) fn hand_over(found: &Finding, proof: &mut [u8], needed: &mut usize) -> Handed
-    ensures handed { result ≡ handed_of found.now (length proof.old) }
-    ensures needed { needed.new ≡ length (proof_of found.now) }
-    ensures placed { proof.new ≡ placed (proof_of found.now) proof.old }
+pub(crate) fn hand_over(finding: &Finding, proof: &mut [u8], needed: &mut usize) -> Handed
+    ensures handed { result ≡ handed_of finding.now (length proof.old) }
+    ensures needed { needed.new ≡ length (proof_of finding.now) }
+    ensures placed { proof.new ≡ placed (proof_of finding.now) proof.old }
 {
-    match found {
+    match finding {
         Finding::Proof(_) | Finding::ProofBytes(_) => {
-            let bytes = found.written();
+            let bytes = finding.written();
             *needed = bytes.len();
             place(bytes, proof)
         }

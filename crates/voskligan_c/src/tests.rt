@@ -13,7 +13,7 @@ const TRACE: &[u8] = b"[[5],[6],[7],[8]]";
 
 const FALSE_TRACE: &[u8] = b"[[5],[6],[7],[9]]";
 
-/// The same over the field of 12289 and in the clear, where a proof is short.
+/// The statement over the field of 12289 and in the clear, where a proof is short.
 const IN_THE_CLEAR: &[u8] =
     br#"{"config":{"field":"f12289","scheme":"clear"},"air":{"width":1,"publics":1,"periodic":[],"constants":[1],"nodes":[["main",0],["first"],["public",0],["sub",0,2],["mul",1,3],["transition"],["next",0],["sub",6,0],["constant",0],["sub",7,8],["mul",5,9]],"constraints":[{"base":4},{"base":10}]},"public_values":[5]}"#;
 
@@ -88,8 +88,8 @@ fn the_version_is_told(rt: HostRuntime) {
 #[test]
 fn a_proof_as_bytes_is_accepted(rt: HostRuntime) {
     let asked = TraceTask::Prove(ProofForm::Bytes);
-    let found = answer_trace(rt.alloc(), asked, IN_THE_CLEAR, b"[[5],[6]]");
-    assert!(rt; found.answer.written() == PROOF_BYTES);
+    let report = answer_trace(rt.alloc(), asked, IN_THE_CLEAR, b"[[5],[6]]");
+    assert!(rt; report.answer.written() == PROOF_BYTES);
     let mut message = [7u8; 32];
     let verified = voskligan_verify(rt.alloc(), IN_THE_CLEAR, PROOF_BYTES, &mut message);
     assert_eq!(rt; verified, 0);

@@ -125,7 +125,7 @@ impl<M: Modulus, Kind> GrindingChallenger for ScriptChallenger<Residue<M, Kind>>
 
     ghost after_check = { λ s _ _. s };
 
-    ghost found = { found_by script_passes };
+    ghost ground_witness = { found_by script_passes };
 
     /// The first of the numbers 0, 1, .. below the modulus whose element passes, which is
     /// `2^bits - 1`; None where that isn't below the modulus.

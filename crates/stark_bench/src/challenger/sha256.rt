@@ -164,7 +164,7 @@ impl<M: Modulus, Kind> GrindingChallenger for Sha256Challenger<Residue<M, Kind>>
 
     ghost after_check = { sha_after_check };
 
-    ghost found = { found_by sha_passes };
+    ghost ground_witness = { found_by sha_passes };
 
     /// The first of the numbers 0, 1, .. below the modulus whose element passes, with the state
     /// after its check; None where no element passes, as is likely where `2^bits` is far above the

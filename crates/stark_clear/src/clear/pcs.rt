@@ -278,7 +278,7 @@ impl<F: TwoAdicField, EF: ExtensionField<F>, C> UnivariateStarkPcs<EF, C> for Cl
     ) -> Result<(OpenedRounds<EF>, ClearProof), SchemeFault<ClearProverError>>
         ensures true_values { IfOk result (OpensTrueValues ⟦<ClearPcs<F> as Pcs<EF, C>>⟧.scheme
             EF.ring EF.embed self.now rounds.entry) }
-        ensures whole { IfOk result (ProvesTrueClaims ⟦<ClearPcs<F> as Pcs<EF, C>>⟧.scheme EF.ring
+        ensures holds { IfOk result (ProvesTrueClaims ⟦<ClearPcs<F> as Pcs<EF, C>>⟧.scheme EF.ring
             EF.embed self.now rounds.entry _challenger.old _preprocessed_index) }
         ensures refused { IfRefusal result (λ _. StopsAt self.now.stops_at ClearCall.Open) }
         ensures stops { StopsProving self.now.stops_at ClearCall.Open result }

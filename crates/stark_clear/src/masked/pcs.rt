@@ -249,7 +249,7 @@ impl<F: TwoAdicField, EF: ExtensionField<F>, C> UnivariateStarkPcs<EF, C> for Ma
         ensures true_values { IfOk result
             (OpensTrueValues ⟦<MaskedClearPcs<F> as Pcs<EF, C>>⟧.scheme EF.ring EF.embed
             self.now rounds.entry) }
-        ensures whole { IfOk result (ProvesOpening ⟦<MaskedClearPcs<F> as Opening<EF, C>>⟧.opening
+        ensures holds { IfOk result (ProvesOpening ⟦<MaskedClearPcs<F> as Opening<EF, C>>⟧.opening
             self.now rounds.entry challenger.old preprocessed_index) }
         ensures refused { IfRefusal result (λ _. StopsAt self.now.stops_at ClearCall.Open) }
         ensures stops { StopsProving self.now.stops_at ClearCall.Open result }

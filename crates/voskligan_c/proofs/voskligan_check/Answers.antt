@@ -9,12 +9,12 @@ use Rattle.voskligan_c.proofs.voskligan_check.Goals as goal
 
 pub returns-clause-satisfied : goal.returns-clause-satisfied
 returns-clause-satisfied c = λ e.
-    let f = c.check_statement-found.result.answer in
+    let f = c.check_statement-report.result.answer in
     let status : to_z w32 (of_z w32 c.from.result) ≡ pos (status_of (finding_end f)) = search rules in
     let s = c.args.statement.now in
     let t = c.args.trace.now in
-    satisfied_from (program.found-value.it Check s t) f c.check_statement-found.ensures.found c.check_statement-found.ensures.kind (pos_zero _ _ status e)
+    satisfied_from (program.finds-value.it Check s t) f c.check_statement-report.ensures.finds c.check_statement-report.ensures.kind (pos_zero _ _ status e)
 
-pub returns-clause-told : goal.returns-clause-told
-returns-clause-told c =
-    (c.check_statement-found.result.answer, (words_of c.check_statement-found.result.reason, (c.check_statement-found.ensures.found, search rules, search rules)))
+pub returns-clause-answer : goal.returns-clause-answer
+returns-clause-answer c =
+    (c.check_statement-report.result.answer, (words_of c.check_statement-report.result.reason, (c.check_statement-report.ensures.finds, search rules, search rules)))

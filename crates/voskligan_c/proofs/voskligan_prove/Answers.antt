@@ -15,6 +15,6 @@ returns-clause-proved c = λ e.
     rw (c.hand_over-handed.ensures.needed, c.hand_over-handed.ensures.placed)
     (line_placed (program.proof_line-value.it s t) f c.args.proof.now c.prove_statement-report.ensures.kind (c.prove_statement-report.ensures.proof Json) (pos_zero _ _ status e))
 
-pub returns-clause-told : goal.returns-clause-told
-returns-clause-told c =
-    (c.prove_statement-report.result.answer, (words_of c.prove_statement-report.result.reason, (c.prove_statement-report.ensures.found, search rules, search rules, search rules, search rules)))
+pub returns-clause-answer : goal.returns-clause-answer
+returns-clause-answer c =
+    (c.prove_statement-report.result.answer, (words_of c.prove_statement-report.result.reason, (c.prove_statement-report.ensures.finds, search rules, search rules, search rules, search rules)))

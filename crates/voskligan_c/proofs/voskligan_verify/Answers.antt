@@ -4,8 +4,8 @@ use Rattle.voskligan_c.specs.Message.{words_of}
 use Rattle.voskligan_c.proofs.Statuses.{accepted_from, pos_zero}
 use Rattle.voskligan_c.proofs.voskligan_verify.Goals as goal
 
-pub returns-clause-told : goal.returns-clause-told
-returns-clause-told c =
+pub returns-clause-answer : goal.returns-clause-answer
+returns-clause-answer c =
     (c.verify_statement-said.result.answer, (words_of c.verify_statement-said.result.reason, (c.verify_statement-said.ensures.verdict, search rules, search rules)))
 
 pub returns-clause-sound : goal.returns-clause-sound

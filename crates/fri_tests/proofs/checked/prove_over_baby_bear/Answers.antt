@@ -6,7 +6,7 @@ pub prove_checked-requires-clause-fits : goal.prove_checked-requires-clause-fits
 prove_checked-requires-clause-fits g c = record {
   columns = c.requires.columns;
   width = c.requires.width;
-  publics = c.requires.publics;
+  public_values = c.requires.public_values;
   there = c.requires.there;
   stands = c.requires.stands;
 }

@@ -26,7 +26,7 @@ prove_and_verify-requires-clause-fits g c =
     record {
       columns = omega (arith, one);
       width = one;
-      publics = ap length (c.deref.ensures.value ∙ c.in_ok-publics.ensures);
+      public_values = ap length (c.deref.ensures.value ∙ c.in_ok-public_values.ensures);
       there = refl;
       stands = ([], refl, refl);
     }
@@ -43,7 +43,7 @@ returns g c = record {
       let fields : FieldsOps g.row.SC-Pcs-Domain-Val.Denot g.row.SC-Challenge.Denot =
       fields_with ring val.Field.inverse_of val.PartialEq.eq val.TwoAdicField.TWO_ADICITY val.TwoAdicField.root val.Field.GENERATOR challenge.Field.ring challenge.Field.inverse_of challenge.ExtensionField.embed challenge.ExtensionField.DIMENSION challenge.ExtensionField.basis in
       let are = ap (λ v. v.items) c.new_col-trace.ensures.values ∙ c.in_ok-numbers.ensures ∙ ap (counted_from ring c.args.start 0) c.power_of_two.ensures in
-      let is_public = c.deref.ensures.value ∙ c.in_ok-publics.ensures in
+      let is_public = c.deref.ensures.value ∙ c.in_ok-public_values.ensures in
       on_ok _ _ c.prove_and_verify.result (λ made complete least whole drawn_here.
       let drawn = drawn_with _ _ _ c.deref.result.now is_public drawn_here in
       complete h (record { rows = height_of h _ _ (ap length are ∙ counted_length ring c.args.start 0 (2 ^ h)) c.new_col-trace.ensures.width; least = least; complete = whole }) (record {

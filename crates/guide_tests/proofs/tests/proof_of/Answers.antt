@@ -13,7 +13,7 @@ prove-requires-clause-fits g c =
     record {
       columns = omega (arith, one);
       width = one ∙ sym c.requires.columns;
-      publics = sym c.requires.publics;
+      public_values = sym c.requires.public_values;
       there = ap (ltb 0) none;
       stands = ([], refl, none);
     }

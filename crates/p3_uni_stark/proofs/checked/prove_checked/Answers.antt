@@ -10,8 +10,8 @@ check_declared-requires-clause-columns g c = c.requires.fits.columns
 pub check_declared-requires-clause-width : goal.check_declared-requires-clause-width
 check_declared-requires-clause-width g c = c.requires.fits.width
 
-pub check_declared-requires-clause-publics : goal.check_declared-requires-clause-publics
-check_declared-requires-clause-publics g c = c.requires.fits.publics
+pub check_declared-requires-clause-public_values : goal.check_declared-requires-clause-public_values
+check_declared-requires-clause-public_values g c = c.requires.fits.public_values
 
 pub check_declared-requires-clause-height : goal.check_declared-requires-clause-height
 check_declared-requires-clause-height g c = let given = c.requires.height in (given.0, given.1, given.4)

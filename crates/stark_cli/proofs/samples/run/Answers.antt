@@ -12,20 +12,20 @@ use Rattle.stark_cli.proofs.samples.run.Goals as goal
 
 pub returns-clause-input_failed : goal.returns-clause-input_failed
 returns-clause-input_failed g c =
-    (λ e. c.find.ensures.failed.0 (c.tell_found.ensures.input_failed.0 e), λ failed. c.tell_found.ensures.input_failed.1 (c.find.ensures.failed.1 failed))
+    (λ e. c.find.ensures.failed.0 (c.tell_finding.ensures.input_failed.0 e), λ failed. c.tell_finding.ensures.input_failed.1 (c.find.ensures.failed.1 failed))
 
 pub returns-clause-ends : goal.returns-clause-ends
 returns-clause-ends g c = λ read wrote.
-    finding_ends _ (λ e. false≢true (sym read ∙ c.find.ensures.failed.0 (c.tell_found.ensures.input_failed.0 e))) (λ e. false≢true (sym wrote ∙ c.tell_found.ensures.output_failed.0 e))
+    finding_ends _ (λ e. false≢true (sym read ∙ c.find.ensures.failed.0 (c.tell_finding.ensures.input_failed.0 e))) (λ e. false≢true (sym wrote ∙ c.tell_finding.ensures.output_failed.0 e))
 
 pub returns-clause-other_words : goal.returns-clause-other_words
-returns-clause-other_words g c = λ none. said_known _ _ _ _ _ (c.find.ensures.other_words none) c.tell_found.ensures.says
+returns-clause-other_words g c = λ none. said_known _ _ _ _ _ (c.find.ensures.other_words none) c.tell_finding.ensures.says
 
 pub returns-clause-says : goal.returns-clause-says
 returns-clause-says g c =
     says_known lacks_memory _ _ _ _ _
-    (said_of lacks_memory _ (λ f. f) _ c.find.result _ _ _ c.find.ensures.found c.tell_found.ensures.says c.tell_found.ensures.input_failed.1)
-    (λ e. subst (λ writer. Keeps (g.W.Sink.contents c.args.writer.now) (g.W.Sink.contents writer)) (sym (c.tell_found.ensures.silent e)) (Keeps-refl _))
+    (said_of lacks_memory _ (λ f. f) _ c.find.result _ _ _ c.find.ensures.finds c.tell_finding.ensures.says c.tell_finding.ensures.input_failed.1)
+    (λ e. subst (λ writer. Keeps (g.W.Sink.contents c.args.writer.now) (g.W.Sink.contents writer)) (sym (c.tell_finding.ensures.silent e)) (Keeps-refl _))
 
 pub returns-clause-accepted : goal.returns-clause-accepted
 returns-clause-accepted g c =
@@ -52,5 +52,5 @@ pub returns-clause-accepted_end : goal.returns-clause-accepted_end
 returns-clause-accepted_end g c = λ end.
     ends_accepted _ _ _ _ (λ air i f proved. proved_line _ _ _ _ _ _ _ _ _ f proved) (λ air i f proved is. proved_no_text _ _ _ _ _ _ _ _ _ f proved is) (λ air i proved. proved_satisfies_none _ _ _ _ _ _ _ _ _ proved) _ _ _ _
     (accepts_or_tells lacks_memory refused_memory _ _ _ _ _
-    (said_of lacks_memory _ (λ f. f) _ c.find.result _ _ _ c.find.ensures.found c.tell_found.ensures.says c.tell_found.ensures.input_failed.1)
+    (said_of lacks_memory _ (λ f. f) _ c.find.result _ _ _ c.find.ensures.finds c.tell_finding.ensures.says c.tell_finding.ensures.input_failed.1)
     end)

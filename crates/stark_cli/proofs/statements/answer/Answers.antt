@@ -7,7 +7,7 @@ returns-in-Verify g c =
     (verify_found _ _ _ _ _ _ (c.args.statement.items, c.deref.result.now) _ _ c.in-Verify.is c.as_finding.ensures c.verify.ensures.verdict c.verify.ensures.sound)
 
 pub returns-in-Trace : goal.returns-in-Trace
-returns-in-Trace g c = trace_found _ _ _ _ _ _ c.in-Trace.asked _ _ c.in-Trace.is c.answer.ensures.found c.answer.ensures.kind c.answer.ensures.proof
+returns-in-Trace g c = trace_found _ _ _ _ _ _ c.in-Trace.asked _ _ c.in-Trace.is c.answer.ensures.finds c.answer.ensures.kind c.answer.ensures.proof
 
 pub returns-in-Show : goal.returns-in-Show
 returns-in-Show g c = show_found _ _ _ _ _ _ _ _ c.in-Show.is c.show.ensures.shown c.show.ensures.kind

@@ -5,14 +5,14 @@ use Rattle.stark_cli.specs.Running.{both}
 use Rattle.stark_cli.specs.StatementRun.{no_memory}
 use Rattle.stark_cli.proofs.statements.find.Goals as goal
 
-pub returns-clause-found : goal.returns-clause-found
-returns-clause-found g c =
+pub returns-clause-finds : goal.returns-clause-finds
+returns-clause-finds g c =
     pair_found _ _ _ _ _ c.args.verb _ (c.in-Ok.bytes.items, c.in-Ok-read_to_end.bytes.items) (c.in-Ok.bytes.items, c.in-Ok-read_to_end.bytes.items) _
     (both_inputs _ _ _ _ c.in-Ok.ensures.bytes c.in-Ok-read_to_end.ensures.bytes) refl c.answer.ensures
 
-pub returns-in-Err-clause-found : goal.returns-in-Err-clause-found
-returns-in-Err-clause-found g c = memory_reported no_memory _ _ _ (is_some_of ([], []) (both (g.S.Source.remaining c.args.statement.now) (g.R.Source.remaining c.args.second.now))) _ c.unread.ensures.memory
+pub returns-in-Err-clause-finds : goal.returns-in-Err-clause-finds
+returns-in-Err-clause-finds g c = memory_reported no_memory _ _ _ (is_some_of ([], []) (both (g.S.Source.remaining c.args.statement.now) (g.R.Source.remaining c.args.second.now))) _ c.unread.ensures.memory
 
-pub returns-in-Err-read_to_end-clause-found : goal.returns-in-Err-read_to_end-clause-found
-returns-in-Err-read_to_end-clause-found g c =
+pub returns-in-Err-read_to_end-clause-finds : goal.returns-in-Err-read_to_end-clause-finds
+returns-in-Err-read_to_end-clause-finds g c =
     memory_reported no_memory _ _ _ (is_some_of ([], []) (both (g.S.Source.remaining c.args.statement.now) (g.R.Source.remaining c.args.second.now))) _ c.unread-in-Err-read_to_end.ensures.memory

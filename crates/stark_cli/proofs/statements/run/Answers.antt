@@ -10,17 +10,17 @@ use Rattle.stark_cli.proofs.statements.run.Goals as goal
 
 pub returns-clause-input_failed : goal.returns-clause-input_failed
 returns-clause-input_failed g c =
-    (λ e. c.find-found.ensures.failed.0 (c.tell_found.ensures.input_failed.0 e), λ failed. c.tell_found.ensures.input_failed.1 (c.find-found.ensures.failed.1 failed))
+    (λ e. c.find-finding.ensures.failed.0 (c.tell_finding.ensures.input_failed.0 e), λ failed. c.tell_finding.ensures.input_failed.1 (c.find-finding.ensures.failed.1 failed))
 
 pub returns-clause-ends : goal.returns-clause-ends
 returns-clause-ends g c = λ first behind wrote.
-    finding_ends _ (λ e. none_failed _ _ first behind (c.find-found.ensures.failed.0 (c.tell_found.ensures.input_failed.0 e))) (λ e. false≢true (sym wrote ∙ c.tell_found.ensures.output_failed.0 e))
+    finding_ends _ (λ e. none_failed _ _ first behind (c.find-finding.ensures.failed.0 (c.tell_finding.ensures.input_failed.0 e))) (λ e. false≢true (sym wrote ∙ c.tell_finding.ensures.output_failed.0 e))
 
 pub returns-clause-says : goal.returns-clause-says
 returns-clause-says g c =
     says_known no_memory _ _ _ _ _
-    (said_of no_memory _ (λ report. report.answer) _ c.find-found.result _ _ _ c.find-found.ensures.found c.tell_found.ensures.says c.tell_found.ensures.input_failed.1)
-    (λ e. subst (λ writer. Keeps (g.W.Sink.contents c.args.writer.now) (g.W.Sink.contents writer)) (sym (c.tell_found.ensures.silent e)) (Keeps-refl _))
+    (said_of no_memory _ (λ report. report.answer) _ c.find-finding.result _ _ _ c.find-finding.ensures.finds c.tell_finding.ensures.says c.tell_finding.ensures.input_failed.1)
+    (λ e. subst (λ writer. Keeps (g.W.Sink.contents c.args.writer.now) (g.W.Sink.contents writer)) (sym (c.tell_finding.ensures.silent e)) (Keeps-refl _))
 
 pub returns-clause-accepted : goal.returns-clause-accepted
 returns-clause-accepted g c =
@@ -42,5 +42,5 @@ pub returns-clause-accepted_end : goal.returns-clause-accepted_end
 returns-clause-accepted_end g c = λ end.
     ends_well _ _ _ _ _ _ _ _ _
     (accepts_or_tells no_memory unjudged_memory _ _ _ _ _
-    (said_of no_memory _ (λ report. report.answer) _ c.find-found.result _ _ _ c.find-found.ensures.found c.tell_found.ensures.says c.tell_found.ensures.input_failed.1)
+    (said_of no_memory _ (λ report. report.answer) _ c.find-finding.result _ _ _ c.find-finding.ensures.finds c.tell_finding.ensures.says c.tell_finding.ensures.input_failed.1)
     end)

@@ -8,22 +8,22 @@ use Rattle.stark_cli.proofs.statements.run_to.Goals as goal
 
 pub returns-clause-input_failed : goal.returns-clause-input_failed
 returns-clause-input_failed g c =
-    (λ e. c.find-found.ensures.failed.0 (c.deliver_found.ensures.input_failed.0 e), λ failed. c.deliver_found.ensures.input_failed.1 (c.find-found.ensures.failed.1 failed))
+    (λ e. c.find-finding.ensures.failed.0 (c.deliver_finding.ensures.input_failed.0 e), λ failed. c.deliver_finding.ensures.input_failed.1 (c.find-finding.ensures.failed.1 failed))
 
 pub returns-clause-delivered : goal.returns-clause-delivered
 returns-clause-delivered g c = λ is.
-    delivers _ _ _ _ _ _ _ _ _ _ (c.deliver_found.ensures.read is)
-    (proof_said no_memory _ (λ report. report.answer) _ c.find-found.result _ _ _ _ c.find-found.ensures.found c.deliver_found.ensures.proof c.deliver_found.ensures.input_failed.1 c.deliver_found.ensures.read is)
+    delivers _ _ _ _ _ _ _ _ _ _ (c.deliver_finding.ensures.read is)
+    (proof_said no_memory _ (λ report. report.answer) _ c.find-finding.result _ _ _ _ c.find-finding.ensures.finds c.deliver_finding.ensures.proof c.deliver_finding.ensures.input_failed.1 c.deliver_finding.ensures.read is)
 
 pub returns-clause-says : goal.returns-clause-says
 returns-clause-says g c = λ other.
     says_known no_memory _ _ _ _ _
     (said_found no_memory _ _ _ _ _
-    (answer_said no_memory _ (λ report. report.answer) _ c.find-found.result _ _ _ _ c.find-found.ensures.found c.deliver_found.ensures.answer c.deliver_found.ensures.input_failed.1 other))
-    (λ e. subst (λ writer. Keeps (g.W.Sink.contents c.args.writer.now) (g.W.Sink.contents writer)) (sym (c.deliver_found.ensures.silent e)) (Keeps-refl _))
+    (answer_said no_memory _ (λ report. report.answer) _ c.find-finding.result _ _ _ _ c.find-finding.ensures.finds c.deliver_finding.ensures.answer c.deliver_finding.ensures.input_failed.1 other))
+    (λ e. subst (λ writer. Keeps (g.W.Sink.contents c.args.writer.now) (g.W.Sink.contents writer)) (sym (c.deliver_finding.ensures.silent e)) (Keeps-refl _))
 
 pub returns-clause-ends : goal.returns-clause-ends
 returns-clause-ends g c = λ other end.
     ends_answered _ _ _ _ _ _ _ _ _ _
-    (answer_said no_memory _ (λ report. report.answer) _ c.find-found.result _ _ _ _ c.find-found.ensures.found c.deliver_found.ensures.answer c.deliver_found.ensures.input_failed.1 other)
+    (answer_said no_memory _ (λ report. report.answer) _ c.find-finding.result _ _ _ _ c.find-finding.ensures.finds c.deliver_finding.ensures.answer c.deliver_finding.ensures.input_failed.1 other)
     end

@@ -39,7 +39,7 @@ equation_over-requires-clause-widths g c = λ periodic counted.
     (ap length c.deref-2.ensures.value ∙ widths.next)
     (ap length c.deref-3.ensures.value ∙ widths.preprocessed_local)
     (ap length (c.deref-4.ensures.value ∙ c.in-Ok.ensures) ∙ length-replicate c.preprocessed_width.result elements.zero ∙ c.preprocessed_width.ensures)
-    (ap length c.deref-5.ensures.value ∙ widths.publics)
+    (ap length c.deref-5.ensures.value ∙ widths.public_values)
     (counted ∙ sym (length-map c.args.columns.now.columns.now (λ column. column.items)) ∙ ap length c.requires.columns)
 
 pub returns : goal.returns

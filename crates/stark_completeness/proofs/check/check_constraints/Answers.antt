@@ -18,10 +18,10 @@ check_rows-requires-clause-fits g c =
       main_width = c.new.ensures.width ∙ laid.main.width_is;
       main_rows = as_many_rows _ c.requires.rows.0 _ log _ (ap length (c.new.ensures.values ∙ c.as_slice.ensures.value) ∙ laid.main.number) is_log c.new.ensures.width;
       main_next = subst (λ n. n ≤ l.main) (sym declared.main_next_row) (next_within _ l.main);
-      fixed_width = c.view_or_empty.ensures.width ∙ laid.fixed.width_is;
-      fixed_rows = as_many_rows _ c.requires.rows.0 _ log _ (ap length c.view_or_empty.ensures.values ∙ laid.fixed.number) is_log c.view_or_empty.ensures.width;
-      fixed_next = subst (λ n. n ≤ l.preprocessed) (sym declared.preprocessed_next_row) (next_within _ l.preprocessed);
-      publics = laid.number;
+      preprocessed_width = c.view_or_empty.ensures.width ∙ laid.preprocessed.width_is;
+      preprocessed_rows = as_many_rows _ c.requires.rows.0 _ log _ (ap length c.view_or_empty.ensures.values ∙ laid.preprocessed.number) is_log c.view_or_empty.ensures.width;
+      preprocessed_next = subst (λ n. n ≤ l.preprocessed) (sym declared.preprocessed_next_row) (next_within _ l.preprocessed);
+      public_values = laid.number;
       periodics = sym (length-map c.periodic_columns.result.now (λ column. column.items)) ∙ ap length c.periodic_columns.ensures ∙ sym declared.periodic_columns;
     }
 

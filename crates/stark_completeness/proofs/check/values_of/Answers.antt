@@ -17,9 +17,9 @@ values_in_row-requires g c =
     record {
       main = omega (arith, fits.main_width, c.row_of.ensures.width);
       main_next = omega (arith, fits.main_width, fits.main_next, c.row_of-2.ensures.width);
-      preprocessed = omega (arith, fits.fixed_width, c.row_of-3.ensures.width);
-      preprocessed_next = omega (arith, fits.fixed_width, fits.fixed_next, c.row_of-4.ensures.width);
-      publics = omega (arith, fits.publics);
+      preprocessed = omega (arith, fits.preprocessed_width, c.row_of-3.ensures.width);
+      preprocessed_next = omega (arith, fits.preprocessed_width, fits.preprocessed_next, c.row_of-4.ensures.width);
+      public_values = omega (arith, fits.public_values);
       periodics = omega (arith, fits.periodics, entries);
     }
 

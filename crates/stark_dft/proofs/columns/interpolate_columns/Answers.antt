@@ -23,16 +23,16 @@ pub strided_column-requires-clause-inside : goal.strided_column-requires-clause-
 strided_column-requires-clause-inside g c = λ i below.
     let whole = shifted_one c.args.log_size g.F.TwoAdicField.TWO_ADICITY c.requires.adicity g.met.F.TwoAdicField.two_adic.bounded in
     column_inside c.loop-column.column c.args.width (2 ^ c.args.log_size) i (length c.deref.result.now) (subst (λ n. i < n) whole below) c.loop-column-test.true
-    (ap length c.deref.ensures.value ∙ c.in_ok-found.ensures.number)
+    (ap length c.deref.ensures.value ∙ c.in_ok-coefficients.ensures.number)
 
 pub loop-column-preserved : goal.loop-column-preserved
 loop-column-preserved g c =
     let ring = g.F.Field.ring in
     let whole = shifted_one c.args.log_size g.F.TwoAdicField.TWO_ADICITY c.requires.adicity g.met.F.TwoAdicField.two_adic.bounded in
-    one_more_split g.met.F.Field.field_laws.of_ring c.in_ok-found.found.items c.args.width (2 ^ c.args.log_size) c.args.size c.loop-column.column (map column_list c.loop-column.columns.items) (map column_list c.push.new.self.items) c.in_ok-p.p.items
+    one_more_split g.met.F.Field.field_laws.of_ring c.in_ok-coefficients.coefficients.items c.args.width (2 ^ c.args.log_size) c.args.size c.loop-column.column (map column_list c.loop-column.columns.items) (map column_list c.push.new.self.items) c.in_ok-p.p.items
     c.loop-column.invariant c.in_ok-p.ensures.number
     (λ x. c.in_ok-p.ensures.values x ∙ ap (λ l. value ring (strided (entry ring l) c.loop-column.column c.args.width (1 * 2 ^ c.args.log_size % 2 ^ 64)) x) c.deref.ensures.value
-    ∙ ap (λ n. value ring (strided (entry ring c.in_ok-found.found.items) c.loop-column.column c.args.width n) x) whole)
+    ∙ ap (λ n. value ring (strided (entry ring c.in_ok-coefficients.coefficients.items) c.loop-column.column c.args.width n) x) whole)
     (ap (map column_list) c.in_ok-push.ensures.items ∙ map-append column_list c.loop-column.columns.items (c.in_ok-p.p ∷ []))
 
 pub returns : goal.returns
@@ -41,7 +41,7 @@ returns g c =
     let whole = shifted_one c.args.log_size g.F.TwoAdicField.TWO_ADICITY c.requires.adicity g.met.F.TwoAdicField.two_adic.bounded in
     let all : c.loop-column.column ≡ c.args.width = omega arith in
     are_columns g.met.F.Field.field_laws.of_ring g.F.TwoAdicField.root (record { shift = c.args.shift; log_size = c.args.log_size }) c.args.values.now c.args.first c.args.step c.args.width c.args.size
-    c.in_ok-rows.rows.items c.in_ok-found.found.items (map column_list c.loop-column.columns.items)
+    c.in_ok-rows.rows.items c.in_ok-coefficients.coefficients.items (map column_list c.loop-column.columns.items)
     (same_picked c.args.values.now c.args.first c.args.step c.args.width (1 * 2 ^ c.args.log_size % 2 ^ 64 * c.args.width) (2 ^ c.args.log_size * c.args.width) c.in_ok-rows.rows.items (ap (λ n. n * c.args.width) whole) c.in_ok-rows.ensures)
-    c.in_ok-found.ensures.rows
-    (subst (λ n. AreSplit ring c.in_ok-found.found.items c.args.width (2 ^ c.args.log_size) c.args.size n (map column_list c.loop-column.columns.items)) all c.loop-column.invariant)
+    c.in_ok-coefficients.ensures.rows
+    (subst (λ n. AreSplit ring c.in_ok-coefficients.coefficients.items c.args.width (2 ^ c.args.log_size) c.args.size n (map column_list c.loop-column.columns.items)) all c.loop-column.invariant)

@@ -1,10 +1,10 @@
-use Rattle.std.proofs.Common.{◌≡◌, ◌∙◌, List, ap, length, map, subst, sym}
+use Rattle.std.proofs.Common.{◌≡◌, ◌∙◌, ap, length, map, subst, sym}
 use Rattle.std.proofs.lemmas.Bool.{false≢true}
 use Rattle.std.proofs.lemmas.List.{length-map}
 use Rattle.std.specs.List.{AllByRecursion}
 use Rattle.stark_columns.specs.Columns.{columns_list}
 use Rattle.stark_support.specs.Claims.{round_view}
-use Rattle.stark_fri.specs.Claims.{RoundRead, height_of, own_claim, rounds_in}
+use Rattle.stark_fri.specs.Claims.{height_of, own_claim, rounds_in}
 use Rattle.stark_fri_prover.specs.Commit.{data_seen}
 use Rattle.stark_fri_prover.specs.HonestOpening.{AreOfHeight, seen_rounds}
 use Rattle.stark_fri_prover.specs.OwnClaims.{points_in, round_claims}

@@ -1,6 +1,5 @@
 use Rattle.std.proofs.Common.{◌≡◌, ◌∙◌, ◌+◌, ◌-◌, ◌*◌, ◌%◌, ◌^◌, ◌<◌, ap, arith, min}
 use Rattle.std.proofs.lemmas.Nat.{one_shl}
-use Rattle.stark_merkle.specs.Bytes.{pair_bytes_of, row_bytes_of}
 use Rattle.stark_merkle.specs.Tree.{digests_in}
 use Rattle.stark_fri.specs.Parts.{FriOps}
 use Rattle.stark_fri.proofs.Members.{fields_by, sponge_by}

@@ -1,5 +1,5 @@
-use Rattle.std.proofs.Common.{◌-◌, ◌^◌, arith}
-use Rattle.stark_fri_security.proofs.Powers.{capped_positive, power_capped}
+use Rattle.std.proofs.Common.{◌-◌, arith}
+use Rattle.stark_fri_security.proofs.Powers.{capped_positive}
 use Rattle.stark_fri_security.proofs.field.field_bits.Goals as goal
 
 pub ilog2-requires : goal.ilog2-requires

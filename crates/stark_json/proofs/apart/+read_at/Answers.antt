@@ -36,7 +36,7 @@ read_at-returns-in_ok-members-in-BeginObject-clause-read t c =
 
 pub read_members_at-members-init : goal.read_members_at-members-init
 read_members_at-members-init t c =
-    let empty = ap members_view c.new-found.ensures.empty in
+    let empty = ap members_view c.new-object.ensures.empty in
     record { so_far = no_member_yet c.args.depth c.args.reader.now _ empty; unseen = λ _. (refl, λ f. rw empty refl) }
 
 pub read_members_at-members-preserved-then-eq : goal.read_members_at-members-preserved-then-eq
@@ -50,10 +50,10 @@ read_members_at-members-preserved-then-eq t c =
     let d = view c.in_ok-member.member in
     let before = rows_apart c.members.rows in
     let rows = rows_apart c.in_ok-member.apart in
-    let old = members_view c.members.found.entries in
+    let old = members_view c.members.object.entries in
     let unseen = c.members.invariant.unseen c.if-seen.false in
     let copied : string_bytes c.in_ok-owned.owned ≡ key = search rules in
-    let inserted = ap members_view c.in_ok-insert.ensures.entries ∙ members_view-insert_entry c.members.found.entries c.in_ok-owned.owned c.in_ok-member.member ∙ ap (λ k. put k d old) copied in
+    let inserted = ap members_view c.in_ok-insert.ensures.entries ∙ members_view-insert_entry c.members.object.entries c.in_ok-owned.owned c.in_ok-member.member ∙ ap (λ k. put k d old) copied in
     record {
       so_far =
           member_more c.args.depth c.args.reader.now c.members.reader c.next_key.new.self c.read_at.new.reader (joined_members name path before old) _ key (joined path rows d) c.members.invariant.so_far named read.read read.shorter
@@ -71,9 +71,9 @@ read_members_at-members-preserved t c =
     let read = c.in_ok-member-2.ensures in
     let d = view c.in_ok-member-2.member in
     let rows = rows_apart c.members.rows in
-    let old = members_view c.members.found.entries in
+    let old = members_view c.members.object.entries in
     let copied : string_bytes c.in_ok-owned.owned ≡ key = search rules in
-    let inserted = ap members_view c.in_ok-insert-2.ensures.entries ∙ members_view-insert_entry c.members.found.entries c.in_ok-owned.owned c.in_ok-member-2.member ∙ ap (λ k. put k d old) copied in
+    let inserted = ap members_view c.in_ok-insert-2.ensures.entries ∙ members_view-insert_entry c.members.object.entries c.in_ok-owned.owned c.in_ok-member-2.member ∙ ap (λ k. put k d old) copied in
     record {
       so_far =
           member_more c.args.depth c.args.reader.now c.members.reader c.next_key.new.self c.read.new.reader (joined_members name path rows old) _ key d c.members.invariant.so_far named read.read read.shorter

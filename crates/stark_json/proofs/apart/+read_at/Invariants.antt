@@ -13,8 +13,8 @@ decreases-read_members_at l = 2 * length l.path.now + 1
 
 abbrev pub invariant-read_members_at-members : goal.invariant-read_members_at-members
 invariant-read_members_at-members l = record {
-  so_far : MembersSoFar l.depth l.initial.reader l.reader (joined_members l.name (map (λ name. name.now) l.path) (rows_apart l.rows) (members_view l.found.entries));
-  unseen : l.seen ≡ false → (rows_apart l.rows ≡ None) × HasNone l.name (members_view l.found.entries);
+  so_far : MembersSoFar l.depth l.initial.reader l.reader (joined_members l.name (map (λ name. name.now) l.path) (rows_apart l.rows) (members_view l.object.entries));
+  unseen : l.seen ≡ false → (rows_apart l.rows ≡ None) × HasNone l.name (members_view l.object.entries);
 }
 
 abbrev pub decreases-read_members_at-members : goal.decreases-read_members_at-members

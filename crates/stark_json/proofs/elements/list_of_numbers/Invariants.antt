@@ -6,4 +6,4 @@ use Rattle.stark_json.specs.Apart.{number_data}
 use Rattle.stark_json.proofs.elements.list_of_numbers.Given as goal
 
 abbrev pub invariant-loop-number : goal.invariant-loop-number
-invariant-loop-number g l = with_front l.found.items (each_at g.T.JsonCodec.reading (items_of (map number_data (drop l.number-index l.numbers)))) ≡ each_at g.T.JsonCodec.reading (items_of (map number_data l.numbers))
+invariant-loop-number g l = with_front l.elements.items (each_at g.T.JsonCodec.reading (items_of (map number_data (drop l.number-index l.numbers)))) ≡ each_at g.T.JsonCodec.reading (items_of (map number_data l.numbers))

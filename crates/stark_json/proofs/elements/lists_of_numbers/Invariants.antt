@@ -7,5 +7,5 @@ use Rattle.stark_json.proofs.elements.lists_of_numbers.Given as goal
 
 abbrev pub invariant-loop-length : goal.invariant-loop-length
 invariant-loop-length g l =
-    with_front (map (λ list. list.items) l.found.items) (each_at (array_at g.T.JsonCodec.reading) (items_of (map row_data (parted (drop l.length-index l.rows.lengths.items) l.rest))))
+    with_front (map (λ list. list.items) l.lists.items) (each_at (array_at g.T.JsonCodec.reading) (items_of (map row_data (parted (drop l.length-index l.rows.lengths.items) l.rest))))
     ≡ each_at (array_at g.T.JsonCodec.reading) (items_of (map row_data (lists_of l.rows)))

@@ -55,7 +55,7 @@ read-returns-in_ok-read_members-in-BeginObject-clause-read t c =
     ∙ ap (λ d. Some (d, c.read_members.new.reader)) (sym (view-Object found.field-0))
 
 pub read_items-items-init : goal.read_items-items-init
-read_items-items-init t c = no_item_yet view c.args.depth c.args.reader.now _ c.new-found.ensures.items
+read_items-items-init t c = no_item_yet view c.args.depth c.args.reader.now _ c.new-values.ensures.items
 
 pub read_items-items-preserved : goal.read_items-items-preserved
 read_items-items-preserved t c =
@@ -63,28 +63,28 @@ read_items-items-preserved t c =
     let rest = c.read.new.reader in
     let one = subst (λ ts. converted of_json (value c.args.depth ts) ≡ Some (view c.in_ok-item.item, rest)) going.1 c.in_ok-item.ensures.read in
     let less = subst (λ ts. length rest < length ts) going.1 c.in_ok-item.ensures.shorter in
-    item_more view c.args.depth c.args.reader.now c.items.reader rest c.items.found.items _ c.in_ok-item.item c.items.invariant going.0 one less c.in_ok-push.ensures.items
+    item_more view c.args.depth c.args.reader.now c.items.reader rest c.items.values.items _ c.in_ok-item.item c.items.invariant going.0 one less c.in_ok-push.ensures.items
 
 pub read_items-returns-clause-read : goal.read_items-returns-clause-read
 read_items-returns-clause-read t c =
     let over : after_end_array c.items.reader ≡ Some c.take_end_array.new.self = grind arith in
-    (items_ended view c.args.depth c.args.reader.now c.items.reader c.take_end_array.new.self c.items.found.items c.items.invariant over).0
+    (items_ended view c.args.depth c.args.reader.now c.items.reader c.take_end_array.new.self c.items.values.items c.items.invariant over).0
 
 pub read_items-returns-clause-shorter : goal.read_items-returns-clause-shorter
 read_items-returns-clause-shorter t c =
     let over : after_end_array c.items.reader ≡ Some c.take_end_array.new.self = grind arith in
-    (items_ended view c.args.depth c.args.reader.now c.items.reader c.take_end_array.new.self c.items.found.items c.items.invariant over).1
+    (items_ended view c.args.depth c.args.reader.now c.items.reader c.take_end_array.new.self c.items.values.items c.items.invariant over).1
 
 pub read_members-members-init : goal.read_members-members-init
-read_members-members-init t c = no_member_yet c.args.depth c.args.reader.now _ (ap members_view c.new-found.ensures.empty)
+read_members-members-init t c = no_member_yet c.args.depth c.args.reader.now _ (ap members_view c.new-object.ensures.empty)
 
 pub read_members-members-preserved : goal.read_members-members-preserved
 read_members-members-preserved t c =
     let named : read_key c.members.reader ≡ Some (Some c.in-Some.name.now, c.next_key.new.self) = grind arith in
     let read = c.in_ok-member.ensures in
-    let old = members_view c.members.found.entries in
+    let old = members_view c.members.object.entries in
     let copied : string_bytes c.in_ok-key.key ≡ c.in-Some.name.now = search rules in
-    let inserted = ap members_view c.in_ok-insert.ensures.entries ∙ members_view-insert_entry c.members.found.entries c.in_ok-key.key c.in_ok-member.member ∙ ap (λ name. put name (view c.in_ok-member.member) old) copied in
+    let inserted = ap members_view c.in_ok-insert.ensures.entries ∙ members_view-insert_entry c.members.object.entries c.in_ok-key.key c.in_ok-member.member ∙ ap (λ name. put name (view c.in_ok-member.member) old) copied in
     member_more c.args.depth c.args.reader.now c.members.reader c.next_key.new.self c.read.new.reader old _ c.in-Some.name.now (view c.in_ok-member.member) c.members.invariant named read.read read.shorter inserted
 
 pub read_members-returns-clause-read : goal.read_members-returns-clause-read

@@ -13,13 +13,13 @@ abbrev pub decreases-read_members : goal.decreases-read_members
 decreases-read_members l = 2 * l.depth + 1
 
 abbrev pub invariant-read_items-items : goal.invariant-read_items-items
-invariant-read_items-items l = ItemsSoFar view l.depth l.initial.reader l.reader l.found.items
+invariant-read_items-items l = ItemsSoFar view l.depth l.initial.reader l.reader l.values.items
 
 abbrev pub decreases-read_items-items : goal.decreases-read_items-items
 decreases-read_items-items l = length l.reader
 
 abbrev pub invariant-read_members-members : goal.invariant-read_members-members
-invariant-read_members-members l = MembersSoFar l.depth l.initial.reader l.reader (members_view l.found.entries)
+invariant-read_members-members l = MembersSoFar l.depth l.initial.reader l.reader (members_view l.object.entries)
 
 abbrev pub decreases-read_members-members : goal.decreases-read_members-members
 decreases-read_members-members l = length l.reader

@@ -11,10 +11,10 @@ returns-in_err-value g c =
     let left = c.in_ok-count.count - c.loop-place._place in
     let next = c.in_ok-count.count - (c.loop-place._place + 1) in
     let falls : left ≡ suc next = omega arith in
-    let found = c.loop-place.found.items in
+    let read_so_far = c.loop-place.values.items in
     let told : IfSome (named c.in_err-value.field-0.0) (λ fault. list_reading ops c.args.reader.now ≡ Err fault) =
     told_more c.in_err-value.field-0.0 (ops.reading c.loop-place.reader) (list_reading ops c.args.reader.now)
-    (λ fault is. c.loop-place.invariant ∙ no_more ops (g.met.T.BytesCodec.bytes_laws) left next c.loop-place.reader fault found falls is) c.in_err-value.ensures in
+    (λ fault is. c.loop-place.invariant ∙ no_more ops (g.met.T.BytesCodec.bytes_laws) left next c.loop-place.reader fault read_so_far falls is) c.in_err-value.ensures in
     search rules
 
 pub loop-place-preserved : goal.loop-place-preserved
@@ -23,9 +23,9 @@ loop-place-preserved g c =
     let left = c.in_ok-count.count - c.loop-place._place in
     let next = c.in_ok-count.count - (c.loop-place._place + 1) in
     let falls : left ≡ suc next = omega arith in
-    let found = c.loop-place.found.items in
-    let grown : c.push.new.self.items ≡ found ++ c.in_ok-value.value ∷ [] = grind (arith, common_steps) in
-    c.loop-place.invariant ∙ one_more ops (g.met.T.BytesCodec.bytes_laws) left next c.loop-place.reader (c.in_ok-value.value) c.read_from.new.reader found falls c.in_ok-value.ensures
+    let read_so_far = c.loop-place.values.items in
+    let grown : c.push.new.self.items ≡ read_so_far ++ c.in_ok-value.value ∷ [] = grind (arith, common_steps) in
+    c.loop-place.invariant ∙ one_more ops (g.met.T.BytesCodec.bytes_laws) left next c.loop-place.reader (c.in_ok-value.value) c.read_from.new.reader read_so_far falls c.in_ok-value.ensures
     ∙ ap (λ xs. behind xs (each_reading ops next c.read_from.new.reader)) (sym grown)
 
 pub returns : goal.returns
@@ -33,4 +33,4 @@ returns g c =
     let ops = g.T.BytesCodec.bytes in
     let left = c.in_ok-count.count - c.loop-place._place in
     let none : left ≡ 0 = omega arith in
-    c.loop-place.invariant ∙ all_read ops (g.met.T.BytesCodec.bytes_laws) left c.loop-place.reader (c.loop-place.found.items) none
+    c.loop-place.invariant ∙ all_read ops (g.met.T.BytesCodec.bytes_laws) left c.loop-place.reader (c.loop-place.values.items) none

@@ -9,10 +9,10 @@ returns-in-Err g c =
     let may_refuse = g.SC.Pcs.Pcs.scheme.RefusesOpening in
     record {
       true_values = tt;
-      whole = tt;
-      fault = scheme_fault_at _ (λ s rounds. may_refuse s rounds c.args.challenger.now (place_of g.SC.Pcs.Pcs.ZK (option_map (λ held. held.now) c.args.of.now.preprocessed))) _ _ _ _ c.in-Err.fault _ c.pcs.ensures c.in_ok-rounds.ensures
+      complete = tt;
+      fault = scheme_fault_at _ (λ s rounds. may_refuse s rounds c.args.challenger.now (place_of g.SC.Pcs.Pcs.ZK (option_map (λ preprocessed_data. preprocessed_data.now) c.args.of.now.preprocessed))) _ _ _ _ c.in-Err.fault _ c.pcs.ensures c.in_ok-rounds.ensures
           (subst (λ place. IfRefused c.in-Err.fault (may_refuse c.pcs.result.now (map round_view c.in_ok-rounds.rounds.items) c.args.challenger.now place))
-          (c.place_of-place.ensures ∙ ap (λ z. place_of z (option_map (λ held. held.now) c.args.of.now.preprocessed)) c.ZK.ensures) c.in-Err.ensures.refused) c.in_phase.ensures;
+          (c.place_of-place.ensures ∙ ap (λ z. place_of z (option_map (λ preprocessed_data. preprocessed_data.now) c.args.of.now.preprocessed)) c.ZK.ensures) c.in-Err.ensures.refused) c.in_phase.ensures;
     }
 
 pub returns-in-Ok : goal.returns-in-Ok

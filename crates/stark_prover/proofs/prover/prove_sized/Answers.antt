@@ -1,7 +1,7 @@
 use Rattle.std.proofs.Common.{◌≡◌, ◌*◌, ◌^◌, ◌≤◌, ◌∙◌, length, subst, sym}
 use Rattle.stark_proof.specs.ProofView.{proof_view}
 use Rattle.stark_protocol.proofs.Carried.{carried}
-use Rattle.stark_prover.proofs.SizedSteps.{committed_at, ready_at, refused_sizes, refused_trace, run_made, run_refused, same_height, width_of_columns}
+use Rattle.stark_prover.proofs.SizedSteps.{committed_at, ready_at, refused_sizes, refused_trace, run_made, run_refused, same_height}
 use Rattle.stark_prover.proofs.prover.prove_sized.Goals as goal
 
 pub returns-in_err-domains-clause-fault : goal.returns-in_err-domains-clause-fault
@@ -27,13 +27,13 @@ pub prove_over_transcript-requires-clause-committed : goal.prove_over_transcript
 prove_over_transcript-requires-clause-committed g c =
     let found = c.in_ok-domains.ensures in
     let stands = c.in_ok-committed.ensures.stands in
-    let held = c.requires.stands in
-    committed_at _ found.bits found.domains c.requires.within c.requires.publics c.requires.same (ready_at _ found.bits found.fitting found.clear stands.1 held.1) (stands.1.takes.count ∙ c.requires.width) held.2
+    let preprocessed_data = c.requires.stands in
+    committed_at _ found.bits found.domains c.requires.within c.requires.public_values c.requires.same (ready_at _ found.bits found.fitting found.clear stands.1 preprocessed_data.1) (stands.1.takes.count ∙ c.requires.width) preprocessed_data.2
 
 pub returns-clause-made : goal.returns-clause-made
 returns-clause-made g c =
     let found = c.in_ok-domains.ensures in
-    run_made _ found.bits proof_view (λ fixed held. ready_at _ found.bits found.fitting found.clear c.in_ok-committed.ensures.stands.1 held) _ c.prove_over_transcript.ensures.made
+    run_made _ found.bits proof_view (λ preprocessed preprocessed_data. ready_at _ found.bits found.fitting found.clear c.in_ok-committed.ensures.stands.1 preprocessed_data) _ c.prove_over_transcript.ensures.made
 
 pub returns-clause-fault : goal.returns-clause-fault
 returns-clause-fault g c =

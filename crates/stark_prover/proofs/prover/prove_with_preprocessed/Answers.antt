@@ -15,8 +15,8 @@ prove_sized-requires-clause-columns g c = c.requires.fits.columns
 pub prove_sized-requires-clause-width : goal.prove_sized-requires-clause-width
 prove_sized-requires-clause-width g c = c.requires.fits.width
 
-pub prove_sized-requires-clause-publics : goal.prove_sized-requires-clause-publics
-prove_sized-requires-clause-publics g c = c.requires.fits.publics
+pub prove_sized-requires-clause-public_values : goal.prove_sized-requires-clause-public_values
+prove_sized-requires-clause-public_values g c = c.requires.fits.public_values
 
 pub prove_sized-requires-clause-there : goal.prove_sized-requires-clause-there
 prove_sized-requires-clause-there g c = c.requires.fits.there
@@ -26,7 +26,7 @@ prove_sized-requires-clause-stands g c = c.requires.fits.stands
 
 pub returns-clause-acceptable : goal.returns-clause-acceptable
 returns-clause-acceptable g c =
-    answer_acceptable _ _ _ _ _ _ c.requires.fits.width c.requires.fits.publics (still_there _ _ ∙ c.requires.fits.there) c.requires.fits.stands _ c.log_height_of-log_height.ensures c.requires.height
+    answer_acceptable _ _ _ _ _ _ c.requires.fits.width c.requires.fits.public_values (still_there _ _ ∙ c.requires.fits.there) c.requires.fits.stands _ c.log_height_of-log_height.ensures c.requires.height
     (λ x. g.met.SC.Pcs.Domain.Val.Eq.laws.refl x) g.met.SC.Pcs.UnivariateStarkPcs.scheme_laws proof_view _ c.prove_sized.ensures.made
 
 pub returns-clause-complete : goal.returns-clause-complete

@@ -15,7 +15,7 @@ pub values_on-requires-clause-rows : goal.values_on-requires-clause-rows
 values_on-requires-clause-rows g c = record {
   main = subst (λ n. HasShape (g.A.BaseAir.layout c.args.air.now).main n (rows_in c.args.trace.now)) (sym c.points_of-size.ensures.size) c.requires.trace;
   preprocessed = subst (λ n. HasShape (g.A.BaseAir.layout c.args.air.now).preprocessed n (rows_or_none c.args.preprocessed)) (sym c.points_of-size.ensures.size) c.requires.preprocessed;
-  publics = c.requires.publics;
+  public_values = c.requires.public_values;
 }
 
 pub values_on-requires-clause-prepared : goal.values_on-requires-clause-prepared
@@ -34,7 +34,7 @@ pub values_on-requires-else-BENEFITS_FROM_LOCKSTEP_EVALUATION-clause-rows : goal
 values_on-requires-else-BENEFITS_FROM_LOCKSTEP_EVALUATION-clause-rows g c = record {
   main = subst (λ n. HasShape (g.A.BaseAir.layout c.args.air.now).main n (rows_in c.args.trace.now)) (sym c.points_of-size.ensures.size) c.requires.trace;
   preprocessed = subst (λ n. HasShape (g.A.BaseAir.layout c.args.air.now).preprocessed n (rows_or_none c.args.preprocessed)) (sym c.points_of-size.ensures.size) c.requires.preprocessed;
-  publics = c.requires.publics;
+  public_values = c.requires.public_values;
 }
 
 pub values_on-requires-else-BENEFITS_FROM_LOCKSTEP_EVALUATION-clause-prepared : goal.values_on-requires-else-BENEFITS_FROM_LOCKSTEP_EVALUATION-clause-prepared

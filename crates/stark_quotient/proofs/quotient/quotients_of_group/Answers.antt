@@ -28,7 +28,7 @@ returns-clause-quotients g c = λ i below within.
     let wide : (p : g.row.G-Packed.Denot) → i < length (lanes p) = λ p. subst (λ n. i < n) (sym (g.met.G.Packed.PackedValue.lane_by_lane.as_many p)) narrow in
     let inside = subst (λ n. k < n) c.requires.placed.size within in
     let main : Trace g.row.SC-Pcs-Domain-Val.Denot = record { width = on.main.now.width; values = on.main.now.values.items } in
-    let fixed = matrix_or_empty (option_map (λ m. record { width = m.now.width; values = m.now.values.items }) on.preprocessed) in
+    let preprocessed = matrix_or_empty (option_map (λ m. record { width = m.now.width; values = m.now.values.items }) on.preprocessed) in
     let next = (k + on.step) % on.size in
     let next_is : next ≡ (k + coset_size coset / coset_size trace) % coset_size coset =
     ap (λ s. (k + s) % on.size) (c.requires.placed.step ∙ ap (λ n. n / coset_size trace) c.requires.placed.size) ∙ ap (λ n. (k + coset_size coset / coset_size trace) % n) c.requires.placed.size in
@@ -47,9 +47,9 @@ returns-clause-quotients g c = λ i below within.
     let row : PointRow g.row.SC-Pcs-Domain-Val.Denot = record {
       main_current = matrix_row main.values main.width k;
       main_next = matrix_row main.values main.width next;
-      preprocessed_current = matrix_row fixed.values fixed.width k;
-      preprocessed_next = matrix_row fixed.values fixed.width next;
-      publics = on.public_values.now;
+      preprocessed_current = matrix_row preprocessed.values preprocessed.width k;
+      preprocessed_next = matrix_row preprocessed.values preprocessed.width next;
+      public_values = on.public_values.now;
       periodic = periodic;
       first_row = first;
       last_row = last;
@@ -57,7 +57,7 @@ returns-clause-quotients g c = λ i below within.
     } in
     let stands : IsLaneRow lanes zero rows.main.items rows.preprocessed.items rows.periodic_values.items selectors.is_first_row selectors.is_last_row selectors.is_transition i row = record {
       main_rows = two_round main on.size (start + i) (start + on.step + i) k next c.requires.rows.main.number here there _ (filled.main i narrow);
-      preprocessed_rows = two_round fixed on.size (start + i) (start + on.step + i) k next c.requires.rows.preprocessed.number here there _ (filled.preprocessed i narrow);
+      preprocessed_rows = two_round preprocessed on.size (start + i) (start + on.step + i) k next c.requires.rows.preprocessed.number here there _ (filled.preprocessed i narrow);
       periodic_row = refl;
       first_row = refl;
       last_row = refl;
@@ -65,14 +65,14 @@ returns-clause-quotients g c = λ i below within.
     } in
     let room : k < 2 ^ 64 = omega (arith, inside, c.requires.placed.room) in
     let number = row_number main.values main.width on.size k c.requires.rows.main.number within ∙ c.requires.rows.main.width_is ∙ sym c.requires.main_width ∙ sym c.fill_rows.ensures.main_width in
-    let fixed_number = row_number fixed.values fixed.width on.size k c.requires.rows.preprocessed.number within ∙ c.requires.rows.preprocessed.width_is ∙ sym c.requires.preprocessed_width ∙ sym c.fill_rows.ensures.preprocessed_width in
-    let sum = c.in_ok-sums.ensures i below row stands number fixed_number refl in
+    let preprocessed_number = row_number preprocessed.values preprocessed.width on.size k c.requires.rows.preprocessed.number within ∙ c.requires.rows.preprocessed.width_is ∙ sym c.requires.preprocessed_width ∙ sym c.fill_rows.ensures.preprocessed_width in
+    let sum = c.in_ok-sums.ensures i below row stands number preprocessed_number refl in
     c.over_vanishing.ensures i below ∙
     quotient_of_rows val.Field.field_laws challenge.Field.field_laws challenge.ExtensionField.embeds _ g.SC.Pcs.Domain.Val.TwoAdicField.root _ val.TwoAdicField.two_adic trace coset
     (g.met.SC.Pcs.Domain.PolynomialSpace.lawful on.trace_domain) c.requires.placed.subgroup c.requires.placed.disjoint field.basis (g.A.Air.constraints c.args.air.now) (g.A.BaseAir.periodic_columns c.args.air.now)
-    prepared main fixed on.public_values.now k inside
-    on.powers.alpha _ row.main_current row.main_next row.preprocessed_current row.preprocessed_next row.publics periodic first last change inverted
-    sum refl refl (ap (matrix_row main.values main.width) next_is) refl (ap (matrix_row fixed.values fixed.width) next_is)
+    prepared main preprocessed on.public_values.now k inside
+    on.powers.alpha _ row.main_current row.main_next row.preprocessed_current row.preprocessed_next row.public_values periodic first last change inverted
+    sum refl refl (ap (matrix_row main.values main.width) next_is) refl (ap (matrix_row preprocessed.values preprocessed.width) next_is)
     (length-map rows.periodic_values.items (λ v. slice_index_or (lanes v) i zero) ∙ filled.periodic_number)
     (λ n there. table_in_lane lanes zero i rows.periodic_values.items on.periodic.width n (λ m. table_at on.periodic.values.items on.periodic.width on.periodic.period k m) wide filled.periodic_number (λ m p held. filled.periodic m p held i narrow room) there)
     (sym (read.first_row i narrow (subst (λ n. k < n) (sym prepared.first_row.number) inside)) ∙ lane_read (lanes selectors.is_first_row) i zero (wide selectors.is_first_row))
@@ -103,6 +103,6 @@ fold-requires-clause-rows g c = record {
   main_width = c.fill_rows.ensures.main_width ∙ c.requires.main_width;
   preprocessed = c.in_ok-fill_rows.ensures.preprocessed_number ∙ ap (λ n. 2 * n) (c.requires.rows.preprocessed.width_is ∙ sym c.requires.preprocessed_width ∙ sym c.fill_rows.ensures.preprocessed_width);
   preprocessed_width = c.fill_rows.ensures.preprocessed_width ∙ c.requires.preprocessed_width;
-  publics = c.requires.rows.publics;
+  public_values = c.requires.rows.public_values;
   periodics = c.in_ok-fill_rows.ensures.periodic_number ∙ c.requires.prepared.periodic.count ∙ sym (g.met.A.BaseAir.as_declared c.args.air.now).periodic_columns;
 }

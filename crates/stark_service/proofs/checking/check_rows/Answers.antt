@@ -28,12 +28,12 @@ check_trace-requires-clause-height g c =
     let l = c.args.statement.now.air.list in
     let f = subst (λ a. IsFitting c.args.greatest c.args.log_rows a c.args.statement.now.public_values.items c.requires.fits.0 c.args.trace.now) (sym (same_declared d l)) c.requires.fits.1 in
     let air = tree_checked d l in
-    let publics = c.args.statement.now.public_values.items in
+    let public_values = c.args.statement.now.public_values.items in
     let fitting =
-    rows_fit c.args.greatest publics c.args.log_rows c.requires.fits.0 air (shape_of air) f.log_height c.args.trace.now.width (length publics) c.args.trace.now.values.items refl f.fits c.requires.columns f.width f.values refl in (
+    rows_fit c.args.greatest public_values c.args.log_rows c.requires.fits.0 air (shape_of air) f.log_height c.args.trace.now.width (length public_values) c.args.trace.now.values.items refl f.fits c.requires.columns f.width f.values refl in (
       fitting.height,
       fitting.rows,
-      columns_height (declared_trace d.columns.preprocessed_trace) c.args.log_rows fitting.height c.requires.height fitting.fixed_rows,
+      columns_height (declared_trace d.columns.preprocessed_trace) c.args.log_rows fitting.height c.requires.height fitting.preprocessed_rows,
     )
 
 pub check_trace-requires-clause-public_values : goal.check_trace-requires-clause-public_values
@@ -41,7 +41,7 @@ check_trace-requires-clause-public_values g c =
     let d = c.args.statement.now.air.declaration in
     let l = c.args.statement.now.air.list in
     let f = subst (λ a. IsFitting c.args.greatest c.args.log_rows a c.args.statement.now.public_values.items c.requires.fits.0 c.args.trace.now) (sym (same_declared d l)) c.requires.fits.1 in
-    ap length c.as_slice-public_values.ensures.value ∙ f.fits.publics
+    ap length c.as_slice-public_values.ensures.value ∙ f.fits.public_values
 
 pub returns : goal.returns
 returns g c = λ list given.

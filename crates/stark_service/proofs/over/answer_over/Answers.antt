@@ -4,14 +4,14 @@ use Rattle.stark_service.proofs.ReadSteps.{holds_of_read, said_of_read, said_wit
 use Rattle.stark_service.proofs.UnreadFindings.{unread_of_trace, verdict_no_proof}
 use Rattle.stark_service.proofs.over.answer_over.Goals as goal
 
-pub returns-in-Ok-clause-found : goal.returns-in-Ok-clause-found
-returns-in-Ok-clause-found g c = said_of_read (λ v. finding.Verdict v) _ _ _ (statement_view c.in-Ok.statement) c.in-Ok.ensures c.answer_by.ensures.found
+pub returns-in-Ok-clause-finds : goal.returns-in-Ok-clause-finds
+returns-in-Ok-clause-finds g c = said_of_read (λ v. finding.Verdict v) _ _ _ (statement_view c.in-Ok.statement) c.in-Ok.ensures c.answer_by.ensures.finds
 
 pub returns-in-Ok-clause-proof : goal.returns-in-Ok-clause-proof
 returns-in-Ok-clause-proof g c = λ form proof. holds_of_read _ _ (statement_view c.in-Ok.statement) c.in-Ok.ensures.0 (c.answer_by.ensures.proof form proof)
 
-pub returns-in-Err-clause-found : goal.returns-in-Err-clause-found
-returns-in-Err-clause-found g c = said_without_statement (λ v. finding.Verdict v) _ _ _ _ c.as_finding.ensures c.in-Err.ensures
+pub returns-in-Err-clause-finds : goal.returns-in-Err-clause-finds
+returns-in-Err-clause-finds g c = said_without_statement (λ v. finding.Verdict v) _ _ _ _ c.as_finding.ensures c.in-Err.ensures
 
 pub returns-in-Err-clause-kind : goal.returns-in-Err-clause-kind
 returns-in-Err-clause-kind g c = unread_of_trace c.args.asked _ _ _ c.as_finding.ensures c.in-Err.ensures

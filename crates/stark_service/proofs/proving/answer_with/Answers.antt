@@ -10,18 +10,18 @@ use Rattle.stark_answers.proofs.VerdictSteps.{of_some}
 use Rattle.stark_service.proofs.StatementSteps.{same_declared, tree_checked}
 use Rattle.stark_service.proofs.proving.answer_with.Goals as goal
 
-pub returns-then-width-eq0-clause-found : goal.returns-then-width-eq0-clause-found
-returns-then-width-eq0-clause-found g c =
+pub returns-then-width-eq0-clause-finds : goal.returns-then-width-eq0-clause-finds
+returns-then-width-eq0-clause-finds g c =
     let d = c.args.statement.now.air.declaration in
     let l = c.args.statement.now.air.list in
     found_without_columns _ _ _ (statement_view c.args.statement.now) c.args.asked _ _ (subst (λ (a : CheckedAir _). a.layout.main ≡ 0) (same_declared d l) (omega (arith, c.width.ensures, c.if-width-eq0.true)))
     (c.as_finding.ensures ∙ ap (λ v. finding.Verdict v) c.bad_input.ensures)
 
 pub returns-then-width-eq0-clause-kind : goal.returns-then-width-eq0-clause-kind
-returns-then-width-eq0-clause-kind g c = told_is_of_trace _ (line_begins _ _ _ _ _ _) _ _ (statement_view c.args.statement.now) c.args.asked _ _ (returns-then-width-eq0-clause-found g c)
+returns-then-width-eq0-clause-kind g c = told_is_of_trace _ (line_begins _ _ _ _ _ _) _ _ (statement_view c.args.statement.now) c.args.asked _ _ (returns-then-width-eq0-clause-finds g c)
 
 pub returns-then-width-eq0-clause-proof : goal.returns-then-width-eq0-clause-proof
-returns-then-width-eq0-clause-proof g c = told_is_file _ (line_begins _ _ _ _ _ _) _ _ (statement_view c.args.statement.now) c.args.asked _ _ (returns-then-width-eq0-clause-found g c)
+returns-then-width-eq0-clause-proof g c = told_is_file _ (line_begins _ _ _ _ _ _) _ _ (statement_view c.args.statement.now) c.args.asked _ _ (returns-then-width-eq0-clause-finds g c)
 
 pub answer_with_rows-requires-clause-able : goal.answer_with_rows-requires-clause-able
 answer_with_rows-requires-clause-able g c = record { ready = c.requires.ready; able = c.requires.able }
@@ -35,8 +35,8 @@ answer_with_rows-requires-clause-columns g c =
       columns = omega (arith, c.width.ensures, c.if-width-eq0.false);
     }
 
-pub returns-in-Ok-Some-clause-found : goal.returns-in-Ok-Some-clause-found
-returns-in-Ok-Some-clause-found g c =
+pub returns-in-Ok-Some-clause-finds : goal.returns-in-Ok-Some-clause-finds
+returns-in-Ok-Some-clause-finds g c =
     let most = c.log_max_trace_height-greatest.ensures ∙ ap (λ p. g.SC.Pcs.Pcs.scheme.log_max_trace_height p) c.pcs.ensures in
     let d = c.args.statement.now.air.declaration in
     let l = c.args.statement.now.air.list in
@@ -44,13 +44,13 @@ returns-in-Ok-Some-clause-found g c =
     (has_rows_found _ _ most (tree_checked d l) _ (same_declared d l) c.in-Ok-Some.field-0 c.in-Ok-Some.log_rows c.in-Ok-Some.field-0-is c.in-Ok-Some.ensures.height c.in-Ok-Some.ensures.within) c.answer_with_rows.ensures
 
 pub returns-in-Ok-Some-clause-kind : goal.returns-in-Ok-Some-clause-kind
-returns-in-Ok-Some-clause-kind g c = told_is_of_trace _ (line_begins _ _ _ _ _ _) _ _ (statement_view c.args.statement.now) c.args.asked _ _ (returns-in-Ok-Some-clause-found g c)
+returns-in-Ok-Some-clause-kind g c = told_is_of_trace _ (line_begins _ _ _ _ _ _) _ _ (statement_view c.args.statement.now) c.args.asked _ _ (returns-in-Ok-Some-clause-finds g c)
 
 pub returns-in-Ok-Some-clause-proof : goal.returns-in-Ok-Some-clause-proof
-returns-in-Ok-Some-clause-proof g c = told_is_file _ (line_begins _ _ _ _ _ _) _ _ (statement_view c.args.statement.now) c.args.asked _ _ (returns-in-Ok-Some-clause-found g c)
+returns-in-Ok-Some-clause-proof g c = told_is_file _ (line_begins _ _ _ _ _ _) _ _ (statement_view c.args.statement.now) c.args.asked _ _ (returns-in-Ok-Some-clause-finds g c)
 
-pub returns-in-Ok-None-clause-found : goal.returns-in-Ok-None-clause-found
-returns-in-Ok-None-clause-found g c =
+pub returns-in-Ok-None-clause-finds : goal.returns-in-Ok-None-clause-finds
+returns-in-Ok-None-clause-finds g c =
     let most = c.log_max_trace_height-greatest.ensures ∙ ap (λ p. g.SC.Pcs.Pcs.scheme.log_max_trace_height p) c.pcs.ensures in
     let d = c.args.statement.now.air.declaration in
     let l = c.args.statement.now.air.list in
@@ -59,7 +59,7 @@ returns-in-Ok-None-clause-found g c =
     (c.as_finding-in-Ok-None.ensures ∙ ap (λ v. finding.Verdict v) c.unfit_rows.ensures)
 
 pub returns-in-Ok-None-clause-kind : goal.returns-in-Ok-None-clause-kind
-returns-in-Ok-None-clause-kind g c = told_is_of_trace _ (line_begins _ _ _ _ _ _) _ _ (statement_view c.args.statement.now) c.args.asked _ _ (returns-in-Ok-None-clause-found g c)
+returns-in-Ok-None-clause-kind g c = told_is_of_trace _ (line_begins _ _ _ _ _ _) _ _ (statement_view c.args.statement.now) c.args.asked _ _ (returns-in-Ok-None-clause-finds g c)
 
 pub returns-in-Ok-None-clause-proof : goal.returns-in-Ok-None-clause-proof
-returns-in-Ok-None-clause-proof g c = told_is_file _ (line_begins _ _ _ _ _ _) _ _ (statement_view c.args.statement.now) c.args.asked _ _ (returns-in-Ok-None-clause-found g c)
+returns-in-Ok-None-clause-proof g c = told_is_file _ (line_begins _ _ _ _ _ _) _ _ (statement_view c.args.statement.now) c.args.asked _ _ (returns-in-Ok-None-clause-finds g c)

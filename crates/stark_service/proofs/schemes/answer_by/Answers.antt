@@ -14,10 +14,10 @@ answer_with-requires-clause-able g c = record {
   no_float = no_float_in_proof _ _ _ _ _ _ no_float_in_root c.requires.extension (no_float_in_opening _ _ c.requires.base c.requires.extension) c.requires.base;
 }
 
-pub returns-in-Fri-clause-found : goal.returns-in-Fri-clause-found
-returns-in-Fri-clause-found g c = rw c.in-Fri.is (
+pub returns-in-Fri-clause-finds : goal.returns-in-Fri-clause-finds
+returns-in-Fri-clause-finds g c = rw c.in-Fri.is (
     found_by_numbers _ c.configured-config.result.pcs c.new-pcs.result (λ pcs. pcs.parameters) c.in-Fri.parameters c.configured-config.result.challenger c.in-Ok.bound _ (statement_view c.args.statement.now)
-    c.configured-config.ensures.pcs c.new-pcs.ensures c.configured-config.ensures.challenger c.in-Ok.ensures _ c.args.asked _ c.answer_with.ensures.found
+    c.configured-config.ensures.pcs c.new-pcs.ensures c.configured-config.ensures.challenger c.in-Ok.ensures _ c.args.asked _ c.answer_with.ensures.finds
     )
 
 pub returns-in-Fri-clause-proof : goal.returns-in-Fri-clause-proof

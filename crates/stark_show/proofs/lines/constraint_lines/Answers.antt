@@ -1,4 +1,4 @@
-use Rattle.std.proofs.Common.{◌<◌, ◌++◌, ◌∙◌, ap, arith, get_or, length, map, string_bytes}
+use Rattle.std.proofs.Common.{◌<◌, ◌∙◌, arith, get_or, length, map}
 use Rattle.stark_tree_air.specs.declared.node.TreeConstraint.TheVariants.{Base}
 use Rattle.stark_show.specs.Expressions.{phrase_view}
 use Rattle.stark_show.proofs.Passes.{fits_here, one_more_line, read_at}

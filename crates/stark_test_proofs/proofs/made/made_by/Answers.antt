@@ -1,6 +1,6 @@
 use Rattle.std.proofs.Common.{◌≡◌, [], ap, is_some, refl, sym, ◌∙◌, IfSome, Option, None, Some, subst}
 use Rattle.stark_protocol.proofs.Carried.{on_ok}
-use Rattle.stark_prover.specs.SetUpFacts.{held_of_set_up, no_columns, same_columns, width_of}
+use Rattle.stark_prover.specs.SetUpFacts.{data_of_set_up, no_columns, same_columns, width_of}
 use Rattle.stark_test_proofs.proofs.Judged.{judged}
 use Rattle.stark_test_proofs.proofs.made.made_by.Goals as goal
 
@@ -11,14 +11,14 @@ at_some P None a is holds = absurd (cc)
 pub prove_and_verify-requires-clause-fits : goal.prove_and_verify-requires-clause-fits
 prove_and_verify-requires-clause-fits g c =
     let made = at_some _ _ _ c.in-Some.is c.in_ok-keys.ensures.set_up in
-    let held = held_of_set_up made.2 in
+    let preprocessed_data = data_of_set_up made.2 in
     let declared = (g.met.A.BaseAir.as_declared c.args.air.now).preprocessed_width in
     record {
       columns = c.requires.columns;
       width = c.requires.width;
-      publics = c.requires.publics;
+      public_values = c.requires.public_values;
       there = sym (ap is_some c.in-Some.is) ∙ c.in_ok-keys.ensures.there ∙ same_columns (g.A.BaseAir.preprocessed_trace c.args.air.now) _ declared;
-      stands = (held.0, held.1, held.2 ∙ sym (width_of (g.A.BaseAir.preprocessed_trace c.args.air.now) made.0 _ declared made.1));
+      stands = (preprocessed_data.0, preprocessed_data.1, preprocessed_data.2 ∙ sym (width_of (g.A.BaseAir.preprocessed_trace c.args.air.now) made.0 _ declared made.1));
     }
 
 pub prove_and_verify-requires-in-None-clause-fits : goal.prove_and_verify-requires-in-None-clause-fits
@@ -29,7 +29,7 @@ prove_and_verify-requires-in-None-clause-fits g c =
     record {
       columns = c.requires.columns;
       width = c.requires.width;
-      publics = c.requires.publics;
+      public_values = c.requires.public_values;
       there = sym none ∙ same_columns trace _ declared;
       stands = ([], refl, sym (no_columns trace _ declared none));
     }

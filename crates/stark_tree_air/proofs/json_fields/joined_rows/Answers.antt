@@ -19,5 +19,5 @@ loop-place-preserved g c =
 pub returns-clause-joined : goal.returns-clause-joined
 returns-clause-joined g c = rows_taken (λ row. row.items) c.args.rows.now c.args.width _ c.loop-place.place c.loop-place.values.items c.loop-place.invariant.joined (omega arith)
 
-pub returns-clause-whole : goal.returns-clause-whole
-returns-clause-whole g c = whole_rows _ c.loop-place.place c.args.width c.loop-place.invariant.many
+pub returns-clause-full_rows : goal.returns-clause-full_rows
+returns-clause-full_rows g c = whole_rows _ c.loop-place.place c.args.width c.loop-place.invariant.many

@@ -8,7 +8,7 @@ use Rattle.stark_verifier.proofs.claims.claims_of.Goals as goal
 pub returns-in_ok-push-in-Some-preprocessed : goal.returns-in_ok-push-in-Some-preprocessed
 returns-in_ok-push-in-Some-preprocessed g c =
     let coset = g.D.PolynomialSpace.coset_of c.args.domain in
-    one_behind (claim_view g.D.PolynomialSpace.coset_of) c.in_ok-claims.claims.items c.push.new.self.items _ _ _ _ _ _ c.in_ok-push-in-Some-preprocessed.ensures.items c.in_ok-claims.ensures c.in_ok-fixed-in-Some-preprocessed.ensures
+    one_behind (claim_view g.D.PolynomialSpace.coset_of) c.in_ok-claims.claims.items c.push.new.self.items _ _ _ _ _ _ c.in_ok-push-in-Some-preprocessed.ensures.items c.in_ok-claims.ensures c.in_ok-preprocessed-in-Some-preprocessed.ensures
     (ap (λ k. preprocessed_rounds coset c.args.zeta c.args.next_zeta (option_map (λ k. k.now) k) (openings_view c.args.proof.now.opened_values).preprocessed) c.in-Some.is ∙
     ap (λ rows. preprocessed_rounds coset c.args.zeta c.args.next_zeta (Some c.in-Some.key.now) (option_map preprocessed_view rows)) c.in-Some-preprocessed.is)
 

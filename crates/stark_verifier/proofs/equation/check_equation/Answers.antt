@@ -28,7 +28,7 @@ check_rows-requires-clause-widths g c =
     let opened = openings_view c.args.on.now.proof.now.opened_values in
     let periodic = c.args.point.now.periodic_values.items in
     let rows = rows_of g.SC.Challenge.Field.ring.zero layout.main layout.preprocessed opened periodic c.args.on.now.public_values.now in
-    let same = c.rows_at_point-rows.ensures ∙ rows_are rows _ _ _ _ _ _ c.as_slice.ensures.value (filled (unwrap_or opened.trace_next) g.SC.Challenge.Field.ring.zero c.row_or.ensures c.as_slice-2.ensures.value c.in_ok-next_filler.ensures c.width.ensures) (opened_local (λ row. row.now) c.preprocessed_local.result opened.preprocessed c.preprocessed_local.ensures) (filled (λ filler. preprocessed_next filler opened.preprocessed) g.SC.Challenge.Field.ring.zero c.preprocessed_next.ensures c.as_slice-3.ensures.value c.in_ok-fixed_filler.ensures c.preprocessed_width.ensures) c.as_slice-4.ensures.value refl in
+    let same = c.rows_at_point-rows.ensures ∙ rows_are rows _ _ _ _ _ _ c.as_slice.ensures.value (filled (unwrap_or opened.trace_next) g.SC.Challenge.Field.ring.zero c.row_or.ensures c.as_slice-2.ensures.value c.in_ok-next_filler.ensures c.width.ensures) (opened_local (λ row. row.now) c.preprocessed_local.result opened.preprocessed c.preprocessed_local.ensures) (filled (λ filler. preprocessed_next filler opened.preprocessed) g.SC.Challenge.Field.ring.zero c.preprocessed_next.ensures c.as_slice-3.ensures.value c.in_ok-preprocessed_filler.ensures c.preprocessed_width.ensures) c.as_slice-4.ensures.value refl in
     let covered = shaped_covered c.requires.shaped periodic _ (g.met.A.BaseAir.as_declared c.args.on.now.air.now)
     (ap length c.requires.sampled.are_values ∙ length-map (g.A.BaseAir.periodic_columns c.args.on.now.air.now) _) in
     λ _. subst (λ given. Covers (opened_layout given) layout) (sym same) covered
@@ -39,7 +39,7 @@ returns g c =
     let opened = openings_view c.args.on.now.proof.now.opened_values in
     let periodic = c.args.point.now.periodic_values.items in
     let rows = rows_of g.SC.Challenge.Field.ring.zero layout.main layout.preprocessed opened periodic c.args.on.now.public_values.now in
-    let same = c.rows_at_point-rows.ensures ∙ rows_are rows _ _ _ _ _ _ c.as_slice.ensures.value (filled (unwrap_or opened.trace_next) g.SC.Challenge.Field.ring.zero c.row_or.ensures c.as_slice-2.ensures.value c.in_ok-next_filler.ensures c.width.ensures) (opened_local (λ row. row.now) c.preprocessed_local.result opened.preprocessed c.preprocessed_local.ensures) (filled (λ filler. preprocessed_next filler opened.preprocessed) g.SC.Challenge.Field.ring.zero c.preprocessed_next.ensures c.as_slice-3.ensures.value c.in_ok-fixed_filler.ensures c.preprocessed_width.ensures) c.as_slice-4.ensures.value refl in
+    let same = c.rows_at_point-rows.ensures ∙ rows_are rows _ _ _ _ _ _ c.as_slice.ensures.value (filled (unwrap_or opened.trace_next) g.SC.Challenge.Field.ring.zero c.row_or.ensures c.as_slice-2.ensures.value c.in_ok-next_filler.ensures c.width.ensures) (opened_local (λ row. row.now) c.preprocessed_local.result opened.preprocessed c.preprocessed_local.ensures) (filled (λ filler. preprocessed_next filler opened.preprocessed) g.SC.Challenge.Field.ring.zero c.preprocessed_next.ensures c.as_slice-3.ensures.value c.in_ok-preprocessed_filler.ensures c.preprocessed_width.ensures) c.as_slice-4.ensures.value refl in
     let trace = g.SC.Pcs.Domain.PolynomialSpace.coset_of c.args.domains.trace in
     let quotient = g.SC.Pcs.Domain.PolynomialSpace.coset_of c.args.domains.quotient in
     let log_chunks = c.args.domains.log_chunks in

@@ -1,6 +1,5 @@
 use Rattle.std.proofs.Common.{◌∙◌, ap, map, refl}
 use Rattle.stark_columns.specs.Columns.{columns_list}
-use Rattle.stark_merkle.specs.Bytes.{pair_bytes_of, row_bytes_of}
 use Rattle.stark_merkle.specs.Tree.{digests_in}
 use Rattle.stark_support.specs.Claims.{round_view}
 use Rattle.stark_fri.specs.Parts.{FriOps}
@@ -28,8 +27,8 @@ returns-in-Ok-clause-true_values g c = λ made stand same.
     (stand_alone _ g.F.PrimeField64.number_of (λ s. s.parameters) (λ d. record { root = d.root; log_height = d.domain.log_size; matrices = map columns_list d.matrices.items; extended = d.extended.items })
     (λ d. digests_in d.layers.items) (λ p. p) _ c.args.self.now made stand)
 
-pub returns-in-Ok-clause-whole : goal.returns-in-Ok-clause-whole
-returns-in-Ok-clause-whole g c = λ made stand same whole.
+pub returns-in-Ok-clause-holds : goal.returns-in-Ok-clause-holds
+returns-in-Ok-clause-holds g c = λ made stand same complete.
     made_is_accepted _ g.F.PrimeField64.number_of (λ s. s.parameters) (λ d. record { root = d.root; log_height = d.domain.log_size; matrices = map columns_list d.matrices.items; extended = d.extended.items })
     (λ d. digests_in d.layers.items) (λ p. p) _ c.args.self.now points_in g.EF.ExtensionField.coordinates
     (record { base = g.met.F.Field.field_laws; extension = g.met.EF.Field.field_laws; embeds = g.met.EF.ExtensionField.embeds; two_adic = g.met.F.TwoAdicField.two_adic; row_bytes = λ rows. refl; pair_bytes = λ x y. refl })

@@ -1,7 +1,7 @@
 use Rattle.stark_service.proofs.field.ResidueScalarServiceField.answer.Goals as goal
 
-pub returns-clause-found : goal.returns-clause-found
-returns-clause-found g c = rw c.new-challenger.ensures at c.answer_over.ensures.found
+pub returns-clause-finds : goal.returns-clause-finds
+returns-clause-finds g c = rw c.new-challenger.ensures at c.answer_over.ensures.finds
 
 pub returns-clause-proof : goal.returns-clause-proof
 returns-clause-proof g c = rw c.new-challenger.ensures at c.answer_over.ensures.proof

@@ -3,14 +3,14 @@ use Rattle.stark_service.proofs.ReadSteps.{holds_of_bytes, said_of_configured, s
 use Rattle.stark_service.proofs.ShowSteps.{unconfigured_told, verdict_proves_none}
 use Rattle.stark_service.proofs.statement.NamedFieldsStatementAnswers.answer.Goals as goal
 
-pub returns-in-Ok-clause-found : goal.returns-in-Ok-clause-found
-returns-in-Ok-clause-found g c = said_of_configured (λ v. finding.Verdict v) _ _ _ _ _ c.in-Ok.ensures.0 c.in-Ok.ensures.1 c.answer_value.ensures.found
+pub returns-in-Ok-clause-finds : goal.returns-in-Ok-clause-finds
+returns-in-Ok-clause-finds g c = said_of_configured (λ v. finding.Verdict v) _ _ _ _ _ c.in-Ok.ensures.0 c.in-Ok.ensures.1 c.answer_value.ensures.finds
 
 pub returns-in-Ok-clause-proof : goal.returns-in-Ok-clause-proof
 returns-in-Ok-clause-proof g c = λ form proof. holds_of_bytes _ _ _ _ c.in-Ok.ensures.0 c.in-Ok.ensures.1 (c.answer_value.ensures.proof form proof)
 
-pub returns-in-Err-clause-found : goal.returns-in-Err-clause-found
-returns-in-Err-clause-found g c = said_unconfigured (λ v. finding.Verdict v) _ _ _ _ c.as_finding.ensures c.in-Err.ensures
+pub returns-in-Err-clause-finds : goal.returns-in-Err-clause-finds
+returns-in-Err-clause-finds g c = said_unconfigured (λ v. finding.Verdict v) _ _ _ _ c.as_finding.ensures c.in-Err.ensures
 
 pub returns-in-Err-clause-kind : goal.returns-in-Err-clause-kind
 returns-in-Err-clause-kind g c = unconfigured_told _ _ c.as_finding.ensures _ _ c.in-Err.ensures

@@ -11,6 +11,6 @@ returns-clause-true_values g c = λ made stand same.
     c.in_ok-opened.ensures ∙ ap (λ t. map (opened_round ring embed) (map round_view t)) c.deref.ensures.value ∙ ap (map (opened_round ring embed)) same
     ∙ true_openings ring embed g.row.C.Denot g.F.TwoAdicField.TWO_ADICITY (λ s. s.stops_at) _ c.args.self.now made stand
 
-pub returns-clause-whole : goal.returns-clause-whole
-returns-clause-whole g c = λ made stand same whole.
-    (true_claims g.EF.Field.ring g.EF.ExtensionField.embed g.row.C.Denot g.F.TwoAdicField.TWO_ADICITY (λ s. s.stops_at) _ c.args.self.now made stand, whole)
+pub returns-clause-holds : goal.returns-clause-holds
+returns-clause-holds g c = λ made stand same complete.
+    (true_claims g.EF.Field.ring g.EF.ExtensionField.embed g.row.C.Denot g.F.TwoAdicField.TWO_ADICITY (λ s. s.stops_at) _ c.args.self.now made stand, complete)

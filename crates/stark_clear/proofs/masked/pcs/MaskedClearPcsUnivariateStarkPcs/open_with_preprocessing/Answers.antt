@@ -7,7 +7,7 @@ of_every_answer : {A B : Type 0} (r : Result A B) (P : A → Type 0) → ((a : A
 of_every_answer (Ok a) P h = h a
 of_every_answer (Err e) P h = tt
 
-pub returns-clause-whole : goal.returns-clause-whole
-returns-clause-whole g c =
+pub returns-clause-holds : goal.returns-clause-holds
+returns-clause-holds g c =
     of_every_answer c.open_with_preprocessing.result _
-    (λ opened made stand same whole. (true_claims g.EF.Field.ring g.EF.ExtensionField.embed g.row.C.Denot g.F.TwoAdicField.TWO_ADICITY (λ s. s.stops_at) _ c.args.self.now made stand, whole))
+    (λ opened made stand same complete. (true_claims g.EF.Field.ring g.EF.ExtensionField.embed g.row.C.Denot g.F.TwoAdicField.TWO_ADICITY (λ s. s.stops_at) _ c.args.self.now made stand, complete))

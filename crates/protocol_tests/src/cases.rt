@@ -1,45 +1,46 @@
 //! Rows of proofs, and what is said of numbers in them.
-use stark_test_rows::given_and_answer;
+use stark_test_cases::given_and_answer;
 use std::alloc::Global;
 use std::process::Abort;
 use std::test::Fail;
 
-/// Asserts that what was found of a proof is what a row says: `accepted` stands for a proof that
+/// Asserts that what was found of a proof is what a case says: `accepted` stands for a proof that
 /// the verifier accepts.
-fn assert_found(rt: &impl Abort, input: &str, found: &str, expected: &str) {
+fn assert_answered(rt: &impl Abort, input: &str, actual: &str, expected: &str) {
     if expected == "accepted" {
-        assert!(rt; found.ends_with(" Ok(())"), "{input}: {found}");
+        assert!(rt; actual.ends_with(" Ok(())"), "{input}: {actual}");
     } else {
-        assert_eq!(rt; found, expected, "{input}");
+        assert_eq!(rt; actual, expected, "{input}");
     }
 }
 
-/// Asserts that each row of proofs behind a front that all have is answered as the row says.
-pub fn proof_rows(
+/// Asserts that each case of proofs behind a front that all have is answered as the case says.
+pub fn proof_cases(
     rt: &impl Abort,
     alloc: Global,
     front: &str,
-    rows: &str,
+    cases: &str,
     answer: fn(Global, &str, &str) -> Result<String, Fail>,
 ) -> Result<(), Fail>
     requires { IsAlwaysCallable answer }
 {
-    for line in rows.lines() {
+    for line in cases.lines() {
         if let Some((given, expected)) = given_and_answer(line)? {
             let input = format!(in alloc; "{front}{given}")?;
-            let found = answer(alloc, "provers", &input)?;
-            assert_found(rt, &input, &found, expected);
+            let actual = answer(alloc, "provers", &input)?;
+            assert_answered(rt, &input, &actual, expected);
         }
     }
     Ok(())
 }
 
-/// The same over all three fields, which answer alike.
-pub fn agreeing_rows(
+/// Asserts that each case of proofs is answered as it says over all three fields, which answer
+/// alike.
+pub fn agreeing_cases(
     rt: &impl Abort,
     alloc: Global,
     front: &str,
-    rows: &str,
+    cases: &str,
     one: fn(Global, &str, &str) -> Result<String, Fail>,
     four: fn(Global, &str, &str) -> Result<String, Fail>,
     eight: fn(Global, &str, &str) -> Result<String, Fail>,
@@ -48,18 +49,18 @@ pub fn agreeing_rows(
     requires four { IsAlwaysCallable four }
     requires eight { IsAlwaysCallable eight }
 {
-    for line in rows.lines() {
+    for line in cases.lines() {
         if let Some((given, expected)) = given_and_answer(line)? {
             let input = format!(in alloc; "{front}{given}")?;
-            let found = one(alloc, "provers", &input)?;
+            let actual = one(alloc, "provers", &input)?;
             let others = [
                 four(alloc, "provers", &input)?,
                 eight(alloc, "provers", &input)?,
             ];
             for other in &others {
-                assert_eq!(rt; other.as_str(), found.as_str(), "{input}");
+                assert_eq!(rt; other.as_str(), actual.as_str(), "{input}");
             }
-            assert_found(rt, &input, &found, expected);
+            assert_answered(rt, &input, &actual, expected);
         }
     }
     Ok(())

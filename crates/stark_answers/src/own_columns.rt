@@ -15,9 +15,9 @@ use stark_prover::{prove, prove_with_preprocessed};
 use stark_support::{GrindingChallenger, PackedExtensionField, PackedField, RowMajorMatrix};
 use std::alloc::Global;
 
-/// A prover's answer for a trace, with what is held of the AIR's preprocessed columns, which have
-/// `2^log_rows` rows. The scheme sets up all columns.
-pub fn prove_with_held<SC, A>(
+/// A prover's answer for a trace, beside the AIR's own preprocessed columns, which are set up first
+/// and have `2^log_rows` rows. The scheme sets up all columns.
+pub fn prove_with_own_columns<SC, A>(
     alloc: Global,
     config: &SC,
     air: &A,

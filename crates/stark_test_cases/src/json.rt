@@ -9,7 +9,7 @@ pub fn spelled<T: JsonCodec>(alloc: Global, text: &str) -> Result<T, JsonFault> 
     T::from_json(alloc, &value)
 }
 
-/// The same, where it has to spell something.
+/// The value that a text of JSON spells; an error where it spells none.
 pub fn read<T: JsonCodec>(alloc: Global, text: &str) -> Result<T, Fail> {
     Ok(spelled::<T>(alloc, text).ok().ok_or("no such value")?)
 }

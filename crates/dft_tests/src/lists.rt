@@ -1,6 +1,6 @@
-//! Columns of a row as text.
+//! Columns as text.
 use stark_support::PrimeField64;
-use stark_test_rows::elements_in;
+use stark_test_cases::elements_in;
 use std::alloc::Global;
 use std::test::Fail;
 

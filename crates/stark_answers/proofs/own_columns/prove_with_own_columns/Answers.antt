@@ -1,8 +1,8 @@
 use Rattle.std.proofs.Common.{None, Some, [], ap, is_some, refl, sym, ◌∙◌}
-use Rattle.stark_prover.specs.SetUpFacts.{held_of_set_up, no_columns, same_columns, some_columns, stands_for_set_up, width_of}
+use Rattle.stark_prover.specs.SetUpFacts.{data_of_set_up, no_columns, same_columns, some_columns, stands_for_set_up, width_of}
 use Rattle.stark_answers.proofs.VerdictSteps.{of_some}
 use Rattle.stark_answers.proofs.TraceSteps.{answers, at_columns, lacks_memory, only_memory, same_degree}
-use Rattle.stark_answers.proofs.held.prove_with_held.Goals as goal
+use Rattle.stark_answers.proofs.own_columns.prove_with_own_columns.Goals as goal
 
 pub setup_preprocessed-requires-clause-within : goal.setup_preprocessed-requires-clause-within
 setup_preprocessed-requires-clause-within g c = λ trace declared some. c.requires.within
@@ -15,7 +15,7 @@ prove-requires-clause-fits g c =
     record {
       columns = c.requires.fits.columns;
       width = c.requires.fits.width;
-      publics = c.requires.fits.publics;
+      public_values = c.requires.fits.public_values;
       there = sym none ∙ same_columns trace _ declared;
       stands = ([], refl, sym (no_columns trace _ declared none));
     }
@@ -24,19 +24,19 @@ pub prove_with_preprocessed-requires-clause-height : goal.prove_with_preprocesse
 prove_with_preprocessed-requires-clause-height g c =
     let made = of_some _ c.in-Ok-Some.field-0 (c.in-Ok-Some.data, c.in-Ok-Some._key) c.in-Ok-Some.field-0-is c.in-Ok-Some.ensures.set_up in
     let there = sym (ap is_some c.in-Ok-Some.field-0-is) ∙ c.in-Ok-Some.ensures.there ∙ same_columns (g.A.BaseAir.preprocessed_trace c.args.air.now) _ (g.met.A.BaseAir.as_declared c.args.air.now).preprocessed_width in
-    (c.requires.fits.height, c.requires.fits.rows, c.requires.fits.within, same_degree _ _ _ _ made.2.prover_degree (c.requires.fits.fixed_rows (some_columns _ there)))
+    (c.requires.fits.height, c.requires.fits.rows, c.requires.fits.within, same_degree _ _ _ _ made.2.prover_degree (c.requires.fits.preprocessed_rows (some_columns _ there)))
 
 pub prove_with_preprocessed-requires-clause-fits : goal.prove_with_preprocessed-requires-clause-fits
 prove_with_preprocessed-requires-clause-fits g c =
     let made = of_some _ c.in-Ok-Some.field-0 (c.in-Ok-Some.data, c.in-Ok-Some._key) c.in-Ok-Some.field-0-is c.in-Ok-Some.ensures.set_up in
-    let held = held_of_set_up made.2 in
+    let parts = data_of_set_up made.2 in
     let declared = (g.met.A.BaseAir.as_declared c.args.air.now).preprocessed_width in
     record {
       columns = c.requires.fits.columns;
       width = c.requires.fits.width;
-      publics = c.requires.fits.publics;
+      public_values = c.requires.fits.public_values;
       there = sym (ap is_some c.in-Ok-Some.field-0-is) ∙ c.in-Ok-Some.ensures.there ∙ same_columns (g.A.BaseAir.preprocessed_trace c.args.air.now) _ declared;
-      stands = (held.0, held.1, held.2 ∙ sym (width_of (g.A.BaseAir.preprocessed_trace c.args.air.now) made.0 _ declared made.1));
+      stands = (parts.0, parts.1, parts.2 ∙ sym (width_of (g.A.BaseAir.preprocessed_trace c.args.air.now) made.0 _ declared made.1));
     }
 
 pub returns-in-Ok-None : goal.returns-in-Ok-None

@@ -129,7 +129,7 @@ fn assert_staged(rt: &impl Abort, alloc: Global, case: &Case) -> Result<(), Fail
 
 /// What is asserted of a table's runs.
 #[derive(Clone, Copy)]
-pub(crate) enum Told {
+pub(crate) enum Asserted {
     /// What each leaves in its output and its writer, wherever these fail.
     Delivery,
     /// That of each the stages are told that its case asks for.
@@ -137,18 +137,18 @@ pub(crate) enum Told {
 }
 
 /// Asserts what is told of each of a table's runs, and that there are so many.
-pub(crate) fn all_told(
+pub(crate) fn all_runs(
     rt: &impl Abort,
     alloc: Global,
-    stage: Told,
+    stage: Asserted,
     table: &str,
     count: usize,
 ) -> Result<(), Fail> {
     let mut runs = 0usize;
     for case in &cases_of(alloc, Program::Voskligan, table)? {
         let more = match stage {
-            Told::Delivery => taken_at_each_write(rt, alloc, case)?,
-            Told::Stages => {
+            Asserted::Delivery => taken_at_each_write(rt, alloc, case)?,
+            Asserted::Stages => {
                 assert_staged(rt, alloc, case)?;
                 1
             }

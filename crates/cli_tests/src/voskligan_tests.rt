@@ -1,4 +1,4 @@
-use crate::delivery::{Told, all_told};
+use crate::delivery::{Asserted, all_runs};
 use crate::faults::{Spoiled, all_spoiled, written_or_no_memory};
 use crate::program::Program;
 use crate::runs::{all_cases, words_of};
@@ -90,12 +90,12 @@ fn failing_writes(rt: HostRuntime) -> Result<(), Fail> {
 
 #[test]
 fn proofs_to_an_output(rt: HostRuntime) -> Result<(), Fail> {
-    all_told(&rt, rt.alloc(), Told::Delivery, DELIVERED, 1257)
+    all_runs(&rt, rt.alloc(), Asserted::Delivery, DELIVERED, 1257)
 }
 
 #[test]
-fn stages_are_told(rt: HostRuntime) -> Result<(), Fail> {
-    all_told(&rt, rt.alloc(), Told::Stages, STAGES, 7)
+fn stages_are_stated(rt: HostRuntime) -> Result<(), Fail> {
+    all_runs(&rt, rt.alloc(), Asserted::Stages, STAGES, 7)
 }
 
 /// What a word names, in words.

@@ -80,7 +80,7 @@ pub fn answer(alloc: Global, row: &str) -> Result<String, Fail> {
 
 /// Whether bytes, of which one may differ from those of an accepted text, are answered as they have
 /// to be: they spell no text, or no proof, or one that is refused, or the same proof.
-fn is_told(alloc: Global, honest: &str, bytes: &[u8]) -> Result<bool, Fail> {
+fn is_stated(alloc: Global, honest: &str, bytes: &[u8]) -> Result<bool, Fail> {
     let Ok(value) = value_from_bytes(alloc, bytes) else {
         return Ok(true);
     };
@@ -111,7 +111,7 @@ pub fn each_byte_replaced(alloc: Global, name: &str, byte: u8) -> Result<usize, 
         if let Some(slot) = bytes.get_mut(place) {
             *slot = byte;
         }
-        if !is_told(alloc, &honest, &bytes)? {
+        if !is_stated(alloc, &honest, &bytes)? {
             return Err(Fail::new("another proof is accepted"));
         }
         count = count.saturating_add(1);

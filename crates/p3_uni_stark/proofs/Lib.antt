@@ -1,3 +1,3 @@
-pub mod HonestVerdict
+pub mod CompletenessVerdict
 pub mod CheckedSteps
 pub mod SizedDegrees

@@ -12,7 +12,7 @@ use Rattle.stark_protocol.specs.declared.preprocessed.PreprocessedProverData.{Pr
 use Rattle.stark_protocol.specs.declared.preprocessed.PreprocessedVerifierKey.{PreprocessedVerifierKey}
 use Rattle.stark_protocol.specs.Preprocessing.{HasHeight}
 use Rattle.stark_prover.specs.Heights.{HasRoom, IsCommittedAt, IsOfHeight}
-use Rattle.stark_prover.specs.Honest.{AreSetUp, IsAcceptedOutside}
+use Rattle.stark_prover.specs.Completeness.{AreSetUp, IsAcceptedOutside}
 use Rattle.stark_transcript.specs.declared.error.ProvingError.{ProvingError}
 use Rattle.p3_uni_stark.specs.declared.checked.CheckedProvingError.{CheckedProvingError}
 use Rattle.p3_uni_stark.specs.declared.checked.CheckedProvingError.TheVariants.{Proving, Violation as Broken}

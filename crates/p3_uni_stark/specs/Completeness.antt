@@ -6,7 +6,7 @@ use Rattle.stark_proof.specs.ProofView.{ProofView}
 use Rattle.stark_protocol.specs.Acceptance.{IsPointOfH, challenges}
 use Rattle.stark_protocol.specs.Instance.{Instance, ProtocolOps, log_height}
 use Rattle.stark_protocol.specs.declared.preprocessed.PreprocessedProverData.{PreprocessedProverData}
-use Rattle.stark_prover.specs.Honest.{AreSetUp, HasSizedDegrees, IsSatisfied}
+use Rattle.stark_prover.specs.Completeness.{AreSetUp, HasSizedDegrees, IsSatisfied}
 
 -- The trace has 2 ^ height rows, as many as the scheme takes, and the scheme refuses no true opening.
 pub record IsProvable {S F E C K T P X Y : Type 0} (scheme : SchemeOps S F E C K T P X Y) (s : S) (trace : Trace F) (height : ℕ) : Type 0 where
@@ -16,7 +16,7 @@ pub record IsProvable {S F E C K T P X Y : Type 0} (scheme : SchemeOps S F E C K
 
 -- Prover's data and key are the two parts of one set-up, or there is neither; the trace satisfies the AIR, whose constraints'
 -- degrees fit the quotient's domain; and the zeta that the proof's replay draws is no point of H.
-pub record IsHonest {S F E C K T P X Y : Type 0} (ops : ProtocolOps S F E C K T P X Y) (i : Instance S F C K) (declared : Option (Trace F)) (preprocessed_data : Option (PreprocessedProverData K T)) (height : ℕ) (trace : Trace F) (p : ProofView K E P F) : Type 0 where
+pub record IsOfSatisfyingTrace {S F E C K T P X Y : Type 0} (ops : ProtocolOps S F E C K T P X Y) (i : Instance S F C K) (declared : Option (Trace F)) (preprocessed_data : Option (PreprocessedProverData K T)) (height : ℕ) (trace : Trace F) (p : ProofView K E P F) : Type 0 where
   pub set_up : AreSetUp ops.opening i.scheme height declared preprocessed_data i.key
   pub satisfied : IsSatisfied ops i height declared trace
   pub sized : HasSizedDegrees ops i height

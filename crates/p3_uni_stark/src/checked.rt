@@ -9,7 +9,7 @@ ghost use Rattle.stark_proof.specs.ProofView.{proof_view};
 ghost use Rattle.stark_proof.specs.declared.values.Proof.{Proof};
 ghost use Rattle.stark_protocol.specs.declared.preprocessed.PreprocessedProverData.{PreprocessedProverData};
 ghost use Rattle.stark_prover.specs.Conditions.{FitsAir};
-ghost use Rattle.stark_prover.specs.Honest.{HasSizedDegrees};
+ghost use Rattle.stark_prover.specs.Completeness.{HasSizedDegrees};
 ghost use Rattle.stark_prover.specs.ProverView.{instance_of};
 ghost use Rattle.p3_uni_stark.specs.Checked.{FitsSchemeAsDeclared, IsAcceptedIfSetUp, IsViolationOr, checked_error};
 ghost use Rattle.p3_uni_stark.specs.Completeness.{IsProvable};

@@ -11,10 +11,10 @@ ghost use Rattle.stark_protocol.specs.declared.preprocessed.PreprocessedProverDa
 ghost use Rattle.stark_protocol.specs.declared.preprocessed.PreprocessedVerifierKey.{PreprocessedVerifierKey};
 ghost use Rattle.stark_prover.specs.Conditions.{FitsAir};
 ghost use Rattle.stark_prover.specs.Heights.{FitsSchemeBeside};
-ghost use Rattle.stark_prover.specs.Honest.{HasSizedDegrees};
+ghost use Rattle.stark_prover.specs.Completeness.{HasSizedDegrees};
 ghost use Rattle.stark_prover.specs.ProverView.{instance_of};
 ghost use Rattle.stark_transcript.specs.declared.error.VerificationError.{VerificationError};
-ghost use Rattle.p3_uni_stark.specs.Completeness.{IsHonest, IsProvable};
+ghost use Rattle.p3_uni_stark.specs.Completeness.{IsOfSatisfyingTrace, IsProvable};
 
 use stark_air::Air;
 use stark_parts::{Com, PcsError, PcsProverError, StarkGenericConfig, Val};
@@ -73,7 +73,7 @@ where
 
     ghost complete = { λ config air public_values preprocessed_data key trace made. (height : ℕ)
         → IsProvable SC.Pcs.scheme (SC.config.scheme config) (trace_of trace) height
-        → IsHonest ⟦<SC as StarkOperations>⟧.operations
+        → IsOfSatisfyingTrace ⟦<SC as StarkOperations>⟧.operations
         (⟦<SC as StarkInstance<A>>⟧.instance config air public_values (option_copied key))
         (A.preprocessed_trace air) (option_copied preprocessed_data) height (trace_of trace)
         (proof_view made.0)

@@ -34,7 +34,7 @@ script 4 3 | second | 1 0 1 => None
 # Work is done before alpha and before zeta. A verifier draws what a prover does, and so does a prover that stops behind zeta.
 sha256 | sides | 1 2 7 3 4 => the same
 
-# The same with one of them changed. Answered is whether the next draw is another one, and whether alpha is.
+# Two runs, of which the second changes one of them. Answered is whether the next draw is another one, and whether alpha is.
 sha256 | changed | 1 2 7 3 4 | 8 2 7 3 4 => true true
 sha256 | changed | 1 2 7 3 4 | 1 8 7 3 4 => true true
 sha256 | changed | 1 2 7 3 4 | 1 2 8 3 4 => true true

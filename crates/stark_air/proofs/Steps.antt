@@ -11,7 +11,7 @@ use Rattle.stark_air.specs.Emission.{EmissionLaws, AfterBeginning, Asserted}
 pub shown : {V : Type 0} {E : Type 0} (from_gives : V → E → Type 0) (stands : E → E → Type 0) (values : ℕ → E) (count : ℕ) (row : ℕ → Option V) (c : ℕ) (x : V) (y : E) → Shows from_gives stands values count row → c < count → row c ≡ Some x → from_gives x y → stands (values c) y
 shown from_gives stands values count row c x y h within read given = subst (λ o. IsVariableOf from_gives stands (values c) o) read (h.shows c within) y given
 
--- The same where a slice was indexed.
+-- The variable in a slice that was indexed stands for the column's value.
 pub shown_read : {V : Type 0} {E : Type 0} (from_gives : V → E → Type 0) (stands : E → E → Type 0) (values : ℕ → E) (count : ℕ) (row : List V) (c : ℕ) (x : V) (y : E) → Shows from_gives stands values count (slice_get row) → c < count → x ≡ get_or row c x → from_gives x y → stands (values c) y
 shown_read {V} from_gives stands values count row c x y h within read given = go (slice_get row c) refl (h.shows c within) where
   go : (o : Option V) → slice_get row c ≡ o → IsVariableOf from_gives stands (values c) o → stands (values c) y

@@ -15,7 +15,7 @@ symbolic_layout l = record {
   periodics = l.num_periodic_columns;
 }
 
--- The same, with the counts of the values in hand.
+-- The layout, with the counts of the values in hand.
 abbrev pub rows_layout : {A : Type 0} {B : Type 0} → AirLayout → List A → List B → Layout
 rows_layout l public_values periodic = record (symbolic_layout l) { public_values = length public_values; periodics = length periodic }
 

@@ -9,7 +9,7 @@ use Rattle.stark_completeness.proofs.HeightSteps.{rows_are}
 abbrev matrix_trace : {F : Type 0} → RowMajorMatrix F → Trace F
 matrix_trace m = record { width = m.width; values = m.values.items }
 
-module _ {F : Type 0} (declared : Option (Trace F)) (found : Option (RowMajorMatrix F)) (is : option_map matrix_trace found ≡ declared) (m : RowMajorMatrix F) (some : found ≡ Some m) where
+module _ {F : Type 0} (declared : Option (Trace F)) (obtained : Option (RowMajorMatrix F)) (is : option_map matrix_trace obtained ≡ declared) (m : RowMajorMatrix F) (some : obtained ≡ Some m) where
   same_trace : (trace : Trace F) → declared ≡ Some trace → matrix_trace m ≡ trace
   same_trace trace declares = let same : Some (matrix_trace m) ≡ Some trace = ap (option_map matrix_trace) (sym some) ∙ is ∙ declares in cc
 

@@ -34,12 +34,12 @@ module _ {S F E C K T P X Y : Type 0} (ops : ProtocolOps S F E C K T P X Y) (coo
   module _ (i : Instance S F C K) (preprocessed_data : Option (PreprocessedProverData K T)) (height : ℕ) (trace : Trace F) where
     tells_prover : (answer : Result (Proof K E P F) (ProvingError Y)) (f : Finding) → TellsAnswer IsFound answer f → IsAnswer ops coordinates i preprocessed_data height trace answer
         → TellsProver form file (IsMadeOf ops coordinates i preprocessed_data height trace) (IsCause ops coordinates i preprocessed_data height trace) f
-    tells_prover (Ok proof) f tells holds = let found = exact proof f tells in inl (found.0, proof_view proof, holds, found.1)
+    tells_prover (Ok proof) f tells holds = let obtained = exact proof f tells in inl (obtained.0, proof_view proof, holds, obtained.1)
     tells_prover (Err error) f tells holds = inr (error, holds, tells)
 
-  memory_told : (answer : Result (Proof K E P F) (ProvingError Y)) (f : Finding) → TellsAnswer IsFound answer f → answer ≡ Err ProvingError.OutOfMemory → f ≡ no_memory
-  memory_told (Ok proof) f tells memory = absurd (cc)
-  memory_told (Err error) f tells memory = tells ∙ ap (λ e. finding.Verdict (verdict.Refused (prover_refusal_of e))) (let same : error ≡ ProvingError.OutOfMemory = cc in same)
+  memory_stated : (answer : Result (Proof K E P F) (ProvingError Y)) (f : Finding) → TellsAnswer IsFound answer f → answer ≡ Err ProvingError.OutOfMemory → f ≡ no_memory
+  memory_stated (Ok proof) f tells memory = absurd (cc)
+  memory_stated (Err error) f tells memory = tells ∙ ap (λ e. finding.Verdict (verdict.Refused (prover_refusal_of e))) (let same : error ≡ ProvingError.OutOfMemory = cc in same)
 
   -- With a configuration's parts, what tells of an answer tells of the trace.
   pub is_proved : (log_rows : ℕ) (air : CheckedAir F) (given_scheme scheme : S) (start first_state : C) (bits ood_bits first_bits alpha_bits : ℕ) (public_values : List F) (height : ℕ) (trace : Trace F)
@@ -55,8 +55,8 @@ module _ {S F E C K T P X Y : Type 0} (ops : ProtocolOps S F E C K T P X Y) (coo
       (subst (λ n. (f ≡ no_memory) ⊎ IsProved ops coordinates form file log_rows given_scheme start air height trace public_values bits n f) asks_first
       (elim tells [
         | inl memory ↦ inl memory
-        | inr told ↦ elim answers [
-          | inl memory ↦ inl (memory_told answer f told memory)
-          | inr made ↦ inr (made.0, made.1, tells_prover _ made.0 height trace answer f told made.2)
+        | inr stated ↦ elim answers [
+          | inl memory ↦ inl (memory_stated answer f stated memory)
+          | inr made ↦ inr (made.0, made.1, tells_prover _ made.0 height trace answer f stated made.2)
         ]
       ]))))

@@ -44,7 +44,7 @@ use Rattle.stark_answers.proofs.TakenColumns.{all_below, commitments_fit, commit
 module _ {F E : Type 0} (i : AirInstance F E) (laws : FieldLaws i.ring i.inverse) (columns : Columns F E) where
   -- What follows of a broken trace is an alternative to a trace that isn't.
   satisfied_or : (A : Type 0) → ((Satisfies i columns → ⊥) → A) → Satisfies i columns ⊎ A
-  satisfied_or A follows = elim (first_broken i laws columns (height i) (omega arith)) [ inl kept ↦ inl kept | inr found ↦ inr (follows (λ kept. found.1.broken (kept found.0 found.1.in_trace))) ]
+  satisfied_or A follows = elim (first_broken i laws columns (height i) (omega arith)) [ inl kept ↦ inl kept | inr obtained ↦ inr (follows (λ kept. obtained.1.broken (kept obtained.0 obtained.1.in_trace))) ]
 
 -- ---- a shape without a fault
 
@@ -69,8 +69,8 @@ no_key_no_rows {K = K} width reads_next degree_bits None (Some rows) clear none 
 height_within : (log_chunks is_zk degree_bits adicity greatest : ℕ) → quotient_fault log_chunks is_zk degree_bits adicity greatest ≡ None → degree_bits - is_zk ≤ adicity
 height_within log_chunks is_zk degree_bits adicity greatest clear =
     let last = later_none (fault_if (nat_le 64 (degree_bits + log_chunks)) _) _ (later_none (fault_if (nat_le 64 (log_chunks + is_zk)) _) _ clear) in
-    let found : nat_lt adicity (degree_bits + log_chunks) ≡ false = not_found (nat_lt adicity (degree_bits + log_chunks)) _ last in
-    grind (arith, found)
+    let obtained : nat_lt adicity (degree_bits + log_chunks) ≡ false = not_found (nat_lt adicity (degree_bits + log_chunks)) _ last in
+    grind (arith, obtained)
 
 no_random : {K R X : Type 0} (is_zk : Bool) (commitment : Option K) (row : Option R) → is_zk ≡ false → randomization_fault {X = X} is_zk commitment row ≡ None → commitment ≡ None
 no_random true commitment row plain clear = absurd (cc)

@@ -17,10 +17,10 @@ pub accepted_soundly : {S F E C T P X Y : Type 0} (ops : ProtocolOps S F E C (Li
     → (scheme : S) (first_state : C) (proof : ProofView (Listed F) E P F) (public_values : List F) (ood_bits alpha_bits : ℕ)
     → IsVerdict ops log_rows scheme first_state air proof public_values ood_bits alpha_bits verdict.Accepted → IsSoundWithKey ops log_rows scheme first_state air proof public_values ood_bits alpha_bits
 unfolding IsVerdict IsSoundWithKey
-accepted_soundly ops log_rows clear air within is_declared scheme first_state proof public_values ood_bits alpha_bits found = (
-  found.0,
-  found.1,
-  accepted_columns_are_sound ops log_rows clear (instance_of air scheme first_state ood_bits alpha_bits public_values found.0) proof air.preprocessed_trace within is_declared found.1 found.2,
+accepted_soundly ops log_rows clear air within is_declared scheme first_state proof public_values ood_bits alpha_bits obtained = (
+  obtained.0,
+  obtained.1,
+  accepted_columns_are_sound ops log_rows clear (instance_of air scheme first_state ood_bits alpha_bits public_values obtained.0) proof air.preprocessed_trace within is_declared obtained.1 obtained.2,
 )
 
 pub accepted_of_taken : {S F E C K T P X Y : Type 0} (ops : ProtocolOps S F E C K T P X Y) (log_rows : ℕ) → FieldLaws ops.opening.fields.ring ops.opening.fields.inverse → (air : CheckedAir F) → LeavesWithin air.layout air.constraints
@@ -28,8 +28,8 @@ pub accepted_of_taken : {S F E C K T P X Y : Type 0} (ops : ProtocolOps S F E C 
     → (scheme : S) (first_state : C) (proof : ProofView K E P F) (public_values : List F) (ood_bits alpha_bits : ℕ)
     → IsVerdict ops log_rows scheme first_state air proof public_values ood_bits alpha_bits verdict.Accepted → IsSoundOfTaken ops log_rows scheme first_state air proof public_values ood_bits alpha_bits
 unfolding IsVerdict IsSoundOfTaken
-accepted_of_taken ops log_rows laws air within is_declared scheme first_state proof public_values ood_bits alpha_bits found = (
-  found.0,
-  found.1,
-  accepted_is_sound ops (instance_of air scheme first_state ood_bits alpha_bits public_values found.0) proof laws within air.preprocessed_trace is_declared found.2,
+accepted_of_taken ops log_rows laws air within is_declared scheme first_state proof public_values ood_bits alpha_bits obtained = (
+  obtained.0,
+  obtained.1,
+  accepted_is_sound ops (instance_of air scheme first_state ood_bits alpha_bits public_values obtained.0) proof laws within air.preprocessed_trace is_declared obtained.2,
 )

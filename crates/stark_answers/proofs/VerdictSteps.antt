@@ -49,12 +49,12 @@ module _ {S F E C K T P X Y : Type 0} (ops : ProtocolOps S F E C K T P X Y) (log
       → first_bits ≡ alpha_bits → IsAnswerWithKey ops log_rows given_scheme air.preprocessed_trace (λ key. instance_of air given_scheme start bits first_bits public_values key) proof answer
       → (v ≡ verdict.Refused refusal.OutOfMemory) ⊎ IsVerdict ops log_rows scheme first_state air proof public_values ood_bits alpha_bits v
   unfolding IsVerdict
-  is_verdict air given_scheme scheme start first_state bits ood_bits first_bits alpha_bits public_values proof answer v is named begins asks asks_first found =
+  is_verdict air given_scheme scheme start first_state bits ood_bits first_bits alpha_bits public_values proof answer v is named begins asks asks_first obtained =
       subst (λ k. (v ≡ verdict.Refused refusal.OutOfMemory) ⊎ IsVerdict ops log_rows k first_state air proof public_values ood_bits alpha_bits v) named
       (subst (λ s. (v ≡ verdict.Refused refusal.OutOfMemory) ⊎ IsVerdict ops log_rows given_scheme s air proof public_values ood_bits alpha_bits v) begins
       (subst (λ n. (v ≡ verdict.Refused refusal.OutOfMemory) ⊎ IsVerdict ops log_rows given_scheme start air proof public_values n alpha_bits v) asks
       (subst (λ n. (v ≡ verdict.Refused refusal.OutOfMemory) ⊎ IsVerdict ops log_rows given_scheme start air proof public_values bits n v) asks_first
-      (elim found [
+      (elim obtained [
         | inl memory ↦ inl (is ∙ ap verdict_of_answer memory)
         | inr exact ↦ inr (exact.0, exact.1, verdict_tells _ _ answer v is exact.2)
       ]))))

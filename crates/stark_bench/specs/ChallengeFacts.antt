@@ -147,11 +147,11 @@ module _ {M : Type 0} (K : Type 0) (G : Ghosts M) (s state : List ℕ) (bits fir
 
   pub one_of_four_found : (n : ℕ) → NonePassedBelow (sha_passes {M = M} {K = K} {G = G}) s bits first → IsFirstOfFour (λ n. passes_behind (after_trial state n) bits) first (Some n)
       → Some (residue n) ≡ found_by (sha_passes {M = M} {K = K} {G = G}) s bits
-  one_of_four_found n before found =
-      let j = found.0 in
-      let passes = ap (λ m. passes_behind (after_trial state m) bits) (sym found.2) ∙ found.3 in
-      rw found.2 (search_finds (sha_passes {M = M} {K = K} {G = G}) s bits (first + j) (none_to j (omega (arith, found.1)) before found.4) refl refl
-      (trial j found.1 ∙ passes) (omega (arith, found.1)))
+  one_of_four_found n before obtained =
+      let j = obtained.0 in
+      let passes = ap (λ m. passes_behind (after_trial state m) bits) (sym obtained.2) ∙ obtained.3 in
+      rw obtained.2 (search_finds (sha_passes {M = M} {K = K} {G = G}) s bits (first + j) (none_to j (omega (arith, obtained.1)) before obtained.4) refl refl
+      (trial j obtained.1 ∙ passes) (omega (arith, obtained.1)))
 
 -- ---- elements of the extension
 

@@ -20,7 +20,7 @@ commitment_reads_back reading writing back matrices =
     (list_back (array_at reading) (list_written writing) (list_back reading writing back)) matrices
 
 pub commitment_never_null : {F : Type 0} (writing : F → Data) (matrices : List (List (List F))) → commitment_written writing matrices ≢ null
-commitment_never_null writing matrices e = let told = ap is_null e in absurd (cc)
+commitment_never_null writing matrices e = let stated = ap is_null e in absurd (cc)
 
 -- A commitment's matrices, columns and coefficients, as lists.
 abbrev pub matrices_list : {F A B : Type 0} → List (Vec (Vec F A) B) → List (List (List F))

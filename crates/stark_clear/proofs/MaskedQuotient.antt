@@ -254,7 +254,7 @@ module _ {F E : Type 0} {field : RingOps F} {base_inverse : F → F} {ring : Rin
       → (chunks : List (QuotientChunk F))
       × ((commitment ≡ columns_of (map (committed_chunk field true) chunks)) × (prover_data ≡ columns_of (map (committed_chunk field true) chunks)) × AllByRecursion IsFull (map (committed_chunk field true) chunks))
       × ((k : ℕ) → 2 ^ k ≡ num → AreQuotientChunks field root ring inverse embed true coset k width row chunks)
-  masked_stand coset valid num width row numbers plain matrices commitment prover_data (k, power) fits made is_commitment is_data =
+  masked_stand coset valid num width row numbers plain matrices commitment prover_data (k, power) fits made is_commitment has_data =
       let n = 2 ^ (coset.log_size - k) in
       let masks = quotient_masks field numbers (num - 1) width n in
       let here = made k (sym power) in
@@ -265,7 +265,7 @@ module _ {F E : Type 0} {field : RingOps F} {base_inverse : F → F} {ring : Rin
       let count : length masks ≡ 2 ^ k = let number = quotient_length field numbers (num - 1) width n in omega (arith, number, positive, power) in
       let fit = quotient_has_masks field numbers (num - 1) width n in (
         chunks,
-        (is_commitment ∙ columns, is_data ∙ columns, full_from coset valid k within 0 (2 ^ k) plain masks (λ j p there. here.takes.full j p there) width fit),
+        (is_commitment ∙ columns, has_data ∙ columns, full_from coset valid k within 0 (2 ^ k) plain masks (λ j p there. here.takes.full j p there) width fit),
         λ j same.
             subst (λ i. AreQuotientChunks field root ring inverse embed true coset i width row chunks) (same_exponent k j (sym power ∙ sym same))
             (masked_quotient coset valid k within width row plain masks here.takes count fit numbers (num - 1) refl),

@@ -39,40 +39,40 @@ writes_file Refused f old new is read says = refused_no_proof (sym says.0 ∙ pr
 writes_file NotJudged f old new is read says = unjudged_no_proof (sym says.0 ∙ proof_ends f is)
 writes_file InputFailed f old new is read says = read refl
 
-module _ (verdict_on : List ℕ → List ℕ → Verdict → Type 0) (sound : List ℕ → List ℕ → Type 0) (found : TraceTask → List ℕ → List ℕ → Finding → Type 0) (proof_file : List ℕ → List ℕ → ProofForm → List ℕ → Type 0) (shown : List ℕ → Finding → Type 0) where
+module _ (verdict_on : List ℕ → List ℕ → Verdict → Type 0) (sound : List ℕ → List ℕ → Type 0) (obtained : TraceTask → List ℕ → List ℕ → Finding → Type 0) (proof_file : List ℕ → List ℕ → ProofForm → List ℕ → Type 0) (shown : List ℕ → Finding → Type 0) where
   -- A run that found a proof and said so wrote the file of one, for the statement, of the trace.
   pub delivers : (verb : Verb) (known : Option (List ℕ × List ℕ)) (end : RunEnd) (old new : Option (List ℕ)) → (end ≡ InputFailed → ⊥)
-      → SaysProof no_memory (IsFinding verdict_on sound found proof_file shown verb) known end old new → DeliversProof proof_file verb known end old new
+      → SaysProof no_memory (IsFinding verdict_on sound obtained proof_file shown verb) known end old new → DeliversProof proof_file verb known end old new
   delivers verb known end old new read (f, is, (input, lent, inl here), says) =
       let formed = form_of f is in
-      let proof = prover verdict_on sound found proof_file shown verb input f here formed.0 formed.1 in
+      let proof = prover verdict_on sound obtained proof_file shown verb input f here formed.0 formed.1 in
       (finding_bytes f, (formed.0, proof.0, input, lent, proof.1), writes_file end f old new is read says)
   delivers verb known end old new read (f, is, (input, lent, inr lacks), says) = absurd (subst IsSomeProof lacks is)
 
   answered : (verb : Verb) (known : Option (List ℕ × List ℕ)) (f : Finding) (old new : Option (List ℕ)) → (IsSomeProof f → ⊥) → finding_end f ≡ Accepted
-      → Found no_memory (IsFinding verdict_on sound found proof_file shown verb) known f → Appends old new (finding_bytes f)
-      → (AcceptsInput verdict_on verb known × Appends old new (line_of verdict.Accepted)) ⊎ (WritesText shown verb known old new ⊎ SaysSatisfied found verb known old new)
+      → Found no_memory (IsFinding verdict_on sound obtained proof_file shown verb) known f → Appends old new (finding_bytes f)
+      → (AcceptsInput verdict_on verb known × Appends old new (line_of verdict.Accepted)) ⊎ (WritesText shown verb known old new ⊎ SaysSatisfied obtained verb known old new)
   answered verb known (finding.Verdict v) old new other e here wrote =
       let is : v ≡ verdict.Accepted = only_accepted v e in
-      let some = finds no_memory unjudged_memory (IsFinding verdict_on sound found proof_file shown verb) known (finding.Verdict v) e here in
-      let accepted = accepts verdict_on sound found proof_file shown verb some.0 (subst (λ w. IsFinding verdict_on sound found proof_file shown verb some.0 (finding.Verdict w)) is some.2) in
+      let some = finds no_memory unjudged_memory (IsFinding verdict_on sound obtained proof_file shown verb) known (finding.Verdict v) e here in
+      let accepted = accepts verdict_on sound obtained proof_file shown verb some.0 (subst (λ w. IsFinding verdict_on sound obtained proof_file shown verb some.0 (finding.Verdict w)) is some.2) in
       inl ((some.0, some.1, accepted), subst (λ w. Appends old new (line_of w)) is wrote)
   answered verb known (finding.Proof line) old new other e here wrote = absurd (other tt)
   answered verb known (finding.ProofBytes bytes) old new other e here wrote = absurd (other tt)
   answered verb known (finding.Text text) old new other e here wrote =
-      let some = finds no_memory unjudged_memory (IsFinding verdict_on sound found proof_file shown verb) known (finding.Text text) e here in
-      let shows = shower verdict_on sound found proof_file shown verb some.0 (finding.Text text) some.2 tt in
+      let some = finds no_memory unjudged_memory (IsFinding verdict_on sound obtained proof_file shown verb) known (finding.Text text) e here in
+      let shows = shower verdict_on sound obtained proof_file shown verb some.0 (finding.Text text) some.2 tt in
       inr (inl (finding.Text text, (shows.0, some.0, some.1, shows.1), wrote))
   answered verb known finding.Satisfied old new other e here wrote =
-      let some = finds no_memory unjudged_memory (IsFinding verdict_on sound found proof_file shown verb) known finding.Satisfied e here in
-      let checked = checker verdict_on sound found proof_file shown verb some.0 some.2 in
+      let some = finds no_memory unjudged_memory (IsFinding verdict_on sound obtained proof_file shown verb) known finding.Satisfied e here in
+      let checked = checker verdict_on sound obtained proof_file shown verb some.0 some.2 in
       inr (inr ((checked.0, some.0, some.1, checked.1), wrote))
   answered verb known (finding.Broken row) old new other e here wrote = absurd (refused_no_proof e)
 
   -- One that found no proof ends well only as `accepted`, a text and `satisfied` do.
   pub ends_answered : (verb : Verb) (known : Option (List ℕ × List ℕ)) (end : RunEnd) (old new : Option (List ℕ))
-      → (end ≡ InputFailed) ⊎ SaysAnswer no_memory (IsFinding verdict_on sound found proof_file shown verb) known end old new → end ≡ Accepted
-      → (AcceptsInput verdict_on verb known × Appends old new (line_of verdict.Accepted)) ⊎ (WritesText shown verb known old new ⊎ SaysSatisfied found verb known old new)
+      → (end ≡ InputFailed) ⊎ SaysAnswer no_memory (IsFinding verdict_on sound obtained proof_file shown verb) known end old new → end ≡ Accepted
+      → (AcceptsInput verdict_on verb known × Appends old new (line_of verdict.Accepted)) ⊎ (WritesText shown verb known old new ⊎ SaysSatisfied obtained verb known old new)
   ends_answered verb known InputFailed old new said e = absurd (cc)
   ends_answered verb known OutputFailed old new said e = absurd (cc)
   ends_answered verb known Refused old new said e = absurd (cc)

@@ -34,13 +34,13 @@ both_inputs (Some xs) (Some ys) bytes others is also = ap (λ a. (a, others)) is
 module _ {I : Type 0} (memory : Finding) (IsFound : I → Finding → Type 0) where
   -- What is found of the bytes that were read is found of an input.
   pub input_found : (known : Option I) (lent input : I) (f : Finding) → IsInput known input → lent ≡ input → IsFoundOrLacksMemory memory IsFound lent f → Found memory IsFound known f
-  input_found known lent input f is same found = (input, is, subst (λ i. IsFoundOrLacksMemory memory IsFound i f) same found)
+  input_found known lent input f is same obtained = (input, is, subst (λ i. IsFoundOrLacksMemory memory IsFound i f) same obtained)
 
   -- Of an input that wasn't read for want of memory that is found.
   pub memory_found : (known : Option I) (input : I) → IsInput known input → (f : Finding) → f ≡ memory → Found memory IsFound known f
   memory_found known input is f lacks = (input, is, inr lacks)
 
-  -- The same of an answer that is it, or fails.
+  -- An answer that is want of memory, or fails.
   pub memory_answered : (known : Option I) (input : I) → IsInput known input → (r : Result Finding RunEnd) → IfOk r (λ f. f ≡ memory) → IfOk r (Found memory IsFound known)
   memory_answered known input is (Ok f) lacks = memory_found known input is f lacks
   memory_answered known input is (Err end) lacks = tt
@@ -53,25 +53,25 @@ module _ {I : Type 0} (memory : Finding) (IsFound : I → Finding → Type 0) wh
 -- What is found of the readers' bytes, unless a reader failed, and what is said of that: here the answer is a finding or a report of one.
 module _ {I A : Type 0} (memory : Finding) (IsFound : I → Finding → Type 0) (answer : A → Finding) (known : Option I) (r : Result A RunEnd) (end : RunEnd) (old new : Option (List ℕ)) where
   pub said_of : IfOk r (λ x. Found memory IsFound known (answer x)) → IfOk r (λ x. Says end (answer x) old new) → (is_err r ≡ true → end ≡ InputFailed) → (end ≡ InputFailed) ⊎ SaysFound memory IsFound known end old new
-  said_of found says failed = go r found says failed where
+  said_of obtained says failed = go r obtained says failed where
     go : (r : Result A RunEnd) → IfOk r (λ x. Found memory IsFound known (answer x)) → IfOk r (λ x. Says end (answer x) old new) → (is_err r ≡ true → end ≡ InputFailed) → (end ≡ InputFailed) ⊎ SaysFound memory IsFound known end old new
-    go (Ok x) found says failed = inr (answer x, found, says)
-    go (Err e) found says failed = inl (failed refl)
+    go (Ok x) obtained says failed = inr (answer x, obtained, says)
+    go (Err e) obtained says failed = inl (failed refl)
 
-  -- The same of a proof alone, and of what is no proof.
-  pub proof_said : (told : Bool) → IfOk r (λ x. Found memory IsFound known (answer x)) → IfOk r (λ x. told ≡ true → SaidProof end (answer x) old new) → (is_err r ≡ true → end ≡ InputFailed)
-      → (told ≡ true → end ≡ InputFailed → ⊥) → told ≡ true → SaysProof memory IsFound known end old new
-  proof_said told found says failed read is = go r found says failed where
-    go : (r : Result A RunEnd) → IfOk r (λ x. Found memory IsFound known (answer x)) → IfOk r (λ x. told ≡ true → SaidProof end (answer x) old new) → (is_err r ≡ true → end ≡ InputFailed) → SaysProof memory IsFound known end old new
-    go (Ok x) found says failed = (answer x, (says is).is_proof, found, (says is).says)
-    go (Err e) found says failed = absurd (read is (failed refl))
+  -- What is said of a proof alone, and of what is no proof.
+  pub proof_said : (stated : Bool) → IfOk r (λ x. Found memory IsFound known (answer x)) → IfOk r (λ x. stated ≡ true → SaidProof end (answer x) old new) → (is_err r ≡ true → end ≡ InputFailed)
+      → (stated ≡ true → end ≡ InputFailed → ⊥) → stated ≡ true → SaysProof memory IsFound known end old new
+  proof_said stated obtained says failed read is = go r obtained says failed where
+    go : (r : Result A RunEnd) → IfOk r (λ x. Found memory IsFound known (answer x)) → IfOk r (λ x. stated ≡ true → SaidProof end (answer x) old new) → (is_err r ≡ true → end ≡ InputFailed) → SaysProof memory IsFound known end old new
+    go (Ok x) obtained says failed = (answer x, (says is).is_proof, obtained, (says is).says)
+    go (Err e) obtained says failed = absurd (read is (failed refl))
 
-  pub answer_said : (told : Bool) → IfOk r (λ x. Found memory IsFound known (answer x)) → IfOk r (λ x. told ≡ false → SaidAnswer end (answer x) old new) → (is_err r ≡ true → end ≡ InputFailed)
-      → told ≡ false → (end ≡ InputFailed) ⊎ SaysAnswer memory IsFound known end old new
-  answer_said told found says failed other = go r found says failed where
-    go : (r : Result A RunEnd) → IfOk r (λ x. Found memory IsFound known (answer x)) → IfOk r (λ x. told ≡ false → SaidAnswer end (answer x) old new) → (is_err r ≡ true → end ≡ InputFailed) → (end ≡ InputFailed) ⊎ SaysAnswer memory IsFound known end old new
-    go (Ok x) found says failed = inr (answer x, (says other).no_proof, found, (says other).says)
-    go (Err e) found says failed = inl (failed refl)
+  pub answer_said : (stated : Bool) → IfOk r (λ x. Found memory IsFound known (answer x)) → IfOk r (λ x. stated ≡ false → SaidAnswer end (answer x) old new) → (is_err r ≡ true → end ≡ InputFailed)
+      → stated ≡ false → (end ≡ InputFailed) ⊎ SaysAnswer memory IsFound known end old new
+  answer_said stated obtained says failed other = go r obtained says failed where
+    go : (r : Result A RunEnd) → IfOk r (λ x. Found memory IsFound known (answer x)) → IfOk r (λ x. stated ≡ false → SaidAnswer end (answer x) old new) → (is_err r ≡ true → end ≡ InputFailed) → (end ≡ InputFailed) ⊎ SaysAnswer memory IsFound known end old new
+    go (Ok x) obtained says failed = inr (answer x, (says other).no_proof, obtained, (says other).says)
+    go (Err e) obtained says failed = inl (failed refl)
 
 -- What is said of a finding that is known.
 pub said_known : (r : Result Finding RunEnd) (f : Finding) (end : RunEnd) (old new : Option (List ℕ)) → r ≡ Ok f → IfOk r (λ x. Says end x old new) → Says end f old new
@@ -102,10 +102,10 @@ module _ {I : Type 0} (memory : Finding) (IsFound : I → Finding → Type 0) wh
   pub says_known : (known : Option I) (end : RunEnd) (old new : Option (List ℕ))
       → (end ≡ InputFailed) ⊎ SaysFound memory IsFound known end old new → (end ≡ InputFailed → Keeps old new)
       → IfSome known (λ input. SaysOf memory IsFound input end old new)
-  says_known None end old new found silent = tt
+  says_known None end old new obtained silent = tt
   says_known (Some bytes) end old new (inl e) silent = (memory, inr refl, says_nothing end memory old new e (silent e))
-  says_known (Some bytes) end old new (inr found) silent =
-      (found.0, subst (λ input. IsFoundOrLacksMemory memory IsFound input found.0) found.1.1 found.1.2, found.2)
+  says_known (Some bytes) end old new (inr obtained) silent =
+      (obtained.0, subst (λ input. IsFoundOrLacksMemory memory IsFound input obtained.0) obtained.1.1 obtained.1.2, obtained.2)
 
 -- What is said of what is no proof is said of something that is found.
 module _ {I : Type 0} (memory : Finding) (IsFound : I → Finding → Type 0) where
@@ -122,30 +122,30 @@ only_accepted verdict.OutOfMemory e = absurd (let h : NotJudged ≡ Accepted = e
 module _ {I : Type 0} (memory : Finding) (no_answer : IsNoAnswer memory) (IsFound : I → Finding → Type 0) where
   -- A run that ends well found something of an input.
   pub finds : (known : Option I) (f : Finding) → finding_end f ≡ Accepted → Found memory IsFound known f → FindsSome IsFound known f
-  finds known f e found = elim found.2 [
-    | inl here ↦ (found.0, found.1, here)
+  finds known f e obtained = elim obtained.2 [
+    | inl here ↦ (obtained.0, obtained.1, here)
     | inr lacks ↦ absurd (no_answer.no_end (sym (ap finding_end lacks) ∙ e))
   ]
 
   said_so : (known : Option I) (f : Finding) (old new : Option (List ℕ)) → finding_end f ≡ Accepted → Found memory IsFound known f → Appends old new (finding_bytes f) → AcceptsOrTells IsFound known old new
-  said_so known (finding.Verdict v) old new e found wrote =
+  said_so known (finding.Verdict v) old new e obtained wrote =
       let is : v ≡ verdict.Accepted = only_accepted v e in
-      inl (subst (λ w. FindsSome IsFound known (finding.Verdict w)) is (finds known (finding.Verdict v) e found), subst (λ w. Appends old new (line_of w)) is wrote)
-  said_so known (finding.Proof line) old new e found wrote = inr (finding.Proof line, inl tt, finds known (finding.Proof line) refl found, wrote)
-  said_so known (finding.ProofBytes bytes) old new e found wrote = inr (finding.ProofBytes bytes, inl tt, finds known (finding.ProofBytes bytes) refl found, wrote)
-  said_so known (finding.Text text) old new e found wrote = inr (finding.Text text, inr (inl tt), finds known (finding.Text text) refl found, wrote)
-  said_so known finding.Satisfied old new e found wrote = inr (finding.Satisfied, inr (inr refl), finds known finding.Satisfied refl found, wrote)
-  said_so known (finding.Broken row) old new e found wrote = absurd (let h : Refused ≡ Accepted = e in cc)
+      inl (subst (λ w. FindsSome IsFound known (finding.Verdict w)) is (finds known (finding.Verdict v) e obtained), subst (λ w. Appends old new (line_of w)) is wrote)
+  said_so known (finding.Proof line) old new e obtained wrote = inr (finding.Proof line, inl tt, finds known (finding.Proof line) refl obtained, wrote)
+  said_so known (finding.ProofBytes bytes) old new e obtained wrote = inr (finding.ProofBytes bytes, inl tt, finds known (finding.ProofBytes bytes) refl obtained, wrote)
+  said_so known (finding.Text text) old new e obtained wrote = inr (finding.Text text, inr (inl tt), finds known (finding.Text text) refl obtained, wrote)
+  said_so known finding.Satisfied old new e obtained wrote = inr (finding.Satisfied, inr (inr refl), finds known finding.Satisfied refl obtained, wrote)
+  said_so known (finding.Broken row) old new e obtained wrote = absurd (let h : Refused ≡ Accepted = e in cc)
 
   -- A run that ends by `Accepted` found an input accepted, or a proof or a text of it, or that it satisfies, and said so.
   pub accepts_or_tells : (known : Option I) (end : RunEnd) (old new : Option (List ℕ))
       → (end ≡ InputFailed) ⊎ SaysFound memory IsFound known end old new → end ≡ Accepted → AcceptsOrTells IsFound known old new
-  accepts_or_tells known InputFailed old new found e = absurd (cc)
-  accepts_or_tells known OutputFailed old new found e = absurd (cc)
-  accepts_or_tells known Refused old new found e = absurd (cc)
-  accepts_or_tells known NotJudged old new found e = absurd (cc)
+  accepts_or_tells known InputFailed old new obtained e = absurd (cc)
+  accepts_or_tells known OutputFailed old new obtained e = absurd (cc)
+  accepts_or_tells known Refused old new obtained e = absurd (cc)
+  accepts_or_tells known NotJudged old new obtained e = absurd (cc)
   accepts_or_tells known Accepted old new (inl failed) e = absurd (cc)
-  accepts_or_tells known Accepted old new (inr found) e = said_so known found.0 old new found.2.0 found.1 found.2.1
+  accepts_or_tells known Accepted old new (inr obtained) e = said_so known obtained.0 old new obtained.2.0 obtained.1 obtained.2.1
 
 refused_ends : Refused ≡ Accepted → ⊥
 refused_ends h = cc

@@ -42,20 +42,20 @@ module _ (verified : SampleAir → List ℕ → Verdict → Type 0) (sound : Sam
       → (v ≡ check_verdict (sample air) (log_chunks_of air) (numbers_in (shape_of (sample air)) input)) ⊎ (v ≡ verdict.Refused refusal.OutOfMemory)
       → IsFoundOrLacksMemory lacks_memory (IsFinding verified sound proved (Some command)) input (finding.Verdict v)
   unfolding IsFinding
-  check_found command air input v is (inl found) = subst (λ k. IsFoundOrLacksMemory lacks_memory (IsFinding verified sound proved (Some k)) input (finding.Verdict v)) (sym is) (inl (ap (λ w. finding.Verdict w) found))
+  check_found command air input v is (inl obtained) = subst (λ k. IsFoundOrLacksMemory lacks_memory (IsFinding verified sound proved (Some k)) input (finding.Verdict v)) (sym is) (inl (ap (λ w. finding.Verdict w) obtained))
   check_found command air input v is (inr memory) = inr (ap (λ w. finding.Verdict w) memory)
 
   pub verify_found : (command : Command) (air : SampleAir) (input : List ℕ) (v : Verdict) → command ≡ Verify air
       → verified air input v ⊎ (v ≡ verdict.Refused refusal.OutOfMemory) → (v ≡ verdict.Accepted → sound air input)
       → IsFoundOrLacksMemory lacks_memory (IsFinding verified sound proved (Some command)) input (finding.Verdict v)
   unfolding IsFinding
-  verify_found command air input v is (inl found) soundly = subst (λ k. IsFoundOrLacksMemory lacks_memory (IsFinding verified sound proved (Some k)) input (finding.Verdict v)) (sym is) (inl (v, refl, found, soundly))
+  verify_found command air input v is (inl obtained) soundly = subst (λ k. IsFoundOrLacksMemory lacks_memory (IsFinding verified sound proved (Some k)) input (finding.Verdict v)) (sym is) (inl (v, refl, obtained, soundly))
   verify_found command air input v is (inr memory) soundly = inr (ap (λ w. finding.Verdict w) memory)
 
   pub prove_found : (command : Command) (air : SampleAir) (input : List ℕ) (f : Finding) → command ≡ Prove air
       → proved air input f ⊎ (f ≡ finding.Verdict (verdict.Refused refusal.OutOfMemory)) → IsFoundOrLacksMemory lacks_memory (IsFinding verified sound proved (Some command)) input f
   unfolding IsFinding
-  prove_found command air input f is found = subst (λ k. IsFoundOrLacksMemory lacks_memory (IsFinding verified sound proved (Some k)) input f) (sym is) found
+  prove_found command air input f is obtained = subst (λ k. IsFoundOrLacksMemory lacks_memory (IsFinding verified sound proved (Some k)) input f) (sym is) obtained
 
   -- Under words that name no command every input is bad.
   pub other_words_found : (result command : Option Command) (known : Option (List ℕ)) → result ≡ command → ((x : Command) → result ≡ Some x → ⊥)
@@ -68,8 +68,8 @@ module _ (verified : SampleAir → List ℕ → Verdict → Type 0) (sound : Sam
   -- What is found of a command is found of the words that name it.
   pub command_found : (command : Option Command) (known : Option (List ℕ)) (lent input : List ℕ) (named : Command) (f : Finding) → IsInput known input → command ≡ Some named → lent ≡ input
       → IsFoundOrLacksMemory lacks_memory (IsFinding verified sound proved (Some named)) lent f → Found lacks_memory (IsFinding verified sound proved command) known f
-  command_found command known lent input named f is names same found =
-      subst (λ k. Found lacks_memory (IsFinding verified sound proved k) known f) (sym names) (input_found lacks_memory (IsFinding verified sound proved (Some named)) known lent input f is same found)
+  command_found command known lent input named f is names same obtained =
+      subst (λ k. Found lacks_memory (IsFinding verified sound proved k) known f) (sym names) (input_found lacks_memory (IsFinding verified sound proved (Some named)) known lent input f is same obtained)
 
   -- Where a prover accepts nothing, what is accepted was checked or verified.
   pub holds_of_finding : ((air : SampleAir) (input : List ℕ) → proved air input (finding.Verdict verdict.Accepted) → ⊥) → (command : Option Command) (input : List ℕ)
@@ -77,8 +77,8 @@ module _ (verified : SampleAir → List ℕ → Verdict → Type 0) (sound : Sam
   unfolding IsFinding
   holds_of_finding none None input h = absurd (bad_input_clash (sym (same_verdict _ _ h)))
   holds_of_finding none (Some (Check air)) input h =
-      let held = holds_of_read (sample air) (log_chunks_of air) (cut_of_sample air) (numbers_in (shape_of (sample air)) input) (sym (same_verdict _ _ h)) in
-      inl (air, refl, held.0, held.1, held.2, held.3)
+      let holding = holds_of_read (sample air) (log_chunks_of air) (cut_of_sample air) (numbers_in (shape_of (sample air)) input) (sym (same_verdict _ _ h)) in
+      inl (air, refl, holding.0, holding.1, holding.2, holding.3)
   holds_of_finding none (Some (Verify air)) input h = inr (air, refl, subst (λ v. verified air input v) (sym (same_verdict _ _ h.1)) h.2)
   holds_of_finding none (Some (Prove air)) input h = absurd (none air input h)
 
@@ -103,24 +103,24 @@ module _ (verified : SampleAir → List ℕ → Verdict → Type 0) (sound : Sam
   named_prover : (command : Option Command) (input : List ℕ) (f : Finding) → IsFinding verified sound proved command input f → (form : ProofForm) → IsProof form f
       → (air : SampleAir) × (command ≡ Some (Prove air)) × proof_line air input (finding_bytes f)
   unfolding IsFinding
-  named_prover None input f found form is = absurd (no_proof f verdict.BadInput found form is)
-  named_prover (Some (Check air)) input f found form is = absurd (no_proof f _ found form is)
-  named_prover (Some (Verify air)) input f found form is = absurd (no_proof f found.0 found.1 form is)
-  named_prover (Some (Prove air)) input f found form is = (air, refl, (finds_proofs air input f found form is).1)
+  named_prover None input f obtained form is = absurd (no_proof f verdict.BadInput obtained form is)
+  named_prover (Some (Check air)) input f obtained form is = absurd (no_proof f _ obtained form is)
+  named_prover (Some (Verify air)) input f obtained form is = absurd (no_proof f obtained.0 obtained.1 form is)
+  named_prover (Some (Prove air)) input f obtained form is = (air, refl, (finds_proofs air input f obtained form is).1)
 
   finds_no_text : (command : Option Command) (input : List ℕ) (f : Finding) → IsFinding verified sound proved command input f → IsText f → ⊥
   unfolding IsFinding
-  finds_no_text None input f found is = no_text f verdict.BadInput found is
-  finds_no_text (Some (Check air)) input f found is = no_text f _ found is
-  finds_no_text (Some (Verify air)) input f found is = no_text f found.0 found.1 is
-  finds_no_text (Some (Prove air)) input f found is = shows_none air input f found is
+  finds_no_text None input f obtained is = no_text f verdict.BadInput obtained is
+  finds_no_text (Some (Check air)) input f obtained is = no_text f _ obtained is
+  finds_no_text (Some (Verify air)) input f obtained is = no_text f obtained.0 obtained.1 is
+  finds_no_text (Some (Prove air)) input f obtained is = shows_none air input f obtained is
 
   satisfies_nothing : (command : Option Command) (input : List ℕ) → IsFinding verified sound proved command input finding.Satisfied → ⊥
   unfolding IsFinding
-  satisfies_nothing None input found = let clash : finding.Satisfied ≡ finding.Verdict verdict.BadInput = found in cc
-  satisfies_nothing (Some (Check air)) input found = no_verdict _ found
-  satisfies_nothing (Some (Verify air)) input found = no_verdict found.0 found.1
-  satisfies_nothing (Some (Prove air)) input found = satisfies_none air input found
+  satisfies_nothing None input obtained = let clash : finding.Satisfied ≡ finding.Verdict verdict.BadInput = obtained in cc
+  satisfies_nothing (Some (Check air)) input obtained = no_verdict _ obtained
+  satisfies_nothing (Some (Verify air)) input obtained = no_verdict obtained.0 obtained.1
+  satisfies_nothing (Some (Prove air)) input obtained = satisfies_none air input obtained
 
   -- What begins as an object does is the front of a proof of the trace that was read.
   proves_trace : (command : Option Command) (input bytes : List ℕ) → IsFrontOfProof (IsFinding verified sound proved command) Json input bytes → ProvesTrace proof_line command input bytes
@@ -128,10 +128,10 @@ module _ (verified : SampleAir → List ℕ → Verdict → Type 0) (sound : Sam
       let prover = named_prover command input front.0 front.2 Json front.1 in
       (prover.0, prover.1, finding_bytes front.0, prover.2, front.3, front.4)
 
-  pub told_traces : (command : Option Command) (known : Option (List ℕ)) (P : List ℕ → Type 0) (Q : List ℕ → Type 0) → IfSome known (λ input. (bytes : List ℕ) → P bytes → Q bytes → IsFrontOfProof (IsFinding verified sound proved command) Json input bytes)
+  pub stated_traces : (command : Option Command) (known : Option (List ℕ)) (P : List ℕ → Type 0) (Q : List ℕ → Type 0) → IfSome known (λ input. (bytes : List ℕ) → P bytes → Q bytes → IsFrontOfProof (IsFinding verified sound proved command) Json input bytes)
       → IfSome known (λ input. (bytes : List ℕ) → P bytes → Q bytes → ProvesTrace proof_line command input bytes)
-  told_traces command None P Q fronts = tt
-  told_traces command (Some input) P Q fronts = λ bytes p q. proves_trace command input bytes (fronts bytes p q)
+  stated_traces command None P Q fronts = tt
+  stated_traces command (Some input) P Q fronts = λ bytes p q. proves_trace command input bytes (fronts bytes p q)
 
   -- What is accepted or proved is accepted, or is a proof of the trace that an input spells.
   pub ends_accepted : (command : Option Command) (known old new : Option (List ℕ)) → AcceptsOrTells (IsFinding verified sound proved command) known old new

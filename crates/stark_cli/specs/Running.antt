@@ -76,7 +76,7 @@ first_letter Bytes = 118
 abbrev pub WhereForm : {I : Type 0} → ProofForm → Option I → Option (List ℕ) → Option (List ℕ) → (I → List ℕ → Type 0) → Type 0
 WhereForm form known old new holds = IfSome known (λ input. (bytes : List ℕ) → Wrote old new bytes → take 1 bytes ≡ first_letter form ∷ [] → holds input bytes)
 
--- The same where it begins as an object does.
+-- It holds where what was written begins as an object does.
 abbrev pub WhereObject : {I : Type 0} → Option I → Option (List ℕ) → Option (List ℕ) → (I → List ℕ → Type 0) → Type 0
 WhereObject known old new holds = WhereForm Json known old new holds
 

@@ -44,10 +44,10 @@ module _ (verified : SampleAir → List ℕ → Verdict → Type 0) (sound : Sam
   -- A proof's line begins as an object does, where those of a prover do.
   pub found_proofs_open : ((air : SampleAir) (input : List ℕ) (f : Finding) → proved air input f → BeginsAsItsKind f) → (command : Option Command) (input : List ℕ) (f : Finding) → IsFinding command input f → BeginsAsItsKind f
   unfolding IsFinding
-  found_proofs_open opens None input f found = subst BeginsAsItsKind (sym found) tt
-  found_proofs_open opens (Some (Check air)) input f found = subst BeginsAsItsKind (sym found) tt
-  found_proofs_open opens (Some (Verify air)) input f found = subst BeginsAsItsKind (sym found.1) tt
-  found_proofs_open opens (Some (Prove air)) input f found = opens air input f found
+  found_proofs_open opens None input f obtained = subst BeginsAsItsKind (sym obtained) tt
+  found_proofs_open opens (Some (Check air)) input f obtained = subst BeginsAsItsKind (sym obtained) tt
+  found_proofs_open opens (Some (Verify air)) input f obtained = subst BeginsAsItsKind (sym obtained.1) tt
+  found_proofs_open opens (Some (Prove air)) input f obtained = opens air input f obtained
 
   -- So the check of an AIR holds of the numbers that the input spells, or an AIR's verifier accepts the proof that it spells.
   abbrev pub HoldsOf : Option Command → List ℕ → Type 0

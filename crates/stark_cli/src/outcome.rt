@@ -35,7 +35,7 @@ pub fn tell<W: Sink>(finding: &Finding, writer: &mut W) -> RunEnd
 
 /// How what is found was told, and whether it is a proof.
 #[derive(Clone, Copy, Debug, PartialEq, Eq)]
-pub(crate) struct Told {
+pub(crate) struct Outcome {
     pub(crate) end: RunEnd,
     pub(crate) is_proof: bool,
 }
@@ -45,7 +45,7 @@ pub(crate) fn tell_apart<O: Sink, W: Sink>(
     finding: &Finding,
     output: &mut O,
     writer: &mut W,
-) -> Told
+) -> Outcome
     requires fresh_output { O.has_failed output.old ≡ false }
     requires fresh_writer { W.has_failed writer.old ≡ false }
     ensures proof { result.is_proof ≡ true → IsSomeProof finding.now }
@@ -61,13 +61,14 @@ pub(crate) fn tell_apart<O: Sink, W: Sink>(
         ↔ ((O.has_failed output.new ≡ true) ⊎ (W.has_failed writer.new ≡ true)) }
 {
     match finding {
-        Finding::Proof(_) | Finding::ProofBytes(_) => Told {
+        Finding::Proof(_) | Finding::ProofBytes(_) => Outcome {
             end: tell(finding, output),
             is_proof: true,
         },
-        Finding::Verdict(_) | Finding::Text(_) | Finding::Satisfied | Finding::Broken(_) => Told {
-            end: tell(finding, writer),
-            is_proof: false,
-        },
+        Finding::Verdict(_) | Finding::Text(_) | Finding::Satisfied | Finding::Broken(_) =>
+            Outcome {
+                end: tell(finding, writer),
+                is_proof: false,
+            },
     }
 }

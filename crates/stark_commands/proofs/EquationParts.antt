@@ -10,8 +10,8 @@ use Rattle.stark_answers.specs.declared.verdict.Verdict.{Verdict}
 module _ {F E : Type 0} (base : RingOps F) (ring : RingOps E) (embed : F → E) (subgroup : Subgroup E) (constraints : List (Constraint F))
     (rows : List E → OpenedRows F E) (zeta alpha : E) (verdict : Verdict) where
   -- The periodic row and the quotient are replaced by their equals.
-  pub verdict_of_equals : (computed periodic : List E) (found quotient : E) → computed ≡ periodic → found ≡ quotient
-      → EquationVerdict base ring embed subgroup constraints (rows computed) zeta alpha found verdict → EquationVerdict base ring embed subgroup constraints (rows periodic) zeta alpha quotient verdict
-  verdict_of_equals computed periodic found quotient same_row same_quotient h =
+  pub verdict_of_equals : (computed periodic : List E) (obtained quotient : E) → computed ≡ periodic → obtained ≡ quotient
+      → EquationVerdict base ring embed subgroup constraints (rows computed) zeta alpha obtained verdict → EquationVerdict base ring embed subgroup constraints (rows periodic) zeta alpha quotient verdict
+  verdict_of_equals computed periodic obtained quotient same_row same_quotient h =
       subst (λ q. EquationVerdict base ring embed subgroup constraints (rows periodic) zeta alpha q verdict) same_quotient
-      (subst (λ p. EquationVerdict base ring embed subgroup constraints (rows p) zeta alpha found verdict) same_row h)
+      (subst (λ p. EquationVerdict base ring embed subgroup constraints (rows p) zeta alpha obtained verdict) same_row h)

@@ -29,7 +29,7 @@ trace_coset_is s n k shift size =
     ap (λ (t : Base). let d : TwoAdicCoset Base = record { shift = t; log_size = n } in d) shift ∙ ap (λ (j : ℕ). let d : TwoAdicCoset Base = record { shift = residue 1; log_size = j } in d) size
 
 -- A comparison of two values tells whether these are one.
-pub compared : {K : Type 0} (eq : K → K → Bool) → ((x y : K) → eq x y ≡ true → x ≡ y) → ((x : K) → eq x x ≡ true) → (told : Bool) (a b x y : K) → told ≡ eq a b → a ≡ x → b ≡ y
-    → (told ≡ true → x ≡ y) × (x ≡ y → told ≡ true)
-compared eq same reflexive told a b x y is is_x is_y =
+pub compared : {K : Type 0} (eq : K → K → Bool) → ((x y : K) → eq x y ≡ true → x ≡ y) → ((x : K) → eq x x ≡ true) → (stated : Bool) (a b x y : K) → stated ≡ eq a b → a ≡ x → b ≡ y
+    → (stated ≡ true → x ≡ y) × (x ≡ y → stated ≡ true)
+compared eq same reflexive stated a b x y is is_x is_y =
     (λ yes. sym is_x ∙ same a b (sym is ∙ yes) ∙ is_y, λ e. is ∙ ap (eq a) (sym (is_x ∙ e ∙ sym is_y)) ∙ reflexive a)

@@ -37,24 +37,24 @@ use Rattle.stark_answers.specs.declared.verdict.Refusal.TheVariants.{OodPointInD
 
 -- A verdict that tells an equation is the function of its sides, or memory is wanting.
 module _ {K : Type 0} {ring : RingOps K} {inverse : K → K} (laws : FieldLaws ring inverse) (left right : K) where
-  told_by : (v : Verdict) → TellsEquation (left ≡ right) v → (v ≡ if_same laws left right Accepted (Refused OodEvaluationMismatch)) ⊎ (v ≡ Refused OutOfMemory)
-  told_by Accepted h = inl (sym (if_same-same laws left right Accepted (Refused OodEvaluationMismatch) h))
-  told_by (Refused OodPointInDomain) h = absurd h
-  told_by (Refused OodEvaluationMismatch) h = inl (sym (if_same-other laws left right Accepted (Refused OodEvaluationMismatch) h))
-  told_by (Refused PeriodicColumn) h = absurd h
-  told_by (Refused QuotientDomainTooLarge) h = absurd h
-  told_by (Refused Pcs) h = absurd h
-  told_by (Refused GrindExhausted) h = absurd h
-  told_by (Refused AirTooLarge) h = absurd h
-  told_by (Refused OutOfMemory) h = inr refl
-  told_by (Refused (InvalidProofShape fault)) h = absurd h
-  told_by (Refused InvalidOpeningArgument) h = absurd h
-  told_by (Refused RandomizationError) h = absurd h
-  told_by (Refused NextPointUnavailable) h = absurd h
-  told_by (Refused InvalidAlphaPowWitness) h = absurd h
-  told_by (Refused InvalidOodPowWitness) h = absurd h
-  told_by BadInput h = absurd h
-  told_by verdict.OutOfMemory h = absurd h
+  stated_by : (v : Verdict) → TellsEquation (left ≡ right) v → (v ≡ if_same laws left right Accepted (Refused OodEvaluationMismatch)) ⊎ (v ≡ Refused OutOfMemory)
+  stated_by Accepted h = inl (sym (if_same-same laws left right Accepted (Refused OodEvaluationMismatch) h))
+  stated_by (Refused OodPointInDomain) h = absurd h
+  stated_by (Refused OodEvaluationMismatch) h = inl (sym (if_same-other laws left right Accepted (Refused OodEvaluationMismatch) h))
+  stated_by (Refused PeriodicColumn) h = absurd h
+  stated_by (Refused QuotientDomainTooLarge) h = absurd h
+  stated_by (Refused Pcs) h = absurd h
+  stated_by (Refused GrindExhausted) h = absurd h
+  stated_by (Refused AirTooLarge) h = absurd h
+  stated_by (Refused OutOfMemory) h = inr refl
+  stated_by (Refused (InvalidProofShape fault)) h = absurd h
+  stated_by (Refused InvalidOpeningArgument) h = absurd h
+  stated_by (Refused RandomizationError) h = absurd h
+  stated_by (Refused NextPointUnavailable) h = absurd h
+  stated_by (Refused InvalidAlphaPowWitness) h = absurd h
+  stated_by (Refused InvalidOodPowWitness) h = absurd h
+  stated_by BadInput h = absurd h
+  stated_by verdict.OutOfMemory h = absurd h
 
 -- What is found at zeta, step by step.
 module _ (air : CheckedAir Base) (log_chunks : ℕ) (m : CheckNumbers) where
@@ -73,7 +73,7 @@ module _ (air : CheckedAir Base) (log_chunks : ℕ) (m : CheckNumbers) where
 
   pub found_equation : vanishing m ≢ elements.zero → periodic_fault air m ≡ None → (v : Verdict) → TellsEquation (IsBalanced air log_chunks m) v
       → (v ≡ found_at_point air log_chunks m) ⊎ (v ≡ Refused OutOfMemory)
-  found_equation outside fits v h = elim (told_by laws_of_elements (folded air m) (elements.mul (vanishing m) (quotient log_chunks m)) v h) [
+  found_equation outside fits v h = elim (stated_by laws_of_elements (folded air m) (elements.mul (vanishing m) (quotient log_chunks m)) v h) [
     | inl is ↦ inl (is ∙ found_outside outside None fits)
     | inr memory ↦ inr memory
   ]
@@ -97,13 +97,13 @@ module _ (air : CheckedAir Base) (log_chunks : ℕ) (m : CheckNumbers) where
       ap (λ b. if b then found_at_point air log_chunks m else BadInput) (sym (eq-eqb (length m.chunks) (2 ^ log_chunks) count)) ∙ within_domain within
 
   -- What the equation over the lists in memory tells is told of the numbers.
-  pub told_of_numbers : (coset : TwoAdicCoset Base) (local next preprocessed_local preprocessed_next periodic : List Extension) (public_values : List Base) (q : Extension) (v : Verdict)
+  pub stated_of_numbers : (coset : TwoAdicCoset Base) (local next preprocessed_local preprocessed_next periodic : List Extension) (public_values : List Base) (q : Extension) (v : Verdict)
       → coset ≡ trace_coset m.log_height → local ≡ m.local → next ≡ m.next → preprocessed_local ≡ m.preprocessed_local → preprocessed_next ≡ zeros air.layout.preprocessed → periodic ≡ periodic_values air m → public_values ≡ m.public_values
       → q ≡ quotient log_chunks m
       → EquationVerdict residue_ring elements element_of (subgroup_of inverse_of element_of root coset) air.constraints
       (record { local = local; next = next; preprocessed_local = preprocessed_local; preprocessed_next = preprocessed_next; periodic = periodic; public_values = public_values }) m.zeta m.alpha q v
       → TellsEquation (IsBalanced air log_chunks m) v
-  told_of_numbers coset local next preprocessed_local preprocessed_next periodic public_values q v ec el en ef eg er ep eq h =
+  stated_of_numbers coset local next preprocessed_local preprocessed_next periodic public_values q v ec el en ef eg er ep eq h =
       let at : TwoAdicCoset Base → OpenedRows Base Extension → Extension → Type 0 = λ c rows t.
       EquationVerdict residue_ring elements element_of (subgroup_of inverse_of element_of root c) air.constraints rows m.zeta m.alpha t v in
       let rows : List Extension → List Extension → List Extension → List Extension → List Extension → List Base → OpenedRows Base Extension = λ l x f g r p.
@@ -157,8 +157,8 @@ widths_of shape m h =
 
 module _ {V : Type 0} (items : V → List Extension) (count : V → ℕ) (counted : (v : V) → count v ≡ length (items v)) where
   -- chunks of four coordinates, as they lie in memory
-  pub chunks_of_four : (chunks held : List V) → held ≡ chunks → All (λ chunk. length chunk ≡ 4) (map items chunks) → All (λ v. count v ≡ 4) held
-  chunks_of_four chunks held same four k d within =
+  pub chunks_of_four : (chunks holding : List V) → holding ≡ chunks → All (λ chunk. length chunk ≡ 4) (map items chunks) → All (λ v. count v ≡ 4) holding
+  chunks_of_four chunks holding same four k d within =
       let inside : k < length chunks = omega (arith, within, ap length same) in
       ap (λ vs. count (get_or vs k d)) same ∙ counted (get_or chunks k d) ∙ ap length (sym (get_or-map items chunks k d (items d) inside)) ∙
       four k (items d) (omega (arith, inside, length-map chunks items))
@@ -196,7 +196,7 @@ module _ (air : CheckedAir Base) (m : CheckNumbers) where
 
 -- What the equation at zeta tells over the columns and the chunks in memory is told of the numbers.
 module _ (air : CheckedAir Base) (log_chunks : ℕ) (m : CheckNumbers) {V W : Type 0} (items : V → List Base) (columns : List V) (parts : W → List Extension) (chunks : List W) where
-  pub told_at_zeta : (coset whole : TwoAdicCoset Base) (local next preprocessed_local preprocessed_next : List Extension) (public_values : List Base) (v : Verdict)
+  pub stated_at_zeta : (coset whole : TwoAdicCoset Base) (local next preprocessed_local preprocessed_next : List Extension) (public_values : List Base) (v : Verdict)
       → coset ≡ trace_coset m.log_height → whole ≡ quotient_coset residue_ring (residue 11) (trace_coset m.log_height) log_chunks
       → local ≡ m.local → next ≡ m.next → preprocessed_local ≡ m.preprocessed_local → preprocessed_next ≡ zeros air.layout.preprocessed → public_values ≡ m.public_values
       → map items columns ≡ air.periodic_columns → map parts chunks ≡ m.chunks
@@ -204,8 +204,8 @@ module _ (air : CheckedAir Base) (log_chunks : ℕ) (m : CheckNumbers) {V W : Ty
       (λ periodic. record { local = local; next = next; preprocessed_local = preprocessed_local; preprocessed_next = preprocessed_next; periodic = periodic; public_values = public_values }) m.zeta m.alpha v
       → TellsEquation (IsBalanced air log_chunks m) v
   unfolding PointVerdict
-  told_at_zeta coset whole local next preprocessed_local preprocessed_next public_values v ec ew el en ef eg ep columned chunked h =
-      told_of_numbers air log_chunks m coset local next preprocessed_local preprocessed_next
+  stated_at_zeta coset whole local next preprocessed_local preprocessed_next public_values v ec ew el en ef eg ep columned chunked h =
+      stated_of_numbers air log_chunks m coset local next preprocessed_local preprocessed_next
       (map (λ v. periodic_value residue_ring residue_inverse (root coset.log_size) (coset_size coset) elements element_of (items v) m.zeta) columns) public_values
       (recomposition elements elements (λ c. c) inverse_of (2 ^ (whole.log_size - log_chunks)) (basis_of residue_ring) (chunk_shifts residue_ring root element_of whole log_chunks) (map parts chunks) m.zeta) v
       ec el en ef eg (values_of_columns air m items columns columned coset.log_size (ap (λ (c : TwoAdicCoset Base). c.log_size) ec)) ep

@@ -62,11 +62,11 @@ module _ {S H R T X Y : Type 0} (hashing_ops : ProtocolOps S Base Extension H (L
   unfolding IsProvedRead
   proved_shaped air shape m height trace listed f same fits is lists proved = elim proved [
     | inl memory ↦ inl memory
-    | inr found ↦ inr (inl (
+    | inr obtained ↦ inr (inl (
       height,
       subst (λ s. HasTraceShape s log_rows m height) same fits,
       subst (λ ps. IsProvedBy hashing_ops script_ops coordinates log_rows scheme hashing_start script_start air height (trace_of air.layout.main m.rows) ps m.ood_bits m.alpha_bits m.challenger f) lists
-          (subst (λ t. IsProvedBy hashing_ops script_ops coordinates log_rows scheme hashing_start script_start air height t listed m.ood_bits m.alpha_bits m.challenger f) is found),
+          (subst (λ t. IsProvedBy hashing_ops script_ops coordinates log_rows scheme hashing_start script_start air height t listed m.ood_bits m.alpha_bits m.challenger f) is obtained),
     ))
   ]
 
@@ -80,17 +80,17 @@ module _ {S H R T X Y : Type 0} (hashing_ops : ProtocolOps S Base Extension H (L
   pub proved_as_read : (air : CheckedAir Base) (read : Option TraceNumbers) (m : TraceNumbers) (f : Finding) → read ≡ Some m
       → (f ≡ no_memory) ⊎ IsProvedRead hashing_ops script_ops coordinates log_rows scheme hashing_start script_start air (Some m) f
       → (f ≡ no_memory) ⊎ IsProvedRead hashing_ops script_ops coordinates log_rows scheme hashing_start script_start air read f
-  proved_as_read air read m f is found =
-      subst (λ n. (f ≡ no_memory) ⊎ IsProvedRead hashing_ops script_ops coordinates log_rows scheme hashing_start script_start air n f) (sym is) found
+  proved_as_read air read m f is obtained =
+      subst (λ n. (f ≡ no_memory) ⊎ IsProvedRead hashing_ops script_ops coordinates log_rows scheme hashing_start script_start air n f) (sym is) obtained
 
   -- What is found for an AIR that declares what a sample AIR does is found for the sample.
   pub proved_for_sample : (air : CheckedAir Base) (name : SampleAir) (read : Option TraceNumbers) (f : Finding) → air ≡ sample name
       → (f ≡ no_memory) ⊎ IsProvedRead hashing_ops script_ops coordinates log_rows scheme hashing_start script_start air read f
       → IsProvedRead hashing_ops script_ops coordinates log_rows scheme hashing_start script_start (sample name) read f ⊎ (f ≡ no_memory)
   proved_for_sample air name read f is (inl memory) = inr memory
-  proved_for_sample air name read f is (inr found) = inl (subst (λ a. IsProvedRead hashing_ops script_ops coordinates log_rows scheme hashing_start script_start a read f) is found)
+  proved_for_sample air name read f is (inr obtained) = inl (subst (λ a. IsProvedRead hashing_ops script_ops coordinates log_rows scheme hashing_start script_start a read f) is obtained)
 
--- The same from an equal state.
+-- A finding that is proved from one state is proved from an equal one.
 pub proved_from : {S H R T X Y : Type 0} (hashing_ops : ProtocolOps S Base Extension H (Listed Base) T ClearProof X Y) (script_ops : ProtocolOps S Base Extension R (Listed Base) T ClearProof X Y) (coordinates : Extension → List Base)
     (log_rows : ℕ) (scheme : S) (start fresh : H) (script_start : List Base → R) (air : CheckedAir Base) (read : Option TraceNumbers) (f : Finding) → start ≡ fresh
     → (f ≡ no_memory) ⊎ IsProvedRead hashing_ops script_ops coordinates log_rows scheme start script_start air read f

@@ -37,5 +37,5 @@ cut_of_sample Pair = one_chunk
 pub found_for_sample : (air : CheckedAir Base) (name : SampleAir) (bytes : List ℕ) (v : Verdict) → air ≡ sample name
     → ((log_chunks : ℕ) → IsCutInto air log_chunks → (v ≡ check_verdict air log_chunks (numbers_in (shape_of air) bytes)) ⊎ (v ≡ Refused OutOfMemory))
     → (v ≡ check_verdict (sample name) (log_chunks_of name) (numbers_in (shape_of (sample name)) bytes)) ⊎ (v ≡ Refused OutOfMemory)
-found_for_sample air name bytes v is found =
-    subst (λ a. (log_chunks : ℕ) → IsCutInto a log_chunks → (v ≡ check_verdict a log_chunks (numbers_in (shape_of a) bytes)) ⊎ (v ≡ Refused OutOfMemory)) is found (log_chunks_of name) (cut_of_sample name)
+found_for_sample air name bytes v is obtained =
+    subst (λ a. (log_chunks : ℕ) → IsCutInto a log_chunks → (v ≡ check_verdict a log_chunks (numbers_in (shape_of a) bytes)) ⊎ (v ≡ Refused OutOfMemory)) is obtained (log_chunks_of name) (cut_of_sample name)

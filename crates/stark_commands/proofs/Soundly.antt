@@ -48,8 +48,8 @@ module _ {S H R T P X Y : Type 0} (hashing_ops : ProtocolOps S Base Extension H 
   accepted_soundly_by : (m : ProofNumbers (Listed Base) P) (named : NamedChallenger) → IsVerdictBy hashing_ops script_ops log_rows scheme hashing_start script_start air m named verdict.Accepted
       → IsSoundBy hashing_ops script_ops log_rows scheme hashing_start script_start air m named
   unfolding IsVerdictBy IsSoundBy
-  accepted_soundly_by m hashing found = accepted_soundly hashing_ops log_rows hashing_clear air within is_declared scheme hashing_start m.proof m.public_values m.ood_bits m.alpha_bits found
-  accepted_soundly_by m (scripted numbers) found = accepted_soundly script_ops log_rows script_clear air within is_declared scheme (script_start numbers) m.proof m.public_values m.ood_bits m.alpha_bits found
+  accepted_soundly_by m hashing obtained = accepted_soundly hashing_ops log_rows hashing_clear air within is_declared scheme hashing_start m.proof m.public_values m.ood_bits m.alpha_bits obtained
+  accepted_soundly_by m (scripted numbers) obtained = accepted_soundly script_ops log_rows script_clear air within is_declared scheme (script_start numbers) m.proof m.public_values m.ood_bits m.alpha_bits obtained
 
   -- What the verifier of an AIR accepts, whose constraints read within what it declares, is sound.
   pub verified_soundly : (read : Option (ProofNumbers (Listed Base) P)) → IsVerified hashing_ops script_ops log_rows scheme hashing_start script_start air read verdict.Accepted

@@ -41,7 +41,7 @@ module _ {F E : Type 0} (fields : FieldsOps F E) where
   TellsQuotient coset constraints opened periodic quotient verdict =
       EquationVerdict fields.base fields.ring fields.embed (subgroup_of fields.inverse fields.embed fields.root coset) constraints (rows_with opened periodic) opened.zeta opened.alpha quotient verdict
 
-  -- The same, where both are first taken at the point.
+  -- What the equation tells, where periodic columns and chunks are first taken at the point.
   abbrev pub TellsPoint : {D : Type 0} → (D → TwoAdicCoset F) → PointDomains D → List (Constraint F) → PeriodicColumns F → OpenedPoint F E → Verdict → Type 0
   TellsPoint coset_of domains constraints columns opened verdict =
       PointVerdict fields.base fields.base_inverse fields.root fields.ring fields.inverse fields.embed fields.basis (coset_of domains.trace) (coset_of domains.quotient) domains.log_chunks constraints

@@ -69,7 +69,7 @@ module _ {K : Type 0} {P : Type 0} (commitment : Data → Option K) (argument : 
   unfoldable pub proof_numbers_in : List ℕ → Option (ProofNumbers K P)
   proof_numbers_in bytes = json_of bytes >>= proof_numbers_at
 
--- The same, without where it lies in memory.
+-- The challenger that is named, without where it lies in memory.
 abbrev pub named_challenger : ChosenChallenger → NamedChallenger
 named_challenger Sha256 = hashing
 named_challenger (Script numbers) = scripted numbers.items

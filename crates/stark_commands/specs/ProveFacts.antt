@@ -56,7 +56,7 @@ module _ {S H R T X Y : Type 0} (hashing_ops : ProtocolOps S Base Extension H (L
   pub proved_begins : (read : Option TraceNumbers) (f : Finding) → IsProvedRead hashing_ops script_ops coordinates log_rows scheme hashing_start script_start air read f → BeginsAsItsKind f
   unfolding IsProvedRead
   proved_begins None f proved = not_read_begins f proved
-  proved_begins (Some m) f (inl found) = begins_by found.0 (trace_of air.layout.main m.rows) m.public_values m.ood_bits m.alpha_bits m.challenger f found.2
+  proved_begins (Some m) f (inl obtained) = begins_by obtained.0 (trace_of air.layout.main m.rows) m.public_values m.ood_bits m.alpha_bits m.challenger f obtained.2
   proved_begins (Some m) f (inr other) = not_read_begins f other.1
 
   -- A proof that is found is a line, and one of the trace that was read.
@@ -64,28 +64,28 @@ module _ {S H R T X Y : Type 0} (hashing_ops : ProtocolOps S Base Extension H (L
       → WhereLine (IsProofOfRead hashing_ops script_ops coordinates log_rows scheme hashing_start script_start air read) f
   unfolding IsProvedRead IsProofOfRead
   proved_line None f proved = λ form is. absurd (not_read_proof f proved form is)
-  proved_line (Some m) f (inl found) = λ form is.
-      let line = line_by found.0 (trace_of air.layout.main m.rows) m.public_values m.ood_bits m.alpha_bits m.challenger f found.2 form is in
-      (line.0, (found.0, found.1, line.1))
+  proved_line (Some m) f (inl obtained) = λ form is.
+      let line = line_by obtained.0 (trace_of air.layout.main m.rows) m.public_values m.ood_bits m.alpha_bits m.challenger f obtained.2 form is in
+      (line.0, (obtained.0, obtained.1, line.1))
   proved_line (Some m) f (inr other) = λ form is. absurd (not_read_proof f other.1 form is)
 
   -- A prover accepts nothing.
   pub proved_accepts_none : (read : Option TraceNumbers) → IsProvedRead hashing_ops script_ops coordinates log_rows scheme hashing_start script_start air read (finding.Verdict verdict.Accepted) → ⊥
   unfolding IsProvedRead
   proved_accepts_none None proved = not_read_accepted proved
-  proved_accepts_none (Some m) (inl found) = accepted_by found.0 (trace_of air.layout.main m.rows) m.public_values m.ood_bits m.alpha_bits m.challenger found.2
+  proved_accepts_none (Some m) (inl obtained) = accepted_by obtained.0 (trace_of air.layout.main m.rows) m.public_values m.ood_bits m.alpha_bits m.challenger obtained.2
   proved_accepts_none (Some m) (inr other) = not_read_accepted other.1
 
   -- Nor does it find that a trace satisfies its AIR.
   pub proved_satisfies_none : (read : Option TraceNumbers) → IsProvedRead hashing_ops script_ops coordinates log_rows scheme hashing_start script_start air read finding.Satisfied → ⊥
   unfolding IsProvedRead
   proved_satisfies_none None proved = not_read_satisfied proved
-  proved_satisfies_none (Some m) (inl found) = satisfied_by found.0 (trace_of air.layout.main m.rows) m.public_values m.ood_bits m.alpha_bits m.challenger found.2
+  proved_satisfies_none (Some m) (inl obtained) = satisfied_by obtained.0 (trace_of air.layout.main m.rows) m.public_values m.ood_bits m.alpha_bits m.challenger obtained.2
   proved_satisfies_none (Some m) (inr other) = not_read_satisfied other.1
 
   -- Nor does it show anything.
   pub proved_no_text : (read : Option TraceNumbers) (f : Finding) → IsProvedRead hashing_ops script_ops coordinates log_rows scheme hashing_start script_start air read f → IsText f → ⊥
   unfolding IsProvedRead
   proved_no_text None f proved is = not_read_text f proved is
-  proved_no_text (Some m) f (inl found) is = no_text_by found.0 (trace_of air.layout.main m.rows) m.public_values m.ood_bits m.alpha_bits m.challenger f found.2 is
+  proved_no_text (Some m) f (inl obtained) is = no_text_by obtained.0 (trace_of air.layout.main m.rows) m.public_values m.ood_bits m.alpha_bits m.challenger f obtained.2 is
   proved_no_text (Some m) f (inr other) is = not_read_text f other.1 is

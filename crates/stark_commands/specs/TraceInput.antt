@@ -33,7 +33,7 @@ trace_numbers_at d = do
 unfoldable pub trace_numbers_in : List ℕ → Option TraceNumbers
 trace_numbers_in bytes = json_of bytes >>= trace_numbers_at
 
--- The same, without where it lies in memory.
+-- The numbers of the input, without where they lie in memory.
 abbrev pub trace_numbers : TraceInput → TraceNumbers
 trace_numbers input = record { rows = map (λ row. row.items) input.rows.items; public_values = input.public_values.items; challenger = named_challenger input.challenger; ood_bits = input.ood_bits; alpha_bits = input.alpha_bits }
 

@@ -97,11 +97,11 @@ module _ {F : Type 0} (ring : RingOps F) where
 module _ {F E : Type 0} (i : AirInstance F E) (rows : TraceRows F) where
   -- Where no value is found that isn't zero, the row breaks nothing,
   pub none_found : (k : ℕ) (values : List F) → values ≡ values_in i rows k → IsFoundIn i.base.zero values None → HoldsInRow i rows k
-  none_found k values are found = subst (AllByRecursion (λ c. c ≡ i.base.zero)) are found
+  none_found k values are obtained = subst (AllByRecursion (λ c. c ≡ i.base.zero)) are obtained
 
   -- and else the first.
   pub one_found : (k : ℕ) (values : List F) (violation : ConstraintViolation F) → values ≡ values_in i rows k → violation.row ≡ k → IsFirstNonzero i.base.zero values violation.constraint violation.value → IsBrokenIn i rows k violation
-  one_found k values violation are at found = record { row_is = at; first = subst (λ list. IsFirstNonzero i.base.zero list violation.constraint violation.value) are found }
+  one_found k values violation are at obtained = record { row_is = at; first = subst (λ list. IsFirstNonzero i.base.zero list violation.constraint violation.value) are obtained }
 
   -- It is the first of all where no row before breaks one.
   pub first_of_all : (k : ℕ) (error : ConstraintCheckError F) → k < height i → ((n : ℕ) → n < k → HoldsInRow i rows n) → IsRefusedOr (IsBrokenIn i rows k) error → IsRefusedOr (IsFirstViolation i rows) error

@@ -58,7 +58,7 @@ is_null (array ds) = false
 is_null (object ms) = false
 
 pub base_never_null : {M K : Type 0} {G : Ghosts M} (x : Residue M K G) → base_written x ≢ null
-base_never_null x e = let told = ap is_null e in absurd (cc)
+base_never_null x e = let stated = ap is_null e in absurd (cc)
 
 pub element_never_null : {K : Type 0} (coordinate_written : K → Data) (x : Ext4 K) → element_written coordinate_written x ≢ null
-element_never_null coordinate_written x e = let told = ap is_null e in absurd (cc)
+element_never_null coordinate_written x e = let stated = ap is_null e in absurd (cc)

@@ -90,16 +90,16 @@ module _ {K : Type 0} {ring : RingOps K} (laws : RingLaws ring) (number : K → 
     -- each element but zero is a power of g
     pub is_power : (x : K) → x ≢ ring.zero → (i : ℕ) × (i < n) × (power ring g i ≡ x)
     is_power x nonzero = elim (find_below (λ i. power ring g i ≡ x) (λ i. decided (power ring g i) x) n) [
-      | inl found ↦ found
+      | inl obtained ↦ obtained
       | inr none ↦ absurd (pigeonhole n (place x) (misses x nonzero none))
     ]
 
     -- Fermat: its power n is one
     pub fermat : (x : K) → x ≢ ring.zero → power ring x n ≡ ring.one
     fermat x nonzero =
-        let found = is_power x nonzero in
-        let i = found.0 in
-        ap (λ t. power ring t n) (sym found.2) ∙ power-power laws g i n ∙ ap (λ t. power ring g t) (mul_comm i n) ∙ sym (power-power laws g n i)
+        let obtained = is_power x nonzero in
+        let i = obtained.0 in
+        ap (λ t. power ring t n) (sym obtained.2) ∙ power-power laws g i n ∙ ap (λ t. power ring g t) (mul_comm i n) ∙ sym (power-power laws g n i)
         ∙ ap (λ t. power ring t i) order.reaches ∙ power-one laws i
 
     pub power_inverts : (x : K) → x ≢ ring.zero → (k : ℕ) → suc k ≡ n → ring.mul x (power ring x k) ≡ ring.one

@@ -135,12 +135,12 @@ module _ {M : Type 0} (K : Type 0) (G : Ghosts M) where
   generator_escapes : (d e : ℕ) → d * e ≡ p - 1 → e ≢ 1 → Escapes ring (residue G.GENERATOR) (p - 1) e
   generator_escapes d e h other =
       let product : list_product G.prime.factors ≡ p - 1 = omega (arith, G.prime.product) in
-      let found = find_factor (keeps_apart p G.GENERATOR) (primes_of p G.GENERATOR) G.prime.factors G.prime.apart d e (h ∙ sym product) other in
+      let obtained = find_factor (keeps_apart p G.GENERATOR) (primes_of p G.GENERATOR) G.prime.factors G.prime.apart d e (h ∙ sym product) other in
       record {
-        prime = found.prime;
-        positive = prime_positive found.prime (primes_of p G.GENERATOR found.prime found.passes);
-        divides = found.divides;
-        other = power_not_one G.GENERATOR ((p - 1) / found.prime) (quotient_below p found.prime (positive G)) (powers_of p G.GENERATOR found.prime found.passes);
+        prime = obtained.prime;
+        positive = prime_positive obtained.prime (primes_of p G.GENERATOR obtained.prime obtained.passes);
+        divides = obtained.divides;
+        other = power_not_one G.GENERATOR ((p - 1) / obtained.prime) (quotient_below p obtained.prime (positive G)) (powers_of p G.GENERATOR obtained.prime obtained.passes);
       }
 
   pub generator_order : HasOrder ring (residue G.GENERATOR) (p - 1)

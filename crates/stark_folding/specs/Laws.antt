@@ -7,7 +7,7 @@ use Rattle.stark_support.specs.Ring.{RingOps}
 use Rattle.stark_folding.specs.Fold.{folded, folded_pair, squared_coset}
 use Rattle.stark_folding.specs.OneBeta.{FoldsTo, IsCodeword}
 use Rattle.stark_folding.specs.Reduce.{Opened, Seen, reduced, reduced_at, seen_at}
-use Rattle.stark_folding.specs.Walk.{folded_all, honest_steps, last_coset, last_place, walked}
+use Rattle.stark_folding.specs.Walk.{folded_all, steps_of_layers, last_coset, last_place, walked}
 
 module _ {K : Type 0} (ring : RingOps K) (inverse : K → K) (adicity : ℕ) (root : ℕ → K) where
   -- Values at opposite points of a coset fold to the folded polynomial's value at their square.
@@ -24,7 +24,7 @@ module _ {K : Type 0} (ring : RingOps K) (inverse : K → K) (adicity : ℕ) (ro
   -- By the values of an honest prover's layers a query leads to the value of the last folded polynomial.
   abbrev pub WalksEnd : Type 0
   WalksEnd = (c : TwoAdicCoset K) → IsTwoAdicCoset ring adicity c → (betas : List K) → length betas ≤ c.log_size → (p : List K) (i : ℕ) → i < coset_size c
-      → walked ring inverse root c i (value ring p (coset_point ring root c i)) (honest_steps ring root c i p betas)
+      → walked ring inverse root c i (value ring p (coset_point ring root c i)) (steps_of_layers ring root c i p betas)
       ≡ value ring (folded_all ring betas p) (coset_point ring root (last_coset ring (length betas) c) (last_place ring (length betas) c i))
 
 -- The values of a polynomial on that coset become those of the folded polynomial on the coset of the squares.

@@ -26,10 +26,10 @@ abbrev pub opposite_place : {K : Type 0} → TwoAdicCoset K → ℕ → ℕ
 opposite_place c i = cond (ltb i (half_size c)) (i % half_size c + half_size c) (i % half_size c)
 
 -- The steps of an honest prover, whose layers are the values of the folded polynomials.
-unfoldable pub honest_steps : {K : Type 0} → RingOps K → (ℕ → K) → TwoAdicCoset K → ℕ → List K → List K → List (K × K)
-honest_steps ring root c i p [] = []
-honest_steps ring root c i p (beta ∷ betas) =
-    (beta, value ring p (coset_point ring root c (opposite_place c i))) ∷ honest_steps ring root (squared_coset ring c) (i % half_size c) (folded ring beta p) betas
+unfoldable pub steps_of_layers : {K : Type 0} → RingOps K → (ℕ → K) → TwoAdicCoset K → ℕ → List K → List K → List (K × K)
+steps_of_layers ring root c i p [] = []
+steps_of_layers ring root c i p (beta ∷ betas) =
+    (beta, value ring p (coset_point ring root c (opposite_place c i))) ∷ steps_of_layers ring root (squared_coset ring c) (i % half_size c) (folded ring beta p) betas
 
 -- A polynomial folded by each beta in turn.
 unfoldable pub folded_all : {K : Type 0} → RingOps K → List K → List K → List K

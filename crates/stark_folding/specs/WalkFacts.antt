@@ -12,7 +12,7 @@ use Rattle.stark_support.specs.TwoAdic.{TwoAdicLaws}
 use Rattle.stark_support.specs.Coset.{TwoAdicCoset, IsTwoAdicCoset, coset_point, coset_size}
 use Rattle.stark_folding.specs.Fold.{folded, folded_pair, squared_coset}
 use Rattle.stark_folding.specs.FoldFacts.{points_fold, squares_valid}
-use Rattle.stark_folding.specs.Walk.{folded_all, half_size, honest_steps, last_coset, last_place, next_value, opposite_place, walked}
+use Rattle.stark_folding.specs.Walk.{folded_all, half_size, steps_of_layers, last_coset, last_place, next_value, opposite_place, walked}
 
 two_times : (k : ℕ) → 2 ^ suc k ≡ 2 * 2 ^ k
 two_times k = omega (arith, pow-suc 2 k)
@@ -49,17 +49,17 @@ module _ {K : Type 0} {ring : RingOps K} {inverse : K → K} (laws : FieldLaws r
         | inr w ↦ let high : n < suc i = w.1 in ap chosen w.0 ∙ ap (λ m. folded_pair ring inverse beta x (at j) (at m)) (sym (high_place i n (omega arith) (omega (arith, twice)))) ∙ fold
       ]
 
-  pub honest_walk : (c : TwoAdicCoset K) → IsTwoAdicCoset ring adicity c → (betas : List K) → length betas ≤ c.log_size → (p : List K) (i : ℕ) → i < coset_size c
-      → walked ring inverse root c i (value ring p (coset_point ring root c i)) (honest_steps ring root c i p betas)
+  pub walk_of_layers : (c : TwoAdicCoset K) → IsTwoAdicCoset ring adicity c → (betas : List K) → length betas ≤ c.log_size → (p : List K) (i : ℕ) → i < coset_size c
+      → walked ring inverse root c i (value ring p (coset_point ring root c i)) (steps_of_layers ring root c i p betas)
       ≡ value ring (folded_all ring betas p) (coset_point ring root (last_coset ring (length betas) c) (last_place ring (length betas) c i))
-  unfolding walked honest_steps folded_all last_coset last_place
-  honest_walk c valid [] few p i within = refl
-  honest_walk c valid (beta ∷ betas) few p i within =
+  unfolding walked steps_of_layers folded_all last_coset last_place
+  walk_of_layers c valid [] few p i within = refl
+  walk_of_layers c valid (beta ∷ betas) few p i within =
       let j = i % half_size c in
       let whole : c.log_size ≡ suc (c.log_size - 1) = omega arith in
-      ap (λ v. walked ring inverse root (squared_coset ring c) j v (honest_steps ring root (squared_coset ring c) j (folded ring beta p) betas))
+      ap (λ v. walked ring inverse root (squared_coset ring c) j v (steps_of_layers ring root (squared_coset ring c) j (folded ring beta p) betas))
       (next_is_folded c valid (omega arith) beta p i within) ∙
-      honest_walk (squared_coset ring c) (squares_valid laws adicity root generator two_adic c valid (c.log_size - 1) whole) betas (omega arith) (folded ring beta p) j
+      walk_of_layers (squared_coset ring c) (squares_valid laws adicity root generator two_adic c valid (c.log_size - 1) whole) betas (omega arith) (folded ring beta p) j
       (place_below i (c.log_size - 1))
 
 module _ {K : Type 0} (ring : RingOps K) where

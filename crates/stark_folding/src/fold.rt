@@ -58,8 +58,8 @@ pub fn betas_are_few<F: TwoAdicField>(_some: F)
     ensures { BetasAreFew F.ring F.inverse_of F.TWO_ADICITY F.root }
 {}
 
-/// A law, with no code: by the values of an honest prover's layers each query leads to the value of
-/// the last folded polynomial.
+/// A law, with no code: where the layers are the values of the folded polynomials, each query leads
+/// to the value of the last one.
 pub fn walks_end<F: TwoAdicField>(_some: F)
     ensures { WalksEnd F.ring F.inverse_of F.TWO_ADICITY F.root }
 {}

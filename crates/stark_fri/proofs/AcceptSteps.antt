@@ -39,7 +39,7 @@ module _ {C F E : Type 0} (ops : FriOps C F E) (i : Instance C F E) where
   claims_refused Queries fault = absurd fault
   claims_refused (CommitWork phase) fault = absurd fault
   claims_refused QueryWork fault = absurd fault
-  claims_refused (Query query fault) found = absurd found
+  claims_refused (Query query fault) obtained = absurd obtained
 
   module _ (fit : Fit ops i) (k : ℕ) (is_height : k ≡ log_height_of ops i) where
     pub proof_fits : (done : ⊤) → ShapeFits i.parameters k i.proof (Ok done) → ProofFits ops i
@@ -63,7 +63,7 @@ module _ {C F E : Type 0} (ops : FriOps C F E) (i : Instance C F E) where
         (fit, subst (λ n. HasFolds i.parameters n i.proof) is_height fault.0, subst (λ n. HasLength i.parameters n i.proof) is_height fault.1, fault.2)
     shape_refused (CommitWork phase) fault = absurd fault
     shape_refused QueryWork fault = absurd fault
-    shape_refused (Query query fault) found = absurd found
+    shape_refused (Query query fault) obtained = absurd obtained
 
   -- ---- the transcript and the queries
 
@@ -79,7 +79,7 @@ module _ {C F E : Type 0} (ops : FriOps C F E) (i : Instance C F E) where
     work_refused Queries fault = absurd fault
     work_refused (CommitWork phase) fault = (fits, fault)
     work_refused QueryWork fault = (fits, fault.0, fault.1)
-    work_refused (Query query fault) found = absurd found
+    work_refused (Query query fault) obtained = absurd obtained
 
     module _ (is_bits : bits ≡ bits_of ops i) (drawn : Drawn E) (played : Replays ops.sponge i bits (Ok drawn)) where
       same_target : target_by i.rounds bits drawn i.proof ≡ target_of ops i
@@ -92,21 +92,21 @@ module _ {C F E : Type 0} (ops : FriOps C F E) (i : Instance C F E) where
       same_queries = ap (λ t. zip t i.proof.queries) (played.2.2 ∙ ap (query_places ops.sponge i) is_bits)
 
       pub all_accepted : FindsFault ops.fields ops.hash (target_by i.rounds bits drawn i.proof) (zip drawn.places.items i.proof.queries) None → Accepted ops i
-      all_accepted found = record {
+      all_accepted obtained = record {
         shape = fits;
         folds_work = played.0;
         query_work = played.1;
         queries = subst (λ t. AllByRecursion (QueryHolds ops.fields ops.hash t) (all_queries ops i)) same_target
-            (subst (AllByRecursion (QueryHolds ops.fields ops.hash (target_by i.rounds bits drawn i.proof))) same_queries found);
+            (subst (AllByRecursion (QueryHolds ops.fields ops.hash (target_by i.rounds bits drawn i.proof))) same_queries obtained);
       }
 
       pub query_refused : (query : ℕ) (fault : QueryFault)
           → FindsFault ops.fields ops.hash (target_by i.rounds bits drawn i.proof) (zip drawn.places.items i.proof.queries) (Some (query, fault)) → Refused ops i (Query query fault)
-      query_refused query fault found = (
+      query_refused query fault obtained = (
         fits,
         played.0,
         played.1,
         subst (λ t. IsFirstFaultWith (QueryHolds ops.fields ops.hash t) (QueryFails ops.fields ops.hash t fault) (all_queries ops i) query) same_target
             (subst (λ t. IsFirstFaultWith (QueryHolds ops.fields ops.hash (target_by i.rounds bits drawn i.proof)) (QueryFails ops.fields ops.hash (target_by i.rounds bits drawn i.proof) fault) t query)
-            same_queries found),
+            same_queries obtained),
       )

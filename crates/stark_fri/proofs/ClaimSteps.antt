@@ -76,5 +76,5 @@ none_first g (y ∷ ys) is = absurd (cc)
 
 -- a test of two elements, and whether they differ
 pub tested : {A : Type 0} (test same : Bool) (x y : A) → test ≡ not same → (same ≡ true → x ≡ y) → (x ≡ y → same ≡ true) → IsTrue test ↔ (x ≡ y → ⊥)
-tested test true x y is tells told = (λ t. absurd (false≢true (sym is ∙ t)), λ differ. absurd (differ (tells refl)))
-tested test false x y is tells told = (λ t e. false≢true (told e), λ differ. is)
+tested test true x y is tells observed = (λ t. absurd (false≢true (sym is ∙ t)), λ differ. absurd (differ (tells refl)))
+tested test false x y is tells observed = (λ t e. false≢true (observed e), λ differ. is)

@@ -144,12 +144,12 @@ module _ {F E : Type 0} (fields : FriFields F E) where
           subst (IsFirstFault P (openings_of fields k trees layers pairs)) (omega arith) (so_far 0 (subst (λ t. IsFirstFault P t 0) (sym from_here) never))
 
   -- A test of a pair in memory is one of its opening.
-  pub pair_told : (hash : List ℕ → List ℕ) (depth : ℕ) (root tree : List ℕ) (layer : LayerOpening E) (pair : Pair E) (bytes : List ℕ) (path : List (List ℕ)) (told : Bool)
-      → root ≡ tree → bytes ≡ fields.pair_bytes pair.low pair.high → path ≡ digests_of layer.path → (IsTrue told ↔ LeadsTo hash root depth pair.place bytes path)
-      → IsTrue told ↔ PairLeads hash (opening_of fields depth tree layer pair)
-  pair_told hash depth root tree layer pair bytes path told is_root is_bytes is_path test =
-      subst (λ t. IsTrue told ↔ LeadsTo hash t depth pair.place (fields.pair_bytes pair.low pair.high) (digests_of layer.path)) is_root
-      (subst (λ t. IsTrue told ↔ LeadsTo hash root depth pair.place t (digests_of layer.path)) is_bytes (subst (λ t. IsTrue told ↔ LeadsTo hash root depth pair.place bytes t) is_path test))
+  pub pair_observed : (hash : List ℕ → List ℕ) (depth : ℕ) (root tree : List ℕ) (layer : LayerOpening E) (pair : Pair E) (bytes : List ℕ) (path : List (List ℕ)) (observed : Bool)
+      → root ≡ tree → bytes ≡ fields.pair_bytes pair.low pair.high → path ≡ digests_of layer.path → (IsTrue observed ↔ LeadsTo hash root depth pair.place bytes path)
+      → IsTrue observed ↔ PairLeads hash (opening_of fields depth tree layer pair)
+  pair_observed hash depth root tree layer pair bytes path observed is_root is_bytes is_path test =
+      subst (λ t. IsTrue observed ↔ LeadsTo hash t depth pair.place (fields.pair_bytes pair.low pair.high) (digests_of layer.path)) is_root
+      (subst (λ t. IsTrue observed ↔ LeadsTo hash root depth pair.place t (digests_of layer.path)) is_bytes (subst (λ t. IsTrue observed ↔ LeadsTo hash root depth pair.place bytes t) is_path test))
 
 -- ---- a turn of the loop over the layers
 
@@ -157,14 +157,14 @@ module _ {F E : Type 0} (fields : FriFields F E) (hash : List ℕ → List ℕ) 
     (as_many : length layers ≡ length phases) (also : length pairs ≡ length phases) (i : ℕ) (turn : i < length phases)
     (phase : Phase F) (is_phase : phase ≡ get_or phases i phase) (layer : LayerOpening E) (is_layer : layer ≡ get_or layers i layer) (pair : Pair E) (is_pair : pair ≡ get_or pairs i pair)
     (root bytes : List ℕ) (path : List (List ℕ)) (is_root : root ≡ phase_root (get_or phases i phase)) (is_bytes : bytes ≡ fields.pair_bytes pair.low pair.high)
-    (is_path : path ≡ digests_of (get_or layers i layer).path) (told : Bool) (test : IsTrue told ↔ LeadsTo hash root (bits - (i + 1)) pair.place bytes path) where
+    (is_path : path ≡ digests_of (get_or layers i layer).path) (observed : Bool) (test : IsTrue observed ↔ LeadsTo hash root (bits - (i + 1)) pair.place bytes path) where
   in_trees : i < length (map phase_root phases)
   in_trees = omega (arith, turn, length-map phases phase_root)
 
-  of_pair : IsTrue told ↔ PairLeads hash (opening_of fields (bits - (i + 1)) (phase_root phase) layer pair)
-  of_pair = pair_told fields hash (bits - (i + 1)) root (phase_root phase) layer pair bytes path told (is_root ∙ ap phase_root (sym is_phase)) is_bytes (is_path ∙ ap (λ l. digests_of l.path) (sym is_layer)) test
+  of_pair : IsTrue observed ↔ PairLeads hash (opening_of fields (bits - (i + 1)) (phase_root phase) layer pair)
+  of_pair = pair_observed fields hash (bits - (i + 1)) root (phase_root phase) layer pair bytes path observed (is_root ∙ ap phase_root (sym is_phase)) is_bytes (is_path ∙ ap (λ l. digests_of l.path) (sym is_layer)) test
 
-  pub layer_passed : IsTrue told → OpeningsSoFar fields (PairLeads hash) bits (map phase_root phases) layers pairs i × OpeningsPassed fields (PairLeads hash) bits (map phase_root phases) layers pairs i
+  pub layer_passed : IsTrue observed → OpeningsSoFar fields (PairLeads hash) bits (map phase_root phases) layers pairs i × OpeningsPassed fields (PairLeads hash) bits (map phase_root phases) layers pairs i
       → OpeningsSoFar fields (PairLeads hash) bits (map phase_root phases) layers pairs (i + 1) × OpeningsPassed fields (PairLeads hash) bits (map phase_root phases) layers pairs (i + 1)
   layer_passed leads so_far = (
     openings_step fields (PairLeads hash) bits (map phase_root phases) layers pairs i (phase_root phase) layer pair in_trees (mapped_place phase_root phases i phase turn is_phase)
@@ -173,7 +173,7 @@ module _ {F E : Type 0} (fields : FriFields F E) (hash : List ℕ → List ℕ) 
         (omega arith) is_layer (omega arith) is_pair (of_pair.0 leads) so_far.1,
   )
 
-  pub layer_stops : (IsTrue told → ⊥) → OpeningsPassed fields (PairLeads hash) bits (map phase_root phases) layers pairs i
+  pub layer_stops : (IsTrue observed → ⊥) → OpeningsPassed fields (PairLeads hash) bits (map phase_root phases) layers pairs i
       → IsFirstFault (PairLeads hash) (openings_of fields bits (map phase_root phases) layers pairs) i
   layer_stops never so_far =
       openings_stop fields (PairLeads hash) bits (map phase_root phases) layers pairs i (phase_root phase) layer pair in_trees (mapped_place phase_root phases i phase turn is_phase)

@@ -101,15 +101,15 @@ one_later n k = omega arith
 
 -- Where the first hold, all hold if those behind them do; and the first fault is behind them.
 pub first_hold : {A : Type 0} (P : A → Type 0) (xs : List A) (n : ℕ) → AllByRecursion P (take n xs) → HoldsSoFar P xs n
-first_hold P xs zero held = λ rest. rest
-first_hold P [] (suc n) held = λ rest. tt
-first_hold P (x ∷ xs) (suc n) held = λ rest. (held.0, first_hold P xs n held.1 rest)
+first_hold P xs zero holding = λ rest. rest
+first_hold P [] (suc n) holding = λ rest. tt
+first_hold P (x ∷ xs) (suc n) holding = λ rest. (holding.0, first_hold P xs n holding.1 rest)
 
 pub first_passed : {A : Type 0} (P Q : A → Type 0) (xs : List A) (n : ℕ) → n ≤ length xs → AllByRecursion P (take n xs) → PassedWith P Q xs n
 unfolding IsFirstFaultWith
-first_passed P Q xs zero few held = passed_with_start P Q xs
-first_passed P Q [] (suc n) few held = absurd (omega arith)
-first_passed P Q (x ∷ xs) (suc n) few held = λ k fault. subst (IsFirstFaultWith P Q (x ∷ xs)) (one_later n k) (held.0, first_passed P Q xs n (omega arith) held.1 k fault)
+first_passed P Q xs zero few holding = passed_with_start P Q xs
+first_passed P Q [] (suc n) few holding = absurd (omega arith)
+first_passed P Q (x ∷ xs) (suc n) few holding = λ k fault. subst (IsFirstFaultWith P Q (x ∷ xs)) (one_later n k) (holding.0, first_passed P Q xs n (omega arith) holding.1 k fault)
 
 -- ---- four more
 
@@ -120,12 +120,12 @@ module _ {A B : Type 0} where
   zip_take (x ∷ xs) [] (suc n) = refl
   zip_take (x ∷ xs) (y ∷ ys) (suc n) = ap (λ t. (x, y) ∷ t) (zip_take xs ys n)
 
-  pub held_more : (P : A × B → Type 0) (xs : List A) (ys : List B) (at more : ℕ) → AllByRecursion P (take at (zip xs ys)) → AllByRecursion P (zip (take more (drop at xs)) (take more (drop at ys)))
+  pub accepted_more : (P : A × B → Type 0) (xs : List A) (ys : List B) (at more : ℕ) → AllByRecursion P (take at (zip xs ys)) → AllByRecursion P (zip (take more (drop at xs)) (take more (drop at ys)))
       → AllByRecursion P (take (at + more) (zip xs ys))
-  held_more P xs ys zero more held next =
+  accepted_more P xs ys zero more holding next =
       let none : more ≡ 0 + more = omega arith in
       subst (λ n. AllByRecursion P (take n (zip xs ys))) none (subst (AllByRecursion P) (zip_take xs ys more) next)
-  held_more P [] ys (suc at) more held next = subst (λ n. AllByRecursion P (take n (zip [] ys))) (one_later at more) tt
-  held_more P (x ∷ xs) [] (suc at) more held next = subst (λ n. AllByRecursion P (take n (zip (x ∷ xs) []))) (one_later at more) tt
-  held_more P (x ∷ xs) (y ∷ ys) (suc at) more held next =
-      subst (λ n. AllByRecursion P (take n (zip (x ∷ xs) (y ∷ ys)))) (one_later at more) (held.0, held_more P xs ys at more held.1 next)
+  accepted_more P [] ys (suc at) more holding next = subst (λ n. AllByRecursion P (take n (zip [] ys))) (one_later at more) tt
+  accepted_more P (x ∷ xs) [] (suc at) more holding next = subst (λ n. AllByRecursion P (take n (zip (x ∷ xs) []))) (one_later at more) tt
+  accepted_more P (x ∷ xs) (y ∷ ys) (suc at) more holding next =
+      subst (λ n. AllByRecursion P (take n (zip (x ∷ xs) (y ∷ ys)))) (one_later at more) (holding.0, accepted_more P xs ys at more holding.1 next)

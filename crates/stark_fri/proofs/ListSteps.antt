@@ -69,7 +69,7 @@ module _ {A B : Type 0} (xs : List A) (ys : List B) (i end : ℕ) (x : A) (y : B
       let in_ys : i < length ys = omega (arith, turn, is_end, is_m) in
       (zip_within xs ys i (omega (arith, in_xs, in_ys)), zip_place xs ys i x y in_xs in_ys is_x is_y)
 
-  -- The same where one is mapped.
+  -- The place in a zip where one list is mapped.
   pub zip_mapped : {C : Type 0} (f : A → C) → end ≡ min (length xs) (length ys) → (i < length (zip (map f xs) ys)) × ((f x, y) ≡ get_or (zip (map f xs) ys) i (f x, y))
   zip_mapped f is_end =
       let in_xs : i < length xs = omega (arith, turn, is_end) in

@@ -37,7 +37,7 @@ module _ {F E : Type 0} (fields : FriFields F E) (hash : List ℕ → List ℕ) 
           ∙ openings_are fields (extension_coset fields bits) place (batched_at fields drawn.alpha bits rounds place query.inputs) (map phase_root proof.phases) drawn.betas.items query.layers
 
       layers_lead : FindsLayerFault fields hash bits phases layers pairs None → AllByRecursion (PairLeads hash) (query_pairs fields hash (target_by rounds bits drawn proof) (place, query))
-      layers_lead found = subst (AllByRecursion (PairLeads hash)) opened found
+      layers_lead obtained = subst (AllByRecursion (PairLeads hash)) opened obtained
 
       -- The value at the end, with the number of the folds told by the trees.
       counted : value fields.ring proof.final_polynomial (last_point fields (length proof.phases) (extension_coset fields bits) place)
@@ -45,10 +45,10 @@ module _ {F E : Type 0} (fields : FriFields F E) (hash : List ℕ → List ℕ) 
       counted = ap (λ n. value fields.ring proof.final_polynomial (last_point fields n (extension_coset fields bits) place)) (sym (length-map proof.phases phase_root))
 
       pub layer_fails : (layer : ℕ) → FindsLayerFault fields hash bits phases layers pairs (Some layer) → QueryFails fields hash (target_by rounds bits drawn proof) (Layer layer) (place, query)
-      layer_fails layer found = (fits, inputs_lead, subst (λ t. FindsFirstFault (PairLeads hash) t (Some layer)) opened found)
+      layer_fails layer obtained = (fits, inputs_lead, subst (λ t. FindsFirstFault (PairLeads hash) t (Some layer)) opened obtained)
 
       pub final_fails : FindsLayerFault fields hash bits phases layers pairs None → (EndsAt fields proof bits place walk → ⊥) → QueryFails fields hash (target_by rounds bits drawn proof) Final (place, query)
-      final_fails found never = (fits, inputs_lead, layers_lead found, λ holds. never (is_walk.1 ∙ holds ∙ sym counted))
+      final_fails obtained never = (fits, inputs_lead, layers_lead obtained, λ holds. never (is_walk.1 ∙ holds ∙ sym counted))
 
       pub query_holds : FindsLayerFault fields hash bits phases layers pairs None → EndsAt fields proof bits place walk → QueryHolds fields hash (target_by rounds bits drawn proof) (place, query)
-      query_holds found ends = record { fits = fits; inputs = inputs_lead; layers = layers_lead found; final = sym is_walk.1 ∙ ends ∙ counted }
+      query_holds obtained ends = record { fits = fits; inputs = inputs_lead; layers = layers_lead obtained; final = sym is_walk.1 ∙ ends ∙ counted }

@@ -57,11 +57,11 @@ module _ {C F E D A B : Type 0} (ops : FriOps C F E) (coset_of : D → TwoAdicCo
 
         pub query_at_fault : (query : ℕ) (fault : QueryFault)
             → FindsFault ops.fields ops.hash (target_by rounds (k + blowup) drawn proof) (zip drawn.places.items proof.queries) (Some (query, fault)) → Refused ops claimed (Query query fault)
-        query_at_fault query fault found =
-            refused_as_claimed ops coset_of s claims proof state (Query query fault) (query_refused ops asked fits (k + blowup) is_bits drawn played query fault found)
+        query_at_fault query fault obtained =
+            refused_as_claimed ops coset_of s claims proof state (Query query fault) (query_refused ops asked fits (k + blowup) is_bits drawn played query fault obtained)
 
         pub none_at_fault : FindsFault ops.fields ops.hash (target_by rounds (k + blowup) drawn proof) (zip drawn.places.items proof.queries) None → Accepted ops claimed
-        none_at_fault found = accepted_as_claimed ops coset_of s claims proof state (all_accepted ops asked fits (k + blowup) is_bits drawn played found)
+        none_at_fault obtained = accepted_as_claimed ops coset_of s claims proof state (all_accepted ops asked fits (k + blowup) is_bits drawn played obtained)
 
 -- What was replayed of a proof whose shape fits may be checked.
 module _ {C F E D : Type 0} (ops : FriOps C F E) (coset_of : D → TwoAdicCoset F) (s : FriParameters) (state : C) (replayed : ReplayedProof F E D) where

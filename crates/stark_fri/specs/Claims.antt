@@ -28,7 +28,7 @@ matrix_read m = (m.0.log_size, m.1)
 abbrev pub round_read : {F E : Type 0} → RoundClaim F E Root → RoundRead E
 round_read claim = (claim.0, map matrix_read claim.1)
 
--- The same of claims in memory.
+-- What is read of claims in memory.
 abbrev pub matrix_seen : {F E D A : Type 0} → (D → TwoAdicCoset F) → D × Vec (E × Bor (List E)) A → MatrixRead E
 matrix_seen coset_of m = ((coset_of m.0).log_size, map point_view m.1.items)
 

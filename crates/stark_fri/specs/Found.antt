@@ -30,7 +30,7 @@ Plays sponge bits state phases (Ok drawn) =
     AllByRecursion (Passes sponge bits) (checks_of sponge bits state phases) × (drawn.0 ≡ betas_of sponge bits state phases) × (drawn.1 ≡ after_phases sponge bits state phases)
 Plays sponge bits state phases (Err fold) = IsFirstFault (Passes sponge bits) (checks_of sponge bits state phases) fold
 
--- The same of challenges in memory, with the state behind the folds.
+-- Challenges in memory are played, with the state behind the folds.
 abbrev pub PlaysTo : {C F E A : Type 0} → SpongeCalls C F E → ℕ → C → List (Phase F) → C → Result (Vec E A) ℕ → Type 0
 PlaysTo sponge bits state phases behind (Ok betas) = Plays sponge bits state phases (Ok (betas.items, behind))
 PlaysTo sponge bits state phases behind (Err fold) = Plays sponge bits state phases (Err fold)

@@ -240,7 +240,7 @@ fn four_hold<EF: ExtensionField<D::Val>, D: PolynomialSpace<Val: PrimeField64>, 
 
 /// How many of the first queries hold, as far as groups of four tell: those before the first group
 /// that isn't found to hold, or those of all groups. No path of these needs to be hashed again.
-pub(crate) fn held_by_fours<EF, D, H>(
+pub(crate) fn accepted_by_fours<EF, D, H>(
     alloc: Global,
     replayed: &ReplayedProof<'_, D::Val, EF, D>,
 ) -> Result<usize, AllocError>

@@ -7,7 +7,7 @@ ghost use Rattle.stark_fri.specs.Replayed.{FindsFirstQuery, IsCheckable};
 use crate::claims::check_claims;
 use crate::error::{FriError, QueryFault};
 use crate::fields::FoldingFields;
-use crate::fours::held_by_fours;
+use crate::fours::accepted_by_fours;
 use crate::query::query_fault;
 use crate::replay::{ReplayedProof, replay_proof};
 use crate::sponge::{FriCalls, FriChallenger};
@@ -62,12 +62,12 @@ where
 {
     let queries = replayed.proof.queries();
     let drawn = replayed.drawn;
-    let held = held_by_fours::<EF, D, H>(alloc, replayed)?;
-    for i in held..drawn.places.len().min(queries.len()) {
+    let accepted = accepted_by_fours::<EF, D, H>(alloc, replayed)?;
+    for i in accepted..drawn.places.len().min(queries.len()) {
         let place = drawn.places[i];
         let query = &queries[i];
-        let found = query_fault::<EF, D, H>(alloc, replayed, place, query)?;
-        if let Some(fault) = found {
+        let answer = query_fault::<EF, D, H>(alloc, replayed, place, query)?;
+        if let Some(fault) = answer {
             return Ok(Some((i, fault)));
         }
     }

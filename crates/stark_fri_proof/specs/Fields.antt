@@ -14,7 +14,7 @@ value_under reading name d = get name d >>= reading
 abbrev pub list_under : {A : Type 0} → (Data → Option A) → List ℕ → Data → Option (List A)
 list_under reading name d = value_under (array_at reading) name d
 
--- The same, of arrays of arrays.
+-- What each item of each array in the array under a name is read as.
 abbrev pub rows_under : {A : Type 0} → (Data → Option A) → List ℕ → Data → Option (List (List A))
 rows_under reading name d = list_under (array_at reading) name d
 

@@ -20,7 +20,7 @@ use Rattle.stark_support.specs.Claims.{RoundPoints}
 use Rattle.stark_fri.specs.Parts.{FriDataView}
 use Rattle.stark_folding.specs.Reduce.{Opened, reduced}
 use Rattle.stark_fri_prover.specs.Batch.{AddsOpened, AddsQuotient, AreZeros, ColumnsFit, combination, combined_at, weighted_at, weights_from}
-use Rattle.stark_fri_prover.specs.Honest.{IsBatch, opened_at, opened_in}
+use Rattle.stark_fri_prover.specs.Batching.{IsBatch, opened_at, opened_in}
 use Rattle.stark_fri_prover.specs.Words.{coordinate_at, coordinate_columns, element_of}
 use Rattle.stark_fri_prover.proofs.WordSteps.{mapped_twice, no_sum, sum_of_both, whole_element}
 

@@ -11,7 +11,7 @@ use Rattle.stark_fri.specs.Parts.{SpongeCalls}
 use Rattle.stark_fri.specs.Transcript.{Passes, after_phases, asked, betas_of, checks_of, worked}
 use Rattle.stark_fri_proof.specs.declared.proof.Phase.{Phase}
 use Rattle.stark_fri_prover.specs.Folds.{AreFolds, IsFold}
-use Rattle.stark_fri_prover.specs.Honest.{AreWordsOf, IsWordOf}
+use Rattle.stark_fri_prover.specs.Batching.{AreWordsOf, IsWordOf}
 use Rattle.stark_fri_prover.specs.Layers.{AreLayersOf, IsLayerOf}
 use Rattle.stark_fri_prover.specs.declared.layers.Layer.{Layer}
 

@@ -1,4 +1,4 @@
--- From what the calls of an opening leave to an opening that is honest.
+-- From what the calls of an opening leave to an opening that was made so.
 use Rattle.std.proofs.Common.{◌≡◌, ◌∙◌, ℕ, ◌+◌, ◌^◌, List, ap, map, subst, sym}
 use Rattle.std.proofs.lemmas.Simd.{map-map}
 use Rattle.std.specs.Borrow.{Bor}
@@ -19,8 +19,8 @@ use Rattle.stark_fri.specs.Transcript.{betas_of, observed_claims, observed_exten
 use Rattle.stark_fri_proof.specs.Parts.{FriProofView}
 use Rattle.stark_fri_proof.specs.declared.parameters.FriParameters.{FriParameters}
 use Rattle.stark_fri_prover.specs.Folds.{AreFolds, IsWitness}
-use Rattle.stark_fri_prover.specs.Honest.{AreWordsOf, IsBatch}
-use Rattle.stark_fri_prover.specs.HonestOpening.{AreOfHeight, HaveDegreesBelow, IsMade, own_bits, own_height, seen_round, seen_rounds}
+use Rattle.stark_fri_prover.specs.Batching.{AreWordsOf, IsBatch}
+use Rattle.stark_fri_prover.specs.MadeOpening.{AreOfHeight, HaveDegreesBelow, IsMade, own_bits, own_height, seen_round, seen_rounds}
 use Rattle.stark_fri_prover.specs.Layers.{AreLayersOf, OpensEach}
 use Rattle.stark_fri_prover.specs.OwnClaims.{RefusesRounds, points_in}
 use Rattle.stark_fri_prover.specs.declared.layers.Layer.{Layer}

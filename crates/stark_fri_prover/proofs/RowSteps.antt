@@ -33,8 +33,8 @@ module _ {F : Type 0} (ring : RingOps F) (root : ℕ → F) (coset extension : T
       → ((stored : RowMajorMatrix F) → slice_get extended i ≡ Some stored → (values ≡ stored.values.items) × (width ≡ stored.width))
       → HasRows ring root coset columns values width
   stored_rows matrices extended i columns values width all there is same =
-      let found = beside (IsExtended ring root extension) matrices extended i columns all there in
-      let both = same found.other found.there in
+      let obtained = beside (IsExtended ring root extension) matrices extended i columns all there in
+      let both = same obtained.other obtained.there in
       subst (λ t. HasRows ring root t columns values width) (sym is)
       (subst (λ t. HasRows ring root extension columns t width) (sym both.0)
-      (subst (λ t. HasRows ring root extension columns found.other.values.items t) (sym both.1) found.related))
+      (subst (λ t. HasRows ring root extension columns obtained.other.values.items t) (sym both.1) obtained.related))

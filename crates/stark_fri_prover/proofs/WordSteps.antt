@@ -12,7 +12,7 @@ use Rattle.stark_support.specs.Powers.{power}
 use Rattle.stark_support.specs.Ring.{RingOps, RingLaws}
 use Rattle.stark_support.specs.RingSolver.{solve, nothing, ◌⊕◌, ◌⊗◌, v0, v1, v2, v3, v4, v5}
 use Rattle.stark_support.specs.Scheme.{HasRows, matrix_row, row_at}
-use Rattle.stark_fri_prover.specs.Honest.{IsWordOf}
+use Rattle.stark_fri_prover.specs.Batching.{IsWordOf}
 use Rattle.stark_fri_prover.specs.Words.{coordinate_at, coordinate_columns, element_of, elements_of}
 
 pub mapped_twice : {A B D : Type 0} (f : A → B) (g : B → D) (xs : List A) → map g (map f xs) ≡ map (λ x. g (f x)) xs

@@ -11,7 +11,7 @@ use Rattle.stark_support.specs.Powers.{power}
 use Rattle.stark_support.specs.Ring.{RingOps}
 use Rattle.stark_folding.specs.Reduce.{Opened, reduced}
 use Rattle.stark_fri.specs.Parts.{FriDataView}
-use Rattle.stark_fri_prover.specs.Honest.{IsBatch, opened_in_matrix}
+use Rattle.stark_fri_prover.specs.Batching.{IsBatch, opened_in_matrix}
 
 -- No column has more coefficients than this: of a matrix, of matrices, and of rounds.
 abbrev pub ColumnsFit : {F : Type 0} → ℕ → List (List F) → Type 0
@@ -54,7 +54,7 @@ pub record AddsOpened {E : Type 0} (ring : RingOps E) (alpha : E) (opened : List
   pub values : (x : E) → value ring after x ≡ ring.add (value ring before x) (ring.mul first (value ring (reduced ring alpha opened) x))
   pub factor : next ≡ ring.mul first (power ring alpha (length opened))
 
--- The same, where the columns fit.
+-- The columns are added, where they fit.
 abbrev pub AddsColumns : {F E : Type 0} → RingOps E → E → List (List F) → List (Opened E) → List E → List E → E → E → Type 0
 AddsColumns ring alpha columns opened before after first next = ColumnsFit (length before) columns → AddsOpened ring alpha opened before after first next
 

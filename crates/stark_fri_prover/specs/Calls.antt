@@ -14,7 +14,7 @@ use Rattle.stark_fri.specs.declared.error.FriError.{FriError}
 use Rattle.stark_fri.specs.declared.error.FriProverError.{FriProverError}
 use Rattle.stark_fri_proof.specs.Parts.{FriProofView}
 use Rattle.stark_fri_proof.specs.declared.parameters.FriParameters.{FriParameters}
-use Rattle.stark_fri_prover.specs.HonestOpening.{IsMade}
+use Rattle.stark_fri_prover.specs.MadeOpening.{IsMade}
 use Rattle.stark_fri_prover.specs.OwnClaims.{AreFitting, RefusesRounds, points_in}
 
 -- What the verifier computes with, how elements are written, and how domains and the prover's data are read.

@@ -8,7 +8,7 @@ use Rattle.stark_fri.specs.Transcript.{Passes, after_phases, asked, betas_of, ch
 use Rattle.stark_fri_proof.specs.declared.proof.Phase.{Phase}
 use Rattle.stark_support.specs.Coset.{coset_from}
 use Rattle.stark_support.specs.Ring.{RingOps}
-use Rattle.stark_fri_prover.specs.Honest.{AreWordsOf, IsWordOf}
+use Rattle.stark_fri_prover.specs.Batching.{AreWordsOf, IsWordOf}
 use Rattle.stark_fri_prover.specs.Layers.{AreLayersOf, IsLayerOf}
 use Rattle.stark_fri_prover.specs.Words.{IsWordIn}
 use Rattle.stark_fri_prover.specs.declared.phases.Folds.{Folds}

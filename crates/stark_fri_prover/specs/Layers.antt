@@ -93,7 +93,7 @@ pub record OpensRow {F : Type 0} (place : ℕ) (extended : List (RowMajorMatrix 
   pub rows : HaveRow place extended → opened.rows ≡ map (row_of place) extended
   pub path : HaveRow place extended → IsPathOrNone layers place (digests_of opened.path)
 
--- The same of each round's data in memory.
+-- The rows are opened of each round's data in memory.
 abbrev pub OpensRows : {F T X : Type 0} → (T → List (RowMajorMatrix F)) → (T → List (List (List ℕ))) → ℕ → List (Bor T × X) → List (InputOpening F) → Type 0
 OpensRows extended_of layers_of place rounds opened = PlaceByPlace (λ round input. OpensRow place (extended_of round.0.now) (layers_of round.0.now) input) rounds opened
 

@@ -6,7 +6,7 @@ use Rattle.stark_fri.specs.Parts.{FriDataView, FriOps}
 use Rattle.stark_fri.specs.Scheme.{OpeningRefused, own_rounds}
 use Rattle.stark_fri.specs.declared.error.FriProverError.{FriProverError}
 use Rattle.stark_fri_proof.specs.declared.parameters.FriParameters.{FriParameters}
-use Rattle.stark_fri_prover.specs.HonestOpening.{AreOfHeight, seen_rounds}
+use Rattle.stark_fri_prover.specs.MadeOpening.{AreOfHeight, seen_rounds}
 use Rattle.stark_merkle.specs.declared.root.Root.{Root}
 use Rattle.stark_support.specs.Claims.{RoundPoints, round_view}
 use Rattle.stark_support.specs.Ring.{RingOps}

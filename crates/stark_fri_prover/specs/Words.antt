@@ -5,7 +5,7 @@ use Rattle.stark_support.specs.Coset.{coset_from}
 use Rattle.stark_support.specs.Extension.{basis_sum}
 use Rattle.stark_support.specs.Ring.{RingOps}
 use Rattle.stark_support.specs.Scheme.{matrix_row}
-use Rattle.stark_fri_prover.specs.Honest.{IsWordOf}
+use Rattle.stark_fri_prover.specs.Batching.{IsWordOf}
 
 -- An element's coordinate at a place of the basis.
 abbrev pub coordinate_at : {F E : Type 0} → (E → List F) → F → ℕ → E → F

@@ -3,7 +3,7 @@ ghost use Rattle.std.specs.Prelude.{◌≡◌, IfOk, get_or, length, map};
 ghost use Rattle.stark_columns.specs.Columns.{column_list};
 ghost use Rattle.stark_fri_prover.specs.Batch.{AddsColumns, AddsPoints, AddsQuotient, AddsRound, AreZeros, Batches, combination, weighted_at};
 ghost use Rattle.stark_fri_prover.specs.Commit.{data_seen};
-ghost use Rattle.stark_fri_prover.specs.Honest.{opened_at};
+ghost use Rattle.stark_fri_prover.specs.Batching.{opened_at};
 
 use crate::commit::FriData;
 use crate::layers::{coordinate_columns, element_of};

@@ -10,8 +10,8 @@ ghost use Rattle.stark_fri.specs.Scheme.{ArePlain, fri_calls};
 ghost use Rattle.stark_merkle.specs.Tree.{digests_in};
 ghost use Rattle.stark_fri_prover.specs.Calls.{Accepts, CommitsQuotient, Refuses, RefusesRoundsIn};
 ghost use Rattle.stark_fri_prover.specs.Commit.{AreLayersOver, data_seen, extension_of, IsKept, IsTopOf};
-ghost use Rattle.stark_fri_prover.specs.HonestFactsScheme.{kept_laws};
-ghost use Rattle.stark_fri_prover.specs.HonestOpening.{kept_scheme};
+ghost use Rattle.stark_fri_prover.specs.CompletenessFactsScheme.{kept_laws};
+ghost use Rattle.stark_fri_prover.specs.MadeOpening.{kept_scheme};
 ghost use Rattle.stark_support.specs.SchemeClauses.{CommitsChunks, CommitsRows, OpensTrueValues, ProvesTrueClaims, RowsStand, IsTableOver};
 
 use crate::calls::Proving;

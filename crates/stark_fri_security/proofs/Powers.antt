@@ -16,8 +16,8 @@ capped most n p positive = elim (within_or_past n most) [
 ]
 
 -- One more factor.
-pub power_capped : (most base k found next : ℕ) → 1 ≤ base → found ≡ min (base ^ k) most → next ≡ min (found * base) most → next ≡ min (base ^ (k + 1)) most
-power_capped most base k found next positive is gives =
+pub power_capped : (most base k obtained next : ℕ) → 1 ≤ base → obtained ≡ min (base ^ k) most → next ≡ min (obtained * base) most → next ≡ min (base ^ (k + 1)) most
+power_capped most base k obtained next positive is gives =
     gives ∙ ap (λ n. min (n * base) most) is ∙ capped most (base ^ k) base positive
     ∙ ap (λ n. min n most) (let same : base ^ k * base ≡ base ^ suc k = sym (pow-suc base k) in same) ∙ ap (λ j. min (base ^ j) most) (sym (add-one k))
 

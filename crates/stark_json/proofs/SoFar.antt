@@ -76,7 +76,7 @@ module _ (depth : ℕ) (start : List Token) where
   pub no_member_yet : (now : Members) → now ≡ no_members → MembersSoFar depth start start now
   no_member_yet now e =
       let all = members (value depth) (length start) start in
-      record { turns = length start; enough = omega arith; so_far = ap (λ found. converted (λ ms. of_members ms found) all) (sym e); shorter = omega arith }
+      record { turns = length start; enough = omega arith; so_far = ap (λ obtained. converted (λ ms. of_members ms obtained) all) (sym e); shorter = omega arith }
 
   pub member_more : (ts s r : List Token) (old now : Members) (k : List ℕ) (d : Data) → MembersSoFar depth start ts old → read_key ts ≡ Some (Some k, s)
       → converted of_json (value depth s) ≡ Some (d, r) → length r < length s → now ≡ put k d old → MembersSoFar depth start r now
@@ -88,7 +88,7 @@ module _ (depth : ℕ) (start : List Token) where
       record {
         turns = h.turns - 1;
         enough = omega arith;
-        so_far = h.so_far ∙ member_read (value depth) old h.turns k ts s r d (omega arith) named one ∙ ap (λ found. converted (λ ms. of_members ms found) rest) (sym grown);
+        so_far = h.so_far ∙ member_read (value depth) old h.turns k ts s r d (omega arith) named one ∙ ap (λ obtained. converted (λ ms. of_members ms obtained) rest) (sym grown);
         shorter = omega arith;
       }
 

@@ -168,7 +168,7 @@ fn placed(alloc: Global, document: Document, tree: Value) -> Result<(&'static st
 }
 
 /// Where the rows of a text are, and whether the document is the tree of `serde_json`.
-fn found(alloc: Global, bytes: &[u8]) -> Result<(&'static str, bool), Fail> {
+fn compared(alloc: Global, bytes: &[u8]) -> Result<(&'static str, bool), Fail> {
     let tree = value_from_bytes(alloc, bytes);
     match (read(alloc, bytes), tree) {
         (Ok(document), Ok(tree)) => placed(alloc, document, tree),
@@ -184,7 +184,7 @@ fn documents_are_the_trees(rt: HostRuntime) -> Result<(), Fail> {
         if !row.is_empty() && !row.starts_with('#') {
             let (text, expected) = row.split_once(" => ").ok_or("a row without an answer")?;
             let bytes = bytes_of(rt.alloc(), text)?;
-            let (place, same) = found(rt.alloc(), &bytes)?;
+            let (place, same) = compared(rt.alloc(), &bytes)?;
             assert_eq!(rt; place, expected, "{text}");
             assert!(rt; same, "{text}");
             count = count.saturating_add(1);
@@ -216,7 +216,7 @@ fn nesting_is_bounded(rt: HostRuntime) -> Result<(), Fail> {
         (100_000, "refused"),
     ] {
         let text = nested(rt.alloc(), depth)?;
-        let (place, same) = found(rt.alloc(), text.as_bytes())?;
+        let (place, same) = compared(rt.alloc(), text.as_bytes())?;
         assert_eq!(rt; place, expected, "{depth}");
         assert!(rt; same, "{depth}");
     }

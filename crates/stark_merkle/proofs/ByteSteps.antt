@@ -10,11 +10,11 @@ module _ {F : Type 0} (number_of : F → ℕ) where
   pub one_more_element : (xs : List F) (i : ℕ) (x : F) (before after whole pushed_bytes : List ℕ) → i < length xs → x ≡ get_or xs i x → pushed_bytes ≡ number (number_of x) → after ≡ before ++ pushed_bytes
       → before ++ elements_bytes number_of (drop i xs) ≡ whole → after ++ elements_bytes number_of (drop (i + 1) xs) ≡ whole
   unfolding elements_bytes
-  one_more_element xs i x before after whole bytes below is told pushed so_far =
+  one_more_element xs i x before after whole bytes below is stated pushed so_far =
       let rest = elements_bytes number_of (drop (i + 1) xs) in
       let opened : elements_bytes number_of (drop i xs) ≡ number (number_of x) ++ rest
       = at_drop_more (elements_bytes number_of) xs i x below ∙ ap (λ t. number (number_of t) ++ rest) (sym is) in
-      ap (λ t. t ++ rest) (pushed ∙ ap (λ t. before ++ t) told) ∙ append_assoc before (number (number_of x)) rest ∙ ap (λ t. before ++ t) (sym opened) ∙ so_far
+      ap (λ t. t ++ rest) (pushed ∙ ap (λ t. before ++ t) stated) ∙ append_assoc before (number (number_of x)) rest ∙ ap (λ t. before ++ t) (sym opened) ∙ so_far
 
   pub all_elements : (xs : List F) (i : ℕ) (before whole : List ℕ) → length xs ≤ i → before ++ elements_bytes number_of (drop i xs) ≡ whole → before ≡ whole
   unfolding elements_bytes

@@ -40,14 +40,14 @@ module _ {F : Type 0} (number_of : F → ℕ) (of_number : ℕ → F) (order : �
       let rest = read_rows xs ys (omega (arith, l)) a.1 b.1 row.1 in
       λ i. first i ∷ rest i
 
-  pub rows_told : RowBytesTell number_of
-  rows_told rows others a b e =
+  pub rows_stated : RowBytesTell number_of
+  rows_stated rows others a b e =
       let here = read_number (length rows) (length others) _ _ a.0 b.0 e in
       read_rows rows others here.0 a.1 b.1 here.1
 
-  pub pairs_told : {E : Type 0} (coordinates : E → List F) (count : ℕ) → ((x : E) → length (coordinates x) ≡ count) → ((x y : E) → coordinates x ≡ coordinates y → x ≡ y)
+  pub pairs_stated : {E : Type 0} (coordinates : E → List F) (count : ℕ) → ((x : E) → length (coordinates x) ≡ count) → ((x y : E) → coordinates x ≡ coordinates y → x ≡ y)
       → PairBytesTell number_of coordinates
-  pairs_told coordinates count counted injective x y other_x other_y e =
+  pairs_stated coordinates count counted injective x y other_x other_y e =
       let first = read_elements (coordinates x) (coordinates other_x) _ _ (counted x ∙ sym (counted other_x)) e in
       let second = read_elements (coordinates y) (coordinates other_y) [] [] (counted y ∙ sym (counted other_y)) (ap (λ t. t ++ []) first.1) in
       (injective x other_x first.0, injective y other_y second.0)

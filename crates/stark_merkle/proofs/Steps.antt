@@ -114,8 +114,8 @@ module _ {H : Type 0} where
 
 module _ {H : Type 0} where
   -- What is left of the layers from here tells whether there is a path.
-  abbrev pub IsToldFrom : List (List H) → ℕ → ℕ → ℕ → Type 0
-  IsToldFrom layers index level place = HasPath layers index ↔ HasPath (drop level layers) place
+  abbrev pub IsReadFrom : List (List H) → ℕ → ℕ → ℕ → Type 0
+  IsReadFrom layers index level place = HasPath layers index ↔ HasPath (drop level layers) place
 
   first_has : (xs : List H) (tail : List (List H)) (place : ℕ) → HasPath (xs ∷ tail) place → place < length xs
   unfolding HasPath
@@ -140,32 +140,32 @@ module _ {H : Type 0} where
   opened : (layers : List (List H)) (level : ℕ) (xs : List H) → level < length layers → xs ≡ get_or layers level [] → drop level layers ≡ xs ∷ drop (level + 1) layers
   opened layers level xs below is = at_drop_more (λ t. t) layers level [] below ∙ ap (λ t. t ∷ drop (level + 1) layers) (sym is)
 
-  pub told_more : (layers : List (List H)) (index level place : ℕ) (xs : List H) → level + 1 < length layers → xs ≡ get_or layers level [] → place < length xs → neighbour place < length xs
-      → IsToldFrom layers index level place → IsToldFrom layers index (level + 1) (place / 2)
-  told_more layers index level place xs below is here beside told =
+  pub stated_more : (layers : List (List H)) (index level place : ℕ) (xs : List H) → level + 1 < length layers → xs ≡ get_or layers level [] → place < length xs → neighbour place < length xs
+      → IsReadFrom layers index level place → IsReadFrom layers index (level + 1) (place / 2)
+  stated_more layers index level place xs below is here beside stated =
       let some : 0 < length (drop (level + 1) layers) = omega (arith, length-drop (level + 1) layers) in
       let open_here = opened layers level xs (omega arith) is in (
-        λ has. (first_has_beside xs (drop (level + 1) layers) place some (subst (λ t. HasPath t place) open_here (told.0 has))).1,
-        λ rest. told.1 (subst (λ t. HasPath t place) (sym open_here) (first_makes xs (drop (level + 1) layers) place some here beside rest)),
+        λ has. (first_has_beside xs (drop (level + 1) layers) place some (subst (λ t. HasPath t place) open_here (stated.0 has))).1,
+        λ rest. stated.1 (subst (λ t. HasPath t place) (sym open_here) (first_makes xs (drop (level + 1) layers) place some here beside rest)),
       )
 
   pub place_missing : (layers : List (List H)) (index level place : ℕ) (xs : List H) → level < length layers → xs ≡ get_or layers level [] → length xs ≤ place
-      → IsToldFrom layers index level place → HasPath layers index → ⊥
-  place_missing layers index level place xs below is past told has =
-      let here = first_has xs (drop (level + 1) layers) place (subst (λ t. HasPath t place) (opened layers level xs below is) (told.0 has)) in omega (arith, here)
+      → IsReadFrom layers index level place → HasPath layers index → ⊥
+  place_missing layers index level place xs below is past stated has =
+      let here = first_has xs (drop (level + 1) layers) place (subst (λ t. HasPath t place) (opened layers level xs below is) (stated.0 has)) in omega (arith, here)
 
   pub neighbour_missing : (layers : List (List H)) (index level place : ℕ) (xs : List H) → level + 1 < length layers → xs ≡ get_or layers level [] → length xs ≤ neighbour place
-      → IsToldFrom layers index level place → HasPath layers index → ⊥
-  neighbour_missing layers index level place xs below is past told has =
+      → IsReadFrom layers index level place → HasPath layers index → ⊥
+  neighbour_missing layers index level place xs below is past stated has =
       let some : 0 < length (drop (level + 1) layers) = omega (arith, length-drop (level + 1) layers) in
-      let both = first_has_beside xs (drop (level + 1) layers) place some (subst (λ t. HasPath t place) (opened layers level xs (omega arith) is) (told.0 has)) in
+      let both = first_has_beside xs (drop (level + 1) layers) place some (subst (λ t. HasPath t place) (opened layers level xs (omega arith) is) (stated.0 has)) in
       let beside = both.0 in omega (arith, beside)
 
-  pub told_all : (layers : List (List H)) (index level place : ℕ) (xs : List H) → level + 1 ≡ length layers → xs ≡ get_or layers level [] → place < length xs
-      → IsToldFrom layers index level place → HasPath layers index
-  told_all layers index level place xs ended is here told =
+  pub stated_all : (layers : List (List H)) (index level place : ℕ) (xs : List H) → level + 1 ≡ length layers → xs ≡ get_or layers level [] → place < length xs
+      → IsReadFrom layers index level place → HasPath layers index
+  stated_all layers index level place xs ended is here stated =
       let none : length (drop (level + 1) layers) ≤ 0 = omega (arith, length-drop (level + 1) layers) in
-      told.1 (subst (λ t. HasPath t place) (sym (opened layers level xs (omega arith) is)) (last_makes xs (drop (level + 1) layers) place none here))
+      stated.1 (subst (λ t. HasPath t place) (sym (opened layers level xs (omega arith) is)) (last_makes xs (drop (level + 1) layers) place none here))
 
 module _ {H : Type 0} where
   pub sole_is : (xs : List H) (d : H) → length xs ≡ 1 → Some (get_or xs 0 d) ≡ sole xs
@@ -199,9 +199,9 @@ module _ {H A : Type 0} where
   layer_at layers level layer below is = ap items_of is ∙ sym (get_or-map items_of layers level layer [] below)
 
   -- Where all layers but the last are passed, the last one is told of.
-  pub last_layer : (layers : List (Vec H A)) (index level last place : ℕ) (layer : Vec H A) → last < length layers → layer ≡ get_or layers last layer → level ≡ last → IsToldFrom (digests_in layers) index level place
-      → (layer.items ≡ get_or (digests_in layers) last []) × IsToldFrom (digests_in layers) index last place
-  last_layer layers index level last place layer below is same told = (layer_at layers last layer below is, subst (λ n. IsToldFrom (digests_in layers) index n place) same told)
+  pub last_layer : (layers : List (Vec H A)) (index level last place : ℕ) (layer : Vec H A) → last < length layers → layer ≡ get_or layers last layer → level ≡ last → IsReadFrom (digests_in layers) index level place
+      → (layer.items ≡ get_or (digests_in layers) last []) × IsReadFrom (digests_in layers) index last place
+  last_layer layers index level last place layer below is same stated = (layer_at layers last layer below is, subst (λ n. IsReadFrom (digests_in layers) index n place) same stated)
 
   pub none_without_layers : (layers : List (Vec H A)) (index : ℕ) → (1 ≤ length layers → ⊥) → HasPath (digests_in layers) index → ⊥
   unfolding HasPath

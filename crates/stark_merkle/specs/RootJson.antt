@@ -75,4 +75,4 @@ is_null (array ds) = false
 is_null (object ms) = false
 
 pub root_never_null : (x : Root) → root_written x ≢ null
-root_never_null x e = let told = ap is_null e in absurd (cc)
+root_never_null x e = let stated = ap is_null e in absurd (cc)

@@ -77,7 +77,7 @@ IsPath node zero xs i (s ∷ path) = ⊥
 IsPath node (suc d) xs i [] = ⊥
 IsPath node (suc d) xs i (s ∷ path) = (slice_get xs (neighbour i) ≡ Some s) × IsPath node d (paired node xs) (i / 2) path
 
--- The same, of layers that are given.
+-- A path of that place in layers that are given.
 unfoldable pub IsPathIn : {H : Type 0} → List (List H) → ℕ → List H → Type 0
 IsPathIn [] i [] = ⊤
 IsPathIn [] i (s ∷ path) = ⊥

@@ -200,7 +200,7 @@ module _ {F : Type 0} (constraints : List (Constraint F)) (sizable : AreSizable 
       (masked_fit g (greatest_bound (n + n) n constraints) n c (greatest_by_degree (n + n) n (omega arith) g constraints sizable.unsaturated (omega arith) sizable.single) (above_masked g c enough.0) enough.1 (pow_pos height))))
   parts_enough (suc (suc more)) degree_bits few is covers = absurd (omega (arith, few))
 
-  -- The same where the transition's selector has another degree.
+  -- The chunks are enough, too, where the transition's selector has another degree.
   pub sized_enough : (d is_zk : ℕ) → is_zk ≤ 1 → quotient_multiple (constraint_degree d constraints hint) is_zk ≤ 2 ^ log_parts → HasSmallBound constraints height (height + is_zk) log_parts
   sized_enough d is_zk few covers =
       parts_enough is_zk (height + is_zk) few refl

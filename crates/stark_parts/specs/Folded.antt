@@ -42,7 +42,7 @@ module _ {E : Type 0} {ring : RingOps E} (laws : RingLaws ring) where
   accumulated_is_folded a cs =
       accumulated_from a ring.zero cs ∙ ap (λ z. ring.add z (folded ring a cs)) (zero_mul laws _) ∙ zero_add laws _
 
-  -- The same, where the values are those of four rows by other names.
+  -- The folded sum, where the values are those of four rows by other names.
   pub folded_rows : (a start total : E) (values : List E → List E → List E → List E → List E) {r s t u current next preprocessed_current preprocessed_next : List E} → total ≡ accumulated ring a start (values r s t u) → start ≡ ring.zero → r ≡ current → s ≡ next → t ≡ preprocessed_current → u ≡ preprocessed_next → total ≡ folded ring a (values current next preprocessed_current preprocessed_next)
   folded_rows a start total values {r} {s} {t} {u} {current} {next} {preprocessed_current} {preprocessed_next} carried from_zero same_r same_s same_t same_u =
       carried ∙

@@ -5,9 +5,9 @@ mod committed;
 mod error;
 mod fields;
 mod openings;
+mod proof;
 mod rows;
 mod values;
-mod whole;
 
 pub use error::{OpeningsDecodeError, ProofDecodeError};
 pub use values::{Commitments, OpenedValues, PreprocessedOpenedValues, Proof};

@@ -297,11 +297,11 @@ module _ {A : Type 0} (ops : BytesOps A) (laws : BytesLaws ops) where
       ap (λ k. behind front (each_reading ops k bytes)) is ∙ (λ i. Ok (append-nil front i, bytes))
 
 -- A fault of a part is one of the whole.
-pub told_more : {A B : Type 0} (e : BytesFault) (inner : Result A BytesFault) (outer : Result B BytesFault) → ((fault : BytesFault) → inner ≡ Err fault → outer ≡ Err fault)
+pub stated_more : {A B : Type 0} (e : BytesFault) (inner : Result A BytesFault) (outer : Result B BytesFault) → ((fault : BytesFault) → inner ≡ Err fault → outer ≡ Err fault)
     → IfSome (named e) (λ fault. inner ≡ Err fault) → IfSome (named e) (λ fault. outer ≡ Err fault)
-told_more Truncated inner outer more is = more Truncated is
-told_more TooLong inner outer more is = more TooLong is
-told_more OutOfRange inner outer more is = more OutOfRange is
-told_more Magic inner outer more is = more Magic is
-told_more TrailingBytes inner outer more is = more TrailingBytes is
-told_more OutOfMemory inner outer more is = is
+stated_more Truncated inner outer more is = more Truncated is
+stated_more TooLong inner outer more is = more TooLong is
+stated_more OutOfRange inner outer more is = more OutOfRange is
+stated_more Magic inner outer more is = more Magic is
+stated_more TrailingBytes inner outer more is = more TrailingBytes is
+stated_more OutOfMemory inner outer more is = is

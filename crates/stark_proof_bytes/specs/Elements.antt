@@ -53,8 +53,8 @@ module _ {M K : Type 0} {G : Ghosts M} where
 
   element_by : (n : ℕ) (mid : List ℕ) (x : Residue M K G) (rest : List ℕ) (b : Bool) → nat_lt n G.MODULUS ≡ b → base_if {M = M} {K = K} {G = G} b n mid ≡ Ok (x, rest) → IsElement n mid x rest
   element_by n mid x rest true is e =
-      let found : Residue M K G = residue n in
-      let h = same_ok found x mid rest e in
+      let obtained : Residue M K G = residue n in
+      let h = same_ok obtained x mid rest e in
       let small : n < G.MODULUS = grind (arith, nat_tests, is) in
       record { value = sym (ap (λ (y : Residue M K G). y.value) h.0) ∙ mod-eq_of_lt small; rest_same = h.1 }
   element_by n mid x rest false is e = absurd (cc)

@@ -5,6 +5,7 @@ mod clear;
 mod codec;
 mod elements;
 mod fault;
+mod file;
 mod fri;
 mod lists;
 mod options;
@@ -13,11 +14,10 @@ mod reader;
 mod roots;
 #[cfg(test)]
 mod tests;
-mod whole;
 
 pub use codec::BytesCodec;
 pub use fault::BytesFault;
+pub use file::{proof_from_bytes, proof_to_bytes};
 pub use lists::{read_list, read_lists, write_list, write_lists, write_number};
 pub use options::{read_list_option, read_option, write_list_option, write_option};
 pub use reader::ByteReader;
-pub use whole::{proof_from_bytes, proof_to_bytes};

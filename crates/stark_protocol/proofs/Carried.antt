@@ -8,9 +8,9 @@ carried P (Err error) e made holds = subst P (sym made.1) holds
 
 -- Of a result that is handed on, what is said follows from what the call says.
 pub on_ok : {T E : Type 0} (P Q : T → Type 0) (r : Result T E) → ((x : T) → P x → Q x) → IfOk r P → IfOk r Q
-on_ok P Q (Ok x) follows held = follows x held
-on_ok P Q (Err e) follows held = tt
+on_ok P Q (Ok x) follows holding = follows x holding
+on_ok P Q (Err e) follows holding = tt
 
 pub on_err : {T E : Type 0} (P Q : E → Type 0) (r : Result T E) → ((e : E) → P e → Q e) → IfErr r P → IfErr r Q
-on_err P Q (Ok x) follows held = tt
-on_err P Q (Err e) follows held = follows e held
+on_err P Q (Ok x) follows holding = tt
+on_err P Q (Err e) follows holding = follows e holding

@@ -27,26 +27,26 @@ pub committed_within : {F : Type 0} (field : RingOps F) (coset : TwoAdicCoset F)
 committed_within field coset bits greatest natural within = subst (λ (d : TwoAdicCoset _). coset_size d ≤ 2 ^ greatest) (sym natural) (pow_mono within)
 
 -- What is committed of a trace, and held of it, sets it up.
-pub is_set_up : {S F E C K T P X Y : Type 0} (scheme : SchemeOps S F E C K T P X Y) (s held : S) (field : RingOps F) (root : ℕ → F) (is_zk : Bool) (log_height : ℕ) (trace : Trace F)
+pub is_set_up : {S F E C K T P X Y : Type 0} (scheme : SchemeOps S F E C K T P X Y) (s holding : S) (field : RingOps F) (root : ℕ → F) (is_zk : Bool) (log_height : ℕ) (trace : Trace F)
     (width degree_bits : ℕ) (commitment copy : K) (prover_data : T) (coset : TwoAdicCoset F)
     → width ≡ trace.width → degree_bits ≡ log_height + zk_bits is_zk → copy ≡ commitment → coset ≡ natural_coset field (log_height + zk_bits is_zk)
-    → 0 < trace.width → length trace.values ≡ 2 ^ log_height * trace.width → held ≡ s
-    → scheme.calls.CommitsPreprocessing held coset trace.values trace.width (commitment, prover_data)
-    → ((columns : List (List F)) × scheme.Stands held commitment prover_data (record { domain = coset; columns = columns } ∷ [])
+    → 0 < trace.width → length trace.values ≡ 2 ^ log_height * trace.width → holding ≡ s
+    → scheme.calls.CommitsPreprocessing holding coset trace.values trace.width (commitment, prover_data)
+    → ((columns : List (List F)) × scheme.Stands holding commitment prover_data (record { domain = coset; columns = columns } ∷ [])
     × ((n : ℕ) → 2 ^ n ≡ length trace.values / trace.width → TakesRows field root (natural_coset field n) trace.width (matrix_row trace.values trace.width) columns))
     → IsSetUp scheme s field root is_zk log_height trace (record { width = width; degree_bits = degree_bits; commitment = commitment; prover_data = prover_data })
     (record { width = width; degree_bits = degree_bits; commitment = copy })
-is_set_up scheme s held field root is_zk log_height trace width degree_bits commitment copy prover_data coset w d same natural some height is made stands = record {
+is_set_up scheme s holding field root is_zk log_height trace width degree_bits commitment copy prover_data coset w d same natural some height is made stands = record {
   prover_width = w;
   key_width = w;
   prover_degree = d;
   key_degree = d;
   same = same;
   made = subst (λ t. scheme.calls.CommitsPreprocessing t (natural_coset field (log_height + zk_bits is_zk)) trace.values trace.width (commitment, prover_data)) is
-      (subst (λ c. scheme.calls.CommitsPreprocessing held c trace.values trace.width (commitment, prover_data)) natural made);
+      (subst (λ c. scheme.calls.CommitsPreprocessing holding c trace.values trace.width (commitment, prover_data)) natural made);
   columns = stands.0;
   stands = subst (λ t. scheme.Stands t commitment prover_data (record { domain = natural_coset field (log_height + zk_bits is_zk); columns = stands.0 } ∷ [])) is
-      (subst (λ c. scheme.Stands held commitment prover_data (record { domain = c; columns = stands.0 } ∷ [])) natural stands.1);
+      (subst (λ c. scheme.Stands holding commitment prover_data (record { domain = c; columns = stands.0 } ∷ [])) natural stands.1);
   takes = stands.2 log_height (sym (height_is (length trace.values) trace.width (2 ^ log_height) some height));
 }
 

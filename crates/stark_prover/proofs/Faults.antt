@@ -27,7 +27,7 @@ scheme_fault name MayRefuse OutOfMemory (ProvingError.GrindExhausted bits) refus
 scheme_fault name MayRefuse OutOfMemory (ProvingError.QuotientDomainTooLarge maximum got) refuses named = absurd named
 scheme_fault name MayRefuse OutOfMemory (ProvingError.PeriodicColumn fault) refuses named = absurd named
 
--- The same, where the scheme and the domain have other names.
+-- A scheme's fault, where the scheme and the domain have other names.
 pub scheme_fault_at : {A B Y : Type 0} (name : List ℕ) (MayRefuse : A → B → Y → Type 0) (a s : A) (b d : B) (fault : SchemeFault Y) (error : ProvingError Y) → a ≡ s → b ≡ d → IfRefused fault (MayRefuse a b) → IsFaultIn name fault error
     → (error ≡ ProvingError.OutOfMemory) ⊎ IsSchemeFault name (MayRefuse s d) error
 scheme_fault_at name MayRefuse a s b d fault error same_scheme same_domain refuses named =

@@ -47,7 +47,7 @@ module _ {S F E C K T P X Y : Type 0} {ops : ProtocolOps S F E C K T P X Y} {i :
       subst (λ bits. ProverFault ops i coordinates preprocessed_data height degree_bits trace (ProvingError.GrindExhausted bits)) (sym at_bits.bits_are) (in_work bound.made bound.randomization at_bits.none_passes)
 
   module _ {zeta z nz : E} {reads preprocessed_reads : Bool} {count : ℕ} {random_kept preprocessed_kept : Option T} (is_zeta : z ≡ zeta) (is_next : nz ≡ next_point ops.opening degree_bits zeta) (is_reads : reads ≡ opens_next_row i.main_next_columns)
-      (is_preprocessed : preprocessed_reads ≡ opens_next_row i.preprocessed_next_columns) (is_count : count ≡ 2 ^ log_chunks_of ops i degree_bits) (is_random : random_kept ≡ random_data) (is_data : preprocessed_kept ≡ option_map (λ of_data. of_data.prover_data) preprocessed_data) where
+      (is_preprocessed : preprocessed_reads ≡ opens_next_row i.preprocessed_next_columns) (is_count : count ≡ 2 ^ log_chunks_of ops i degree_bits) (is_random : random_kept ≡ random_data) (has_data : preprocessed_kept ≡ option_map (λ of_data. of_data.prover_data) preprocessed_data) where
     -- The rounds that are opened.
     rounds_are : rounds_of z (points_of z nz reads) (points_of z nz preprocessed_reads) count random_kept prover_data quotient_data preprocessed_kept ≡ opening_rounds ops i coordinates preprocessed_data height degree_bits trace zeta random_data prover_data quotient_data
     rounds_are =
@@ -58,7 +58,7 @@ module _ {S F E C K T P X Y : Type 0} {ops : ProtocolOps S F E C K T P X Y} {i :
         ap (λ b. rounds_of zeta (points_of zeta next (opens_next_row i.main_next_columns)) (points_of zeta next b) count random_kept prover_data quotient_data preprocessed_kept) is_preprocessed ∙
         ap (λ n. rounds_of zeta (points_of zeta next (opens_next_row i.main_next_columns)) (points_of zeta next (opens_next_row i.preprocessed_next_columns)) n random_kept prover_data quotient_data preprocessed_kept) is_count ∙
         ap (λ t. rounds_of zeta (points_of zeta next (opens_next_row i.main_next_columns)) (points_of zeta next (opens_next_row i.preprocessed_next_columns)) (2 ^ log_chunks_of ops i degree_bits) t prover_data quotient_data preprocessed_kept) is_random ∙
-        ap (λ t. rounds_of zeta (points_of zeta next (opens_next_row i.main_next_columns)) (points_of zeta next (opens_next_row i.preprocessed_next_columns)) (2 ^ log_chunks_of ops i degree_bits) random_data prover_data quotient_data t) is_data
+        ap (λ t. rounds_of zeta (points_of zeta next (opens_next_row i.main_next_columns)) (points_of zeta next (opens_next_row i.preprocessed_next_columns)) (2 ^ log_chunks_of ops i degree_bits) random_data prover_data quotient_data t) has_data
 
     -- The scheme refuses to open.
     pub opening_refused : {drawn_state : C} (witness : Option F) → (prover_ood_outcome ops.sponge shape quotient given state).answer ≡ Ok (zeta, witness) → drawn_state ≡ (prover_ood_outcome ops.sponge shape quotient given state).state → (error : ProvingError Y)
@@ -69,7 +69,7 @@ module _ {S F E C K T P X Y : Type 0} {ops : ProtocolOps S F E C K T P X Y} {i :
         let refused = λ (rounds : List (RoundPoints E T)) (st : C) (place : Option ℕ). IsSchemeFault (codes "opening") (ops.opening.scheme.RefusesOpening i.scheme rounds st place) error in
         let drawn = λ (sh : StarkShape) (r : Option K). prover_ood_outcome ops.sponge sh quotient r state in
         let right : (drawn shape given) ≡ (drawn (described ops i degree_bits) random) = ap (λ sh. drawn sh given) is_shape ∙ ap (drawn (described ops i degree_bits)) is_given in
-        let at_place = subst (λ place. refused (rounds_of z (points_of z nz reads) (points_of z nz preprocessed_reads) count random_kept prover_data quotient_data preprocessed_kept) drawn_state place) (ap (place_of ops.opening.is_zk) is_data ∙ place_again ops.opening.is_zk preprocessed_data) fault in
+        let at_place = subst (λ place. refused (rounds_of z (points_of z nz reads) (points_of z nz preprocessed_reads) count random_kept prover_data quotient_data preprocessed_kept) drawn_state place) (ap (place_of ops.opening.is_zk) has_data ∙ place_again ops.opening.is_zk preprocessed_data) fault in
         let at_state = subst (λ st. refused (rounds_of z (points_of z nz reads) (points_of z nz preprocessed_reads) count random_kept prover_data quotient_data preprocessed_kept) st (place_of ops.opening.is_zk preprocessed_data)) (is_state ∙ ap (λ o. o.state) right) at_place in
         inr (in_opening bound.made bound.randomization (sym (ap (λ o. o.answer) right) ∙ answer)
         (subst (λ rounds. refused rounds (drawn (described ops i degree_bits) random).state (place_of ops.opening.is_zk preprocessed_data)) rounds_are at_state))
@@ -147,5 +147,5 @@ module _ {S F E C K T P X Y : Type 0} {ops : ProtocolOps S F E C K T P X Y} {i :
               complete = λ is_complete.
                   subst (λ st. ops.opening.scheme.Accepts i.scheme (claims_of (natural_coset ops.opening.fields.base degree_bits) zeta next_zeta i.key commitment quotient random opened) proof st (preprocessed_place ops.opening.is_zk i.key)) (sym (ap (λ outcome. outcome.state) phases))
                   (behind_accepts bound.made key_is zeta next_zeta extended same bound.randomization opened are proof drawn_state
-                  (subst (λ place. ops.opening.scheme.Accepts i.scheme (map (true_claim ops.opening.fields.ring ops.opening.fields.embed) behind_list) proof drawn_state place) (ap (place_of ops.opening.is_zk) is_data) (complete behind_list (true_openings ops i bound.columns preprocessed bound.chunks bound.random_columns zeta next_zeta) stand_behind is_complete)));
+                  (subst (λ place. ops.opening.scheme.Accepts i.scheme (map (true_claim ops.opening.fields.ring ops.opening.fields.embed) behind_list) proof drawn_state place) (ap (place_of ops.opening.is_zk) has_data) (complete behind_list (true_openings ops i bound.columns preprocessed bound.chunks bound.random_columns zeta next_zeta) stand_behind is_complete)));
             }

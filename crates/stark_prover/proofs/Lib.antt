@@ -14,5 +14,5 @@ pub mod FinishSteps
 pub mod PartsSteps
 pub mod SizedSteps
 pub mod AcceptableSteps
-pub mod HonestSteps
-pub mod HonestAnswer
+pub mod CompletenessSteps
+pub mod CompletenessAnswer

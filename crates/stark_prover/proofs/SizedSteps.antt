@@ -51,7 +51,7 @@ module _ {S F E C K T P X Y : Type 0} {ops : ProtocolOps S F E C K T P X Y} {i :
   fault_at error (inr fault) =
       inr (subst (λ n. ProverFault ops i coordinates preprocessed_data height n trace error) is_height (subst (λ n. ProverFault ops i coordinates preprocessed_data n degree_bits trace error) (same_height ops.opening.is_zk height degree_bits is_height) fault))
 
-  -- The same of a run's result, which says it for whatever was ready.
+  -- A run's result says it for whatever was ready.
   pub run_made : {R : Type 0} (view : R → ProofView K E P F) {columns : List (List F)} {commitment : K} {prover_data : T}
       → ((preprocessed : List (List F)) → IsPreprocessedCommitment ops.opening.scheme i.scheme ops.opening.fields.base preprocessed preprocessed_data → IsReady ops i coordinates preprocessed_data (log_height ops.opening.is_zk degree_bits) degree_bits trace columns preprocessed commitment prover_data) → (r : Result R (ProvingError Y))
       → IfOk r (λ proof. (of : Trace F) (cs fs : List (List F)) → IsReady ops i coordinates preprocessed_data (log_height ops.opening.is_zk degree_bits) degree_bits of cs fs commitment prover_data → IsProofOfTrace ops i coordinates preprocessed_data (log_height ops.opening.is_zk degree_bits) of fs (view proof))

@@ -13,5 +13,5 @@ pub mod Stages
 pub mod Work
 pub mod Acceptable
 pub mod SetUpFacts
-pub mod Honest
+pub mod Completeness
 pub mod Proving

@@ -11,7 +11,7 @@ use Rattle.stark_completeness.specs.RowCheck.{trace_of}
 use Rattle.stark_prover.specs.Acceptable.{IsAcceptable}
 use Rattle.stark_prover.specs.CommittedColumns.{IsPreprocessedCommitment}
 use Rattle.stark_prover.specs.Heights.{IsOfHeight}
-use Rattle.stark_prover.specs.Honest.{IsAcceptedIfHonest}
+use Rattle.stark_prover.specs.Completeness.{IsAcceptedIfSatisfied}
 use Rattle.stark_prover.specs.ProofOfTrace.{IsProofOfTrace}
 use Rattle.stark_prover.specs.ProverFault.{ProverFault}
 use Rattle.stark_prover.specs.ProverView.{ProverView, own_instance}
@@ -42,7 +42,7 @@ module _ {S F E C K T P X Y : Type 0} (ops : ProtocolOps S F E C K T P X Y) (vie
   -- and it is accepted where the trace satisfies the AIR, beside this declared preprocessed trace.
   abbrev pub Completeness : Option (Trace F) → RowMajorMatrix F → Proof K E P F → Type 0
   Completeness declared trace proof = (height : ℕ) → IsOfHeight trace height → ops.opening.scheme.log_min_trace_height (own_instance view).scheme ≤ height
-      → ops.opening.scheme.IsComplete (own_instance view).scheme → IsAcceptedIfHonest ops view.with_key declared view.preprocessed height (trace_of trace) (proof_view proof)
+      → ops.opening.scheme.IsComplete (own_instance view).scheme → IsAcceptedIfSatisfied ops view.with_key declared view.preprocessed height (trace_of trace) (proof_view proof)
 
   -- Why there is no proof of a trace of 2 ^ height rows, and at each height that the trace has.
   abbrev pub IsFaultAt : ℕ → RowMajorMatrix F → ProvingError Y → Type 0

@@ -76,11 +76,11 @@ module _ {S F E C K T P X Y : Type 0} (ops : ProtocolOps S F E C K T P X Y) (vie
   seeded_at degree_bits = seeded ops (own_instance view) degree_bits
 
   -- A transcript has bound the seed and nothing else; its shape has preprocessed columns exactly where there are data of some.
-  pub record IsSeeded (is_data : Bool) (degree_bits : ℕ) (transcript : StarkProverTranscript C F E) : Type 0 where
+  pub record IsSeeded (has_data : Bool) (degree_bits : ℕ) (transcript : StarkProverTranscript C F E) : Type 0 where
     pub opened : transcript.phase ≡ Opened
     pub described : transcript.shape ≡ described_at degree_bits
     pub seeded : transcript.challenger.now ≡ seeded_at degree_bits
-    pub there : preprocessed_fault transcript.shape is_data ≡ None
+    pub there : preprocessed_fault transcript.shape has_data ≡ None
 
   -- ---- the trace's commitment
 

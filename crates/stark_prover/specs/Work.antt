@@ -32,7 +32,7 @@ module _ {C F E K : Type 0} (ops : SpongeOps C F E K) (transcript : StarkProverT
   IsAlphaExhausted error = IsExhausted ops transcript.shape.constraint_pow_bits (constraint_events message.trace.now (option_copied message.preprocessed) message.public_values.now) transcript.challenger.now error
 
 module _ {C F E K : Type 0} (ops : SpongeOps C F E K) (transcript : StarkProverTranscript C F E) (message : BeforeZeta K) where
-  -- The same of zeta.
+  -- What the draw of zeta answers, and the state that it leaves.
   abbrev pub zeta_outcome : PhaseOutcome C (E × Option F) GrindExhausted
   zeta_outcome = prover_ood_outcome ops transcript.shape message.quotient.now (option_copied message.random) transcript.challenger.now
 

@@ -110,8 +110,8 @@ in_period value period again start r =
     sym (begins_again value period again (start / period) (start % period + r)) ∙ ap value (let e : start % period + r + start / period * period ≡ start + r = omega (arith, parts) in e)
 
 -- A matrix of some columns that has the shape of one with rows has rows.
-pub rows_there : {M N F : Type 0} (now : M → N) (view : N → Trace F) (width size : ℕ) (found : Option M) → 0 < size → HasShape width size (matrix_or_empty (option_map (λ m. view (now m)) found))
-    → IfSome (option_map now found) (λ m. (view m).width ≢ 0 → 0 < length (view m).values / (view m).width)
+pub rows_there : {M N F : Type 0} (now : M → N) (view : N → Trace F) (width size : ℕ) (obtained : Option M) → 0 < size → HasShape width size (matrix_or_empty (option_map (λ m. view (now m)) obtained))
+    → IfSome (option_map now obtained) (λ m. (view m).width ≢ 0 → 0 < length (view m).values / (view m).width)
 rows_there now view width size None some shape = tt
 rows_there now view width size (Some m) some shape = λ wide.
     let columns = (view (now m)).width in

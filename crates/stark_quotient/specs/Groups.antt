@@ -64,7 +64,7 @@ module _ {F E P : Type 0} (group : PackedGroup F E P) where
   abbrev pub FoldsPacked : {Q : Type 0} → PackingOps F E P Q → List (Constraint F) → Q → Type 0
   FoldsPacked packing cs packed = Folds packing.fields packing.lanes packing.lanes_above packing.width cs packed
 
--- The same of a group of two packed values side by side.
+-- What a group of two packed values side by side shows.
 abbrev pub ShowsPairs : {F E P Q : Type 0} → PackedGroup F E (PackedPair F P OfBase 2) → PackingOps F E P Q → Environment (PackedPair F P OfBase 2) → Type 0
 ShowsPairs group packing environment = ShowsGroup group (in_pairs packing) environment
 

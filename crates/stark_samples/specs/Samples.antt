@@ -82,7 +82,7 @@ pair_constraints one = map (shift 0) (counter_constraints one) ++ map (shift 1) 
 abbrev pub is_number : {F : Type 0} → F → Constraint F
 is_number k = base (difference (main_current 0) (constant k))
 
--- The same, as a constraint over the extension.
+-- The column is that number, as a constraint over the extension.
 abbrev pub is_number_above : {F : Type 0} → F → Constraint F
 is_number_above k = extension (difference (main_current 0) (constant k))
 

@@ -25,7 +25,7 @@ pub enum AnySampleAir<F> {
 }
 
 /// What a call answers of the AIR in the case.
-macro_rules! of_held {
+macro_rules! of_case {
     ($any:expr, $air:ident => $call:expr) => {
         match $any {
             AnySampleAir::Counter($air) => $call,
@@ -54,43 +54,43 @@ impl<F: PrimeField64> BaseAir<F> for AnySampleAir<F> {
     ghost as_declared = { any_declared F.of_number };
 
     fn width(&self) -> usize {
-        of_held!(self, air => BaseAir::<F>::width(air))
+        of_case!(self, air => BaseAir::<F>::width(air))
     }
 
     fn preprocessed_width(&self) -> usize {
-        of_held!(self, air => BaseAir::<F>::preprocessed_width(air))
+        of_case!(self, air => BaseAir::<F>::preprocessed_width(air))
     }
 
     fn preprocessed_trace(&self, alloc: Global) -> Result<Option<RowMajorMatrix<F>>, AllocError> {
-        of_held!(self, air => air.preprocessed_trace(alloc))
+        of_case!(self, air => air.preprocessed_trace(alloc))
     }
 
     fn num_public_values(&self) -> usize {
-        of_held!(self, air => BaseAir::<F>::num_public_values(air))
+        of_case!(self, air => BaseAir::<F>::num_public_values(air))
     }
 
     fn periodic_columns(&self) -> &[Vec<F>] {
-        of_held!(self, air => air.periodic_columns())
+        of_case!(self, air => air.periodic_columns())
     }
 
     fn main_next_row_columns(&self, alloc: Global) -> Result<Vec<usize>, AllocError> {
-        of_held!(self, air => BaseAir::<F>::main_next_row_columns(air, alloc))
+        of_case!(self, air => BaseAir::<F>::main_next_row_columns(air, alloc))
     }
 
     fn preprocessed_next_row_columns(&self, alloc: Global) -> Result<Vec<usize>, AllocError> {
-        of_held!(self, air => BaseAir::<F>::preprocessed_next_row_columns(air, alloc))
+        of_case!(self, air => BaseAir::<F>::preprocessed_next_row_columns(air, alloc))
     }
 
     fn max_constraint_degree(&self) -> Option<usize> {
-        of_held!(self, air => BaseAir::<F>::max_constraint_degree(air))
+        of_case!(self, air => BaseAir::<F>::max_constraint_degree(air))
     }
 
     fn num_constraints(&self) -> Option<usize> {
-        of_held!(self, air => BaseAir::<F>::num_constraints(air))
+        of_case!(self, air => BaseAir::<F>::num_constraints(air))
     }
 
     fn public_boundary_io(&self) -> &[usize] {
-        of_held!(self, air => BaseAir::<F>::public_boundary_io(air))
+        of_case!(self, air => BaseAir::<F>::public_boundary_io(air))
     }
 }
 

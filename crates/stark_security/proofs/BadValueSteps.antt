@@ -113,11 +113,11 @@ module _ {F E : Type 0} (i : AirInstance F E) (laws : FieldLaws i.ring i.inverse
           | inl row ↦ inl (λ l h. one_row_more n kept row l h)
           | inr broken ↦ inr (n, record { in_trace = omega (arith, within); broken = broken; earlier = kept })
         ]
-        | inr found ↦ inr found
+        | inr obtained ↦ inr obtained
       ]
 
   pub first_broken_row : (Satisfies i columns → ⊥) → (k : ℕ) × IsFirstBrokenRow i columns k
-  first_broken_row breaks = elim (first_broken (height i) (omega arith)) [ inl kept ↦ absurd (breaks kept) | inr found ↦ found ]
+  first_broken_row breaks = elim (first_broken (height i) (omega arith)) [ inl kept ↦ absurd (breaks kept) | inr obtained ↦ obtained ]
 
   one_first_row : (k l : ℕ) → IsFirstBrokenRow i columns k → IsFirstBrokenRow i columns l → k ≡ l
   one_first_row k l first other = elim (three_ways k l) [
@@ -174,8 +174,8 @@ module _ {F E : Type 0} (i : AirInstance F E) (laws : FieldLaws i.ring i.inverse
   pub alpha_or_zeta_is_bad : (Satisfies i columns → ⊥) → (shifts : List E) (chunks : List (List (List E))) (a z : E) → IsBalanced i columns shifts chunks a z
       → IsBadAlpha i columns a ⊎ IsBadZeta i columns shifts chunks a z
   alpha_or_zeta_is_bad breaks shifts chunks a z balanced =
-      let found = first_broken_row breaks in
-      elim (bad_or_not found.0 found.1 a) [
+      let obtained = first_broken_row breaks in
+      elim (bad_or_not obtained.0 obtained.1 a) [
         | inl bad ↦ inl bad
         | inr good ↦ inr (record { good_alpha = good; root = value_of_equation i laws.of_ring columns shifts chunks a z ∙ no_difference laws.of_ring _ _ balanced })
       ]

@@ -88,8 +88,8 @@ too_many log degree_bits more large =
 -- The bounds as they are answered.
 pub bound_found : (a d n z : ℕ) → n ≡ a → Some z ≡ fitting d → Some (n, z) ≡ error_bound a d
 bound_found a d n z is fit =
-    let found = some_fits d z fit in
-    rw (is_below d (2 ^ 64) found.0) (ap (λ (x : ℕ). Some (x, z)) is ∙ ap (λ (y : ℕ). Some (a, y)) found.1)
+    let obtained = some_fits d z fit in
+    rw (is_below d (2 ^ 64) obtained.0) (ap (λ (x : ℕ). Some (x, z)) is ∙ ap (λ (y : ℕ). Some (a, y)) obtained.1)
 
 pub bound_missing : (a d : ℕ) → None ≡ fitting d → None ≡ error_bound a d
 bound_missing a d none = rw (not_below d (2 ^ 64) (none_past d none)) refl

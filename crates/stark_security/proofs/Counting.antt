@@ -34,8 +34,8 @@ module _ {A : Type 0} {P : A → Type 0} (decide : (x : A) → P x ⊎ (P x → 
   -- Of a list without repeats, at most n members have a property that holds of at most n values.
   pub count_at_most : (n : ℕ) (xs : List A) → HoldsOfAtMost n P → IsWithoutRepeats xs → count_where decide xs ≤ n
   count_at_most n xs few distinct =
-      let found = selected xs distinct in
-      at_most_same (length found.members) (count_where decide xs) n found.size (few found.members found.distinct found.hold)
+      let obtained = selected xs distinct in
+      at_most_same (length obtained.members) (count_where decide xs) n obtained.size (few obtained.members obtained.distinct obtained.hold)
 
   pub count_at_most_all : (xs : List A) → count_where decide xs ≤ length xs
   count_at_most_all [] = omega arith

@@ -25,17 +25,17 @@ module _ {F E : Type 0} (i : AirInstance F E) (laws : FieldLaws i.ring i.inverse
 
   pub few_bad_draws : FewBadDraws i m count (alpha_bound i.constraints) bound
   few_bad_draws = record {
-    alphas = λ columns fit breaks. let found = first_broken_row i laws columns breaks in few_bad_alphas i laws columns found.0 found.1;
+    alphas = λ columns fit breaks. let obtained = first_broken_row i laws columns breaks in few_bad_alphas i laws columns obtained.0 obtained.1;
     zetas = λ columns fit breaks a good shifts chunks number chunks_fit.
-        let found = first_broken_row i laws columns breaks in
+        let obtained = first_broken_row i laws columns breaks in
         subst (λ n. HoldsOfAtMost (zeta_bound m (height i) n i.constraints) (IsBadZeta i columns shifts chunks a)) number
-        (few_bad_zetas i laws columns found.0 found.1 reaches shifts chunks a good m fit chunks_fit);
+        (few_bad_zetas i laws columns obtained.0 obtained.1 reaches shifts chunks a good m fit chunks_fit);
     pairs = λ columns fit breaks shifts answer number answers_fit decide alphas zetas distinct_alphas distinct_zetas.
-        let found = first_broken_row i laws columns breaks in
-        pairs_at_most {P = λ a z. IsBalanced i columns shifts (answer a) a z} {Bad = IsBadAlpha i columns} decide (bad_or_not i laws columns found.0 found.1) (alpha_bound i.constraints) bound
-        (few_bad_alphas i laws columns found.0 found.1)
+        let obtained = first_broken_row i laws columns breaks in
+        pairs_at_most {P = λ a z. IsBalanced i columns shifts (answer a) a z} {Bad = IsBadAlpha i columns} decide (bad_or_not i laws columns obtained.0 obtained.1) (alpha_bound i.constraints) bound
+        (few_bad_alphas i laws columns obtained.0 obtained.1)
         (λ a good. subst (λ n. HoldsOfAtMost (zeta_bound m (height i) n i.constraints) (IsBalanced i columns shifts (answer a) a)) number
-        (few_balanced i laws columns found.0 found.1 reaches shifts (answer a) a good m fit (answers_fit a)))
+        (few_balanced i laws columns obtained.0 obtained.1 reaches shifts (answer a) a good m fit (answers_fit a)))
         alphas zetas distinct_alphas distinct_zetas;
   }
 

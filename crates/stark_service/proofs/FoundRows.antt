@@ -16,28 +16,28 @@ use Rattle.stark_answers.specs.declared.verdict.Verdict.TheVariants as verdict
 use Rattle.stark_answers.proofs.VerdictSteps.{of_some}
 use Rattle.stark_service.specs.StatementAir.{declared_of}
 use Rattle.stark_service.specs.Service.{ServiceOps}
-use Rattle.stark_service.specs.StatementFacts.{IsOfTrace, lacks_alone, told_on_alone, told_on_file}
-use Rattle.stark_service.specs.Statements.{HasNoRows, HasRows, IsFileOn, IsToldOn, IsToldWithRows, IsVerdictOn, IsVerdictWithRows, ReadsDeclared}
+use Rattle.stark_service.specs.StatementFacts.{IsOfTrace, lacks_alone, stated_on_alone, stated_on_file}
+use Rattle.stark_service.specs.Statements.{HasNoRows, HasRows, IsFileOn, IsAnswerOn, IsAnswerWithRows, IsVerdictOn, IsVerdictWithRows, ReadsDeclared}
 
 -- The rows that were found.
-rows_found : {F : Type 0} (greatest : ℕ) (air : CheckedAir F) (found : Option ℕ) (log_rows : ℕ) → found ≡ Some log_rows → IfSome found (λ n. HasHeight n air.preprocessed_trace) → IfSome found (λ n. n ≤ greatest) → HasRows greatest air log_rows
-rows_found greatest air found log_rows is height within = record {
-  height = of_some (λ n. HasHeight n air.preprocessed_trace) found log_rows is height;
-  within = of_some (λ n. n ≤ greatest) found log_rows is within;
+rows_found : {F : Type 0} (greatest : ℕ) (air : CheckedAir F) (obtained : Option ℕ) (log_rows : ℕ) → obtained ≡ Some log_rows → IfSome obtained (λ n. HasHeight n air.preprocessed_trace) → IfSome obtained (λ n. n ≤ greatest) → HasRows greatest air log_rows
+rows_found greatest air obtained log_rows is height within = record {
+  height = of_some (λ n. HasHeight n air.preprocessed_trace) obtained log_rows is height;
+  within = of_some (λ n. n ≤ greatest) obtained log_rows is within;
 }
 
 -- None were.
-no_rows_found : {F : Type 0} (greatest : ℕ) (air : CheckedAir F) (found : Option ℕ) → found ≡ None → (IsNone found → (n : ℕ) → n ≤ greatest → HasHeight n air.preprocessed_trace → ⊥) → HasNoRows greatest air
+no_rows_found : {F : Type 0} (greatest : ℕ) (air : CheckedAir F) (obtained : Option ℕ) → obtained ≡ None → (IsNone obtained → (n : ℕ) → n ≤ greatest → HasHeight n air.preprocessed_trace → ⊥) → HasNoRows greatest air
 no_rows_found greatest air None is none = λ log_rows rows. none refl log_rows rows.within rows.height
 no_rows_found greatest air (Some n) is none = absurd (cc)
 
 -- Both at another name of the greatest height, of what the AIR declares.
-module _ {F : Type 0} (greatest most : ℕ) (same : greatest ≡ most) (air declared : CheckedAir F) (declares : air ≡ declared) (found : Option ℕ) where
-  pub has_rows_found : (log_rows : ℕ) → found ≡ Some log_rows → IfSome found (λ n. HasHeight n air.preprocessed_trace) → IfSome found (λ n. n ≤ greatest) → HasRows most declared log_rows
-  has_rows_found log_rows is height within = subst (λ n. HasRows n declared log_rows) same (subst (λ a. HasRows greatest a log_rows) declares (rows_found greatest air found log_rows is height within))
+module _ {F : Type 0} (greatest most : ℕ) (same : greatest ≡ most) (air declared : CheckedAir F) (declares : air ≡ declared) (obtained : Option ℕ) where
+  pub has_rows_found : (log_rows : ℕ) → obtained ≡ Some log_rows → IfSome obtained (λ n. HasHeight n air.preprocessed_trace) → IfSome obtained (λ n. n ≤ greatest) → HasRows most declared log_rows
+  has_rows_found log_rows is height within = subst (λ n. HasRows n declared log_rows) same (subst (λ a. HasRows greatest a log_rows) declares (rows_found greatest air obtained log_rows is height within))
 
-  pub has_no_rows_found : found ≡ None → (IsNone found → (n : ℕ) → n ≤ greatest → HasHeight n air.preprocessed_trace → ⊥) → HasNoRows most declared
-  has_no_rows_found is none = subst (λ n. HasNoRows n declared) same (subst (HasNoRows greatest) declares (no_rows_found greatest air found is none))
+  pub has_no_rows_found : obtained ≡ None → (IsNone obtained → (n : ℕ) → n ≤ greatest → HasHeight n air.preprocessed_trace → ⊥) → HasNoRows most declared
+  has_no_rows_found is none = subst (λ n. HasNoRows n declared) same (subst (HasNoRows greatest) declares (no_rows_found greatest air obtained is none))
 
 module _ {S F E C K T P X Y : Type 0} (ops : ServiceOps S F E C K T P X Y) (scheme : S) (first_state : C) (s : StatementView F) where
   abbrev most : ℕ
@@ -56,26 +56,26 @@ module _ {S F E C K T P X Y : Type 0} (ops : ServiceOps S F E C K T P X Y) (sche
 
   module _ (asked : TraceTask) (read : Option (List (List F))) (f : Finding) where
     pub found_with_rows : (log_rows : ℕ) → 0 < (declared_of s.air).layout.main → HasRows most (declared_of s.air) log_rows
-        → (f ≡ finding.Verdict verdict.OutOfMemory) ⊎ IsToldWithRows ops scheme first_state s asked log_rows read f → (f ≡ finding.Verdict verdict.OutOfMemory) ⊎ IsToldOn ops scheme first_state s asked read f
-    unfolding IsToldOn
+        → (f ≡ finding.Verdict verdict.OutOfMemory) ⊎ IsAnswerWithRows ops scheme first_state s asked log_rows read f → (f ≡ finding.Verdict verdict.OutOfMemory) ⊎ IsAnswerOn ops scheme first_state s asked read f
+    unfolding IsAnswerOn
     found_with_rows log_rows columns rows (inl lacks) = inl lacks
-    found_with_rows log_rows columns rows (inr found) = inr (inl (log_rows, columns, rows, found))
+    found_with_rows log_rows columns rows (inr obtained) = inr (inl (log_rows, columns, rows, obtained))
 
-    pub found_without_rows : HasNoRows most (declared_of s.air) → f ≡ finding.Verdict verdict.BadInput → (f ≡ finding.Verdict verdict.OutOfMemory) ⊎ IsToldOn ops scheme first_state s asked read f
-    unfolding IsToldOn
+    pub found_without_rows : HasNoRows most (declared_of s.air) → f ≡ finding.Verdict verdict.BadInput → (f ≡ finding.Verdict verdict.OutOfMemory) ⊎ IsAnswerOn ops scheme first_state s asked read f
+    unfolding IsAnswerOn
     found_without_rows none is = inr (inr (inr none, is))
 
-    pub found_without_columns : (declared_of s.air).layout.main ≡ 0 → f ≡ finding.Verdict verdict.BadInput → (f ≡ finding.Verdict verdict.OutOfMemory) ⊎ IsToldOn ops scheme first_state s asked read f
-    unfolding IsToldOn
+    pub found_without_columns : (declared_of s.air).layout.main ≡ 0 → f ≡ finding.Verdict verdict.BadInput → (f ≡ finding.Verdict verdict.OutOfMemory) ⊎ IsAnswerOn ops scheme first_state s asked read f
+    unfolding IsAnswerOn
     found_without_columns none is = inr (inr (inl none, is))
 
 -- ---- findings are of their task
 
 module _ {S F E C K T P X Y : Type 0} (ops : ServiceOps S F E C K T P X Y) (line : BeginsInForm Json (json_line ops.writing)) (scheme : S) (first_state : C) (s : StatementView F) (asked : TraceTask) (read : Option (List (List F))) (f : Finding) where
-  pub told_is_of_trace : (f ≡ finding.Verdict verdict.OutOfMemory) ⊎ IsToldOn ops scheme first_state s asked read f → IsOfTrace asked f
-  told_is_of_trace (inl memory) = lacks_alone asked f memory
-  told_is_of_trace (inr told) = told_on_alone ops (file_begins ops.writing ops.codecs line) scheme first_state s asked read f told
+  pub stated_is_of_trace : (f ≡ finding.Verdict verdict.OutOfMemory) ⊎ IsAnswerOn ops scheme first_state s asked read f → IsOfTrace asked f
+  stated_is_of_trace (inl memory) = lacks_alone asked f memory
+  stated_is_of_trace (inr stated) = stated_on_alone ops (file_begins ops.writing ops.codecs line) scheme first_state s asked read f stated
 
-  pub told_is_file : (f ≡ finding.Verdict verdict.OutOfMemory) ⊎ IsToldOn ops scheme first_state s asked read f → WhereProof (λ form file. IsFileOn ops scheme first_state s form read file) f
-  told_is_file (inl memory) = λ form proof. absurd (subst (IsProof form) memory proof)
-  told_is_file (inr told) = told_on_file ops (file_begins ops.writing ops.codecs line) scheme first_state s asked read f told
+  pub stated_is_file : (f ≡ finding.Verdict verdict.OutOfMemory) ⊎ IsAnswerOn ops scheme first_state s asked read f → WhereProof (λ form file. IsFileOn ops scheme first_state s form read file) f
+  stated_is_file (inl memory) = λ form proof. absurd (subst (IsProof form) memory proof)
+  stated_is_file (inr stated) = stated_on_file ops (file_begins ops.writing ops.codecs line) scheme first_state s asked read f stated

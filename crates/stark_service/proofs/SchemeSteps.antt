@@ -17,7 +17,7 @@ use Rattle.stark_answers.specs.declared.verdict.Verdict.TheVariants as verdict
 use Rattle.stark_answers.proofs.SoundSteps.{InTheClear}
 use Rattle.stark_service.specs.Schemes.{WithNumbers}
 use Rattle.stark_service.specs.Service.{ServiceOps}
-use Rattle.stark_service.specs.Statements.{IsFileOn, IsSoundOfTakenOn, IsSoundOn, IsToldOn, IsVerdictOn}
+use Rattle.stark_service.specs.Statements.{IsFileOn, IsSoundOfTakenOn, IsSoundOn, IsAnswerOn, IsVerdictOn}
 use Rattle.stark_service.specs.TraceChecks.{OrLacksMemory}
 use Rattle.stark_service.proofs.StatementsSound.{listed_soundly}
 
@@ -36,9 +36,9 @@ module _ {S F E C K T P X Y : Type 0} (ops : ServiceOps S F E C K T P X Y) (sche
     sound_by_numbers sound = with_numbers (λ pcs c. IsSoundOfTakenOn ops pcs c s read) sound
 
   module _ (read : Option (List (List F))) where
-    pub found_by_numbers : (asked : TraceTask) (f : Finding) → OrLacksMemory (IsToldOn ops scheme state s asked read) f → OrLacksMemory (λ g. WithNumbers parameters_of (fri_numbers parameters) (λ pcs. IsToldOn ops pcs after s asked read g)) f
+    pub found_by_numbers : (asked : TraceTask) (f : Finding) → OrLacksMemory (IsAnswerOn ops scheme state s asked read) f → OrLacksMemory (λ g. WithNumbers parameters_of (fri_numbers parameters) (λ pcs. IsAnswerOn ops pcs after s asked read g)) f
     found_by_numbers asked f (inl memory) = inl memory
-    found_by_numbers asked f (inr found) = inr (with_numbers (λ pcs c. IsToldOn ops pcs c s asked read f) found)
+    found_by_numbers asked f (inr obtained) = inr (with_numbers (λ pcs c. IsAnswerOn ops pcs c s asked read f) obtained)
 
     pub file_by_numbers : (f : Finding) → WhereProof (λ form file. IsFileOn ops scheme state s form read file) f → WhereProof (λ form file. WithNumbers parameters_of (fri_numbers parameters) (λ pcs. IsFileOn ops pcs after s form read file)) f
     file_by_numbers f is = λ form proof. with_numbers (λ pcs c. IsFileOn ops pcs c s form read (finding_bytes f)) (is form proof)

@@ -76,5 +76,5 @@ module _ (f : Finding) (w : Verdict) (is : f ≡ finding.Verdict w) where
   pub unconfigured_shown : (read : Option Data) → (w ≡ verdict.OutOfMemory) ⊎ (IsUnconfigured read × (w ≡ verdict.BadInput)) → IsOfShowing f
   unconfigured_shown read none = subst IsOfShowing (sym is) (verdict_of_showing w (unconfigured_accepts_none read w none))
 
-  pub unconfigured_told : (asked : TraceTask) (read : Option Data) → (w ≡ verdict.OutOfMemory) ⊎ (IsUnconfigured read × (w ≡ verdict.BadInput)) → IsOfTrace asked f
-  unconfigured_told asked read none = subst (IsOfTrace asked) (sym is) (verdict_of_trace asked w (unconfigured_accepts_none read w none))
+  pub unconfigured_stated : (asked : TraceTask) (read : Option Data) → (w ≡ verdict.OutOfMemory) ⊎ (IsUnconfigured read × (w ≡ verdict.BadInput)) → IsOfTrace asked f
+  unconfigured_stated asked read none = subst (IsOfTrace asked) (sym is) (verdict_of_trace asked w (unconfigured_accepts_none read w none))

@@ -125,9 +125,9 @@ kept_finding (finding.Broken row) = inr refl
 
 found_unjudged : (P : Finding → Type 0) (f g : Finding) → g ≡ unjudged_finding f → (f ≡ finding.Verdict (verdict.Refused refusal.OutOfMemory)) ⊎ P f → (g ≡ finding.Verdict verdict.OutOfMemory) ⊎ P g
 found_unjudged P f g is (inl memory) = inl (is ∙ ap unjudged_finding memory)
-found_unjudged P f g is (inr found) = elim (kept_finding f) [
+found_unjudged P f g is (inr obtained) = elim (kept_finding f) [
   | inl memory ↦ inl (is ∙ memory)
-  | inr same ↦ inr (subst P (sym (is ∙ same)) found)
+  | inr same ↦ inr (subst P (sym (is ∙ same)) obtained)
 ]
 
 -- ---- a proof that was read
@@ -139,12 +139,12 @@ module _ {S F E C K T P X Y : Type 0} (ops : ServiceOps S F E C K T P X Y) (sche
       → IsAnswerWithKey ops.protocol log_rows scheme air.preprocessed_trace (λ key. instance_of air scheme first_state ood_bits alpha_bits public_values key) p answer
       → (w ≡ verdict.OutOfMemory) ⊎ IsVerdictWithRows ops scheme first_state s log_rows read w
   unfolding IsVerdictWithRows
-  verdict_of_read air p public_values ood_bits alpha_bits answer v w is declares lists asks asks_first says unless found =
+  verdict_of_read air p public_values ood_bits alpha_bits answer v w is declares lists asks asks_first says unless obtained =
       subst (λ r. (w ≡ verdict.OutOfMemory) ⊎ IsVerdictWithRows ops scheme first_state s log_rows r w) (sym is)
       (subst (λ a. (w ≡ verdict.OutOfMemory) ⊎ IsVerdict ops.protocol log_rows scheme first_state a p s.public_values s.ood_bits s.alpha_bits w) declares
       (subst (λ ps. (w ≡ verdict.OutOfMemory) ⊎ IsVerdict ops.protocol log_rows scheme first_state air p ps s.ood_bits s.alpha_bits w) lists
       (said_unjudged (λ u. IsVerdict ops.protocol log_rows scheme first_state air p public_values s.ood_bits s.alpha_bits u) v w unless
-      (is_verdict ops.protocol log_rows air scheme scheme first_state first_state ood_bits s.ood_bits alpha_bits s.alpha_bits public_values p answer v says refl refl asks asks_first found))))
+      (is_verdict ops.protocol log_rows air scheme scheme first_state first_state ood_bits s.ood_bits alpha_bits s.alpha_bits public_values p answer v says refl refl asks asks_first obtained))))
 
   -- A file that spells none is bad input.
   pub verdict_without_proof : (w : Verdict) → (w ≡ verdict.OutOfMemory) ⊎ ((read ≡ None) × (w ≡ verdict.BadInput)) → (w ≡ verdict.OutOfMemory) ⊎ IsVerdictWithRows ops scheme first_state s log_rows read w

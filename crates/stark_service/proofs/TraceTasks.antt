@@ -23,7 +23,7 @@ use Rattle.stark_answers.specs.declared.verdict.Verdict.TheVariants as verdict
 use Rattle.stark_answers.proofs.TraceSteps.{trace_fits}
 use Rattle.stark_service.specs.StatementAir.{declared_of}
 use Rattle.stark_service.specs.Service.{ServiceOps}
-use Rattle.stark_service.specs.Statements.{IsFoundWithRows, IsToldWithRows, SpellsNoTrace}
+use Rattle.stark_service.specs.Statements.{IsFoundWithRows, IsAnswerWithRows, SpellsNoTrace}
 use Rattle.stark_service.specs.TraceChecks.{IsCheckedTrace, IsCheckedWithRows}
 use Rattle.stark_service.specs.Fitting.{IsUnfit}
 use Rattle.stark_service.proofs.FittingRows.{uneven_unfit}
@@ -79,61 +79,61 @@ module _ {S F E C K T P X Y : Type 0} (ops : ServiceOps S F E C K T P X Y) (sche
   most = ops.protocol.opening.scheme.log_max_trace_height scheme
 
   module _ (read : Option (List (List F))) (f : Finding) where
-    pub told_check : asked ≡ task.Check → (f ≡ no_memory) ⊎ IsCheckedWithRows ops.protocol.opening.fields ops.number most s log_rows read f → (f ≡ no_memory) ⊎ IsToldWithRows ops scheme first_state s asked log_rows read f
-    unfolding IsToldWithRows
-    told_check is checked = subst (λ k. (f ≡ no_memory) ⊎ IsToldWithRows ops scheme first_state s k log_rows read f) (sym is) checked
+    pub stated_check : asked ≡ task.Check → (f ≡ no_memory) ⊎ IsCheckedWithRows ops.protocol.opening.fields ops.number most s log_rows read f → (f ≡ no_memory) ⊎ IsAnswerWithRows ops scheme first_state s asked log_rows read f
+    unfolding IsAnswerWithRows
+    stated_check is checked = subst (λ k. (f ≡ no_memory) ⊎ IsAnswerWithRows ops scheme first_state s k log_rows read f) (sym is) checked
 
-    pub told_unchecked : (form : ProofForm) → asked ≡ task.ProveUnchecked form → (f ≡ no_memory) ⊎ IsFoundWithRows ops scheme first_state s form log_rows read f → (f ≡ no_memory) ⊎ IsToldWithRows ops scheme first_state s asked log_rows read f
-    unfolding IsToldWithRows
-    told_unchecked form is found = subst (λ k. (f ≡ no_memory) ⊎ IsToldWithRows ops scheme first_state s k log_rows read f) (sym is) found
+    pub stated_unchecked : (form : ProofForm) → asked ≡ task.ProveUnchecked form → (f ≡ no_memory) ⊎ IsFoundWithRows ops scheme first_state s form log_rows read f → (f ≡ no_memory) ⊎ IsAnswerWithRows ops scheme first_state s asked log_rows read f
+    unfolding IsAnswerWithRows
+    stated_unchecked form is obtained = subst (λ k. (f ≡ no_memory) ⊎ IsAnswerWithRows ops scheme first_state s k log_rows read f) (sym is) obtained
 
     -- behind a check that finds the trace satisfying
-    pub told_satisfied : (form : ProofForm) → asked ≡ task.Prove form → (g : Finding) → g ≡ finding.Satisfied → (g ≡ no_memory) ⊎ IsCheckedWithRows ops.protocol.opening.fields ops.number most s log_rows read g → (f ≡ no_memory) ⊎ IsFoundWithRows ops scheme first_state s form log_rows read f
-        → (f ≡ no_memory) ⊎ IsToldWithRows ops scheme first_state s asked log_rows read f
-    unfolding IsToldWithRows
-    told_satisfied form is g satisfied (inl memory) found = absurd (let clash : finding.Satisfied ≡ no_memory = sym satisfied ∙ memory in cc)
-    told_satisfied form is g satisfied (inr checked) (inl memory) = inl memory
-    told_satisfied form is g satisfied (inr checked) (inr found) =
-        inr (subst (λ k. IsToldWithRows ops scheme first_state s k log_rows read f) (sym is) (inl (subst (IsCheckedWithRows ops.protocol.opening.fields ops.number most s log_rows read) satisfied checked, found)))
+    pub stated_satisfied : (form : ProofForm) → asked ≡ task.Prove form → (g : Finding) → g ≡ finding.Satisfied → (g ≡ no_memory) ⊎ IsCheckedWithRows ops.protocol.opening.fields ops.number most s log_rows read g → (f ≡ no_memory) ⊎ IsFoundWithRows ops scheme first_state s form log_rows read f
+        → (f ≡ no_memory) ⊎ IsAnswerWithRows ops scheme first_state s asked log_rows read f
+    unfolding IsAnswerWithRows
+    stated_satisfied form is g satisfied (inl memory) obtained = absurd (let clash : finding.Satisfied ≡ no_memory = sym satisfied ∙ memory in cc)
+    stated_satisfied form is g satisfied (inr checked) (inl memory) = inl memory
+    stated_satisfied form is g satisfied (inr checked) (inr obtained) =
+        inr (subst (λ k. IsAnswerWithRows ops scheme first_state s k log_rows read f) (sym is) (inl (subst (IsCheckedWithRows ops.protocol.opening.fields ops.number most s log_rows read) satisfied checked, obtained)))
 
     -- where a check finds anything else
-    pub told_otherwise : (form : ProofForm) → asked ≡ task.Prove form → (f ≡ finding.Satisfied → ⊥) → (f ≡ no_memory) ⊎ IsCheckedWithRows ops.protocol.opening.fields ops.number most s log_rows read f → (f ≡ no_memory) ⊎ IsToldWithRows ops scheme first_state s asked log_rows read f
-    unfolding IsToldWithRows
-    told_otherwise form is other (inl memory) = inl memory
-    told_otherwise form is other (inr checked) = inr (subst (λ k. IsToldWithRows ops scheme first_state s k log_rows read f) (sym is) (inr (other, checked)))
+    pub stated_otherwise : (form : ProofForm) → asked ≡ task.Prove form → (f ≡ finding.Satisfied → ⊥) → (f ≡ no_memory) ⊎ IsCheckedWithRows ops.protocol.opening.fields ops.number most s log_rows read f → (f ≡ no_memory) ⊎ IsAnswerWithRows ops scheme first_state s asked log_rows read f
+    unfolding IsAnswerWithRows
+    stated_otherwise form is other (inl memory) = inl memory
+    stated_otherwise form is other (inr checked) = inr (subst (λ k. IsAnswerWithRows ops scheme first_state s k log_rows read f) (sym is) (inr (other, checked)))
 
     -- What is told of the rows that were read is told of the file.
-    pub told_of_read : (rows given : List (List F)) → read ≡ Some rows → given ≡ rows → (f ≡ no_memory) ⊎ IsToldWithRows ops scheme first_state s asked log_rows (Some given) f
-        → (f ≡ no_memory) ⊎ IsToldWithRows ops scheme first_state s asked log_rows read f
-    told_of_read rows given is same told =
-        subst (λ r. (f ≡ no_memory) ⊎ IsToldWithRows ops scheme first_state s asked log_rows r f) (sym is) (subst (λ rs. (f ≡ no_memory) ⊎ IsToldWithRows ops scheme first_state s asked log_rows (Some rs) f) same told)
+    pub stated_of_read : (rows given : List (List F)) → read ≡ Some rows → given ≡ rows → (f ≡ no_memory) ⊎ IsAnswerWithRows ops scheme first_state s asked log_rows (Some given) f
+        → (f ≡ no_memory) ⊎ IsAnswerWithRows ops scheme first_state s asked log_rows read f
+    stated_of_read rows given is same stated =
+        subst (λ r. (f ≡ no_memory) ⊎ IsAnswerWithRows ops scheme first_state s asked log_rows r f) (sym is) (subst (λ rs. (f ≡ no_memory) ⊎ IsAnswerWithRows ops scheme first_state s asked log_rows (Some rs) f) same stated)
 
-  bad_rows : (k : TraceTask) → IsToldWithRows ops scheme first_state s k log_rows None (finding.Verdict verdict.BadInput)
-  unfolding IsToldWithRows IsCheckedWithRows IsFoundWithRows
+  bad_rows : (k : TraceTask) → IsAnswerWithRows ops scheme first_state s k log_rows None (finding.Verdict verdict.BadInput)
+  unfolding IsAnswerWithRows IsCheckedWithRows IsFoundWithRows
   bad_rows task.Check = refl
   bad_rows (task.Prove form) = inr (λ is. cc, refl)
   bad_rows (task.ProveUnchecked form) = refl
 
-  unfit_rows : (rows : List (List F)) → IsUnfit most log_rows (declared_of s.air) s.public_values rows → (k : TraceTask) → IsToldWithRows ops scheme first_state s k log_rows (Some rows) (finding.Verdict verdict.BadInput)
-  unfolding IsToldWithRows IsCheckedWithRows IsFoundWithRows
+  unfit_rows : (rows : List (List F)) → IsUnfit most log_rows (declared_of s.air) s.public_values rows → (k : TraceTask) → IsAnswerWithRows ops scheme first_state s k log_rows (Some rows) (finding.Verdict verdict.BadInput)
+  unfolding IsAnswerWithRows IsCheckedWithRows IsFoundWithRows
   unfit_rows rows none task.Check = inr (none, refl)
   unfit_rows rows none (task.Prove form) = inr (λ is. cc, inr (none, refl))
   unfit_rows rows none (task.ProveUnchecked form) = inr (none, refl)
 
   -- Rows that are no trace of the AIR's are bad input,
-  pub told_unfit : (greatest : ℕ) (rows : List (List F)) (f : Finding) → greatest ≡ most
-      → (f ≡ no_memory) ⊎ (IsUnfit greatest log_rows (declared_of s.air) s.public_values rows × (f ≡ finding.Verdict verdict.BadInput)) → (f ≡ no_memory) ⊎ IsToldWithRows ops scheme first_state s asked log_rows (Some rows) f
-  told_unfit greatest rows f same (inl memory) = inl memory
-  told_unfit greatest rows f same (inr bad) =
+  pub stated_unfit : (greatest : ℕ) (rows : List (List F)) (f : Finding) → greatest ≡ most
+      → (f ≡ no_memory) ⊎ (IsUnfit greatest log_rows (declared_of s.air) s.public_values rows × (f ≡ finding.Verdict verdict.BadInput)) → (f ≡ no_memory) ⊎ IsAnswerWithRows ops scheme first_state s asked log_rows (Some rows) f
+  stated_unfit greatest rows f same (inl memory) = inl memory
+  stated_unfit greatest rows f same (inr bad) =
       let none = subst (λ n. IsUnfit n log_rows (declared_of s.air) s.public_values rows) same bad.0 in
-      inr (subst (λ g. IsToldWithRows ops scheme first_state s asked log_rows (Some rows) g) (sym bad.1) (unfit_rows rows none asked))
+      inr (subst (λ g. IsAnswerWithRows ops scheme first_state s asked log_rows (Some rows) g) (sym bad.1) (unfit_rows rows none asked))
 
   -- and so is a file that spells no rows, or rows of different lengths.
-  spells_none : (read : Option (List (List F))) → SpellsNoTrace read → IsToldWithRows ops scheme first_state s asked log_rows read (finding.Verdict verdict.BadInput)
+  spells_none : (read : Option (List (List F))) → SpellsNoTrace read → IsAnswerWithRows ops scheme first_state s asked log_rows read (finding.Verdict verdict.BadInput)
   spells_none None none = bad_rows asked
   spells_none (Some rows) uneven = unfit_rows rows (uneven_unfit (shape_of (declared_of s.air)) log_rows most rows s.public_values uneven) asked
 
-  pub told_without_rows : (read : Option (List (List F))) (v : Verdict) (f : Finding) → f ≡ finding.Verdict v → (v ≡ verdict.OutOfMemory) ⊎ (SpellsNoTrace read × (v ≡ verdict.BadInput))
-      → (f ≡ no_memory) ⊎ IsToldWithRows ops scheme first_state s asked log_rows read f
-  told_without_rows read v f is (inl memory) = inl (is ∙ ap (λ w. finding.Verdict w) memory)
-  told_without_rows read v f is (inr bad) = inr (subst (λ g. IsToldWithRows ops scheme first_state s asked log_rows read g) (sym (is ∙ ap (λ w. finding.Verdict w) bad.1)) (spells_none read bad.0))
+  pub stated_without_rows : (read : Option (List (List F))) (v : Verdict) (f : Finding) → f ≡ finding.Verdict v → (v ≡ verdict.OutOfMemory) ⊎ (SpellsNoTrace read × (v ≡ verdict.BadInput))
+      → (f ≡ no_memory) ⊎ IsAnswerWithRows ops scheme first_state s asked log_rows read f
+  stated_without_rows read v f is (inl memory) = inl (is ∙ ap (λ w. finding.Verdict w) memory)
+  stated_without_rows read v f is (inr bad) = inr (subst (λ g. IsAnswerWithRows ops scheme first_state s asked log_rows read g) (sym (is ∙ ap (λ w. finding.Verdict w) bad.1)) (spells_none read bad.0))

@@ -21,7 +21,7 @@ AreSomeRows {F} table = (rows : List (List F)) × HasRows table rows
 
 -- This is told of the rows that were read, or memory was wanting.
 abbrev pub TellsOfRows : {F : Type 0} → TraceRows F → (Option (List (List F)) → Finding → Type 0) → Finding → Type 0
-TellsOfRows {F} table IsTold f = (rows : List (List F)) → HasRows table rows → OrLacksMemory (IsTold (Some rows)) f
+TellsOfRows {F} table IsAnswer f = (rows : List (List F)) → HasRows table rows → OrLacksMemory (IsAnswer (Some rows)) f
 
 -- This holds of the rows that were read.
 abbrev pub OfRead : {F : Type 0} → TraceRows F → (List (List F) → Type 0) → Type 0
@@ -56,7 +56,7 @@ module _ {F : Type 0} (greatest log_rows : ℕ) (s : StatementView F) where
 
   -- This is told of the rows whose trace it is, or memory was wanting.
   abbrev pub TellsOfTrace : RowMajorMatrix F → (Option (List (List F)) → Finding → Type 0) → Finding → Type 0
-  TellsOfTrace trace IsTold f = (rows : List (List F)) → IsTraceOf rows trace → OrLacksMemory (IsTold (Some rows)) f
+  TellsOfTrace trace IsAnswer f = (rows : List (List F)) → IsTraceOf rows trace → OrLacksMemory (IsAnswer (Some rows)) f
 
   -- What a check finds of them.
   abbrev pub ChecksTrace : {E : Type 0} → FieldsOps F E → (F → ℕ) → RowMajorMatrix F → Finding → Type 0

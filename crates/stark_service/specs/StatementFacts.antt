@@ -19,7 +19,7 @@ use Rattle.stark_answers.specs.declared.verdict.Verdict.{Verdict}
 use Rattle.stark_answers.specs.declared.verdict.Verdict.TheVariants as verdict
 use Rattle.stark_service.specs.StatementAir.{declared_of}
 use Rattle.stark_service.specs.Service.{ServiceOps, proof_file}
-use Rattle.stark_service.specs.Statements.{IsFileOn, IsFileWithRows, IsFoundWithRows, IsToldOn, IsToldWithRows}
+use Rattle.stark_service.specs.Statements.{IsFileOn, IsFileWithRows, IsFoundWithRows, IsAnswerOn, IsAnswerWithRows}
 use Rattle.stark_service.specs.TraceChecks.{IsCheckedTrace, IsCheckedWithRows}
 
 -- ---- what no finding of a trace is
@@ -78,13 +78,13 @@ module _ {F E : Type 0} (fields : FieldsOps F E) (number : F → ℕ) where
     rows_checked : (asked : TraceTask) (read : Option (List (List F))) (f : Finding) → IsCheckedWithRows fields number greatest s log_rows read f → (f ≡ finding.Satisfied → asked ≡ task.Check) → IsOfTrace asked f
     unfolding IsCheckedWithRows
     rows_checked asked None f is satisfied = subst (IsOfTrace asked) (sym is) (bad_alone asked)
-    rows_checked asked (Some rows) f (inl found) satisfied = checked_alone asked (declared_of s.air) s.air.list (trace_of (declared_of s.air).layout.main rows) s.public_values f found.2 satisfied
+    rows_checked asked (Some rows) f (inl obtained) satisfied = checked_alone asked (declared_of s.air) s.air.list (trace_of (declared_of s.air).layout.main rows) s.public_values f obtained.2 satisfied
     rows_checked asked (Some rows) f (inr other) satisfied = subst (IsOfTrace asked) (sym other.1) (bad_alone asked)
 
     rows_prove_none : (read : Option (List (List F))) (f : Finding) → IsCheckedWithRows fields number greatest s log_rows read f → (form : ProofForm) → IsProof form f → ⊥
     unfolding IsCheckedWithRows
     rows_prove_none None f is form proof = bad_no_proof f is form proof
-    rows_prove_none (Some rows) f (inl found) form proof = checked_no_proof (declared_of s.air) s.air.list (trace_of (declared_of s.air).layout.main rows) s.public_values f found.2 form proof
+    rows_prove_none (Some rows) f (inl obtained) form proof = checked_no_proof (declared_of s.air) s.air.list (trace_of (declared_of s.air).layout.main rows) s.public_values f obtained.2 form proof
     rows_prove_none (Some rows) f (inr other) form proof = bad_no_proof f other.1 form proof
 
 -- ---- what is told under a task
@@ -102,55 +102,55 @@ module _ {S F E C K T P X Y : Type 0} (ops : ServiceOps S F E C K T P X Y) (begi
     proofs file = IsProofFile ops.protocol ops.coordinates (proof_file ops form) log_rows scheme first_state (declared_of s.air) height (trace_of (declared_of s.air).layout.main rows) s.public_values s.ood_bits s.alpha_bits file
 
     proved_file : (f : Finding) → proved f → WhereProof (λ other file. (other ≡ form) × proofs file) f
-    proved_file f found =
-        file_alone ops.protocol ops.coordinates form (proof_file ops form) (begins form) log_rows scheme first_state (declared_of s.air) height (trace_of (declared_of s.air).layout.main rows) s.public_values s.ood_bits s.alpha_bits f found
+    proved_file f obtained =
+        file_alone ops.protocol ops.coordinates form (proof_file ops form) (begins form) log_rows scheme first_state (declared_of s.air) height (trace_of (declared_of s.air).layout.main rows) s.public_values s.ood_bits s.alpha_bits f obtained
 
     proved_of_trace : (asked : TraceTask) → AsksFor form asked → (f : Finding) → proved f → IsOfTrace asked f
-    proved_of_trace asked asks f found = record {
-      begins = begins_alone ops.protocol ops.coordinates form (proof_file ops form) (begins form) log_rows scheme first_state (declared_of s.air) height (trace_of (declared_of s.air).layout.main rows) s.public_values s.ood_bits s.alpha_bits f found;
-      accepts_none = λ is. accepted_alone ops.protocol ops.coordinates form (proof_file ops form) (begins form) log_rows scheme first_state (declared_of s.air) height (trace_of (declared_of s.air).layout.main rows) s.public_values s.ood_bits s.alpha_bits (subst proved is found);
-      shows_none = no_text_alone ops.protocol ops.coordinates form (proof_file ops form) (begins form) log_rows scheme first_state (declared_of s.air) height (trace_of (declared_of s.air).layout.main rows) s.public_values s.ood_bits s.alpha_bits f found;
-      proves_as_asked = λ other is. subst (λ k. AsksFor k asked) (sym (proved_file f found other is).0) asks;
-      satisfied_checks = λ is. absurd (satisfied_alone ops.protocol ops.coordinates form (proof_file ops form) (begins form) log_rows scheme first_state (declared_of s.air) height (trace_of (declared_of s.air).layout.main rows) s.public_values s.ood_bits s.alpha_bits (subst proved is found));
+    proved_of_trace asked asks f obtained = record {
+      begins = begins_alone ops.protocol ops.coordinates form (proof_file ops form) (begins form) log_rows scheme first_state (declared_of s.air) height (trace_of (declared_of s.air).layout.main rows) s.public_values s.ood_bits s.alpha_bits f obtained;
+      accepts_none = λ is. accepted_alone ops.protocol ops.coordinates form (proof_file ops form) (begins form) log_rows scheme first_state (declared_of s.air) height (trace_of (declared_of s.air).layout.main rows) s.public_values s.ood_bits s.alpha_bits (subst proved is obtained);
+      shows_none = no_text_alone ops.protocol ops.coordinates form (proof_file ops form) (begins form) log_rows scheme first_state (declared_of s.air) height (trace_of (declared_of s.air).layout.main rows) s.public_values s.ood_bits s.alpha_bits f obtained;
+      proves_as_asked = λ other is. subst (λ k. AsksFor k asked) (sym (proved_file f obtained other is).0) asks;
+      satisfied_checks = λ is. absurd (satisfied_alone ops.protocol ops.coordinates form (proof_file ops form) (begins form) log_rows scheme first_state (declared_of s.air) height (trace_of (declared_of s.air).layout.main rows) s.public_values s.ood_bits s.alpha_bits (subst proved is obtained));
     }
 
   found_alone : (form : ProofForm) (asked : TraceTask) → AsksFor form asked → (read : Option (List (List F))) (f : Finding) → IsFoundWithRows ops scheme first_state s form log_rows read f → IsOfTrace asked f
   unfolding IsFoundWithRows
   found_alone form asked asks None f is = subst (IsOfTrace asked) (sym is) (bad_alone asked)
-  found_alone form asked asks (Some rows) f (inl found) = proved_of_trace form found.0 rows asked asks f found.2
+  found_alone form asked asks (Some rows) f (inl obtained) = proved_of_trace form obtained.0 rows asked asks f obtained.2
   found_alone form asked asks (Some rows) f (inr unfit) = subst (IsOfTrace asked) (sym unfit.1) (bad_alone asked)
 
   found_file : (form : ProofForm) (read : Option (List (List F))) (f : Finding) → IsFoundWithRows ops scheme first_state s form log_rows read f → WhereProof (λ other file. IsFileWithRows ops scheme first_state s other log_rows read file) f
   unfolding IsFoundWithRows IsFileWithRows
   found_file form None f is = λ other proof. absurd (bad_no_proof f is other proof)
-  found_file form (Some rows) f (inl found) = λ other proof. let made = proved_file form found.0 rows f found.2 other proof in
-      subst (λ k. IsFileWithRows ops scheme first_state s k log_rows (Some rows) (finding_bytes f)) (sym made.0) (found.0, found.1, made.1)
+  found_file form (Some rows) f (inl obtained) = λ other proof. let made = proved_file form obtained.0 rows f obtained.2 other proof in
+      subst (λ k. IsFileWithRows ops scheme first_state s k log_rows (Some rows) (finding_bytes f)) (sym made.0) (obtained.0, obtained.1, made.1)
   found_file form (Some rows) f (inr unfit) = λ other proof. absurd (bad_no_proof f unfit.1 other proof)
 
   abbrev most : ℕ
   most = ops.protocol.opening.scheme.log_max_trace_height scheme
 
-  told_alone : (asked : TraceTask) (read : Option (List (List F))) (f : Finding) → IsToldWithRows ops scheme first_state s asked log_rows read f → IsOfTrace asked f
-  unfolding IsToldWithRows
-  told_alone task.Check read f told = rows_checked ops.protocol.opening.fields ops.number most s log_rows task.Check read f told (λ is. refl)
-  told_alone (task.Prove form) read f (inl told) = found_alone form (task.Prove form) refl read f told.1
-  told_alone (task.Prove form) read f (inr told) = rows_checked ops.protocol.opening.fields ops.number most s log_rows (task.Prove form) read f told.1 (λ is. absurd (told.0 is))
-  told_alone (task.ProveUnchecked form) read f told = found_alone form (task.ProveUnchecked form) refl read f told
+  stated_alone : (asked : TraceTask) (read : Option (List (List F))) (f : Finding) → IsAnswerWithRows ops scheme first_state s asked log_rows read f → IsOfTrace asked f
+  unfolding IsAnswerWithRows
+  stated_alone task.Check read f stated = rows_checked ops.protocol.opening.fields ops.number most s log_rows task.Check read f stated (λ is. refl)
+  stated_alone (task.Prove form) read f (inl stated) = found_alone form (task.Prove form) refl read f stated.1
+  stated_alone (task.Prove form) read f (inr stated) = rows_checked ops.protocol.opening.fields ops.number most s log_rows (task.Prove form) read f stated.1 (λ is. absurd (stated.0 is))
+  stated_alone (task.ProveUnchecked form) read f stated = found_alone form (task.ProveUnchecked form) refl read f stated
 
-  told_file : (asked : TraceTask) (read : Option (List (List F))) (f : Finding) → IsToldWithRows ops scheme first_state s asked log_rows read f → WhereProof (λ form file. IsFileWithRows ops scheme first_state s form log_rows read file) f
-  unfolding IsToldWithRows
-  told_file task.Check read f told = λ form proof. absurd (rows_prove_none ops.protocol.opening.fields ops.number most s log_rows read f told form proof)
-  told_file (task.Prove form) read f (inl told) = found_file form read f told.1
-  told_file (task.Prove form) read f (inr told) = λ other proof. absurd (rows_prove_none ops.protocol.opening.fields ops.number most s log_rows read f told.1 other proof)
-  told_file (task.ProveUnchecked form) read f told = found_file form read f told
+  stated_file : (asked : TraceTask) (read : Option (List (List F))) (f : Finding) → IsAnswerWithRows ops scheme first_state s asked log_rows read f → WhereProof (λ form file. IsFileWithRows ops scheme first_state s form log_rows read file) f
+  unfolding IsAnswerWithRows
+  stated_file task.Check read f stated = λ form proof. absurd (rows_prove_none ops.protocol.opening.fields ops.number most s log_rows read f stated form proof)
+  stated_file (task.Prove form) read f (inl stated) = found_file form read f stated.1
+  stated_file (task.Prove form) read f (inr stated) = λ other proof. absurd (rows_prove_none ops.protocol.opening.fields ops.number most s log_rows read f stated.1 other proof)
+  stated_file (task.ProveUnchecked form) read f stated = found_file form read f stated
 
 module _ {S F E C K T P X Y : Type 0} (ops : ServiceOps S F E C K T P X Y) (begins : BeginsInForms ops) (scheme : S) (first_state : C) (s : StatementView F) (asked : TraceTask) (read : Option (List (List F))) (f : Finding) where
-  pub told_on_alone : IsToldOn ops scheme first_state s asked read f → IsOfTrace asked f
-  unfolding IsToldOn
-  told_on_alone (inl told) = told_alone ops begins scheme first_state s told.0 asked read f told.3
-  told_on_alone (inr other) = subst (IsOfTrace asked) (sym other.1) (bad_alone asked)
+  pub stated_on_alone : IsAnswerOn ops scheme first_state s asked read f → IsOfTrace asked f
+  unfolding IsAnswerOn
+  stated_on_alone (inl stated) = stated_alone ops begins scheme first_state s stated.0 asked read f stated.3
+  stated_on_alone (inr other) = subst (IsOfTrace asked) (sym other.1) (bad_alone asked)
 
-  pub told_on_file : IsToldOn ops scheme first_state s asked read f → WhereProof (λ form file. IsFileOn ops scheme first_state s form read file) f
-  unfolding IsToldOn IsFileOn
-  told_on_file (inl told) = λ form proof. (told.0, told.1, told.2, told_file ops begins scheme first_state s told.0 asked read f told.3 form proof)
-  told_on_file (inr other) = λ form proof. absurd (bad_no_proof f other.1 form proof)
+  pub stated_on_file : IsAnswerOn ops scheme first_state s asked read f → WhereProof (λ form file. IsFileOn ops scheme first_state s form read file) f
+  unfolding IsAnswerOn IsFileOn
+  stated_on_file (inl stated) = λ form proof. (stated.0, stated.1, stated.2, stated_file ops begins scheme first_state s stated.0 asked read f stated.3 form proof)
+  stated_on_file (inr other) = λ form proof. absurd (bad_no_proof f other.1 form proof)

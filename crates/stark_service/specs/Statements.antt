@@ -171,15 +171,15 @@ module _ {S F E C K T P X Y : Type 0} (ops : ServiceOps S F E C K T P X Y) (sche
 
   -- What is told of the rows under a task: what a check finds, what a prover finds, or what a prover finds where a check finds the trace
   -- satisfying, and else what the check finds.
-  unfoldable pub IsToldWithRows : TraceTask → ℕ → Option (List (List F)) → Finding → Type 0
-  IsToldWithRows task.Check log_rows read f = IsCheckedWithRows ops.protocol.opening.fields ops.number greatest s log_rows read f
-  IsToldWithRows (task.Prove form) log_rows read f = IsFirstChecked (IsCheckedWithRows ops.protocol.opening.fields ops.number greatest s log_rows read) (IsFoundWithRows form log_rows read) f
-  IsToldWithRows (task.ProveUnchecked form) log_rows read f = IsFoundWithRows form log_rows read f
+  unfoldable pub IsAnswerWithRows : TraceTask → ℕ → Option (List (List F)) → Finding → Type 0
+  IsAnswerWithRows task.Check log_rows read f = IsCheckedWithRows ops.protocol.opening.fields ops.number greatest s log_rows read f
+  IsAnswerWithRows (task.Prove form) log_rows read f = IsFirstChecked (IsCheckedWithRows ops.protocol.opening.fields ops.number greatest s log_rows read) (IsFoundWithRows form log_rows read) f
+  IsAnswerWithRows (task.ProveUnchecked form) log_rows read f = IsFoundWithRows form log_rows read f
 
   -- The AIR has main columns, and this is told of the rows, with what is set up for those of its preprocessed columns; or it has none,
   -- or they have no number of rows that a key can have, and the statement is bad input.
-  unfoldable pub IsToldOn : TraceTask → Option (List (List F)) → Finding → Type 0
-  IsToldOn asked read f = ((log_rows : ℕ) × (0 < (declared_of s.air).layout.main) × HasRows greatest (declared_of s.air) log_rows × IsToldWithRows asked log_rows read f)
+  unfoldable pub IsAnswerOn : TraceTask → Option (List (List F)) → Finding → Type 0
+  IsAnswerOn asked read f = ((log_rows : ℕ) × (0 < (declared_of s.air).layout.main) × HasRows greatest (declared_of s.air) log_rows × IsAnswerWithRows asked log_rows read f)
       ⊎ ((((declared_of s.air).layout.main ≡ 0) ⊎ HasNoRows greatest (declared_of s.air)) × (f ≡ finding.Verdict verdict.BadInput))
 
   unfoldable pub IsFileWithRows : ProofForm → ℕ → Option (List (List F)) → List ℕ → Type 0
@@ -191,7 +191,7 @@ module _ {S F E C K T P X Y : Type 0} (ops : ServiceOps S F E C K T P X Y) (sche
   unfoldable pub IsFileOn : ProofForm → Option (List (List F)) → List ℕ → Type 0
   IsFileOn form read file = (log_rows : ℕ) × (0 < (declared_of s.air).layout.main) × HasRows greatest (declared_of s.air) log_rows × IsFileWithRows form log_rows read file
 
--- The same with commitments that list their columns.
+-- Soundness, with commitments that list their columns.
 module _ {S F E C T P X Y : Type 0} (ops : ServiceOps S F E C (Listed F) T P X Y) (scheme : S) (first_state : C) (s : StatementView F) where
   unfoldable pub IsSoundWithRows : ℕ → Option (ProofView (Listed F) E P F) → Type 0
   IsSoundWithRows log_rows None = ⊥

@@ -13,7 +13,7 @@ ghost use Rattle.stark_answers.specs.declared.verdict.Verdict.{Verdict};
 ghost use Rattle.stark_service.specs.NoFloats.{WritesNoFloat};
 ghost use Rattle.stark_service.specs.Schemes.{ByScheme, HasRoomFor, WithNumbers};
 ghost use Rattle.stark_service.specs.StatementFacts.{IsOfTrace};
-ghost use Rattle.stark_service.specs.Statements.{IsFileOn, IsSoundOfTakenOn, IsSoundOn, IsToldOn, IsVerdictOn, OrUnjudged, rows_in};
+ghost use Rattle.stark_service.specs.Statements.{IsFileOn, IsSoundOfTakenOn, IsSoundOn, IsAnswerOn, IsVerdictOn, OrUnjudged, rows_in};
 ghost use Rattle.stark_service.specs.TraceChecks.{OrLacksMemory};
 
 use crate::bounds::{StatementChallenger, StatementExtension, StatementField};
@@ -81,10 +81,10 @@ where
 
     ghost finds = { λ fresh scheme asked s trace f. ByScheme scheme
         (λ numbers. WithNumbers (λ pcs. pcs.parameters) numbers (λ pcs.
-        IsToldOn ⟦<FriConfig<F, EF, C> as StarkService>⟧.service pcs
+        IsAnswerOn ⟦<FriConfig<F, EF, C> as StarkService>⟧.service pcs
         (after_statement ⟦<C as CanObserve<F>>⟧.after_observe F.of_number F.number_of s fresh) s
         asked (rows_in F.reading trace) f))
-        (IsToldOn ⟦<ClearConfig<F, EF, C> as StarkService>⟧.service clear_pcs
+        (IsAnswerOn ⟦<ClearConfig<F, EF, C> as StarkService>⟧.service clear_pcs
         (after_statement ⟦<C as CanObserve<F>>⟧.after_observe F.of_number F.number_of s fresh) s
         asked (rows_in F.reading trace) f) };
 

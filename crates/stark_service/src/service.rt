@@ -13,7 +13,7 @@ ghost use Rattle.stark_answers.specs.declared.task.TraceTask.{TraceTask};
 ghost use Rattle.stark_answers.specs.declared.verdict.Verdict.{Verdict};
 ghost use Rattle.stark_service.specs.Fitting.{TellsOfTrace};
 ghost use Rattle.stark_service.specs.Service.{CanProve, CanProveFor, HasColumnsAt, IsReady, ServiceOps};
-ghost use Rattle.stark_service.specs.Statements.{IsFileOn, IsFoundWithRows, IsSoundOfTakenOn, IsToldOn, IsToldWithRows, IsVerdictOn, IsVerdictWithRows, proof_in, rows_in};
+ghost use Rattle.stark_service.specs.Statements.{IsFileOn, IsFoundWithRows, IsSoundOfTakenOn, IsAnswerOn, IsAnswerWithRows, IsVerdictOn, IsVerdictWithRows, proof_in, rows_in};
 ghost use Rattle.stark_service.specs.TraceChecks.{IsCheckedWithRows};
 
 use crate::bounds::ServiceConfig;
@@ -143,14 +143,14 @@ impl<SC: ServiceConfig> ServiceAnswers for SC {
         (IsFoundWithRows ⟦<SC as StarkService>⟧.service (SC.config.scheme config)
         (SC.config.first_state config) s form log_rows) };
 
-    ghost tells = { λ config asked s. IsToldWithRows ⟦<SC as StarkService>⟧.service
+    ghost tells = { λ config asked s. IsAnswerWithRows ⟦<SC as StarkService>⟧.service
         (SC.config.scheme config) (SC.config.first_state config) s asked };
 
-    ghost tells_of_bytes = { λ config asked s log_rows trace. IsToldWithRows
+    ghost tells_of_bytes = { λ config asked s log_rows trace. IsAnswerWithRows
         ⟦<SC as StarkService>⟧.service (SC.config.scheme config) (SC.config.first_state config) s
         asked log_rows (rows_in ⟦<SC as StarkService>⟧.service.element trace) };
 
-    ghost finds = { λ config asked s trace. IsToldOn ⟦<SC as StarkService>⟧.service
+    ghost finds = { λ config asked s trace. IsAnswerOn ⟦<SC as StarkService>⟧.service
         (SC.config.scheme config) (SC.config.first_state config) s asked
         (rows_in ⟦<SC as StarkService>⟧.service.element trace) };
 

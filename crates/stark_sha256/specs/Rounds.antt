@@ -8,7 +8,7 @@ abbrev pub AdvanceRounds : List (List ℕ) → List (List ℕ) → ℕ → List 
 AdvanceRounds window v from next_window result to = (j : ℕ) → j < 4 → (b h : List ℕ) → IsRoundsAt b h (lane j window) (lane j v) from
     → IsRoundsAt b h (lane j next_window) (lane j result) to
 
--- The same with a window that has a block's own words.
+-- Rounds that advance over a window that has a block's own words.
 abbrev pub AdvanceFirstRounds : List (List ℕ) → List (List ℕ) → ℕ → List (List ℕ) → ℕ → Type 0
 AdvanceFirstRounds window v from result to = (j : ℕ) → j < 4 → (b h : List ℕ) → IsWindow (lane j window) (schedule b 48) 16
     → lane j v ≡ rounds h (schedule b 48) from → lane j result ≡ rounds h (schedule b 48) to

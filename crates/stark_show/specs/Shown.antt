@@ -36,7 +36,7 @@ long_text number list = long_lines number list.constants.items list.nodes.items
 abbrev pub listed_line : {F : Type 0} → (F → ℕ) → ListView F → ℕ → TreeConstraint → List ℕ
 listed_line number list k c = numbered_line (shown_nodes number list.constants list.nodes) (map (degree 0) (nodes_trees list.constants list.nodes)) k c
 
--- The same where there is a constraint, and else nothing.
+-- The line of a constraint where there is one, and else nothing.
 abbrev pub line_if_any : {F : Type 0} → (F → ℕ) → ListView F → ℕ → Option TreeConstraint → List ℕ
 line_if_any number list k None = []
 line_if_any number list k (Some c) = listed_line number list k c

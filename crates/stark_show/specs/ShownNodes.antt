@@ -66,7 +66,7 @@ NodeNames m k (Product i j) = (i < k) × (j < k)
 NodeNames m k (Negation i) = i < k
 NodeNames m k _ = Unit {0}
 
--- The same of each node, from the place k on.
+-- Each node names such, from the place k on.
 abbrev pub NodesName : ℕ → ℕ → List TreeNode → Type 0
 NodesName m k [] = Unit {0}
 NodesName m k (n ∷ ns) = NodeNames m k n × NodesName m (k + 1) ns

@@ -33,7 +33,7 @@ module _ (rows : List (List ℕ)) where
   configurations_are (object ms) = let config = kept (codes "config") (object ms) refl in rw (all_known-changed (codes "air") inner ms, config) refl
 
   module _ {F : Type 0} (element : Data → Option F) where
-    airs_are : (fault : StatementFault) (found : Option Data) → (ok_or found fault >>= air_joined element (Some rows)) ≡ (ok_or (option_map inner found) fault >>= air_at element)
+    airs_are : (fault : StatementFault) (obtained : Option Data) → (ok_or obtained fault >>= air_joined element (Some rows)) ≡ (ok_or (option_map inner obtained) fault >>= air_at element)
     airs_are fault None = refl
     airs_are fault (Some d) = refl
 

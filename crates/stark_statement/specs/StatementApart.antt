@@ -14,7 +14,7 @@ statement_path = codes "air" ∷ trace_path
 
 -- the JSON of a statement, whose rows may be apart
 abbrev pub data_of : Document → Data
-data_of found = document_data statement_path found
+data_of obtained = document_data statement_path obtained
 
 module _ {F : Type 0} (element : Data → Option F) (rows : Option (List (List ℕ))) where
   -- the AIR of an object with the rows, if they are apart

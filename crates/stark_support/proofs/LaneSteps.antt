@@ -20,7 +20,7 @@ pub one_more_lane : {F : Type 0} (P : ℕ → F → Type 0) (before after : List
     → (k : ℕ) → k < lane + 1 → (value : F) × (P k value) × (slice_get after k ≡ Some value)
 one_more_lane P before after lane v below is answers so_far k within = elim (last_or_below k lane within) [
   | inl last ↦ (v, subst (λ n. P n v) (sym last) answers, ap (λ t. slice_get t k) is ∙ ap (slice_get (slice_set before lane v)) last ∙ set_here before lane v below)
-  | inr earlier ↦ let found = so_far k earlier in (found.0, found.1, ap (λ t. slice_get t k) is ∙ set_elsewhere before lane k v earlier ∙ found.2)
+  | inr earlier ↦ let obtained = so_far k earlier in (obtained.0, obtained.1, ap (λ t. slice_get t k) is ∙ set_elsewhere before lane k v earlier ∙ obtained.2)
 ]
 
 in_front : {F : Type 0} (xs : List F) (v : F) → 0 < length xs → slice_get (map (λ _. v) xs) 0 ≡ Some v

@@ -42,6 +42,6 @@ no_first_fault_with P Q not_both (x ∷ xs) (suc i) fault all = no_first_fault_w
 abbrev pub NamesFault : {T E : Type 0} → Option E → Result T E → Type 0
 NamesFault fault result = MatchResult result (λ _. fault ≡ None) (λ e. fault ≡ Some e)
 
--- The same where memory may be wanting, which is an error of its own.
+-- The answer names the fault, where memory may be wanting, which is an error of its own.
 abbrev pub NamesFaultOr : {T E : Type 0} → E → Option E → Result T E → Type 0
 NamesFaultOr lacking fault result = MatchResult result (λ _. fault ≡ None) (λ e. (fault ≡ Some e) ⊎ (e ≡ lacking))

@@ -107,9 +107,9 @@ module _ {K : Type 0} {E : Type 0} {C : Type 0} {ring : RingOps K} {inverse : K 
       → values ≡ map (λ column. periodic_value ring inverse generator n extension embed (entries column) x) columns → x ≡ embed (power ring generator i)
       → (c : ℕ) (column : C) → slice_get columns c ≡ Some column → slice_get values c ≡ Some (embed (get_or (entries column) (i % length (entries column)) ring.zero))
   values_in_row columns values x i fit are at c column listed =
-      let found = slice_get_within columns c column listed in
+      let obtained = slice_get_within columns c column listed in
       let here : get_or columns c column ≡ column = get_or_from_slice_get columns c column column listed in
-      let fits = fit c column found in
+      let fits = fit c column obtained in
       let same : size (get_or columns c column) ≡ length (entries column) = ap size here ∙ sized column in
       let power = power_of_two (size (get_or columns c column)) fits.power in
       ap (λ t. slice_get t c) are ∙ mapped_get (λ column. periodic_value ring inverse generator n extension embed (entries column) x) columns c column listed

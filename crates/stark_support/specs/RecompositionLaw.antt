@@ -109,7 +109,7 @@ module _ {K : Type 0} {ring : RingOps K} {inverse : K → K} (laws : FieldLaws r
   met_shift basis before v x (s ∷ shifts) (q ∷ chunks) apart met =
       elim met [
         | inl here ↦ (s, inl refl, same_vanishing laws.of_ring inverse n s x s here.0 ∙ own_vanishing laws n s apart.0)
-        | inr later ↦ let found = met_shift basis (before ++ (s ∷ [])) v x shifts chunks apart.2 later in (found.0, inr found.1, found.2)
+        | inr later ↦ let obtained = met_shift basis (before ++ (s ∷ [])) v x shifts chunks apart.2 later in (obtained.0, inr obtained.1, obtained.2)
       ]
 
   -- On a chunk's coset the recomposition has the chunk's value.
@@ -129,8 +129,8 @@ module _ {K : Type 0} {ring : RingOps K} {inverse : K → K} (laws : FieldLaws r
             solve laws.of_ring (own ∷ []) (unit ⊗ v0 ⊕ nothing) v0 refl ∙
             here.1
         | inr later ↦
-            let found = met_shift basis (before ++ (s ∷ [])) v x shifts chunks apart.2 later in
-            ap (λ w. ring.add (ring.mul w own) rest) (lagrange_zero found.0 (before ++ shifts) s x (among_right found.0 before shifts found.1) found.2) ∙
+            let obtained = met_shift basis (before ++ (s ∷ [])) v x shifts chunks apart.2 later in
+            ap (λ w. ring.add (ring.mul w own) rest) (lagrange_zero obtained.0 (before ++ shifts) s x (among_right obtained.0 before shifts obtained.1) obtained.2) ∙
             ap (ring.add (ring.mul ring.zero own)) (recomposed_on_coset basis (before ++ (s ∷ [])) v x shifts chunks apart.2 later) ∙
             solve laws.of_ring (own ∷ v ∷ []) (nothing ⊗ v0 ⊕ v1) v1 refl
       ]

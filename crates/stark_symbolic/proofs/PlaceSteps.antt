@@ -42,15 +42,15 @@ kept_along items v w same = ap items same
 pub one_more_row : {F : Type 0} {E : Type 0} (coordinates : E → List F) (d : ℕ) (values : List E) (rows : List (List F)) (row : List F) → AreCoordinateRows coordinates d values rows → map (λ (c : F). Some c) row ≡ map (λ (x : E). slice_get (coordinates x) d) values → AreCoordinateRows coordinates (d + 1) values (rows ++ row ∷ [])
 one_more_row {F} {E} coordinates d values rows row h is = record {
   number = length_push rows row ∙ let e = h.number in omega (arith, e);
-  each = λ k r found. go k r found (cases_lt k (length rows));
+  each = λ k r obtained. go k r obtained (cases_lt k (length rows));
 } where
   go : (k : ℕ) (r : List F) → slice_get (rows ++ row ∷ []) k ≡ Some r → (k < length rows) ⊎ (length rows ≤ k) → map (λ (c : F). Some c) r ≡ map (λ (x : E). slice_get (coordinates x) k) values
-  go k r found (inl below) =
-      h.each k r (slice_get-get_or rows k r below ∙ ap (λ (x : List F). Some x) (sym (get_or_append_left rows (row ∷ []) r k below) ∙ get_or_from_slice_get (rows ++ row ∷ []) k r r found))
-  go k r found (inr above) =
-      let within = slice_get_within (rows ++ row ∷ []) k r found in
+  go k r obtained (inl below) =
+      h.each k r (slice_get-get_or rows k r below ∙ ap (λ (x : List F). Some x) (sym (get_or_append_left rows (row ∷ []) r k below) ∙ get_or_from_slice_get (rows ++ row ∷ []) k r r obtained))
+  go k r obtained (inr above) =
+      let within = slice_get_within (rows ++ row ∷ []) k r obtained in
       let last : k ≡ length rows = omega (arith, length_push rows row) in
-      let same : r ≡ row = sym (get_or_from_slice_get (rows ++ row ∷ []) k r r found) ∙ get_or_push rows row r k (sym last) in
+      let same : r ≡ row = sym (get_or_from_slice_get (rows ++ row ∷ []) k r r obtained) ∙ get_or_push rows row r k (sym last) in
       ap (λ (l : List F). map (λ (c : F). Some c) l) same ∙ is ∙ ap (λ (n : ℕ). map (λ (x : E). slice_get (coordinates x) n) values) (sym h.number ∙ sym last)
 
 pub one_more_pushed_row : {F : Type 0} {E : Type 0} {V : Type 0} (coordinates : E → List F) (d : ℕ) (values : List E) (items : V → List F) (old new : List V) (row : V) → new ≡ old ++ row ∷ [] → AreCoordinateRows coordinates d values (map items old) → map (λ (c : F). Some c) (items row) ≡ map (λ (x : E). slice_get (coordinates x) d) values → AreCoordinateRows coordinates (d + 1) values (map items new)

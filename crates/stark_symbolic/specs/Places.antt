@@ -37,7 +37,7 @@ pub record AreCoordinateRows {F : Type 0} {E : Type 0} (coordinates : E → List
   pub number : length rows ≡ dimension
   pub each : (d : ℕ) (row : List F) → slice_get rows d ≡ Some row → map (λ (c : F). Some c) row ≡ map (λ (x : E). slice_get (coordinates x) d) values
 
--- The same of constraints that are known by their degrees.
+-- The places of base constraints that are known by their degrees.
 abbrev pub marked_base_places : ℕ → List ConstraintDegrees → List ℕ
 marked_base_places n [] = []
 marked_base_places n (Base x ∷ xs) = n ∷ marked_base_places (n + 1) xs

@@ -49,8 +49,8 @@ within_is_some {A} xs c within none = elim (slice_get_cases xs c).1 as (λ _. �
 pub list_shows : {F : Type 0} (other : ℕ → Tree F) (items : List (SymbolicVariable F)) → Shows variable_gives Stands (λ i. tree_at (other i) (slice_get items i)) (length items) (slice_get items)
 list_shows {F} other items = record { shows = λ c within. go c (slice_get items c) (within_is_some items c within) } where
   go : (c : ℕ) (o : Option (SymbolicVariable F)) → (o ≡ None → ⊥) → IsVariableOf variable_gives Stands (tree_at (other c) o) o
-  go c None found = found refl
-  go c (Some v) found = λ y h. tree_stands (variable_tree v.entry v.index) y h
+  go c None obtained = obtained refl
+  go c (Some v) obtained = λ y h. tree_stands (variable_tree v.entry v.index) y h
 
 -- A row of variables of one entry shows that entry's leaves.
 pub row_shows : {F : Type 0} (entry : BaseEntry) (items : List (SymbolicVariable F)) (count : ℕ) → length items ≡ count → AreVariables entry items → Shows variable_gives Stands (λ i. Some (variable_tree {F = F} entry i)) count (slice_get items)

@@ -7,11 +7,11 @@ use std::test::Fail;
 /// The element of a number.
 pub fn element<F: PrimeField64>(number: u32) -> F {
     let base: F = F::from_u8(16) * F::from_u8(16);
-    let mut found = F::ZERO;
+    let mut value = F::ZERO;
     for digit in number.to_be_bytes() {
-        found = found * base + F::from_u8(digit);
+        value = value * base + F::from_u8(digit);
     }
-    found
+    value
 }
 
 /// The elements of a text's numbers.

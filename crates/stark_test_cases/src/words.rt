@@ -5,25 +5,25 @@ use std::test::Fail;
 
 /// The first words of a text, as numbers.
 pub fn numbers_in<const N: usize>(text: &str) -> Result<[u32; N], Fail> {
-    let mut found = [0; N];
+    let mut numbers = [0; N];
     let mut words = text.split_ascii_whitespace();
-    for slot in &mut found {
+    for slot in &mut numbers {
         let word = words.next().ok_or("too few numbers")?;
         *slot = word.parse::<u32>()?;
     }
-    Ok(found)
+    Ok(numbers)
 }
 
 /// All words of a text, as numbers; the one word `empty` stands for no number.
 pub fn list_in(alloc: Global, text: &str) -> Result<Vec<u32>, Fail> {
-    let mut found = Vec::new(alloc);
+    let mut numbers = Vec::new(alloc);
     if text == "empty" {
-        return Ok(found);
+        return Ok(numbers);
     }
     for word in text.split_ascii_whitespace() {
-        found.push(word.parse::<u32>()?)?;
+        numbers.push(word.parse::<u32>()?)?;
     }
-    Ok(found)
+    Ok(numbers)
 }
 
 /// The text before the first bar and the one behind it.

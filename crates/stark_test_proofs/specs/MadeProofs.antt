@@ -6,7 +6,7 @@ use Rattle.stark_protocol.specs.Acceptance.{IsPointOfH, challenges}
 use Rattle.stark_protocol.specs.Instance.{Instance, ProtocolOps, log_height}
 use Rattle.stark_protocol.specs.declared.preprocessed.PreprocessedProverData.{PreprocessedProverData}
 use Rattle.stark_protocol.specs.declared.preprocessed.PreprocessedVerifierKey.{PreprocessedVerifierKey}
-use Rattle.stark_prover.specs.Honest.{AreSetUp, HasSizedDegrees, IsSatisfied}
+use Rattle.stark_prover.specs.Completeness.{AreSetUp, HasSizedDegrees, IsSatisfied}
 use Rattle.stark_transcript.specs.declared.error.VerificationError.{VerificationError}
 use Rattle.stark_transcript.specs.declared.error.VerificationError.TheVariants.{OutOfMemory}
 

@@ -34,12 +34,12 @@ module _ {F : Type 0} (reading : Data → Option F) where
   -- ---- what is read
 
   -- of the tokens, with so many turns
-  record ReadsItems {A : Type 0} (each : Data → Option A) (found : List A) (p : Parse json.Json) (n : ℕ) (ts rest : List Token) : Type 0 where
+  record ReadsItems {A : Type 0} (each : Data → Option A) (obtained : List A) (p : Parse json.Json) (n : ℕ) (ts rest : List Token) : Type 0 where
     js : json.Items
     ds : Items
     parsed : items p n ts ≡ Some (js, rest)
     converted : of_items js ≡ Some ds
-    seen : each_at each ds ≡ Some found
+    seen : each_at each ds ≡ Some obtained
     shorter : length rest < length ts
 
   items_over : {A : Type 0} (each : Data → Option A) (p : Parse json.Json) (n : ℕ) (ts rest : List Token) → ts ≡ end_array ∷ rest → length ts ≤ n → ReadsItems each [] p n ts rest
@@ -98,8 +98,8 @@ module _ {F : Type 0} (reading : Data → Option F) where
       let r = rows_read 126 (length inner) rows inner [] (omega arith) h.2 (omega arith) in
       let parsed : value max_depth (tokens bytes) ≡ Some (json.array r.js, []) =
       ap (value 127) h.1 ∙ value-begin_array 127 inner (omega arith) ∙ ap (parse_map json.array) r.parsed in
-      let found : read bytes ≡ Some (array r.ds) = ap (λ o. option_and_then of_json (option_and_then (λ p. if_last p.0 p.1) o)) parsed ∙ ap (option_map array) r.converted in
-      ap (λ o. o >>= array_at (array_at reading)) (json_of-some bytes (array r.ds) utf8 found) ∙ r.seen
+      let obtained : read bytes ≡ Some (array r.ds) = ap (λ o. option_and_then of_json (option_and_then (λ p. if_last p.0 p.1) o)) parsed ∙ ap (option_map array) r.converted in
+      ap (λ o. o >>= array_at (array_at reading)) (json_of-some bytes (array r.ds) utf8 obtained) ∙ r.seen
 
 pub some_holds : {A : Type 0} (P : A → Type 0) (o : Option A) (x : A) → IfSome o P → o ≡ Some x → P x
 some_holds P None x h e = absurd (cc)

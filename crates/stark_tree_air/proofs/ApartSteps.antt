@@ -22,12 +22,12 @@ module _ {F : Type 0} (element : Data → Option F) (rows : List (List ℕ)) whe
   trace_is (array ds) = refl
   trace_is (object ms) = let width = get_other (codes "rows") (λ d. rows_data rows) (codes "width") (object ms) refl in rw width refl
 
-  traces_are : (found : Option Data) → optional_at (trace_apart element (Some rows)) found ≡ optional_at (trace_at element) (option_map inner found)
+  traces_are : (obtained : Option Data) → optional_at (trace_apart element (Some rows)) obtained ≡ optional_at (trace_at element) (option_map inner obtained)
   traces_are None = refl
   traces_are (Some d) = rw (as_null-changed (codes "rows") (λ d. rows_data rows) d, trace_is d) refl
 
   -- a trace with no rows, whatever rows are apart
-  faults_are : {B : Type 0} (found : Option Data) (missing : TreeFault) (read : Data → Result B TreeFault) (e : TreeFault) → ok_or found missing ≡ Err e → (ok_or (option_map (λ d. rows_data rows) found) missing >>= read) ≡ Err e
+  faults_are : {B : Type 0} (obtained : Option Data) (missing : TreeFault) (read : Data → Result B TreeFault) (e : TreeFault) → ok_or obtained missing ≡ Err e → (ok_or (option_map (λ d. rows_data rows) obtained) missing >>= read) ≡ Err e
   faults_are None missing read e h = let same : missing ≡ e = cc in ap (λ f. Err f) same
   faults_are (Some d) missing read e h = absurd (cc)
 
@@ -36,7 +36,7 @@ module _ {F : Type 0} (element : Data → Option F) (rows : List (List ℕ)) whe
   rows_missing d (Some e) h = let there = get_same (codes "rows") (λ d. rows_data rows) d refl in rw there (faults_are (get (codes "rows") d) (missing_field (codes "rows")) (lists_at element (codes "rows")) e h)
 
   -- and one with rows
-  lists_are_found : {B : Type 0} (found : Option Data) (missing : TreeFault) (read : Data → Result B TreeFault) (x : Data) → ok_or found missing ≡ Ok x → (ok_or (option_map (λ d. rows_data rows) found) missing >>= read) ≡ read (rows_data rows)
+  lists_are_found : {B : Type 0} (obtained : Option Data) (missing : TreeFault) (read : Data → Result B TreeFault) (x : Data) → ok_or obtained missing ≡ Ok x → (ok_or (option_map (λ d. rows_data rows) obtained) missing >>= read) ≡ read (rows_data rows)
   lists_are_found None missing read x h = absurd (cc)
   lists_are_found (Some d) missing read x h = refl
 

@@ -192,7 +192,7 @@ passed ms marks ns j i next within is none =
     let same : mark_nodes ms i (n ∷ drop (i + 1) ns) ≡ marks = sym (subst (λ ks. marks ≡ one_back (get_or ks i false) ks n) later (passed_by marks i n none)) in
     sym (ap (mark_nodes ms i) here ∙ same)
 
--- The same of lists that are equal to such that fit.
+-- Lists that are equal to such that fit do so.
 pub both_fit : (l : Layout) (m : ℕ) (ns ms : List TreeNode) (cs ds : List TreeConstraint) → ns ≡ ms → cs ≡ ds → NodesFit l m 0 ms × ConstraintsFit (length ms) ds → NodesBelow 0 ns × ConstraintsFit (length ns) cs
 both_fit l m ns ms cs ds e f h =
     (subst (λ js. NodesBelow 0 js) (sym e) (nodes_below l m 0 ms h.0), subst (λ js. ConstraintsFit (length js) cs) (sym e) (subst (λ js. ConstraintsFit (length ms) js) (sym f) h.1))

@@ -125,7 +125,7 @@ pub record SpellsSoFar {A : Type 0} {F : Type 0} (f : A → SymbolicConstraint F
   pub spells : Spells l list done
   pub rest : all_within l (map f (drop i as')) ≡ true
 
--- The same over each layout that has all that is read.
+-- So far it spells them over each layout that has all that is read.
 pub record Begun {A : Type 0} {F : Type 0} (f : A → SymbolicConstraint F) (as' : List A) (i : ℕ) (list : TreeList F) : Type 0 where
   pub begun : (l : Layout) → all_within l (map f as') ≡ true → SpellsSoFar f l as' i list
 

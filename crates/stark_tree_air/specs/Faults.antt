@@ -89,7 +89,7 @@ abbrev pub constraint_fault : ℕ → ℕ → TreeConstraint → Option TreeAirE
 constraint_fault count k (Base i) = (if nat_lt i count then None else Some (NoSuchNode k))
 constraint_fault count k (Extension i) = (if nat_lt i count then None else Some (NoSuchNode k))
 
--- The same of constraints over so many nodes.
+-- The first fault of constraints over so many nodes.
 abbrev pub first_constraint_fault : ℕ → ℕ → List TreeConstraint → Option TreeAirError
 first_constraint_fault count k [] = None
 first_constraint_fault count k (c ∷ cs) = option_or (constraint_fault count k c) (first_constraint_fault count (k + 1) cs)

@@ -49,7 +49,7 @@ tree_within l (difference t u) = tree_within l t && tree_within l u
 tree_within l (product t u) = tree_within l t && tree_within l u
 tree_within l (negation t) = tree_within l t
 
--- The same of an expression; one that was refused memory reads nothing.
+-- An expression reads within a layout; one that was refused memory reads nothing.
 abbrev pub expression_within : {F : Type 0} → Layout → Option (Tree F) → Bool
 expression_within l None = true
 expression_within l (Some t) = tree_within l t

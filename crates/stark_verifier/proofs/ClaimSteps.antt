@@ -13,10 +13,10 @@ module _ {V R : Type 0} (view : V → R) where
       pushed one two y (rounds ++ a ∷ []) b second (pushed front one x rounds a first seen as_a) as_b ∙ append_assoc rounds (a ∷ []) (b ∷ [])
 
   -- Two rounds and no more, or one more.
-  pub none_behind : (claims : List V) (rounds : List R) (a b : R) (found : List R) → map view claims ≡ rounds ++ a ∷ b ∷ [] → found ≡ [] → map view claims ≡ rounds ++ a ∷ b ∷ found
-  none_behind claims rounds a b found seen none = seen ∙ ap (λ rest. rounds ++ a ∷ b ∷ rest) (sym none)
+  pub none_behind : (claims : List V) (rounds : List R) (a b : R) (obtained : List R) → map view claims ≡ rounds ++ a ∷ b ∷ [] → obtained ≡ [] → map view claims ≡ rounds ++ a ∷ b ∷ obtained
+  none_behind claims rounds a b obtained seen none = seen ∙ ap (λ rest. rounds ++ a ∷ b ∷ rest) (sym none)
 
-  pub one_behind : (claims all : List V) (x : V) (rounds : List R) (a b r : R) (found : List R) → all ≡ claims ++ x ∷ [] → map view claims ≡ rounds ++ a ∷ b ∷ [] → view x ≡ r → found ≡ r ∷ []
-      → map view all ≡ rounds ++ a ∷ b ∷ found
-  one_behind claims all x rounds a b r found is seen as_r one =
+  pub one_behind : (claims all : List V) (x : V) (rounds : List R) (a b r : R) (obtained : List R) → all ≡ claims ++ x ∷ [] → map view claims ≡ rounds ++ a ∷ b ∷ [] → view x ≡ r → obtained ≡ r ∷ []
+      → map view all ≡ rounds ++ a ∷ b ∷ obtained
+  one_behind claims all x rounds a b r obtained is seen as_r one =
       pushed claims all x (rounds ++ a ∷ b ∷ []) r is seen as_r ∙ append_assoc rounds (a ∷ b ∷ []) (r ∷ []) ∙ ap (λ rest. rounds ++ a ∷ b ∷ rest) (sym one)

@@ -26,7 +26,7 @@ rows_are {F} {E} rows local next preprocessed_local preprocessed_next periodic p
     ap (λ p. at rows.local rows.next rows.preprocessed_local rows.preprocessed_next rows.periodic p) ep
 
 -- A row in which zeros stand in for what isn't opened.
-pub filled : {E : Type 0} (at : List E → List E) (zero : E) {row filler held : List E} {count width : ℕ} → row ≡ at filler → filler ≡ held → held ≡ replicate count zero → count ≡ width → row ≡ at (replicate width zero)
+pub filled : {E : Type 0} (at : List E → List E) (zero : E) {row filler holding : List E} {count width : ℕ} → row ≡ at filler → filler ≡ holding → holding ≡ replicate count zero → count ≡ width → row ≡ at (replicate width zero)
 filled at zero is same zeros counted = is ∙ ap at (same ∙ zeros ∙ ap (λ n. replicate n zero) counted)
 
 seen_row : {R E : Type 0} (view : R → List E) (row : Option R) → row_or_empty view row ≡ row_or_empty (λ r. r) (option_map view row)
@@ -42,9 +42,9 @@ pub opened_local : {R E : Type 0} (view : R → List E) (row : Option R) (rows :
 opened_local view row rows same = seen_row view row ∙ ap (row_or_empty (λ r. r)) same ∙ local_row rows
 
 -- the lengths of chunks, as they lie in memory
-pub chunk_lengths : {V E : Type 0} (items : V → List E) (count : V → ℕ) → ((v : V) → count v ≡ length (items v)) → (n : ℕ) (chunks held : List V) → held ≡ chunks
-    → All (λ chunk. length chunk ≡ n) (map items chunks) → All (λ v. count v ≡ n) held
-chunk_lengths items count counted n chunks held same lengths k d within =
+pub chunk_lengths : {V E : Type 0} (items : V → List E) (count : V → ℕ) → ((v : V) → count v ≡ length (items v)) → (n : ℕ) (chunks holding : List V) → holding ≡ chunks
+    → All (λ chunk. length chunk ≡ n) (map items chunks) → All (λ v. count v ≡ n) holding
+chunk_lengths items count counted n chunks holding same lengths k d within =
     let inside : k < length chunks = omega (arith, within, ap length same) in
     ap (λ vs. count (get_or vs k d)) same ∙ counted (get_or chunks k d) ∙ ap length (sym (get_or-map items chunks k d (items d) inside)) ∙
     lengths k (items d) (omega (arith, inside, length-map chunks items))
@@ -60,10 +60,10 @@ module _ {F E : Type 0} (base : RingOps F) (ring : RingOps E) (embed : F → E) 
     equation_held (Ok done) holds = subst (λ (P : Type 0). P) moved holds.balanced
     equation_held (Err error) holds = tt
 
-    found : length given.preprocessed_local ≡ length given.preprocessed_next → (error : VerificationError X) → ConstraintsFault base ring embed subgroup constraints given zeta alpha quotient error
+    obtained : length given.preprocessed_local ≡ length given.preprocessed_next → (error : VerificationError X) → ConstraintsFault base ring embed subgroup constraints given zeta alpha quotient error
         → EquationFault (EquationHolds base ring embed subgroup constraints rows zeta alpha recomposed) error
-    found one_width error (two_widths differ) = absurd (differ one_width)
-    found one_width error (unbalanced one fails) = in_balance (λ holds. fails (subst (λ (P : Type 0). P) (sym moved) holds))
+    obtained one_width error (two_widths differ) = absurd (differ one_width)
+    obtained one_width error (unbalanced one fails) = in_balance (λ holds. fails (subst (λ (P : Type 0). P) (sym moved) holds))
 
     pub equation_fault : length rows.preprocessed_local ≡ length rows.preprocessed_next → (result : Result (Unit {0}) (VerificationError X))
         → IfErr result (λ error. (error ≡ OutOfMemory) ⊎ ConstraintsFault base ring embed subgroup constraints given zeta alpha quotient error)
@@ -71,4 +71,4 @@ module _ {F E : Type 0} (base : RingOps F) (ring : RingOps E) (embed : F → E) 
     equation_fault one_width (Ok done) fault = tt
     equation_fault one_width (Err error) (inl memory) = inl memory
     equation_fault one_width (Err error) (inr fault) =
-        inr (found (ap (λ (r : OpenedRows F E). length r.preprocessed_local) same ∙ one_width ∙ sym (ap (λ (r : OpenedRows F E). length r.preprocessed_next) same)) error fault)
+        inr (obtained (ap (λ (r : OpenedRows F E). length r.preprocessed_local) same ∙ one_width ∙ sym (ap (λ (r : OpenedRows F E). length r.preprocessed_next) same)) error fault)

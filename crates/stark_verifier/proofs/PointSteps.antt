@@ -37,9 +37,9 @@ module _ {F E : Type 0} {base : RingOps F} {ring : RingOps E} {inverse : E → E
 
   pub point_where_zero : coset_vanishing ring (λ c. c) inverse (coset_size coset) (embed coset.shift) x ≡ ring.zero → (i : ℕ) × (x ≡ power ring (embed (root coset.log_size)) i)
   point_where_zero zero =
-      let found = only_on_points laws adicity (λ k. embed (root k)) (embed generator) (embedded_two_adic embeds adicity root generator two_adic) (embedded_coset embed coset)
+      let obtained = only_on_points laws adicity (λ k. embed (root k)) (embed generator) (embedded_two_adic embeds adicity root generator two_adic) (embedded_coset embed coset)
       (embedded_valid laws embeds adicity root generator two_adic coset valid) x zero in
-      (found.0, found.2 ∙ point_is_power found.0)
+      (obtained.0, obtained.2 ∙ point_is_power obtained.0)
 
 -- The lengths of columns, as they lie in memory.
 module _ {V A : Type 0} (items : V → List A) (count : V → ℕ) (counted : (v : V) → count v ≡ length (items v)) (columns : List V) (lists : List (List A)) (listed : map items columns ≡ lists) where
@@ -47,16 +47,16 @@ module _ {V A : Type 0} (items : V → List A) (count : V → ℕ) (counted : (v
   same_lengths = same_maps count (λ v. length (items v)) counted columns ∙ sym (map-map (λ column. length column) items columns) ∙ ap (map (λ column. length column)) listed
 
   pub same_fault : (n m : ℕ) (fault : Option PeriodicColumnShapeError) → n ≡ m → first_fault n 0 (map count columns) ≡ fault → first_fault m 0 (map (λ column. length column) lists) ≡ fault
-  same_fault n m fault same found = sym (ap (first_fault n 0) same_lengths ∙ ap (λ (k : ℕ). first_fault k 0 (map (λ column. length column) lists)) same) ∙ found
+  same_fault n m fault same obtained = sym (ap (first_fault n 0) same_lengths ∙ ap (λ (k : ℕ). first_fault k 0 (map (λ column. length column) lists)) same) ∙ obtained
 
   -- What is computed of each column is computed of the lists.
   pub same_values : {B : Type 0} (f : List A → B) (others : List V) (values : List B) → others ≡ columns → values ≡ map (λ v. f (items v)) others → values ≡ map f lists
   same_values f others values same computed = computed ∙ ap (map (λ v. f (items v))) same ∙ sym (map-map f items columns) ∙ ap (map f) listed
 
 -- The first fault of a point, by another name of either test.
-pub point_fault : {X Told Inside : Type 0} {found fault : Option PeriodicColumnShapeError} {error : VerificationError X} → (Told → Inside) → (Inside → Told) → ((e : PeriodicColumnShapeError) → found ≡ Some e → fault ≡ Some e)
-    → PointFault Told found error → PointFault Inside fault error
-point_fault into out same (in_domain told) = in_domain (into told)
+pub point_fault : {X Stated Inside : Type 0} {obtained fault : Option PeriodicColumnShapeError} {error : VerificationError X} → (Stated → Inside) → (Inside → Stated) → ((e : PeriodicColumnShapeError) → obtained ≡ Some e → fault ≡ Some e)
+    → PointFault Stated obtained error → PointFault Inside fault error
+point_fault into out same (in_domain stated) = in_domain (into stated)
 point_fault into out same (in_columns outside is) = in_columns (λ inside. outside (out inside)) (same _ is)
 
 -- What is found of a point beside a domain is said of H, which that domain is.

@@ -91,7 +91,7 @@ module _ {S F E C K T P X Y : Type 0} (ops : ProtocolOps S F E C K T P X Y) (i :
       accepted_needs_bad_draws (proved_air ops i p) laws i.layout p.opened_values (rows_of ops.opening.fields.ring.zero i.layout.main i.layout.preprocessed p.opened_values values i.public_values) (proved_shifts ops i p) alpha zeta
       (quotient_value ops.opening.fields p.degree_bits (log_parts ops i p) ops.opening.is_zk p.opened_values.quotient_chunks zeta) within stand refl refl balanced.equation
 
--- The same, from the parts that a verifier has in hand.
+-- Soundness from the parts that a verifier has in hand.
 pub sound_of_parts : {S F E C K T P X Y : Type 0} {ops : ProtocolOps S F E C K T P X Y} {i : Instance S F C K} {p : ProofView K E P F} {a z : E} {preprocessed : Option (Trace F)} → shape_fault ops i p ≡ None → RunHolds ops i p a z → IsBalanced ops i p a z
     → FieldLaws ops.opening.fields.ring ops.opening.fields.inverse → LeavesWithin i.layout i.constraints → IsDeclared i.layout preprocessed i.periodic_columns i.main_next_columns i.preprocessed_next_columns
     → BreakingNeedsBadChallenges ops i p

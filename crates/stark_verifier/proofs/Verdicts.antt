@@ -14,7 +14,7 @@ use Rattle.stark_protocol.specs.FirstFault.{EquationFault, FirstFault, PointFaul
 -- what is found at the point, by another name of the height
 pub point_fault_at : {X : Type 0} (Inside : ℕ → Type 0) (fault : ℕ → Option PeriodicColumnShapeError) {j k : ℕ} {error : VerificationError X} → j ≡ k
     → (error ≡ OutOfMemory) ⊎ PointFault (Inside j) (fault j) error → (error ≡ OutOfMemory) ⊎ PointFault (Inside k) (fault k) error
-point_fault_at Inside fault {error = error} same found = subst (λ (n : ℕ). (error ≡ OutOfMemory) ⊎ PointFault (Inside n) (fault n) error) same found
+point_fault_at Inside fault {error = error} same obtained = subst (λ (n : ℕ). (error ≡ OutOfMemory) ⊎ PointFault (Inside n) (fault n) error) same obtained
 
 module _ {S F E C K T P X Y : Type 0} {ops : ProtocolOps S F E C K T P X Y} {i : Instance S F C K} {p : ProofView K E P F} {error : VerificationError X} where
   pub replay_refused : {failure : StarkTranscriptFailure} → (challenges ops i p).answer ≡ Err failure → error ≡ transcript_error failure → (error ≡ OutOfMemory) ⊎ RunFault ops i p error

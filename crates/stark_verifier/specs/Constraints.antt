@@ -74,7 +74,7 @@ module _ {F E : Type 0} (fields : FieldsOps F E) (trace : TwoAdicCoset F) where
       abbrev pub TellsFaultOnRows : {T X : Type 0} → Result T (VerificationError X) → Type 0
       TellsFaultOnRows answer = IfErrMemoryAside answer (ConstraintsFault fields.base fields.ring fields.embed trace_subgroup constraints rows zeta alpha quotient)
 
-    -- The same of rows at a point.
+    -- The equation over rows at a point.
     module _ (rows : RowsAtPoint F E) (zeta alpha quotient : E) where
       abbrev pub HoldsAtPoint : Type 0
       HoldsAtPoint = HoldsOnRows (opened_rows rows) zeta alpha quotient

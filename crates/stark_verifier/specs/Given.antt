@@ -16,7 +16,7 @@ abbrev pub of_arguments {ℓ} : {SC A S F E C K P : Type 0} {R : Type ℓ} → (
     → (SC → A → List F → Option (PreprocessedVerifierKey K) → Instance S F C K) → SC → A → Proof K E P F → List F → Option (PreprocessedVerifierKey K) → R
 of_arguments said instance config air proof public_values key = said (instance config air public_values key) (proof_view proof)
 
--- The same words, said of what holds those arguments.
+-- What is said of an instance and a proof, of what holds those arguments.
 abbrev pub of_given {ℓ} : {SC A S F E C K P : Type 0} {R : Type ℓ} → (Instance S F C K → ProofView K E P F → R)
     → (SC → A → List F → Option (PreprocessedVerifierKey K) → Instance S F C K) → VerifierInstance SC A K E P F → R
 of_given said instance on = said (instance on.config.now on.air.now on.public_values.now (option_copied on.key)) (proof_view on.proof.now)

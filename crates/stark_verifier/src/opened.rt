@@ -141,7 +141,7 @@ fn check_witness(
     error: InvalidProofShapeError,
 ) -> Result<(), InvalidProofShapeError>
     ensures clear { IfOk result (λ _. witness_fault error bits is_zero ≡ None) }
-    ensures fault { IfErr result (λ found. witness_fault error bits is_zero ≡ Some found) }
+    ensures fault { IfErr result (λ fault. witness_fault error bits is_zero ≡ Some fault) }
 {
     // Where no work is asked for nothing reads the witness, so that any value would pass and one
     // proof could be written in as many ways as the field has elements.

@@ -89,8 +89,8 @@ fn check_height<SC: StarkGenericConfig, A: Air<Val<SC>>>(
 where
     SC::Challenger: GrindingChallenger<Witness = Val<SC>>,
     ensures clear { IfOk result (λ _. ⟦<SC as StarkChecks<A>>⟧.height_fault on.now ≡ None) }
-    ensures domains { IfOk result (λ found.
-        ⟦<SC as StarkChecks<A>>⟧.are_domains on.now found.0 found.1) }
+    ensures domains { IfOk result (λ domains.
+        ⟦<SC as StarkChecks<A>>⟧.are_domains on.now domains.0 domains.1) }
     ensures extended { IfOk result (λ _. zk_bits SC.Pcs.ZK ≤ on.now.proof.now.degree_bits) }
     ensures fits { IfOk result (λ _. on.now.proof.now.degree_bits < 64) }
     ensures fault { IfErr result (λ error.
@@ -125,8 +125,8 @@ where
     requires domains { ⟦<SC as StarkChecks<A>>⟧.are_domains on.now trace.now committed.now }
     requires fits { on.now.proof.now.degree_bits < 64 }
     ensures clear { IfOk result (λ _. ⟦<SC as StarkChecks<A>>⟧.domain_fault on.now ≡ None) }
-    ensures quotient { IfOk result (λ found.
-        ⟦<SC as StarkChecks<A>>⟧.is_quotient on.now found.0 found.1) }
+    ensures quotient { IfOk result (λ quotient.
+        ⟦<SC as StarkChecks<A>>⟧.is_quotient on.now quotient.0 quotient.1) }
     ensures fault { IfErrMemoryAside result (λ error.
         of_shape (⟦<SC as StarkChecks<A>>⟧.domain_fault on.now) ≡ Some error) }
 {

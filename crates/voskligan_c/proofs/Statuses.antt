@@ -13,7 +13,7 @@ use Rattle.stark_answers.specs.declared.task.TraceTask.{TraceTask}
 use Rattle.stark_answers.specs.declared.task.TraceTask.TheVariants as task
 use Rattle.stark_answers.specs.declared.verdict.Verdict.{Verdict}
 use Rattle.stark_answers.specs.declared.verdict.Verdict.TheVariants as verdict
-use Rattle.voskligan_c.specs.Calls.{handed_of, placed, proof_of, status_told}
+use Rattle.voskligan_c.specs.Calls.{handed_of, placed, proof_of, status_of_call}
 use Rattle.voskligan_c.specs.declared.proof.Handed.TheVariants.{NoRoom, Placed}
 
 -- a status that is 0
@@ -42,21 +42,21 @@ no_verdict asked v kind s = kind.accepts_none (ap (λ w. finding.Verdict w) (acc
 -- a check that ends so has found that the trace satisfies its AIR
 pub satisfied_from : (IsFound : Finding → Type 0) (f : Finding) → OrLacksMemory IsFound f → IsOfTrace task.Check f → status_of (finding_end f) ≡ 0 → IsFound finding.Satisfied
 satisfied_from IsFound f (inl e) kind s = absurd (no_memory f e s)
-satisfied_from IsFound (finding.Verdict v) (inr found) kind s = absurd (no_verdict task.Check v kind s)
-satisfied_from IsFound (finding.Proof line) (inr found) kind s = absurd (kind.proves_as_asked Json refl)
-satisfied_from IsFound (finding.ProofBytes bytes) (inr found) kind s = absurd (kind.proves_as_asked Bytes refl)
-satisfied_from IsFound (finding.Text text) (inr found) kind s = absurd (kind.shows_none tt)
-satisfied_from IsFound finding.Satisfied (inr found) kind s = found
-satisfied_from IsFound (finding.Broken row) (inr found) kind s = absurd (omega arith)
+satisfied_from IsFound (finding.Verdict v) (inr obtained) kind s = absurd (no_verdict task.Check v kind s)
+satisfied_from IsFound (finding.Proof line) (inr obtained) kind s = absurd (kind.proves_as_asked Json refl)
+satisfied_from IsFound (finding.ProofBytes bytes) (inr obtained) kind s = absurd (kind.proves_as_asked Bytes refl)
+satisfied_from IsFound (finding.Text text) (inr obtained) kind s = absurd (kind.shows_none tt)
+satisfied_from IsFound finding.Satisfied (inr obtained) kind s = obtained
+satisfied_from IsFound (finding.Broken row) (inr obtained) kind s = absurd (omega arith)
 
 -- a prover that ends so has placed a proof
 module _ (IsLine : List ℕ → Type 0) where
-  line_in : (f : Finding) (bytes old : List ℕ) (b : Bool) → IsLine bytes → status_told (if b then Placed else NoRoom) f ≡ 0
+  line_in : (f : Finding) (bytes old : List ℕ) (b : Bool) → IsLine bytes → status_of_call (if b then Placed else NoRoom) f ≡ 0
       → IsLine (take (length bytes) (if b then bytes ++ drop (length bytes) old else old))
   line_in f bytes old true is s = rw (take-append_seam bytes (drop (length bytes) old)) is
   line_in f bytes old false is s = absurd (omega arith)
 
-  pub line_placed : (f : Finding) (old : List ℕ) → IsOfTrace (task.Prove Json) f → (IsProof Json f → IsLine (finding_bytes f)) → status_told (handed_of f (length old)) f ≡ 0 → IsLine (take (length (proof_of f)) (placed (proof_of f) old))
+  pub line_placed : (f : Finding) (old : List ℕ) → IsOfTrace (task.Prove Json) f → (IsProof Json f → IsLine (finding_bytes f)) → status_of_call (handed_of f (length old)) f ≡ 0 → IsLine (take (length (proof_of f)) (placed (proof_of f) old))
   line_placed (finding.Verdict v) old kind line s = absurd (no_verdict (task.Prove Json) v kind s)
   line_placed (finding.Proof text) old kind line s = line_in (finding.Proof text) (finding_bytes (finding.Proof text)) old (nat_le (length (finding_bytes (finding.Proof text))) (length old)) (line refl) s
   line_placed (finding.ProofBytes bytes) old kind line s = absurd (let clash : Bytes ≡ Json = kind.proves_as_asked Bytes refl in cc)

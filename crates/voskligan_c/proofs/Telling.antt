@@ -4,17 +4,17 @@ use Rattle.std.proofs.lemmas.List.{drop_all, length-append, take-append-le}
 use Rattle.voskligan_c.specs.Message.{written}
 
 -- where the first leaves a byte
-pub told_behind : (a b old : List ℕ) → length a < length old → take (length a) (written a old) ++ written b (drop (length a) (written a old)) ≡ written (a ++ b) old
-told_behind a b [] h = absurd (omega arith)
-told_behind [] b (o ∷ []) h = refl
-told_behind [] b (o ∷ (p ∷ bs)) h = refl
-told_behind (x ∷ a) b (o ∷ []) h = absurd (omega arith)
-told_behind (x ∷ a) b (o ∷ (p ∷ bs)) h = ap (λ (l : List ℕ). x ∷ l) (told_behind a b (p ∷ bs) (omega arith))
+pub stated_behind : (a b old : List ℕ) → length a < length old → take (length a) (written a old) ++ written b (drop (length a) (written a old)) ≡ written (a ++ b) old
+stated_behind a b [] h = absurd (omega arith)
+stated_behind [] b (o ∷ []) h = refl
+stated_behind [] b (o ∷ (p ∷ bs)) h = refl
+stated_behind (x ∷ a) b (o ∷ []) h = absurd (omega arith)
+stated_behind (x ∷ a) b (o ∷ (p ∷ bs)) h = ap (λ (l : List ℕ). x ∷ l) (stated_behind a b (p ∷ bs) (omega arith))
 
 -- where it leaves none
-pub told_alone : (a b old : List ℕ) → length old ≤ length a → written a old ≡ written (a ++ b) old
-told_alone a b [] h = refl
-told_alone a b (o ∷ bs) h =
+pub stated_alone : (a b old : List ℕ) → length old ≤ length a → written a old ≡ written (a ++ b) old
+stated_alone a b [] h = refl
+stated_alone a b (o ∷ bs) h =
     let n : length (a ++ b) ≡ length a + length b = length-append a b in
     let e : take (length bs) (a ++ b) ≡ take (length bs) a = take-append-le (length bs) a b (omega arith) in
     let f : drop (length a) bs ≡ [] = drop_all (length a) bs (omega arith) in

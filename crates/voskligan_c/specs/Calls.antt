@@ -13,13 +13,13 @@ use Rattle.voskligan_c.specs.declared.proof.Handed.TheVariants.{NoProof, NoRoom,
 
 -- There is such a verdict, unless memory was wanting; the status is that of a run that ends so, and the message is the verdict's line and what is said
 -- behind it.
-abbrev pub IsVerdictTold : (Verdict → Type 0) → ℤ → List ℕ → List ℕ → Type 0
-IsVerdictTold IsVerdict status old new =
+abbrev pub IsVerdictWritten : (Verdict → Type 0) → ℤ → List ℕ → List ℕ → Type 0
+IsVerdictWritten IsVerdict status old new =
     (v : Verdict) × ((reason : Option (List ℕ)) × (((v ≡ verdict.OutOfMemory) ⊎ IsVerdict v) × (status ≡ pos (status_of (end_of v))) × (new ≡ written (line_of v ++ line_behind reason) old)))
 
--- The same of what is found of a trace.
-abbrev pub IsFindingTold : (Finding → Type 0) → ℤ → List ℕ → List ℕ → Type 0
-IsFindingTold IsFound status old new =
+-- There is such a finding of a trace, and status and message are the finding's.
+abbrev pub IsFindingWritten : (Finding → Type 0) → ℤ → List ℕ → List ℕ → Type 0
+IsFindingWritten IsFound status old new =
     (f : Finding) × ((reason : Option (List ℕ)) × (OrLacksMemory IsFound f × (status ≡ pos (status_of (finding_end f))) × (new ≡ written (finding_bytes f ++ line_behind reason) old)))
 
 -- the bytes of a proof that was found; none where none was
@@ -49,19 +49,19 @@ handed_of finding.Satisfied room = NoProof
 handed_of (finding.Broken row) room = NoProof
 
 -- the status of a call to prove
-abbrev pub status_told : Handed → Finding → ℕ
-status_told Placed f = 0
-status_told NoRoom f = 3
-status_told NoProof f = status_of (finding_end f)
+abbrev pub status_of_call : Handed → Finding → ℕ
+status_of_call Placed f = 0
+status_of_call NoRoom f = 3
+status_of_call NoProof f = status_of (finding_end f)
 
 -- what a message is told of a proof, or else of what was found and why
-abbrev pub lines_told : Handed → Finding → Option (List ℕ) → List ℕ
-lines_told Placed f reason = codes "proved\n"
-lines_told NoRoom f reason = codes "no room\n"
-lines_told NoProof f reason = finding_bytes f ++ line_behind reason
+abbrev pub lines_written : Handed → Finding → Option (List ℕ) → List ℕ
+lines_written Placed f reason = codes "proved\n"
+lines_written NoRoom f reason = codes "no room\n"
+lines_written NoProof f reason = finding_bytes f ++ line_behind reason
 
 -- A finding of a trace that was to be proved: its proof's length is told, and the proof is placed where there is room for it.
-abbrev pub IsProofTold : (Finding → Type 0) → ℤ → ℕ → List ℕ → List ℕ → List ℕ → List ℕ → Type 0
-IsProofTold IsFound status needed old_proof new_proof old new =
-    (f : Finding) × ((reason : Option (List ℕ)) × (let handed = handed_of f (length old_proof) in OrLacksMemory IsFound f × (status ≡ pos (status_told handed f))
-    × (needed ≡ length (proof_of f)) × (new_proof ≡ placed (proof_of f) old_proof) × (new ≡ written (lines_told handed f reason) old)))
+abbrev pub IsProofWritten : (Finding → Type 0) → ℤ → ℕ → List ℕ → List ℕ → List ℕ → List ℕ → Type 0
+IsProofWritten IsFound status needed old_proof new_proof old new =
+    (f : Finding) × ((reason : Option (List ℕ)) × (let handed = handed_of f (length old_proof) in OrLacksMemory IsFound f × (status ≡ pos (status_of_call handed f))
+    × (needed ≡ length (proof_of f)) × (new_proof ≡ placed (proof_of f) old_proof) × (new ≡ written (lines_written handed f reason) old)))

@@ -6,7 +6,7 @@
 
 ghost use Rattle.std.specs.Prelude.{◌≡◌, ◌≢◌, pos, take};
 ghost use Rattle.stark_answers.specs.declared.finding.Finding.{Finding};
-ghost use Rattle.voskligan_c.specs.Calls.{IsFindingTold, IsProofTold, IsVerdictTold};
+ghost use Rattle.voskligan_c.specs.Calls.{IsFindingWritten, IsProofWritten, IsVerdictWritten};
 ghost use Rattle.voskligan_c.specs.Message.{written};
 ghost use Rattle.voskligan_c.specs.declared.TheConstants.{VERSION};
 
@@ -43,7 +43,8 @@ pub extern "C" fn voskligan_verify(
     proof: &[u8],
     message: &mut [u8],
 ) -> i32
-    ensures answer { IsVerdictTold (⟦<Program as ProgramAnswers>⟧.verdict statement.now proof.now)
+    ensures answer { IsVerdictWritten
+        (⟦<Program as ProgramAnswers>⟧.verdict statement.now proof.now)
         result message.old message.new }
     ensures sound { result ≡ pos 0
         → ⟦<Program as ProgramAnswers>⟧.sound statement.now proof.now }
@@ -63,7 +64,8 @@ pub extern "C" fn voskligan_check(
     trace: &[u8],
     message: &mut [u8],
 ) -> i32
-    ensures answer { IsFindingTold (⟦<Program as ProgramAnswers>⟧.checked statement.now trace.now)
+    ensures answer { IsFindingWritten
+        (⟦<Program as ProgramAnswers>⟧.checked statement.now trace.now)
         result message.old message.new }
     ensures satisfied { result ≡ pos 0
         → ⟦<Program as ProgramAnswers>⟧.checked statement.now trace.now Finding.Satisfied }
@@ -89,7 +91,7 @@ pub extern "C" fn voskligan_prove(
     needed: &mut usize,
     message: &mut [u8],
 ) -> i32
-    ensures answer { IsProofTold (⟦<Program as ProgramAnswers>⟧.proved statement.now trace.now)
+    ensures answer { IsProofWritten (⟦<Program as ProgramAnswers>⟧.proved statement.now trace.now)
         result needed.new proof.old proof.new message.old message.new }
     ensures proved { result ≡ pos 0 → ⟦<Program as ProgramAnswers>⟧.proof_line
         statement.now trace.now (take needed.new proof.new) }

@@ -17,7 +17,7 @@ pub(crate) fn tell(text: &[u8], message: &mut [u8])
 }
 
 /// Tells two texts as one.
-#[tactic(auto, using(crate::proofs::Telling::told_behind, crate::proofs::Telling::told_alone))]
+#[tactic(auto, using(crate::proofs::Telling::stated_behind, crate::proofs::Telling::stated_alone))]
 fn tell_both(first: &[u8], second: &[u8], message: &mut [u8])
     ensures { message.new ≡ written (first.now ++ second.now) message.old }
 {
@@ -29,7 +29,7 @@ fn tell_both(first: &[u8], second: &[u8], message: &mut [u8])
 }
 
 /// Tells three texts as one.
-#[tactic(auto, using(crate::proofs::Telling::told_behind, crate::proofs::Telling::told_alone))]
+#[tactic(auto, using(crate::proofs::Telling::stated_behind, crate::proofs::Telling::stated_alone))]
 fn tell_three(first: &[u8], second: &[u8], third: &[u8], message: &mut [u8])
     ensures { message.new ≡ written (first.now ++ (second.now ++ third.now)) message.old }
 {

@@ -1,7 +1,7 @@
 //! A proof handed over in a buffer that a caller gave.
 
 ghost use Rattle.std.specs.Prelude.{◌≡◌, length, pos};
-ghost use Rattle.voskligan_c.specs.Calls.{handed_of, handed_where, lines_told, placed, proof_of, status_told};
+ghost use Rattle.voskligan_c.specs.Calls.{handed_of, handed_where, lines_written, placed, proof_of, status_of_call};
 ghost use Rattle.voskligan_c.specs.Message.{written, words_of};
 
 use crate::message::{tell, tell_report};
@@ -22,7 +22,7 @@ impl Handed {
     /// The status of a call that found this: 0 where a proof stands in the buffer, 3 where it is
     /// too small for it, and else that of what was found.
     pub(crate) fn status(self, finding: &Finding) -> i32
-        ensures { result ≡ pos (status_told self finding.now) }
+        ensures { result ≡ pos (status_of_call self finding.now) }
     {
         match self {
             Handed::Placed => 0,
@@ -34,7 +34,7 @@ impl Handed {
     /// Tells `proved`, `no room`, or what was found and why.
     pub(crate) fn tell(self, report: &Report<Finding>, message: &mut [u8])
         ensures { message.new ≡ written
-            (lines_told self report.now.answer (words_of report.now.reason)) message.old }
+            (lines_written self report.now.answer (words_of report.now.reason)) message.old }
     {
         match self {
             Handed::Placed => tell(b"proved\n", message),

@@ -79,7 +79,7 @@ fn small_buffers_are_not_passed(rt: HostRuntime) {
 }
 
 #[test]
-fn the_version_is_told(rt: HostRuntime) {
+fn the_version_is_stated(rt: HostRuntime) {
     let mut text = [7u8; 8];
     assert_eq!(rt; voskligan_version(&mut text), 5);
     assert_eq!(rt; text, *b"0.1.0\0\x07\x07");

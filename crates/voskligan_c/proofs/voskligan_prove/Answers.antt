@@ -1,6 +1,6 @@
 use Rattle.std.proofs.Common.{◌≡◌, pos, w32, to_z, of_z, rules, length}
 use Rattle.stark_answers.specs.declared.task.ProofForm.TheVariants.{Json}
-use Rattle.voskligan_c.specs.Calls.{handed_of, status_told}
+use Rattle.voskligan_c.specs.Calls.{handed_of, status_of_call}
 use Rattle.voskligan_c.specs.Message.{words_of}
 use Rattle.voskligan_c.proofs.Statuses.{line_placed, pos_zero}
 use Rattle.voskligan_c.specs.contracts.answers.ProgramProgramAnswers.TheImpl as program
@@ -9,7 +9,7 @@ use Rattle.voskligan_c.proofs.voskligan_prove.Goals as goal
 pub returns-clause-proved : goal.returns-clause-proved
 returns-clause-proved c = λ e.
     let f = c.prove_statement-report.result.answer in
-    let status : to_z w32 (of_z w32 c.status.result) ≡ pos (status_told (handed_of f (length c.args.proof.now)) f) = search rules in
+    let status : to_z w32 (of_z w32 c.status.result) ≡ pos (status_of_call (handed_of f (length c.args.proof.now)) f) = search rules in
     let s = c.args.statement.now in
     let t = c.args.trace.now in
     rw (c.hand_over-handed.ensures.needed, c.hand_over-handed.ensures.placed)

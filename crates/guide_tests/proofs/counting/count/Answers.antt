@@ -2,7 +2,7 @@ use Rattle.std.proofs.Common.{◌≡◌, ◌∙◌, ◌*◌, ◌^◌, ap, arith,
 use Rattle.stark_support.specs.CosetFacts.{root_has_order, root_nonzero}
 use Rattle.stark_support.specs.FieldPair.{FieldsOps}
 use Rattle.stark_protocol.proofs.Carried.{on_ok}
-use Rattle.stark_prover.specs.Honest.{declared_row}
+use Rattle.stark_prover.specs.Completeness.{declared_row}
 use Rattle.guide_tests.specs.Counting.{counted_from}
 use Rattle.guide_tests.proofs.CountingSteps.{counted_length, degrees_fit, drawn_with, fields_with, holds_in_each_row}
 use Rattle.guide_tests.proofs.counting.count.Goals as goal

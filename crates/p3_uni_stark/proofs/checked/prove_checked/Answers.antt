@@ -1,6 +1,6 @@
 use Rattle.std.proofs.Common.{inl, refl}
-use Rattle.stark_prover.proofs.HonestSteps.{within_field}
-use Rattle.p3_uni_stark.proofs.CheckedSteps.{told_as}
+use Rattle.stark_prover.proofs.CompletenessSteps.{within_field}
+use Rattle.p3_uni_stark.proofs.CheckedSteps.{stated_as}
 use Rattle.p3_uni_stark.proofs.SizedDegrees.{sizable_degrees_fit}
 use Rattle.p3_uni_stark.proofs.checked.prove_checked.Goals as goal
 
@@ -23,7 +23,7 @@ pub prove_with_preprocessed-requires-clause-fits : goal.prove_with_preprocessed-
 prove_with_preprocessed-requires-clause-fits g c = c.requires.fits
 
 pub returns-in-Err-clause-fault : goal.returns-in-Err-clause-fault
-returns-in-Err-clause-fault g c = told_as _ _ c.in-Err.error c.from.result c.from.ensures c.in-Err.ensures.broken (λ height rows. inl refl)
+returns-in-Err-clause-fault g c = stated_as _ _ c.in-Err.error c.from.result c.from.ensures c.in-Err.ensures.broken (λ height rows. inl refl)
 
 pub returns-in-Ok-prove_with_preprocessed-clause-accepted : goal.returns-in-Ok-prove_with_preprocessed-clause-accepted
 returns-in-Ok-prove_with_preprocessed-clause-accepted g c = λ height provable sizable key set_up.

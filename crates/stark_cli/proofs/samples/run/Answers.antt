@@ -7,7 +7,7 @@ use Rattle.stark_answers.specs.declared.task.ProofForm.TheVariants.{Json}
 use Rattle.stark_cli.specs.SampleRun.{found_proofs_open, lacks_memory}
 use Rattle.stark_cli.proofs.Findings.{accepts_or_tells, finding_ends, refused_memory, said_known, said_of, says_known}
 use Rattle.stark_cli.proofs.Lines.{accepted_only_known, proved_only_known}
-use Rattle.stark_cli.proofs.SampleMeaning.{ends_accepted, holds_of_finding, sound_of_finding, told_traces}
+use Rattle.stark_cli.proofs.SampleMeaning.{ends_accepted, holds_of_finding, sound_of_finding, stated_traces}
 use Rattle.stark_cli.proofs.samples.run.Goals as goal
 
 pub returns-clause-input_failed : goal.returns-clause-input_failed
@@ -29,23 +29,23 @@ returns-clause-says g c =
 
 pub returns-clause-accepted : goal.returns-clause-accepted
 returns-clause-accepted g c =
-    accepted_only_known lacks_memory refused_memory _ (λ input f found. found_proofs_open _ _ _ (λ air i h proved. proved_begins _ _ _ _ _ _ _ _ _ h proved) _ input f found) _ (λ input found. found) _ _ _ _
+    accepted_only_known lacks_memory refused_memory _ (λ input f obtained. found_proofs_open _ _ _ (λ air i h proved. proved_begins _ _ _ _ _ _ _ _ _ h proved) _ input f obtained) _ (λ input obtained. obtained) _ _ _ _
     (returns-clause-says g c)
 
 pub returns-clause-holds : goal.returns-clause-holds
 returns-clause-holds g c =
-    accepted_only_known lacks_memory refused_memory _ (λ input f found. found_proofs_open _ _ _ (λ air i h proved. proved_begins _ _ _ _ _ _ _ _ _ h proved) _ input f found) _
-    (λ input found. holds_of_finding _ _ _ (λ air i proved. proved_accepts_none _ _ _ _ _ _ _ _ _ proved) _ input found) _ _ _ _ (returns-clause-says g c)
+    accepted_only_known lacks_memory refused_memory _ (λ input f obtained. found_proofs_open _ _ _ (λ air i h proved. proved_begins _ _ _ _ _ _ _ _ _ h proved) _ input f obtained) _
+    (λ input obtained. holds_of_finding _ _ _ (λ air i proved. proved_accepts_none _ _ _ _ _ _ _ _ _ proved) _ input obtained) _ _ _ _ (returns-clause-says g c)
 
 pub returns-clause-sound : goal.returns-clause-sound
 returns-clause-sound g c =
-    accepted_only_known lacks_memory refused_memory _ (λ input f found. found_proofs_open _ _ _ (λ air i h proved. proved_begins _ _ _ _ _ _ _ _ _ h proved) _ input f found) _
-    (λ input found. sound_of_finding _ _ _ _ input found) _ _ _ _ (returns-clause-says g c)
+    accepted_only_known lacks_memory refused_memory _ (λ input f obtained. found_proofs_open _ _ _ (λ air i h proved. proved_begins _ _ _ _ _ _ _ _ _ h proved) _ input f obtained) _
+    (λ input obtained. sound_of_finding _ _ _ _ input obtained) _ _ _ _ (returns-clause-says g c)
 
 pub returns-clause-proved : goal.returns-clause-proved
 returns-clause-proved g c =
-    told_traces _ _ _ _ (λ air i f proved. proved_line _ _ _ _ _ _ _ _ _ f proved) (λ air i f proved is. proved_no_text _ _ _ _ _ _ _ _ _ f proved is) (λ air i proved. proved_satisfies_none _ _ _ _ _ _ _ _ _ proved) _ _ _ _
-    (proved_only_known lacks_memory refused_memory _ (λ input f found. found_proofs_open _ _ _ (λ air i h proved. proved_begins _ _ _ _ _ _ _ _ _ h proved) _ input f found) Json _
+    stated_traces _ _ _ _ (λ air i f proved. proved_line _ _ _ _ _ _ _ _ _ f proved) (λ air i f proved is. proved_no_text _ _ _ _ _ _ _ _ _ f proved is) (λ air i proved. proved_satisfies_none _ _ _ _ _ _ _ _ _ proved) _ _ _ _
+    (proved_only_known lacks_memory refused_memory _ (λ input f obtained. found_proofs_open _ _ _ (λ air i h proved. proved_begins _ _ _ _ _ _ _ _ _ h proved) _ input f obtained) Json _
     (λ input bytes front. front) _ _ _ _ (returns-clause-says g c))
 
 pub returns-clause-accepted_end : goal.returns-clause-accepted_end

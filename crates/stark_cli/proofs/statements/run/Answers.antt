@@ -5,7 +5,7 @@ use Rattle.std.proofs.KnownBytes.{Keeps-refl}
 use Rattle.stark_cli.specs.StatementRun.{no_memory}
 use Rattle.stark_cli.proofs.Findings.{accepts_or_tells, finding_ends, none_failed, said_of, says_known, unjudged_memory}
 use Rattle.stark_cli.proofs.Lines.{accepted_only_known, proved_only_known}
-use Rattle.stark_cli.proofs.StatementMeaning.{accepts, accepts_soundly, ends_well, kinds, told_traces}
+use Rattle.stark_cli.proofs.StatementMeaning.{accepts, accepts_soundly, ends_well, kinds, stated_traces}
 use Rattle.stark_cli.proofs.statements.run.Goals as goal
 
 pub returns-clause-input_failed : goal.returns-clause-input_failed
@@ -24,18 +24,18 @@ returns-clause-says g c =
 
 pub returns-clause-accepted : goal.returns-clause-accepted
 returns-clause-accepted g c =
-    accepted_only_known no_memory unjudged_memory _ (λ input f found. kinds _ _ _ _ _ _ input f found) _
-    (λ input found. accepts _ _ _ _ _ _ input found) _ _ _ _ (returns-clause-says g c)
+    accepted_only_known no_memory unjudged_memory _ (λ input f obtained. kinds _ _ _ _ _ _ input f obtained) _
+    (λ input obtained. accepts _ _ _ _ _ _ input obtained) _ _ _ _ (returns-clause-says g c)
 
 pub returns-clause-sound : goal.returns-clause-sound
 returns-clause-sound g c =
-    accepted_only_known no_memory unjudged_memory _ (λ input f found. kinds _ _ _ _ _ _ input f found) _
-    (λ input found. accepts_soundly _ _ _ _ _ _ input found) _ _ _ _ (returns-clause-says g c)
+    accepted_only_known no_memory unjudged_memory _ (λ input f obtained. kinds _ _ _ _ _ _ input f obtained) _
+    (λ input obtained. accepts_soundly _ _ _ _ _ _ input obtained) _ _ _ _ (returns-clause-says g c)
 
 pub returns-clause-proved : goal.returns-clause-proved
 returns-clause-proved g c = λ form.
-    told_traces _ _ _ _ _ form _ _ _ _
-    (proved_only_known no_memory unjudged_memory _ (λ input f found. kinds _ _ _ _ _ _ input f found) form _
+    stated_traces _ _ _ _ _ form _ _ _ _
+    (proved_only_known no_memory unjudged_memory _ (λ input f obtained. kinds _ _ _ _ _ _ input f obtained) form _
     (λ input bytes front. front) _ _ _ _ (returns-clause-says g c))
 
 pub returns-clause-accepted_end : goal.returns-clause-accepted_end

@@ -20,8 +20,8 @@ returns g c = λ columns there.
     let ring = g.F.Field.ring in
     let root = g.F.TwoAdicField.root in
     let wide : c.len.result ≡ length c.deref.result.now = c.len.ensures ∙ c.index-matrices-index.result.ok.0 ∙ sym (ap length c.deref.ensures.value) in
-    let found : slice_get c.args.matrices.now c.args.index ≡ Some c.index-matrices-index.result = slice_get-get_or c.args.matrices.now c.args.index c.index-matrices-index.result (omega arith) ∙ ap Some (sym c.index-matrices-index.is) in
-    let same : columns_list c.index-matrices-index.result ≡ columns = same_Some (columns_list c.index-matrices-index.result) columns (sym (slice_get-map columns_list c.args.matrices.now c.args.index ∙ ap (option_map columns_list) found) ∙ there) in
+    let obtained : slice_get c.args.matrices.now c.args.index ≡ Some c.index-matrices-index.result = slice_get-get_or c.args.matrices.now c.args.index c.index-matrices-index.result (omega arith) ∙ ap Some (sym c.index-matrices-index.is) in
+    let same : columns_list c.index-matrices-index.result ≡ columns = same_Some (columns_list c.index-matrices-index.result) columns (sym (slice_get-map columns_list c.args.matrices.now c.args.index ∙ ap (option_map columns_list) obtained) ∙ there) in
     let values : c.new-2.result.values.items ≡ c.in_ok-values.values.items = ap (λ v. v.items) c.new-2.ensures.values in
     subst (λ t. HasRows ring root (record { shift = c.args.domain.now.shift; log_size = c.args.domain.now.log_size }) t c.new-2.result.values.items c.new-2.result.width) (ap (map column_list) c.deref.ensures.value ∙ same)
     (subst (λ t. HasRows ring root (record { shift = c.args.domain.now.shift; log_size = c.args.domain.now.log_size }) (map column_list c.deref.result.now) t c.new-2.result.width) (sym values)

@@ -4,7 +4,7 @@ use Rattle.stark_support.specs.Coset.{TwoAdicCoset}
 use Rattle.stark_commands.specs.Input.{Base, elements, zeros}
 use Rattle.stark_commands.specs.Numbers.{numbers}
 use Rattle.stark_answers.specs.CheckedAir.{checked_air, shape_of}
-use Rattle.stark_commands.proofs.PointSteps.{chunks_of_four, outside_coset, rows_cover, told_at_zeta, widths_of}
+use Rattle.stark_commands.proofs.PointSteps.{chunks_of_four, outside_coset, rows_cover, stated_at_zeta, widths_of}
 use Rattle.stark_commands.proofs.check.check_columns.Goals as goal
 
 pub equation_over-requires-clause-trace_len : goal.equation_over-requires-clause-trace_len
@@ -44,7 +44,7 @@ equation_over-requires-clause-widths g c = λ periodic counted.
 
 pub returns : goal.returns
 returns g c =
-    told_at_zeta (checked_air (g.A.BaseAir.layout c.args.air.now) (g.A.BaseAir.main_next_row_columns c.args.air.now) (g.A.BaseAir.periodic_columns c.args.air.now) (g.A.BaseAir.degree_hint c.args.air.now) (g.A.Air.constraints c.args.air.now) (g.A.BaseAir.preprocessed_trace c.args.air.now) (g.A.BaseAir.preprocessed_next_row_columns c.args.air.now)) c.args.domains.now.log_chunks (numbers c.args.input.now) (λ column. column.items) c.args.columns.now.columns.now (λ chunk. chunk.items) c.deref-6.result.now
+    stated_at_zeta (checked_air (g.A.BaseAir.layout c.args.air.now) (g.A.BaseAir.main_next_row_columns c.args.air.now) (g.A.BaseAir.periodic_columns c.args.air.now) (g.A.BaseAir.degree_hint c.args.air.now) (g.A.Air.constraints c.args.air.now) (g.A.BaseAir.preprocessed_trace c.args.air.now) (g.A.BaseAir.preprocessed_next_row_columns c.args.air.now)) c.args.domains.now.log_chunks (numbers c.args.input.now) (λ column. column.items) c.args.columns.now.columns.now (λ chunk. chunk.items) c.deref-6.result.now
     _ _ c.deref.result.now c.deref-2.result.now c.deref-3.result.now c.deref-4.result.now c.deref-5.result.now c.equation_over.result
     c.requires.cut.trace c.requires.cut.quotient c.deref.ensures.value c.deref-2.ensures.value c.deref-3.ensures.value
     (c.deref-4.ensures.value ∙ c.in-Ok.ensures ∙ ap zeros c.preprocessed_width.ensures)

@@ -1,5 +1,5 @@
 use Rattle.stark_support.specs.FieldPair.{FieldsOps}
-use Rattle.stark_completeness.proofs.HonestBalance.{row_by_row}
+use Rattle.stark_completeness.proofs.BalanceOfTrace.{row_by_row}
 use Rattle.stark_completeness.proofs.laws.satisfaction_is_row_by_row.Goals as goal
 
 pub returns : goal.returns

@@ -14,9 +14,9 @@ loop-i-init g c =
     let hash = g.H.TreeHash.digest_of in
     let target = target_of (fields_of g) g.D.PolynomialSpace.coset_of c.args.replayed.now in
     let queries = zip c.args.replayed.now.drawn.now.places.items c.args.replayed.now.proof.now.queries in
-    let held = c.in_ok-held.ensures in record {
-      holds = first_hold (QueryHolds fields hash target) queries c.in_ok-held.held held.1;
-      passed = λ fault. first_passed (QueryHolds fields hash target) (QueryFails fields hash target fault) queries c.in_ok-held.held held.0 held.1;
+    let holding = c.in_ok-accepted.ensures in record {
+      holds = first_hold (QueryHolds fields hash target) queries c.in_ok-accepted.accepted holding.1;
+      passed = λ fault. first_passed (QueryHolds fields hash target) (QueryFails fields hash target fault) queries c.in_ok-accepted.accepted holding.0 holding.1;
     }
 
 pub returns-in-Some : goal.returns-in-Some
@@ -28,7 +28,7 @@ returns-in-Some g c =
     _ _ c.min-i-end.ensures (c.len.ensures ∙ c.args.replayed.now.drawn.now.places.ok.0) (ap length c.queries-queries.ensures) in
     let holds = QueryHolds (fields_of g) g.H.TreeHash.digest_of target in
     passed_with_stop holds (QueryFails (fields_of g) g.H.TreeHash.digest_of target c.in-Some.fault) queries c.loop-i.i _ at.0 at.1
-    (subst (FindsQueryFault (fields_of g) g.H.TreeHash.digest_of target (c.index-place.result.now, c.index-queries-i.result)) c.in-Some.is c.in_ok-found.ensures) (c.loop-i.invariant.passed c.in-Some.fault)
+    (subst (FindsQueryFault (fields_of g) g.H.TreeHash.digest_of target (c.index-place.result.now, c.index-queries-i.result)) c.in-Some.is c.in_ok-answer.ensures) (c.loop-i.invariant.passed c.in-Some.fault)
 
 pub loop-i-preserved : goal.loop-i-preserved
 loop-i-preserved g c =
@@ -39,7 +39,7 @@ loop-i-preserved g c =
     let is_place : c.index-place.result.now ≡ get_or c.args.replayed.now.drawn.now.places.items c.loop-i.i c.index-place.result.now = search rules in
     let at = zip_at c.args.replayed.now.drawn.now.places.items c.args.replayed.now.proof.now.queries c.loop-i.i _ _ _ c.loop-i-test.true is_place (c.index-queries-i.is ∙ ap (λ t. get_or t c.loop-i.i c.index-queries-i.result) c.queries-queries.ensures)
     _ _ c.min-i-end.ensures (c.len.ensures ∙ c.args.replayed.now.drawn.now.places.ok.0) (ap length c.queries-queries.ensures) in
-    let holds : QueryHolds fields hash target (c.index-place.result.now, c.index-queries-i.result) = subst (FindsQueryFault fields hash target (c.index-place.result.now, c.index-queries-i.result)) c.in_default.is c.in_ok-found.ensures in record {
+    let holds : QueryHolds fields hash target (c.index-place.result.now, c.index-queries-i.result) = subst (FindsQueryFault fields hash target (c.index-place.result.now, c.index-queries-i.result)) c.in_default.is c.in_ok-answer.ensures in record {
       holds = holds_step (QueryHolds fields hash target) queries c.loop-i.i _ at.0 at.1 holds c.loop-i.invariant.holds;
       passed = λ fault. passed_with_step (QueryHolds fields hash target) (QueryFails fields hash target fault) queries c.loop-i.i _ at.0 at.1 holds (c.loop-i.invariant.passed fault);
     }

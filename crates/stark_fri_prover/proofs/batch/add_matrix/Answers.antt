@@ -1,7 +1,7 @@
 use Rattle.std.proofs.Common.{map, subst, sym}
 use Rattle.stark_columns.specs.Columns.{column_list}
 use Rattle.stark_fri_prover.specs.Batch.{ColumnsFit}
-use Rattle.stark_fri_prover.specs.Honest.{opened_at}
+use Rattle.stark_fri_prover.specs.Batching.{opened_at}
 use Rattle.stark_fri_prover.proofs.BatchSteps.{adds_all, adds_more, adds_none}
 use Rattle.stark_fri_prover.proofs.batch.add_matrix.Goals as goal
 

@@ -2,7 +2,7 @@ use Rattle.std.proofs.Common.{map, take}
 use Rattle.std.specs.List.{flat_map}
 use Rattle.stark_columns.specs.Columns.{column_list}
 use Rattle.stark_fri_prover.specs.Batch.{AddsColumns}
-use Rattle.stark_fri_prover.specs.Honest.{opened_at}
+use Rattle.stark_fri_prover.specs.Batching.{opened_at}
 use Rattle.stark_fri_prover.proofs.batch.add_matrix.Given as goal
 
 abbrev pub invariant-loop-point : goal.invariant-loop-point

@@ -2,7 +2,7 @@ use Rattle.std.proofs.Common.{◌<◌, arith, length, map, subst, sym}
 use Rattle.std.specs.List.{zip}
 use Rattle.stark_columns.specs.Columns.{column_list, columns_list}
 use Rattle.stark_fri_prover.specs.Batch.{AddsColumns, ColumnsFit}
-use Rattle.stark_fri_prover.specs.Honest.{opened_in_matrix}
+use Rattle.stark_fri_prover.specs.Batching.{opened_in_matrix}
 use Rattle.stark_fri_prover.proofs.BatchSteps.{adds_all, adds_more, adds_none, all_at_place, zipped_item, zipped_length}
 use Rattle.stark_fri_prover.proofs.batch.add_round.Goals as goal
 

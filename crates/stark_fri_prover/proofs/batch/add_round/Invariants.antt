@@ -2,7 +2,7 @@ use Rattle.std.proofs.Common.{map, take}
 use Rattle.std.specs.List.{flat_map, zip}
 use Rattle.stark_columns.specs.Columns.{column_list, columns_list}
 use Rattle.stark_fri_prover.specs.Batch.{AddsMatrices}
-use Rattle.stark_fri_prover.specs.Honest.{opened_in_matrix}
+use Rattle.stark_fri_prover.specs.Batching.{opened_in_matrix}
 use Rattle.stark_fri_prover.proofs.batch.add_round.Given as goal
 
 abbrev pub invariant-loop-index : goal.invariant-loop-index

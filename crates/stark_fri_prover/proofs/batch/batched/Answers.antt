@@ -6,7 +6,7 @@ use Rattle.stark_fri.specs.Parts.{FriDataView}
 use Rattle.stark_columns.specs.Columns.{column_list, columns_list}
 use Rattle.stark_fri_prover.specs.Batch.{AddsMatrices, AddsOpened, MatricesFit}
 use Rattle.stark_fri_prover.specs.Commit.{data_seen}
-use Rattle.stark_fri_prover.specs.Honest.{opened_in_matrix, opened_in_round}
+use Rattle.stark_fri_prover.specs.Batching.{opened_in_matrix, opened_in_round}
 use Rattle.stark_fri_prover.proofs.BatchSteps.{adds_all, adds_more, adds_none, all_at_place, from_zeros, mapped_item, written_back}
 use Rattle.stark_fri_prover.proofs.batch.batched.Goals as goal
 

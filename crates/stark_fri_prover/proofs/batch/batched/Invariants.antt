@@ -3,7 +3,7 @@ use Rattle.std.specs.List.{flat_map}
 use Rattle.stark_support.specs.Claims.{round_view}
 use Rattle.stark_fri_prover.specs.Batch.{RoundsFit, AddsOpened}
 use Rattle.stark_fri_prover.specs.Commit.{data_seen}
-use Rattle.stark_fri_prover.specs.Honest.{opened_in_round}
+use Rattle.stark_fri_prover.specs.Batching.{opened_in_round}
 use Rattle.stark_fri_prover.proofs.batch.batched.Given as goal
 
 abbrev pub invariant-loop-round : goal.invariant-loop-round

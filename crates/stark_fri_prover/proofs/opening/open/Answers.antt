@@ -6,7 +6,7 @@ use Rattle.stark_columns.specs.Columns.{columns_list}
 use Rattle.stark_support.specs.Claims.{round_view}
 use Rattle.stark_fri.specs.Claims.{height_of, own_claim, rounds_in}
 use Rattle.stark_fri_prover.specs.Commit.{data_seen}
-use Rattle.stark_fri_prover.specs.HonestOpening.{AreOfHeight, seen_rounds}
+use Rattle.stark_fri_prover.specs.MadeOpening.{AreOfHeight, seen_rounds}
 use Rattle.stark_fri_prover.specs.OwnClaims.{points_in, round_claims}
 use Rattle.stark_fri_prover.proofs.MadeSteps.{heights_from_seen, heights_to_seen, seen_again}
 use Rattle.stark_fri_prover.proofs.PairSteps.{points_counted, rounds_claimed}

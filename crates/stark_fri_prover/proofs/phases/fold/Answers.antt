@@ -2,7 +2,7 @@ use Rattle.std.proofs.Common.{◌≡◌, subst, sym}
 use Rattle.std.specs.Option.{IfSome}
 use Rattle.stark_support.specs.Coset.{coset_from}
 use Rattle.stark_folding.specs.Fold.{squared_coset}
-use Rattle.stark_fri_prover.specs.Honest.{IsWordOf}
+use Rattle.stark_fri_prover.specs.Batching.{IsWordOf}
 use Rattle.stark_fri_prover.specs.Words.{IsWordIn}
 use Rattle.stark_fri_prover.proofs.phases.fold.Goals as goal
 

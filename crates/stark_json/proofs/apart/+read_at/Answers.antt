@@ -24,14 +24,14 @@ read_at-returns-in-Null-clause-read t c =
 pub read_at-returns-in_ok-members-in-BeginObject-clause-read : goal.read_at-returns-in_ok-members-in-BeginObject-clause-read
 read_at-returns-in_ok-members-in-BeginObject-clause-read t c =
     let first : c.args.reader.now ≡ token_of c.in_ok-token.token ∷ c.next.new.self = grind arith in
-    let found = c.in_ok-members-in-BeginObject in
+    let obtained = c.in_ok-members-in-BeginObject in
     let rest = c.read_members_at.new.reader in
-    let rows = rows_apart found.rows in
+    let rows = rows_apart obtained.rows in
     let name = c.in-Some.name.now.now in
     let path = map (λ name. name.now) c.in-Some.path.now in
     let names : map (λ name. name.now) c.args.path.now ≡ name ∷ path = ap (map (λ name. name.now)) c.in-Some.ensures.cases.0 in
-    let seen = ap (λ names. joined names rows (view (Object found.members))) names ∙ ap (joined (name ∷ path) rows) (view-Object found.members) ∙ joined-object name path rows (members_view found.members.entries) in
-    object_read c.args.depth c.args.reader.now c.next.new.self rest _ (omega arith) (first ∙ ap (λ k. token_of k ∷ c.next.new.self) c.in-BeginObject.is) found.ensures.read
+    let seen = ap (λ names. joined names rows (view (Object obtained.members))) names ∙ ap (joined (name ∷ path) rows) (view-Object obtained.members) ∙ joined-object name path rows (members_view obtained.members.entries) in
+    object_read c.args.depth c.args.reader.now c.next.new.self rest _ (omega arith) (first ∙ ap (λ k. token_of k ∷ c.next.new.self) c.in-BeginObject.is) obtained.ensures.read
     ∙ ap (λ d. Some (d, rest)) (sym seen)
 
 pub read_members_at-members-init : goal.read_members_at-members-init

@@ -43,16 +43,16 @@ read-returns-in-Null-clause-read t c =
 pub read-returns-in_ok-read_items-in-BeginArray-clause-read : goal.read-returns-in_ok-read_items-in-BeginArray-clause-read
 read-returns-in_ok-read_items-in-BeginArray-clause-read t c =
     let first : c.args.reader.now ≡ token_of c.in_ok-token.token ∷ c.next.new.self = grind arith in
-    let found = c.in_ok-read_items-in-BeginArray in
-    array_read c.args.depth c.args.reader.now c.next.new.self c.read_items.new.reader _ (omega arith) (first ∙ ap (λ k. token_of k ∷ c.next.new.self) c.in-BeginArray.is) found.ensures.read
-    ∙ ap (λ d. Some (d, c.read_items.new.reader)) (sym (view-Array found.field-0))
+    let obtained = c.in_ok-read_items-in-BeginArray in
+    array_read c.args.depth c.args.reader.now c.next.new.self c.read_items.new.reader _ (omega arith) (first ∙ ap (λ k. token_of k ∷ c.next.new.self) c.in-BeginArray.is) obtained.ensures.read
+    ∙ ap (λ d. Some (d, c.read_items.new.reader)) (sym (view-Array obtained.field-0))
 
 pub read-returns-in_ok-read_members-in-BeginObject-clause-read : goal.read-returns-in_ok-read_members-in-BeginObject-clause-read
 read-returns-in_ok-read_members-in-BeginObject-clause-read t c =
     let first : c.args.reader.now ≡ token_of c.in_ok-token.token ∷ c.next.new.self = grind arith in
-    let found = c.in_ok-read_members-in-BeginObject in
-    object_read c.args.depth c.args.reader.now c.next.new.self c.read_members.new.reader _ (omega arith) (first ∙ ap (λ k. token_of k ∷ c.next.new.self) c.in-BeginObject.is) found.ensures.read
-    ∙ ap (λ d. Some (d, c.read_members.new.reader)) (sym (view-Object found.field-0))
+    let obtained = c.in_ok-read_members-in-BeginObject in
+    object_read c.args.depth c.args.reader.now c.next.new.self c.read_members.new.reader _ (omega arith) (first ∙ ap (λ k. token_of k ∷ c.next.new.self) c.in-BeginObject.is) obtained.ensures.read
+    ∙ ap (λ d. Some (d, c.read_members.new.reader)) (sym (view-Object obtained.field-0))
 
 pub read_items-items-init : goal.read_items-items-init
 read_items-items-init t c = no_item_yet view c.args.depth c.args.reader.now _ c.new-values.ensures.items

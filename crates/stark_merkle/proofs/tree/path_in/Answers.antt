@@ -1,7 +1,7 @@
 use Rattle.std.proofs.Common.{◌≡◌, ◌≤◌, ◌<◌, ◌++◌, arith, length, refl, subst, sym}
 use Rattle.std.proofs.lemmas.List.{length-map}
 use Rattle.stark_merkle.specs.Tree.{IsPathIn, digests_in, items_of, neighbour}
-use Rattle.stark_merkle.proofs.Steps.{last_layer, layer_at, layer_more, neighbour_missing, none_without_layers, path_all, place_missing, told_all, told_more}
+use Rattle.stark_merkle.proofs.Steps.{last_layer, layer_at, layer_more, neighbour_missing, none_without_layers, path_all, place_missing, stated_all, stated_more}
 use Rattle.stark_merkle.proofs.tree.path_in.Goals as goal
 
 pub returns-in_default-clause-is_found : goal.returns-in_default-clause-is_found
@@ -54,7 +54,7 @@ loop-level-preserved c =
     let beside : neighbour c.loop-level.place < length c.index-layers-level.result.items = subst (λ n. n < length c.index-layers-level.result.items) c.neighbour-beside.ensures (omega arith) in (
       layer_more c.args.layers.now c.args.index c.loop-level.level c.loop-level.place c.neighbour-beside.result c.index-layers-level.result c.index.result.now c.loop-level.path.items _ (omega arith)
           c.index-layers-level.is c.neighbour-beside.ensures (omega arith) c.index.ensures c.in_ok-push.ensures.items c.loop-level.invariant.0,
-      told_more layers c.args.index c.loop-level.level c.loop-level.place c.index-layers-level.result.items (omega arith) layer (omega arith) beside c.loop-level.invariant.1,
+      stated_more layers c.args.index c.loop-level.level c.loop-level.place c.index-layers-level.result.items (omega arith) layer (omega arith) beside c.loop-level.invariant.1,
     )
 
 pub returns-then-place-len-2-clause-is_found : goal.returns-then-place-len-2-clause-is_found
@@ -87,5 +87,5 @@ returns-clause-is_found c =
     let layers = digests_in c.args.layers.now in
     let many : length layers ≡ length c.args.layers.now = length-map c.args.layers.now items_of in
     let at = last_layer c.args.layers.now c.args.index c.loop-level.level c.in-Some.last c.loop-level.place c.index-layers-last.result (omega arith) c.index-layers-last.is (omega arith) c.loop-level.invariant.1 in
-    let has = told_all layers c.args.index c.in-Some.last c.loop-level.place c.index-layers-last.result.items (omega arith) at.0 (omega arith) at.1 in
+    let has = stated_all layers c.args.index c.in-Some.last c.loop-level.place c.index-layers-last.result.items (omega arith) at.0 (omega arith) at.1 in
     (λ _. has, λ _. refl)

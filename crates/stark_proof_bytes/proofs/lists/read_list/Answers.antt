@@ -2,7 +2,7 @@ use Rattle.std.proofs.Common.{◌≡◌, ◌∙◌, ◌+◌, ◌-◌, ◌++◌, 
 use Rattle.std.specs.Prelude.{IfSome}
 use Rattle.std.proofs.lemmas.Grind.{common_steps}
 use Rattle.stark_proof_bytes.specs.Bytes.{behind, each_reading, list_reading, named}
-use Rattle.stark_proof_bytes.specs.BytesFacts.{all_read, no_more, one_more, told_more}
+use Rattle.stark_proof_bytes.specs.BytesFacts.{all_read, no_more, one_more, stated_more}
 use Rattle.stark_proof_bytes.proofs.lists.read_list.Goals as goal
 
 pub returns-in_err-value : goal.returns-in_err-value
@@ -12,8 +12,8 @@ returns-in_err-value g c =
     let next = c.in_ok-count.count - (c.loop-place._place + 1) in
     let falls : left ≡ suc next = omega arith in
     let read_so_far = c.loop-place.values.items in
-    let told : IfSome (named c.in_err-value.field-0.0) (λ fault. list_reading ops c.args.reader.now ≡ Err fault) =
-    told_more c.in_err-value.field-0.0 (ops.reading c.loop-place.reader) (list_reading ops c.args.reader.now)
+    let stated : IfSome (named c.in_err-value.field-0.0) (λ fault. list_reading ops c.args.reader.now ≡ Err fault) =
+    stated_more c.in_err-value.field-0.0 (ops.reading c.loop-place.reader) (list_reading ops c.args.reader.now)
     (λ fault is. c.loop-place.invariant ∙ no_more ops (g.met.T.BytesCodec.bytes_laws) left next c.loop-place.reader fault read_so_far falls is) c.in_err-value.ensures in
     search rules
 

@@ -13,5 +13,5 @@ loop-i-preserved g c =
     (base.mul_is _ _ _ c.mul.ensures) (base.mul_is _ _ _ c.mul-in-loop-i.ensures) (base.eq_same _ _ (sym c.eq-goes_round.ensures ∙ c.if-not-goes_round.false)) c.loop-i.invariant
 
 pub returns-clause-cycle : goal.returns-clause-cycle
-returns-clause-cycle g c = λ told.
+returns-clause-cycle g c = λ stated.
     all_round_seen g.D.Val.Field.ring (λ (o : g.row.D.Denot). squarings g.D.Val.Field.ring (g.D.PolynomialSpace.coset_of o).shift c.args.log_size) c.args.domains.now c.loop-i.i c.loop-i-test.false c.loop-i.invariant

@@ -20,22 +20,22 @@ commit_trace-requires-clause-domain g c = c.in_ok-domains.ensures.domains.of_com
 
 pub returns-in_err-committed-clause-fault : goal.returns-in_err-committed-clause-fault
 returns-in_err-committed-clause-fault g c =
-    let found = c.in_ok-domains.ensures in
-    carried _ _ _ c.from_residual-in_err-committed.ensures (refused_trace found.bits found.fitting found.clear _ c.in_err-committed.ensures.fault)
+    let obtained = c.in_ok-domains.ensures in
+    carried _ _ _ c.from_residual-in_err-committed.ensures (refused_trace obtained.bits obtained.fitting obtained.clear _ c.in_err-committed.ensures.fault)
 
 pub prove_over_transcript-requires-clause-committed : goal.prove_over_transcript-requires-clause-committed
 prove_over_transcript-requires-clause-committed g c =
-    let found = c.in_ok-domains.ensures in
+    let obtained = c.in_ok-domains.ensures in
     let stands = c.in_ok-committed.ensures.stands in
     let preprocessed_data = c.requires.stands in
-    committed_at _ found.bits found.domains c.requires.within c.requires.public_values c.requires.same (ready_at _ found.bits found.fitting found.clear stands.1 preprocessed_data.1) (stands.1.takes.count ∙ c.requires.width) preprocessed_data.2
+    committed_at _ obtained.bits obtained.domains c.requires.within c.requires.public_values c.requires.same (ready_at _ obtained.bits obtained.fitting obtained.clear stands.1 preprocessed_data.1) (stands.1.takes.count ∙ c.requires.width) preprocessed_data.2
 
 pub returns-clause-made : goal.returns-clause-made
 returns-clause-made g c =
-    let found = c.in_ok-domains.ensures in
-    run_made _ found.bits proof_view (λ preprocessed preprocessed_data. ready_at _ found.bits found.fitting found.clear c.in_ok-committed.ensures.stands.1 preprocessed_data) _ c.prove_over_transcript.ensures.made
+    let obtained = c.in_ok-domains.ensures in
+    run_made _ obtained.bits proof_view (λ preprocessed preprocessed_data. ready_at _ obtained.bits obtained.fitting obtained.clear c.in_ok-committed.ensures.stands.1 preprocessed_data) _ c.prove_over_transcript.ensures.made
 
 pub returns-clause-fault : goal.returns-clause-fault
 returns-clause-fault g c =
-    let found = c.in_ok-domains.ensures in
-    run_refused _ found.bits (ready_at _ found.bits found.fitting found.clear c.in_ok-committed.ensures.stands.1 c.requires.stands.1) _ c.prove_over_transcript.ensures.fault
+    let obtained = c.in_ok-domains.ensures in
+    run_refused _ obtained.bits (ready_at _ obtained.bits obtained.fitting obtained.clear c.in_ok-committed.ensures.stands.1 c.requires.stands.1) _ c.prove_over_transcript.ensures.fault

@@ -3,7 +3,7 @@ use Rattle.stark_proof.specs.ProofView.{proof_view}
 use Rattle.stark_protocol.specs.Instance.{Instance}
 use Rattle.stark_protocol.specs.declared.preprocessed.PreprocessedVerifierKey.{PreprocessedVerifierKey}
 use Rattle.stark_prover.proofs.AcceptableSteps.{answer_acceptable, still_there}
-use Rattle.stark_prover.proofs.HonestAnswer.{answer_honest, degree_at, fault_at_heights}
+use Rattle.stark_prover.proofs.CompletenessAnswer.{answer_accepted, degree_at, fault_at_heights}
 use Rattle.stark_prover.proofs.prover.prove_with_preprocessed.Goals as goal
 
 pub log_height_of-log_height-requires-clause-columns : goal.log_height_of-log_height-requires-clause-columns
@@ -50,7 +50,7 @@ returns-clause-complete g c =
       public_values = c.args.public_values.now;
       key = key;
     } in
-    answer_honest _ instance g.SC.Challenge.ExtensionField.coordinates _ _ _ _ (record {
+    answer_accepted _ instance g.SC.Challenge.ExtensionField.coordinates _ _ _ _ (record {
       base = base_laws.Field.field_laws;
       extension = extension_laws.Field.field_laws;
       embeds = extension_laws.ExtensionField.embeds;

@@ -74,7 +74,7 @@ returns-clause-quotients g c = λ i below within.
     on.powers.alpha _ row.main_current row.main_next row.preprocessed_current row.preprocessed_next row.public_values periodic first last change inverted
     sum refl refl (ap (matrix_row main.values main.width) next_is) refl (ap (matrix_row preprocessed.values preprocessed.width) next_is)
     (length-map rows.periodic_values.items (λ v. slice_index_or (lanes v) i zero) ∙ filled.periodic_number)
-    (λ n there. table_in_lane lanes zero i rows.periodic_values.items on.periodic.width n (λ m. table_at on.periodic.values.items on.periodic.width on.periodic.period k m) wide filled.periodic_number (λ m p held. filled.periodic m p held i narrow room) there)
+    (λ n there. table_in_lane lanes zero i rows.periodic_values.items on.periodic.width n (λ m. table_at on.periodic.values.items on.periodic.width on.periodic.period k m) wide filled.periodic_number (λ m p holding. filled.periodic m p holding i narrow room) there)
     (sym (read.first_row i narrow (subst (λ n. k < n) (sym prepared.first_row.number) inside)) ∙ lane_read (lanes selectors.is_first_row) i zero (wide selectors.is_first_row))
     (sym (read.last_row i narrow (subst (λ n. k < n) (sym prepared.last_row.number) inside)) ∙ lane_read (lanes selectors.is_last_row) i zero (wide selectors.is_last_row))
     (sym (read.transition i narrow (subst (λ n. k < n) (sym prepared.transition.number) inside)) ∙ lane_read (lanes selectors.is_transition) i zero (wide selectors.is_transition))

@@ -1,5 +1,5 @@
 use Rattle.std.proofs.Common.{◌∙◌, ap}
-use Rattle.stark_service.proofs.TraceTasks.{checked_within, told_check, told_otherwise, told_satisfied, told_unchecked, told_unfit}
+use Rattle.stark_service.proofs.TraceTasks.{checked_within, stated_check, stated_otherwise, stated_satisfied, stated_unchecked, stated_unfit}
 use Rattle.stark_service.proofs.proving.answer_rows.Goals as goal
 
 pub check_rows-requires-clause-height : goal.check_rows-requires-clause-height
@@ -35,24 +35,24 @@ prove_rows-requires-in-Satisfied-clause-fits g c = (c.requires.read.0, c.in-Ok.e
 pub returns-in-Err : goal.returns-in-Err
 returns-in-Err g c = λ list has.
     let most = c.log_max_trace_height-greatest.ensures ∙ ap (λ p. g.SC.Pcs.Pcs.scheme.log_max_trace_height p) c.pcs.ensures in
-    told_unfit _ _ _ _ _ c.args.asked c.log_max_trace_height-greatest.result list _ most (c.in-Err.ensures list has)
+    stated_unfit _ _ _ _ _ c.args.asked c.log_max_trace_height-greatest.result list _ most (c.in-Err.ensures list has)
 
 pub returns-in-Check : goal.returns-in-Check
 returns-in-Check g c = λ list has.
     let most = c.log_max_trace_height-greatest.ensures ∙ ap (λ p. g.SC.Pcs.Pcs.scheme.log_max_trace_height p) c.pcs.ensures in
-    told_check _ _ _ _ _ c.args.asked _ _ c.in-Check.is (checked_within _ _ _ _ most _ _ _ _ (c.check_rows.ensures list (c.in-Ok.ensures list has)))
+    stated_check _ _ _ _ _ c.args.asked _ _ c.in-Check.is (checked_within _ _ _ _ most _ _ _ _ (c.check_rows.ensures list (c.in-Ok.ensures list has)))
 
 pub returns-in-Satisfied : goal.returns-in-Satisfied
 returns-in-Satisfied g c = λ list has.
     let most = c.log_max_trace_height-greatest.ensures ∙ ap (λ p. g.SC.Pcs.Pcs.scheme.log_max_trace_height p) c.pcs.ensures in
-    told_satisfied _ _ _ _ _ c.args.asked _ _ c.in-Prove.form c.in-Prove.is c.check_rows-report.result.answer c.in-Satisfied.is (checked_within _ _ _ _ most _ _ _ _ (c.check_rows-report.ensures list (c.in-Ok.ensures list has)))
+    stated_satisfied _ _ _ _ _ c.args.asked _ _ c.in-Prove.form c.in-Prove.is c.check_rows-report.result.answer c.in-Satisfied.is (checked_within _ _ _ _ most _ _ _ _ (c.check_rows-report.ensures list (c.in-Ok.ensures list has)))
     (c.prove_rows-in-Satisfied.ensures list (c.in-Ok.ensures list has))
 
 pub returns-in_default : goal.returns-in_default
 returns-in_default g c = λ list has.
     let most = c.log_max_trace_height-greatest.ensures ∙ ap (λ p. g.SC.Pcs.Pcs.scheme.log_max_trace_height p) c.pcs.ensures in
-    told_otherwise _ _ _ _ _ c.args.asked _ _ c.in-Prove.form c.in-Prove.is c.in_default.not-Satisfied (checked_within _ _ _ _ most _ _ _ _ (c.check_rows-report.ensures list (c.in-Ok.ensures list has)))
+    stated_otherwise _ _ _ _ _ c.args.asked _ _ c.in-Prove.form c.in-Prove.is c.in_default.not-Satisfied (checked_within _ _ _ _ most _ _ _ _ (c.check_rows-report.ensures list (c.in-Ok.ensures list has)))
 
 pub returns-in-ProveUnchecked : goal.returns-in-ProveUnchecked
 returns-in-ProveUnchecked g c = λ list has.
-    told_unchecked _ _ _ _ _ c.args.asked _ _ c.in-ProveUnchecked.form c.in-ProveUnchecked.is (c.prove_rows.ensures list (c.in-Ok.ensures list has))
+    stated_unchecked _ _ _ _ _ c.args.asked _ _ c.in-ProveUnchecked.form c.in-ProveUnchecked.is (c.prove_rows.ensures list (c.in-Ok.ensures list has))

@@ -4,7 +4,7 @@ use Rattle.stark_tree_air.specs.Traces.{declared_trace}
 use Rattle.stark_statement.specs.StatementView.{statement_view}
 use Rattle.stark_answers.specs.CheckedAir.{CheckedAir}
 use Rattle.stark_answers.specs.declared.finding.Finding.TheVariants as finding
-use Rattle.stark_service.proofs.FoundRows.{found_with_rows, found_without_columns, found_without_rows, has_no_rows_found, has_rows_found, told_is_file, told_is_of_trace}
+use Rattle.stark_service.proofs.FoundRows.{found_with_rows, found_without_columns, found_without_rows, has_no_rows_found, has_rows_found, stated_is_file, stated_is_of_trace}
 use Rattle.stark_answers.specs.ProveFacts.{line_begins}
 use Rattle.stark_answers.proofs.VerdictSteps.{of_some}
 use Rattle.stark_service.proofs.StatementSteps.{same_declared, tree_checked}
@@ -18,10 +18,10 @@ returns-then-width-eq0-clause-finds g c =
     (c.as_finding.ensures ∙ ap (λ v. finding.Verdict v) c.bad_input.ensures)
 
 pub returns-then-width-eq0-clause-kind : goal.returns-then-width-eq0-clause-kind
-returns-then-width-eq0-clause-kind g c = told_is_of_trace _ (line_begins _ _ _ _ _ _) _ _ (statement_view c.args.statement.now) c.args.asked _ _ (returns-then-width-eq0-clause-finds g c)
+returns-then-width-eq0-clause-kind g c = stated_is_of_trace _ (line_begins _ _ _ _ _ _) _ _ (statement_view c.args.statement.now) c.args.asked _ _ (returns-then-width-eq0-clause-finds g c)
 
 pub returns-then-width-eq0-clause-proof : goal.returns-then-width-eq0-clause-proof
-returns-then-width-eq0-clause-proof g c = told_is_file _ (line_begins _ _ _ _ _ _) _ _ (statement_view c.args.statement.now) c.args.asked _ _ (returns-then-width-eq0-clause-finds g c)
+returns-then-width-eq0-clause-proof g c = stated_is_file _ (line_begins _ _ _ _ _ _) _ _ (statement_view c.args.statement.now) c.args.asked _ _ (returns-then-width-eq0-clause-finds g c)
 
 pub answer_with_rows-requires-clause-able : goal.answer_with_rows-requires-clause-able
 answer_with_rows-requires-clause-able g c = record { ready = c.requires.ready; able = c.requires.able }
@@ -44,10 +44,10 @@ returns-in-Ok-Some-clause-finds g c =
     (has_rows_found _ _ most (tree_checked d l) _ (same_declared d l) c.in-Ok-Some.field-0 c.in-Ok-Some.log_rows c.in-Ok-Some.field-0-is c.in-Ok-Some.ensures.height c.in-Ok-Some.ensures.within) c.answer_with_rows.ensures
 
 pub returns-in-Ok-Some-clause-kind : goal.returns-in-Ok-Some-clause-kind
-returns-in-Ok-Some-clause-kind g c = told_is_of_trace _ (line_begins _ _ _ _ _ _) _ _ (statement_view c.args.statement.now) c.args.asked _ _ (returns-in-Ok-Some-clause-finds g c)
+returns-in-Ok-Some-clause-kind g c = stated_is_of_trace _ (line_begins _ _ _ _ _ _) _ _ (statement_view c.args.statement.now) c.args.asked _ _ (returns-in-Ok-Some-clause-finds g c)
 
 pub returns-in-Ok-Some-clause-proof : goal.returns-in-Ok-Some-clause-proof
-returns-in-Ok-Some-clause-proof g c = told_is_file _ (line_begins _ _ _ _ _ _) _ _ (statement_view c.args.statement.now) c.args.asked _ _ (returns-in-Ok-Some-clause-finds g c)
+returns-in-Ok-Some-clause-proof g c = stated_is_file _ (line_begins _ _ _ _ _ _) _ _ (statement_view c.args.statement.now) c.args.asked _ _ (returns-in-Ok-Some-clause-finds g c)
 
 pub returns-in-Ok-None-clause-finds : goal.returns-in-Ok-None-clause-finds
 returns-in-Ok-None-clause-finds g c =
@@ -59,7 +59,7 @@ returns-in-Ok-None-clause-finds g c =
     (c.as_finding-in-Ok-None.ensures ∙ ap (λ v. finding.Verdict v) c.unfit_rows.ensures)
 
 pub returns-in-Ok-None-clause-kind : goal.returns-in-Ok-None-clause-kind
-returns-in-Ok-None-clause-kind g c = told_is_of_trace _ (line_begins _ _ _ _ _ _) _ _ (statement_view c.args.statement.now) c.args.asked _ _ (returns-in-Ok-None-clause-finds g c)
+returns-in-Ok-None-clause-kind g c = stated_is_of_trace _ (line_begins _ _ _ _ _ _) _ _ (statement_view c.args.statement.now) c.args.asked _ _ (returns-in-Ok-None-clause-finds g c)
 
 pub returns-in-Ok-None-clause-proof : goal.returns-in-Ok-None-clause-proof
-returns-in-Ok-None-clause-proof g c = told_is_file _ (line_begins _ _ _ _ _ _) _ _ (statement_view c.args.statement.now) c.args.asked _ _ (returns-in-Ok-None-clause-finds g c)
+returns-in-Ok-None-clause-proof g c = stated_is_file _ (line_begins _ _ _ _ _ _) _ _ (statement_view c.args.statement.now) c.args.asked _ _ (returns-in-Ok-None-clause-finds g c)

@@ -15,5 +15,5 @@ returns-in_default g c =
 pub returns-in-Some : goal.returns-in-Some
 unfolding HasTable
 returns-in-Some g c =
-    let table = some_holds (λ found. HasTable g.F.JsonCodec.reading found (tokens c.args.bytes.now)) c.in_ok-rows.field-0 c.in-Some.rows c.in_ok-rows.ensures c.in-Some.is in
+    let table = some_holds (λ obtained. HasTable g.F.JsonCodec.reading obtained (tokens c.args.bytes.now)) c.in_ok-rows.field-0 c.in-Some.rows c.in_ok-rows.ensures c.in-Some.is in
     (table.0, table_read g.F.JsonCodec.reading c.args.bytes.now table.0 c.in-Ok.ensures.cases.1 table.2, table.1)

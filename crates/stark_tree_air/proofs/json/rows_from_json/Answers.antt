@@ -12,7 +12,7 @@ returns-in-Ok g c =
     let d = view c.args.value.now in
     let rows = lists_of c.in-Some.rows in
     subst (Decodes (λ v. map (λ list. list.items) v.items) c.given_lists.result)
-    (sym (rows_found element rows d _ c.in-Ok.ensures) ∙ ap (λ found. lists_apart element (rows_apart found) d) (sym c.in-Some.is))
+    (sym (rows_found element rows d _ c.in-Ok.ensures) ∙ ap (λ obtained. lists_apart element (rows_apart obtained) d) (sym c.in-Some.is))
     c.given_lists.ensures
 
 pub returns-in-Err : goal.returns-in-Err
@@ -20,4 +20,4 @@ returns-in-Err g c =
     let element = g.F.JsonCodec.reading in
     let d = view c.args.value.now in
     let fault = tree_fault c.in-Err.fault in
-    subst (λ found. IfSome fault (λ f. lists_apart element (rows_apart found) d ≡ Err f)) (sym c.in-Some.is) (rows_missing element (lists_of c.in-Some.rows) d fault c.in-Err.ensures)
+    subst (λ obtained. IfSome fault (λ f. lists_apart element (rows_apart obtained) d ≡ Err f)) (sym c.in-Some.is) (rows_missing element (lists_of c.in-Some.rows) d fault c.in-Err.ensures)

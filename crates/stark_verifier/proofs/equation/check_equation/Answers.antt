@@ -49,7 +49,7 @@ returns g c =
     let shaped = c.requires.shaped in
     let values = c.requires.sampled.are_values in
     record {
-      holds = on_ok _ _ c.check_rows.result (λ _ held. balanced_held trace quotient log_chunks periodic shaped.domains.is_trace shaped.quotient.is_domain shaped.quotient.is_count shaped.extended values held)
+      holds = on_ok _ _ c.check_rows.result (λ _ holding. balanced_held trace quotient log_chunks periodic shaped.domains.is_trace shaped.quotient.is_domain shaped.quotient.is_count shaped.extended values holding)
           (equation_held g.SC.Pcs.Domain.Val.Field.ring g.SC.Challenge.Field.ring g.SC.Challenge.ExtensionField.embed group (g.A.Air.constraints c.args.on.now.air.now) _ rows c.args.point.now.zeta c.args.point.now.alpha _ _ same recomposed c.check_rows.result c.check_rows.ensures.holds);
       fault = on_err _ _ c.check_rows.result (λ _ fault. balanced_fault trace quotient log_chunks periodic shaped.domains.is_trace shaped.quotient.is_domain shaped.quotient.is_count shaped.extended values fault)
           (equation_fault g.SC.Pcs.Domain.Val.Field.ring g.SC.Challenge.Field.ring g.SC.Challenge.ExtensionField.embed group (g.A.Air.constraints c.args.on.now.air.now) _ rows c.args.point.now.zeta c.args.point.now.alpha _ _ same recomposed (shaped_widths shaped periodic) c.check_rows.result c.check_rows.ensures.fault);

@@ -7,4 +7,4 @@ pub returns-then-inside-clause-fault : goal.returns-then-inside-clause-fault
 returns-then-inside-clause-fault g c = in_domain c.if-inside.true
 
 pub returns-in-Err-clause-fault : goal.returns-in-Err-clause-fault
-returns-in-Err-clause-fault g c = in_columns (λ told. false≢true (sym c.if-inside.false ∙ told)) c.in-Err.ensures.fault
+returns-in-Err-clause-fault g c = in_columns (λ stated. false≢true (sym c.if-inside.false ∙ stated)) c.in-Err.ensures.fault

@@ -7,18 +7,18 @@ returns g c =
     let field = g.met.EF.Field in
     let coset = g.D.PolynomialSpace.coset_of c.args.domains.now.trace in
     let lawful = g.met.D.PolynomialSpace.lawful c.args.domains.now.trace in
-    let found = c.vanishing_poly_at_point.ensures in
+    let obtained = c.vanishing_poly_at_point.ensures in
     let value = c.vanishing_poly_at_point.result in
     let zero : c.ZERO.result ≡ g.EF.Field.ring.zero = c.ZERO.ensures ∙ field.zero_is in
     record {
       vanishing = (
-        (λ told. sym found ∙ field.eq_same _ _ (sym c.eq.ensures ∙ told) ∙ zero),
-        (λ e. c.eq.ensures ∙ ap (g.EF.PartialEq.eq value) (sym (found ∙ e ∙ sym zero)) ∙ g.met.EF.Eq.laws.refl value),
+        (λ stated. sym obtained ∙ field.eq_same _ _ (sym c.eq.ensures ∙ stated) ∙ zero),
+        (λ e. c.eq.ensures ∙ ap (g.EF.PartialEq.eq value) (sym (obtained ∙ e ∙ sym zero)) ∙ g.met.EF.Eq.laws.refl value),
       );
       point = (
-        (λ told. point_where_zero field.field_laws g.met.EF.ExtensionField.embeds g.D.Val.TwoAdicField.TWO_ADICITY g.D.Val.TwoAdicField.root g.D.Val.Field.GENERATOR g.met.D.Val.TwoAdicField.two_adic
-            coset lawful c.requires.subgroup c.args.zeta (sym found ∙ field.eq_same _ _ (sym c.eq.ensures ∙ told) ∙ zero)),
-        (λ point. c.eq.ensures ∙ ap (g.EF.PartialEq.eq value) (sym (found ∙ zero_at_point field.field_laws g.met.EF.ExtensionField.embeds g.D.Val.TwoAdicField.TWO_ADICITY g.D.Val.TwoAdicField.root g.D.Val.Field.GENERATOR g.met.D.Val.TwoAdicField.two_adic
+        (λ stated. point_where_zero field.field_laws g.met.EF.ExtensionField.embeds g.D.Val.TwoAdicField.TWO_ADICITY g.D.Val.TwoAdicField.root g.D.Val.Field.GENERATOR g.met.D.Val.TwoAdicField.two_adic
+            coset lawful c.requires.subgroup c.args.zeta (sym obtained ∙ field.eq_same _ _ (sym c.eq.ensures ∙ stated) ∙ zero)),
+        (λ point. c.eq.ensures ∙ ap (g.EF.PartialEq.eq value) (sym (obtained ∙ zero_at_point field.field_laws g.met.EF.ExtensionField.embeds g.D.Val.TwoAdicField.TWO_ADICITY g.D.Val.TwoAdicField.root g.D.Val.Field.GENERATOR g.met.D.Val.TwoAdicField.two_adic
             coset lawful c.requires.subgroup c.args.zeta point ∙ sym zero)) ∙ g.met.EF.Eq.laws.refl value),
       );
     }

@@ -5,7 +5,7 @@ use Rattle.stark_support.specs.Claims.{round_view}
 use Rattle.stark_fri.specs.Parts.{FriOps}
 use Rattle.stark_fri.proofs.Members.{fields_by, sponge_by}
 use Rattle.stark_fri_prover.specs.Commit.{data_seen}
-use Rattle.stark_fri_prover.specs.HonestFactsScheme.{made_is_accepted, stand_alone}
+use Rattle.stark_fri_prover.specs.CompletenessFactsScheme.{made_is_accepted, stand_alone}
 use Rattle.stark_fri_prover.specs.OwnClaims.{opened_rounds, points_in}
 use Rattle.stark_fri_prover.proofs.MadeSteps.{refused_again}
 use Rattle.stark_fri_prover.proofs.PairSteps.{true_openings}

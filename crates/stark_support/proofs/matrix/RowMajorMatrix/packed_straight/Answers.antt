@@ -51,4 +51,4 @@ loop-lane-preserved g c =
     )
 
 pub returns : goal.returns
-returns g c i below = let found = c.loop-lane.invariant.1 i (omega (arith, below, c.WIDTH-lane-end.ensures, c.loop-lane-test.false)) in found.2 ∙ sym found.1
+returns g c i below = let obtained = c.loop-lane.invariant.1 i (omega (arith, below, c.WIDTH-lane-end.ensures, c.loop-lane-test.false)) in obtained.2 ∙ sym obtained.1

@@ -14,8 +14,8 @@ use Rattle.stark_support.specs.Ring.{FieldLaws}
 use Rattle.stark_support.specs.TwoAdic.{TwoAdicLaws}
 use Rattle.stark_folding.specs.Fold.{folded, squared_coset}
 use Rattle.stark_folding.specs.FoldFacts.{squares_valid}
-use Rattle.stark_folding.specs.Walk.{folded_all, half_size, honest_steps, last_coset, last_place, next_value, opposite_place, walked}
-use Rattle.stark_folding.specs.WalkFacts.{honest_walk}
+use Rattle.stark_folding.specs.Walk.{folded_all, half_size, steps_of_layers, last_coset, last_place, next_value, opposite_place, walked}
+use Rattle.stark_folding.specs.WalkFacts.{walk_of_layers}
 use Rattle.stark_merkle.specs.Bytes.{pair_bytes_of}
 use Rattle.stark_merkle.specs.Tree.{HasPath, IsPathIn, digests_in, layers_from, leaf_of, node_of, top_of}
 use Rattle.stark_merkle.specs.TreeFacts.{full_has_path, own_row_leads}
@@ -25,7 +25,7 @@ use Rattle.stark_fri.specs.Query.{PairLeads, extension_root, next_at, pair_at, p
 use Rattle.stark_fri_proof.specs.Paths.{digests_of}
 use Rattle.stark_fri_proof.specs.declared.proof.LayerOpening.{LayerOpening}
 use Rattle.stark_fri_proof.specs.declared.proof.Phase.{Phase}
-use Rattle.stark_fri_prover.specs.Honest.{AreWordsOf}
+use Rattle.stark_fri_prover.specs.Batching.{AreWordsOf}
 use Rattle.stark_fri_prover.specs.Layers.{AreLayersOf, HavePlaces, IsPairTree, OpenWay, OpensPair, OpensPlace, half_of, pair_leaf, pair_leaves_of, pair_of, pair_place}
 use Rattle.stark_fri_prover.specs.declared.layers.Layer.{Layer}
 
@@ -117,9 +117,9 @@ module _ {F E : Type 0} (fields : FriFields F E) where
       )
 
   -- Each pair that is opened on the way of value v at place i leads to its tree's root, and the values are those of an honest walk.
-  pub record LeadsHonestly (hash : List ℕ → List ℕ) (c : TwoAdicCoset E) (betas p : List E) (i : ℕ) (v : E) (trees : List (List ℕ)) (opened : List (LayerOpening E)) : Type 0 where
+  pub record LeadsToRoots (hash : List ℕ → List ℕ) (c : TwoAdicCoset E) (betas p : List E) (i : ℕ) (v : E) (trees : List (List ℕ)) (opened : List (LayerOpening E)) : Type 0 where
     pub pairs : AllByRecursion (PairLeads hash) (pairs_of fields c i v trees betas opened)
-    pub steps : zip betas (map (λ layer. layer.sibling) opened) ≡ honest_steps fields.ring (extension_root fields) c i p betas
+    pub steps : zip betas (map (λ layer. layer.sibling) opened) ≡ steps_of_layers fields.ring (extension_root fields) c i p betas
     pub number : length opened ≡ length betas
 
 -- ---- one layer
@@ -215,15 +215,15 @@ module _ {F E : Type 0} (fields : FriFields F E) (number_of : F → ℕ) (coordi
         → next_value fields.ring fields.inverse (extension_root fields) c beta i (value fields.ring p (coset_point fields.ring (extension_root fields) c i))
         (value fields.ring p (coset_point fields.ring (extension_root fields) c (opposite_place c i)))
         ≡ value fields.ring (folded fields.ring beta p) (coset_point fields.ring (extension_root fields) (squared_coset fields.ring c) (i % half_size c))
-    unfolding walked honest_steps folded_all last_coset last_place
+    unfolding walked steps_of_layers folded_all last_coset last_place
     next_is_folded c valid some beta p i below =
-        honest_walk laws fields.adicity (extension_root fields) (fields.embed fields.generator) two_adic c valid (beta ∷ []) some p i below
+        walk_of_layers laws fields.adicity (extension_root fields) (fields.embed fields.generator) two_adic c valid (beta ∷ []) some p i below
 
     pub way_leads : (c : TwoAdicCoset E) → Valid c → (betas p : List E) (layers : List (Layer E)) (phases : List (Phase F)) (opened : List (LayerOpening E)) (i : ℕ) (v : E)
         → length betas ≤ c.log_size → i < coset_size c → v ≡ value fields.ring p (coset_point fields.ring (extension_root fields) c i)
         → AreWordsOf fields.ring (extension_root fields) c betas p layers → Trees c.log_size phases layers → OpenWay layers i opened
-        → LeadsHonestly fields hash c betas p i v (map phase_root phases) opened
-    unfolding AreWordsOf AreLayersOf OpenWay pairs_of honest_steps
+        → LeadsToRoots fields hash c betas p i v (map phase_root phases) opened
+    unfolding AreWordsOf AreLayersOf OpenWay pairs_of steps_of_layers
     way_leads c valid [] p [] [] [] i v few below is words trees way = record { pairs = tt; steps = refl; number = refl }
     way_leads c valid [] p [] [] (opening ∷ opened) i v few below is words trees way = absurd way
     way_leads c valid [] p [] (phase ∷ phases) opened i v few below is words trees way = absurd trees

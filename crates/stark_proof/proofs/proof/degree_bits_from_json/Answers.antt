@@ -1,6 +1,6 @@
 use Rattle.std.proofs.Common.{arith}
 use Rattle.std.proofs.lemmas.Grind.{common_steps}
-use Rattle.stark_proof.proofs.whole.degree_bits_from_json.Goals as goal
+use Rattle.stark_proof.proofs.proof.degree_bits_from_json.Goals as goal
 
 pub returns-in-Some : goal.returns-in-Some
 returns-in-Some c = grind (arith, common_steps)

@@ -1,4 +1,4 @@
-//! Whole proofs as bytes.
+//! Proofs as the bytes of a file: a text that says what they are, the parts, and nothing behind.
 ghost use Rattle.std.specs.Prelude.{◌≡◌, IfOk, Ok};
 ghost use Rattle.stark_proof.specs.ProofView.{proof_view};
 ghost use Rattle.stark_proof_bytes.specs.Bytes.{AreBytes};

@@ -28,7 +28,7 @@ use Rattle.stark_fri_prover.specs.Commit.{AreLayersOver, IsRootOver, row_of}
 use Rattle.stark_fri_prover.specs.Folds.{AreFolds, IsWitness}
 use Rattle.stark_fri_prover.specs.Layers.{AreLayersOf, OpensEach, OpensWay}
 use Rattle.stark_fri_prover.specs.declared.layers.Layer.{Layer}
-use Rattle.stark_fri_prover.specs.Honest.{AreWordsOf, IsBatch}
+use Rattle.stark_fri_prover.specs.Batching.{AreWordsOf, IsBatch}
 
 -- The base field and the extension are fields, the one inside the other, the base has its roots of one, and rows and pairs are
 -- written by the numbers of their elements.
@@ -101,7 +101,7 @@ module _ {C F E : Type 0} (ops : FriOps C F E) (number_of : F → ℕ) (coordina
 
   -- The proof is an honest prover's: it batches the claims, folds the batch, and opens layers and rounds at the places that are drawn
   -- behind the work.
-  pub record IsHonest : Type 0 where
+  pub record IsOpening : Type 0 where
     pub claims : ClaimsFit ops.fields s (own_rounds ops rounds)
     pub extended : AllByRecursion (IsExtendedRound ops.fields bits) rounds
     pub polynomial : List E

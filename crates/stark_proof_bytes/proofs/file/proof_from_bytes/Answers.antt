@@ -1,6 +1,6 @@
 use Rattle.stark_proof.specs.ProofView.{proof_view}
 use Rattle.stark_proof_bytes.specs.ProofBytes.{ProofCodecsLaws, codecs, read_is_written}
-use Rattle.stark_proof_bytes.proofs.whole.proof_from_bytes.Goals as goal
+use Rattle.stark_proof_bytes.proofs.file.proof_from_bytes.Goals as goal
 
 pub returns-clause-canonical : goal.returns-clause-canonical
 returns-clause-canonical g c =

@@ -4,7 +4,7 @@ use Rattle.stark_fri.specs.Parts.{FriFields}
 use Rattle.stark_fri.specs.Query.{QueryHolds}
 use Rattle.stark_fri.specs.Replayed.{target_of}
 use Rattle.stark_fri.proofs.Members.{fields_by}
-use Rattle.stark_fri.proofs.fours.held_by_fours.Given as goal
+use Rattle.stark_fri.proofs.fours.accepted_by_fours.Given as goal
 
 abbrev pub fields_of : (g : goal.Over) → FriFields g.row.D-Val.Denot g.row.EF.Denot
 fields_of g = fields_by g.D.Val.TwoAdicField g.D.Val.Field g.D.Val.PrimeField64 g.EF.Field g.EF.ExtensionField

@@ -30,7 +30,7 @@ related_with P R S follows [] (y ∷ ys) each all = absurd all
 related_with P R S follows (x ∷ xs) [] each all = absurd all
 related_with P R S follows (x ∷ xs) (y ∷ ys) each all = (follows x y each.0 all.0, related_with P R S follows xs ys each.1 all.1)
 
--- The same of what stands for the elements of the first.
+-- Lists stay related where something stands for the elements of the first.
 pub related_mapped : {A B D : Type 0} (f : A → D) (R : D → B → Type 0) (xs : List A) (ys : List B) → PlaceByPlace (λ x y. R (f x) y) xs ys → PlaceByPlace R (map f xs) ys
 unfolding PlaceByPlace
 related_mapped f R [] [] all = tt

@@ -32,7 +32,7 @@ use Rattle.stark_security.specs.BadValues.{ColumnsFit, Satisfies}
 use Rattle.stark_quotient.specs.PointwiseQuotient.{RowsOnCoset, pointwise_quotient}
 use Rattle.stark_quotient.specs.QuotientOfColumns.{AreValuesOfColumns, embedded_rows, quotient_of_columns}
 use Rattle.stark_security.specs.SameLeaves.{same_constraints}
-use Rattle.stark_completeness.specs.HonestQuotient.{AreLawful, AreRowsOfColumns, AreProofSizes, FitCommitted, AreChunksOfQuotient}
+use Rattle.stark_completeness.specs.CommittedQuotient.{AreLawful, AreRowsOfColumns, AreProofSizes, FitCommitted, AreChunksOfQuotient}
 use Rattle.stark_parts.specs.SizingLaw.{HasSmallBound}
 use Rattle.stark_completeness.specs.TrueOpenings.{AreTrueOpenings, air_over, columns_above}
 use Rattle.stark_completeness.proofs.ChunkPolynomials.{committed_recomposes}
@@ -166,10 +166,10 @@ module _ {F E : Type 0} (fields : FieldsOps F E) (coordinates : E → List F) (l
         ap (fields.ring.mul (subgroup_vanishing fields.ring (2 ^ log_size) zeta)) (sym (ap over true_values.quotient ∙ recomposed zeta))
 
     -- The verifier's equation holds, at each zeta.
-    pub honest_equation : EquationHolds fields.base fields.ring fields.embed (subgroup_of fields.inverse fields.embed fields.root (trace_coset fields.base is_zk degree_bits)) constraints
+    pub equation_of_trace : EquationHolds fields.base fields.ring fields.embed (subgroup_of fields.inverse fields.embed fields.root (trace_coset fields.base is_zk degree_bits)) constraints
         (rows_of fields.ring.zero l.main l.preprocessed opened (periodic_values fields periodic (log_height is_zk degree_bits) zeta) public_values) zeta alpha
         (quotient_value fields degree_bits log_parts is_zk opened.quotient_chunks zeta)
-    honest_equation =
+    equation_of_trace =
         subst (λ (k : ℕ). EquationHolds fields.base fields.ring fields.embed (subgroup_of fields.inverse fields.embed fields.root (natural_coset fields.base k)) constraints
         (rows_of fields.ring.zero l.main l.preprocessed opened (periodic_values fields periodic k zeta) public_values) zeta alpha
         (recomposition fields.ring fields.ring (λ c. c) fields.inverse (2 ^ k) fields.basis (chunk_shifts fields.base fields.root fields.embed domain (log_parts + zk_bits is_zk)) opened.quotient_chunks zeta))

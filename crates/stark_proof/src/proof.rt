@@ -1,4 +1,4 @@
-//! Whole proofs in JSON.
+//! Proofs in JSON.
 ghost use Rattle.std.specs.Prelude.{◌≡◌, IfOk};
 ghost use Rattle.serde_json.specs.Data.{number, unsigned};
 ghost use Rattle.serde_json.specs.View.{members_view, view};

@@ -21,12 +21,12 @@ use Rattle.stark_protocol.specs.declared.preprocessed.PreprocessedProverData.{Pr
 use Rattle.stark_protocol.specs.declared.preprocessed.PreprocessedVerifierKey.{PreprocessedVerifierKey}
 use Rattle.stark_protocol.specs.AcceptanceFacts.{not_found, same_drawn}
 use Rattle.stark_security.specs.BadValues.{Satisfies}
-use Rattle.stark_completeness.specs.HonestQuotient.{AreLawful}
+use Rattle.stark_completeness.specs.CommittedQuotient.{AreLawful}
 use Rattle.stark_completeness.specs.RowSatisfaction.{HoldsInEachRow, TraceRows}
 use Rattle.stark_parts.specs.SizingLaw.{HasSmallBound}
 use Rattle.stark_completeness.specs.TrueOpenings.{AreTrueOpenings, columns_above}
-use Rattle.stark_completeness.proofs.HonestBalance.{honest_is_balanced, satisfied_by_trace}
-use Rattle.stark_completeness.proofs.HonestEquation.{own_height}
+use Rattle.stark_completeness.proofs.BalanceOfTrace.{trace_is_balanced, satisfied_by_trace}
+use Rattle.stark_completeness.proofs.EquationOfTrace.{own_height}
 use Rattle.stark_prover.specs.Acceptable.{IsAcceptable, accepted_outside}
 use Rattle.stark_prover.specs.CommittedColumns.{IsPreprocessedCommitment, StandsForColumns}
 use Rattle.stark_prover.specs.ProofOfTrace.{IsProofOfTrace, air_of, key_of, quotient_rows, row_if, true_openings, values_at}
@@ -92,7 +92,7 @@ module _ {S F E C K T P X Y : Type 0} (ops : ProtocolOps S F E C K T P X Y) (i :
       → IsBalanced ops i p made.alpha made.zeta
   proof_of_trace_is_balanced lawful laws leaves declared_preprocessed declared same_height satisfied small =
       let fields = ops.opening.fields in
-      honest_is_balanced ops i p coordinates lawful leaves declared_preprocessed declared height (record { committed = made.degree_bits; within = in_group (log_parts ops i p) (zk_bits ops.opening.is_zk) p.degree_bits fields.adicity _ made.sized }) made.columns preprocessed
+      trace_is_balanced ops i p coordinates lawful leaves declared_preprocessed declared height (record { committed = made.degree_bits; within = in_group (log_parts ops i p) (zk_bits ops.opening.is_zk) p.degree_bits fields.adicity _ made.sized }) made.columns preprocessed
       (record {
         main_degrees = stood_for laws i.scheme fields.base p.degree_bits made.columns p.commitments.trace made.trace_data made.committed.stands;
         preprocessed_degrees = preprocessed_fit laws i.scheme fields.base p.degree_bits preprocessed preprocessed_data made.preprocessed same_height;

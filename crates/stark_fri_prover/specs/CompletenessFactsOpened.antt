@@ -23,7 +23,7 @@ use Rattle.stark_fri.specs.Parts.{FriDataView, FriFields}
 use Rattle.stark_fri.specs.Query.{InputFits, RowFits, batched_at, extension_coset, extension_root, rows_seen, seen_at, seen_at_points, seen_of}
 use Rattle.stark_fri.specs.Scheme.{extension_of}
 use Rattle.stark_fri_proof.specs.Parts.{InputOpening}
-use Rattle.stark_fri_prover.specs.Honest.{opened_at, opened_in, opened_in_matrix, opened_in_round}
+use Rattle.stark_fri_prover.specs.Batching.{opened_at, opened_in, opened_in_matrix, opened_in_round}
 
 module _ {F E : Type 0} (fields : FriFields F E) (embeds : IsEmbedding fields.base fields.ring fields.embed) where
   -- A point of the extended rows' coset, in the extension.

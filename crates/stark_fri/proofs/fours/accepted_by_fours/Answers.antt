@@ -4,9 +4,9 @@ use Rattle.std.proofs.lemmas.Slice.Zip.{length-zip}
 use Rattle.stark_fri_proof.specs.Parts.{QueryProof}
 use Rattle.stark_fri.specs.Query.{QueryHolds}
 use Rattle.stark_fri.specs.Replayed.{target_of}
-use Rattle.stark_fri.proofs.FourSteps.{held_more}
-use Rattle.stark_fri.proofs.fours.held_by_fours.Invariants.{fields_of}
-use Rattle.stark_fri.proofs.fours.held_by_fours.Goals as goal
+use Rattle.stark_fri.proofs.FourSteps.{accepted_more}
+use Rattle.stark_fri.proofs.fours.accepted_by_fours.Invariants.{fields_of}
+use Rattle.stark_fri.proofs.fours.accepted_by_fours.Goals as goal
 
 pub returns-then-not-branch : goal.returns-then-not-branch
 returns-then-not-branch g c =
@@ -31,7 +31,7 @@ loop-group-preserved g c =
     let four : of 4 places queries
     = subst (λ n. of n places queries) size
     (subst (of (at + 4 - at) places) c.queries-queries.ensures (subst (λ t. of (at + 4 - at) t c.queries-queries.result.now) c.deref.ensures.value (c.in_ok-four_hold.ensures c.if-not-branch.false))) in
-    subst (λ n. AllByRecursion holds (take n (zip places queries))) next (held_more holds places queries at 4 c.loop-group.invariant four)
+    subst (λ n. AllByRecursion holds (take n (zip places queries))) next (accepted_more holds places queries at 4 c.loop-group.invariant four)
 
 pub returns : goal.returns
 returns g c =

@@ -23,8 +23,8 @@ use Rattle.stark_fri_proof.specs.Paths.{digests_of}
 use Rattle.stark_fri_proof.specs.declared.parameters.FriParameters.{FriParameters}
 use Rattle.stark_fri_prover.specs.Commit.{AreLayersOver, HaveRow, leaf_at, leaves_of, row_of}
 use Rattle.stark_fri_prover.specs.CommitFacts.{have_rows, same_leaves}
-use Rattle.stark_fri_prover.specs.HonestOpening.{AreOfHeight, IsExtendedRound, IsKeptRound, OpensQuery, OpensRound, seen_round, seen_rounds}
-use Rattle.stark_fri_prover.specs.HonestFactsLists.{related_mapped, related_with}
+use Rattle.stark_fri_prover.specs.MadeOpening.{AreOfHeight, IsExtendedRound, IsKeptRound, OpensQuery, OpensRound, seen_round, seen_rounds}
+use Rattle.stark_fri_prover.specs.CompletenessFactsLists.{related_mapped, related_with}
 use Rattle.stark_fri_prover.specs.Layers.{OpensAt, OpensEach, OpensRow, OpensRows}
 use Rattle.stark_fri_prover.specs.declared.layers.Layer.{Layer}
 
@@ -59,7 +59,7 @@ module _ {F E : Type 0} (fields : FriFields F E) (bits : ℕ) (hash : List ℕ �
         );
       }
 
-  -- The same of rounds in memory, whose data are seen so.
+  -- What is kept of rounds in memory, whose data are seen so.
   module _ {T X : Type 0} (data_of : T → FriDataView F) (layers_of : T → List (List (List ℕ))) (points_of : X → List (List E)) where
     abbrev pub IsKeptInMemory : Bor T × X → Type 0
     IsKeptInMemory round = IsKeptRound fields bits hash number_of (layers_of round.0.now) (seen_round data_of points_of round)

@@ -43,6 +43,6 @@ module _ {S F E C K T P X Y : Type 0} (ops : ProtocolOps S F E C K T P X Y) (i :
 
 -- With the key that is set up beside what the prover holds, and where the trace satisfies the AIR, the proof is accepted, unless
 -- zeta lies in H.
-abbrev pub IsAcceptedIfHonest : {S F E C K T P X Y : Type 0} → ProtocolOps S F E C K T P X Y → (Option (PreprocessedVerifierKey K) → Instance S F C K) → Option (Trace F) → Option (PreprocessedProverData K T) → ℕ → Trace F → ProofView K E P F → Type 0
-IsAcceptedIfHonest {K = K} ops i declared preprocessed_data height trace p = (key : Option (PreprocessedVerifierKey K)) → AreSetUp ops.opening (i key).scheme height declared preprocessed_data key
+abbrev pub IsAcceptedIfSatisfied : {S F E C K T P X Y : Type 0} → ProtocolOps S F E C K T P X Y → (Option (PreprocessedVerifierKey K) → Instance S F C K) → Option (Trace F) → Option (PreprocessedProverData K T) → ℕ → Trace F → ProofView K E P F → Type 0
+IsAcceptedIfSatisfied {K = K} ops i declared preprocessed_data height trace p = (key : Option (PreprocessedVerifierKey K)) → AreSetUp ops.opening (i key).scheme height declared preprocessed_data key
     → IsSatisfied ops (i key) height declared trace → HasSizedDegrees ops (i key) height → IsAcceptedOutside ops (i key) p

@@ -1,4 +1,4 @@
--- A prover's answer is accepted where its trace is honest.
+-- A prover's answer is accepted where its trace satisfies the AIR.
 use Rattle.std.proofs.Common.{◌≡◌, ◌∙◌, ap, arith, refl, sym, subst, ℕ, ◌+◌, ◌*◌, ◌≤◌, false, List, [], drop, Option, None, Some, option_map}
 use Rattle.std.specs.Prelude.{◌⊎◌, IfErr, IfOk, IfSome, Result, Ok, Err, take}
 use Rattle.std.proofs.lemmas.Bool.{ltb-false}
@@ -8,7 +8,7 @@ use Rattle.stark_support.specs.Ring.{RingOps}
 use Rattle.stark_support.specs.Scheme.{SchemeLaws, TakesRows, matrix_row, natural_coset, zk_bits}
 use Rattle.stark_air.specs.Declaration.{IsDeclared, Trace}
 use Rattle.stark_air.specs.Layout.{LeavesWithin}
-use Rattle.stark_completeness.specs.HonestQuotient.{AreLawful}
+use Rattle.stark_completeness.specs.CommittedQuotient.{AreLawful}
 use Rattle.stark_transcript.specs.declared.error.ProvingError.{ProvingError}
 use Rattle.stark_proof.specs.ProofView.{ProofView}
 use Rattle.stark_protocol.specs.Acceptance.{IsPointOfH, log_parts}
@@ -22,11 +22,11 @@ use Rattle.stark_parts.specs.SizingLaw.{HasSmallBound}
 use Rattle.stark_quotient.specs.PointwiseQuotient.{matrix_or_empty}
 use Rattle.stark_prover.specs.Acceptable.{IsAcceptable}
 use Rattle.stark_prover.specs.CommittedColumns.{IsPreprocessedCommitment}
-use Rattle.stark_prover.specs.Honest.{AreSetUp, HasSizedDegrees, IsAcceptedIfHonest, IsAcceptedOutside, IsSatisfied, declared_row}
+use Rattle.stark_prover.specs.Completeness.{AreSetUp, HasSizedDegrees, IsAcceptedIfSatisfied, IsAcceptedOutside, IsSatisfied, declared_row}
 use Rattle.stark_prover.specs.ProofOfTrace.{IsProofOfTrace, key_of}
 use Rattle.stark_prover.specs.ProverFault.{ProverFault}
 use Rattle.stark_prover.specs.SetUpFacts.{key_of_set_up, stands_for_set_up}
-use Rattle.stark_prover.proofs.HonestSteps.{accepted_of_balanced, proof_of_trace_is_balanced, satisfied_in_each_row}
+use Rattle.stark_prover.proofs.CompletenessSteps.{accepted_of_balanced, proof_of_trace_is_balanced, satisfied_in_each_row}
 
 -- No columns take the rows of a trace without columns.
 no_columns : {F : Type 0} (base : RingOps F) (root : ℕ → F) (coset : TwoAdicCoset F) (values : List F) (width : ℕ) → width ≡ 0 → TakesRows base root coset width (matrix_row values width) []
@@ -74,26 +74,26 @@ module _ {S F E C K T P X Y : Type 0} (ops : ProtocolOps S F E C K T P X Y) (i :
       (subst (λ n. HasSmallBound own.constraints log_height n (log_parts ops own p)) (sym made.degree_bits) sized))
 
   at_own_height : {p : ProofView K E P F} → ((preprocessed : List (List F)) → IsPreprocessedCommitment ops.opening.scheme own.scheme ops.opening.fields.base preprocessed preprocessed_data → IsProofOfTrace ops own coordinates preprocessed_data log_height trace preprocessed p) → IsAcceptable ops own p
-      → IsAcceptedIfHonest ops i declared preprocessed_data log_height trace p
+      → IsAcceptedIfSatisfied ops i declared preprocessed_data log_height trace p
   at_own_height {p = p} made acceptable = λ key set.
       let of = of_set_up ops.opening (i key).scheme log_height declared preprocessed_data key set in
       subst (λ (k : Option (PreprocessedVerifierKey K)). IsSatisfied ops (i k) log_height declared trace → HasSizedDegrees ops (i k) log_height → IsAcceptedOutside ops (i k) p) (sym of.same_key)
       (with_own_key of.preprocessed of.takes (made of.preprocessed (subst (λ s. IsPreprocessedCommitment ops.opening.scheme s ops.opening.fields.base of.preprocessed preprocessed_data) (same_scheme key) of.stands)) acceptable)
 
   -- Where the answer is a proof, and for each height that the trace has.
-  pub answer_honest : {R : Type 0} (view : R → ProofView K E P F) (IsHeight Least IsComplete : ℕ → Type 0) → ((height : ℕ) → IsHeight height → log_height ≡ height) → (r : Result R (ProvingError Y))
+  pub answer_accepted : {R : Type 0} (view : R → ProofView K E P F) (IsHeight Least IsComplete : ℕ → Type 0) → ((height : ℕ) → IsHeight height → log_height ≡ height) → (r : Result R (ProvingError Y))
       → IfOk r (λ proof. (preprocessed : List (List F)) → IsPreprocessedCommitment ops.opening.scheme own.scheme ops.opening.fields.base preprocessed preprocessed_data → IsProofOfTrace ops own coordinates preprocessed_data log_height trace preprocessed (view proof))
       → IfOk r (λ proof. (height : ℕ) → IsHeight height → Least height → IsComplete height → IsAcceptable ops own (view proof))
-      → IfOk r (λ proof. (height : ℕ) → IsHeight height → Least height → IsComplete height → IsAcceptedIfHonest ops i declared preprocessed_data height trace (view proof))
-  answer_honest view IsHeight Least IsComplete known (Ok proof) made acceptable = λ height is_height least complete.
-      subst (λ n. IsAcceptedIfHonest ops i declared preprocessed_data n trace (view proof)) (known height is_height) (at_own_height made (acceptable height is_height least complete))
-  answer_honest view IsHeight Least IsComplete known (Err error) made acceptable = tt
+      → IfOk r (λ proof. (height : ℕ) → IsHeight height → Least height → IsComplete height → IsAcceptedIfSatisfied ops i declared preprocessed_data height trace (view proof))
+  answer_accepted view IsHeight Least IsComplete known (Ok proof) made acceptable = λ height is_height least complete.
+      subst (λ n. IsAcceptedIfSatisfied ops i declared preprocessed_data n trace (view proof)) (known height is_height) (at_own_height made (acceptable height is_height least complete))
+  answer_accepted view IsHeight Least IsComplete known (Err error) made acceptable = tt
 
 -- ---- at each height that a trace has
 
-pub degree_at : {K T : Type 0} (preprocessed_data : Option (PreprocessedProverData K T)) (zk log_height : ℕ) (IsHeight : ℕ → Type 0) → ((height : ℕ) → IsHeight height → log_height ≡ height) → (found : ℕ) → IsHeight found → IfSome preprocessed_data (λ h. h.degree_bits ≡ found + zk)
+pub degree_at : {K T : Type 0} (preprocessed_data : Option (PreprocessedProverData K T)) (zk log_height : ℕ) (IsHeight : ℕ → Type 0) → ((height : ℕ) → IsHeight height → log_height ≡ height) → (obtained : ℕ) → IsHeight obtained → IfSome preprocessed_data (λ h. h.degree_bits ≡ obtained + zk)
     → (height : ℕ) → log_height ≡ height → IfSome preprocessed_data (λ h. h.degree_bits ≡ height + zk)
-degree_at preprocessed_data zk log_height IsHeight known found is_found degree = λ height same. subst (λ n. IfSome preprocessed_data (λ h. h.degree_bits ≡ n + zk)) (sym (known found is_found) ∙ same) degree
+degree_at preprocessed_data zk log_height IsHeight known obtained is_found degree = λ height same. subst (λ n. IfSome preprocessed_data (λ h. h.degree_bits ≡ n + zk)) (sym (known obtained is_found) ∙ same) degree
 
 pub fault_at_heights : {S F E C K T P X Y : Type 0} (ops : ProtocolOps S F E C K T P X Y) (i : Instance S F C K) (coordinates : E → List F) (preprocessed_data : Option (PreprocessedProverData K T)) (log_height : ℕ) (trace : Trace F)
     (IsHeight : ℕ → Type 0) → ((height : ℕ) → IsHeight height → log_height ≡ height) → {R : Type 0} (r : Result R (ProvingError Y))

@@ -17,11 +17,11 @@ use Rattle.stark_protocol.specs.Sizes.{quotient_coset}
 use Rattle.stark_security.specs.BadValues.{Satisfies}
 use Rattle.stark_quotient.specs.PointwiseQuotient.{RowsOnCoset}
 use Rattle.stark_quotient.specs.QuotientOfColumns.{AreValuesOfColumns, embedded_rows}
-use Rattle.stark_completeness.specs.HonestQuotient.{AreLawful, AreRowsOfColumns, AreProofSizes, FitCommitted, AreChunksOfQuotient}
+use Rattle.stark_completeness.specs.CommittedQuotient.{AreLawful, AreRowsOfColumns, AreProofSizes, FitCommitted, AreChunksOfQuotient}
 use Rattle.stark_completeness.specs.RowSatisfaction.{TraceRows, HoldsInEachRow, IsSatisfiedByRows, rows_on_group}
 use Rattle.stark_parts.specs.SizingLaw.{HasSmallBound}
 use Rattle.stark_completeness.specs.TrueOpenings.{AreTrueOpenings, air_over, columns_above}
-use Rattle.stark_completeness.proofs.HonestEquation.{honest_equation, own_height}
+use Rattle.stark_completeness.proofs.EquationOfTrace.{equation_of_trace, own_height}
 use Rattle.stark_completeness.proofs.RowSatisfactionSteps.{satisfied_by_rows, rows_of_satisfied}
 
 -- ---- satisfaction
@@ -64,7 +64,7 @@ row_by_row fields coordinates lawful constraints periodic log_size l leaves with
 -- ---- the verifier's equation
 
 -- The equation holds at each zeta at which the opened values are true.
-pub honest_is_balanced : {S F E C K T P X Y : Type 0} (ops : ProtocolOps S F E C K T P X Y) (i : Instance S F C K) (p : ProofView K E P F) (coordinates : E → List F) → AreLawful ops.opening.fields coordinates
+pub trace_is_balanced : {S F E C K T P X Y : Type 0} (ops : ProtocolOps S F E C K T P X Y) (i : Instance S F C K) (p : ProofView K E P F) (coordinates : E → List F) → AreLawful ops.opening.fields coordinates
     → LeavesWithin i.layout i.constraints → (declared_preprocessed : Option (Trace F)) → IsDeclared i.layout declared_preprocessed i.periodic_columns i.main_next_columns i.preprocessed_next_columns
     → (height : ℕ) → AreProofSizes ops.opening.fields.adicity ops.opening.is_zk height p.degree_bits (log_parts ops i p)
     → (main preprocessed : List (List F)) → FitCommitted p.degree_bits main preprocessed
@@ -76,11 +76,11 @@ pub honest_is_balanced : {S F E C K T P X Y : Type 0} (ops : ProtocolOps S F E C
     → AreChunksOfQuotient ops.opening.fields coordinates (air_over ops.opening.fields i.constraints i.periodic_columns height) ops.opening.is_zk p.degree_bits (log_parts ops i p) rows alpha chunks
     → (zeta : E) → AreTrueOpenings ops.opening.fields ops.opening.is_zk i.main_next_columns i.preprocessed_next_columns main preprocessed chunks zeta (next_point ops.opening p.degree_bits zeta) p.opened_values
     → IsBalanced ops i p alpha zeta
-honest_is_balanced ops i p coordinates lawful leaves declared_preprocessed declared height sizes main preprocessed fit satisfied small rows are_rows alpha chunks committed zeta opened =
+trace_is_balanced ops i p coordinates lawful leaves declared_preprocessed declared height sizes main preprocessed fit satisfied small rows are_rows alpha chunks committed zeta opened =
     let fields = ops.opening.fields in
     let is_zk = ops.opening.is_zk in
     record {
-      equation = honest_equation fields coordinates lawful i.constraints i.periodic_columns i.layout leaves is_zk height p.degree_bits (log_parts ops i p) sizes main preprocessed i.public_values fit satisfied small rows are_rows alpha chunks committed
+      equation = equation_of_trace fields coordinates lawful i.constraints i.periodic_columns i.layout leaves is_zk height p.degree_bits (log_parts ops i p) sizes main preprocessed i.public_values fit satisfied small rows are_rows alpha chunks committed
           declared_preprocessed i.main_next_columns i.preprocessed_next_columns declared zeta p.opened_values
           (subst (λ k. AreTrueOpenings fields is_zk i.main_next_columns i.preprocessed_next_columns main preprocessed chunks zeta (fields.ring.mul (fields.embed (fields.root k)) zeta) p.opened_values)
           (sym (own_height is_zk height p.degree_bits sizes.committed)) opened);

@@ -18,10 +18,10 @@ use Rattle.stark_fri.specs.SchemeFacts.{fri_laws, own_is_true}
 use Rattle.stark_fri.specs.Transcript.{places_from}
 use Rattle.stark_fri_proof.specs.Parts.{FriProofView}
 use Rattle.stark_fri_proof.specs.declared.parameters.FriParameters.{FriParameters}
-use Rattle.stark_fri_prover.specs.HonestOpening.{AreLawful, HaveDegreesBelow, IsHonest, IsKeptRound, IsMade, kept_scheme, own_bits, own_height, seen_round, seen_rounds}
-use Rattle.stark_fri_prover.specs.HonestFacts.{honest_is_accepted}
-use Rattle.stark_fri_prover.specs.HonestFactsLengths.{places_below}
-use Rattle.stark_fri_prover.specs.HonestFactsTrees.{extended_rounds, queries_lead, stands_is_kept}
+use Rattle.stark_fri_prover.specs.MadeOpening.{AreLawful, HaveDegreesBelow, IsOpening, IsKeptRound, IsMade, kept_scheme, own_bits, own_height, seen_round, seen_rounds}
+use Rattle.stark_fri_prover.specs.CompletenessFacts.{opening_is_accepted}
+use Rattle.stark_fri_prover.specs.CompletenessFactsLengths.{places_below}
+use Rattle.stark_fri_prover.specs.CompletenessFactsTrees.{extended_rounds, queries_lead, stands_is_kept}
 
 -- ---- what is made of rounds in memory
 
@@ -34,10 +34,10 @@ module _ {C F E T X : Type 0} (ops : FriOps C F E) (number_of : F → ℕ) (coor
   abbrev bits : ℕ
   bits = own_bits ops s seen start proof
 
-  -- What is made of kept rounds, of columns of a degree below their height, is honest.
-  pub made_is_honest : AllByRecursion (λ (round : Bor T × X). IsKeptRound ops.fields bits ops.hash number_of (layers_of round.0.now) (seen_round data_of points_of round)) rounds
-      → HaveDegreesBelow (2 ^ own_height ops s seen start proof) seen → IsHonest ops number_of coordinates s seen start proof
-  made_is_honest kept degrees = record {
+  -- What is made of kept rounds, of columns of a degree below their height, is an opening of them.
+  pub made_is_opening : AllByRecursion (λ (round : Bor T × X). IsKeptRound ops.fields bits ops.hash number_of (layers_of round.0.now) (seen_round data_of points_of round)) rounds
+      → HaveDegreesBelow (2 ^ own_height ops s seen start proof) seen → IsOpening ops number_of coordinates s seen start proof
+  made_is_opening kept degrees = record {
     claims = makes.claims;
     extended = extended_rounds ops.fields bits ops.hash number_of lawful.row_bytes data_of layers_of points_of rounds kept;
     polynomial = makes.polynomial;
@@ -163,5 +163,5 @@ module _ {C F E S T P : Type 0} (ops : FriOps C F E) (number_of : F → ℕ) (pa
         made_is_accepted index =
             own_is_true ops parameters_of data_of proof_of calls s made proof start index (stand_alone made stand)
             (subst (λ some. Accepted ops (instance_of (parameters_of s) (own_rounds ops some) (proof_of proof) start)) seen_is_handed
-            (honest_is_accepted ops number_of coordinates lawful (parameters_of s) own_seen start (proof_of proof)
-            (made_is_honest ops number_of coordinates lawful data_of layers_of points_of (parameters_of s) rounds start (proof_of proof) makes kept of_degree)))
+            (opening_is_accepted ops number_of coordinates lawful (parameters_of s) own_seen start (proof_of proof)
+            (made_is_opening ops number_of coordinates lawful data_of layers_of points_of (parameters_of s) rounds start (proof_of proof) makes kept of_degree)))

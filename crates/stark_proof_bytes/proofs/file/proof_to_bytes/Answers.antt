@@ -1,7 +1,7 @@
 use Rattle.std.proofs.Common.{◌≡◌, ◌∙◌, ap, rules}
 use Rattle.stark_proof.specs.ProofView.{proof_view}
 use Rattle.stark_proof_bytes.specs.ProofBytes.{ProofCodecsLaws, codecs, proof_reading, proof_writing, written_is_read}
-use Rattle.stark_proof_bytes.proofs.whole.proof_to_bytes.Goals as goal
+use Rattle.stark_proof_bytes.proofs.file.proof_to_bytes.Goals as goal
 
 pub returns-clause-read_back : goal.returns-clause-read_back
 returns-clause-read_back g c =

@@ -35,7 +35,7 @@ const BASE_FIRST: &str =
 const NO_CONSTRAINT: &str =
     r#"{"width":1,"publics":0,"periodic":[],"constants":[],"nodes":[],"constraints":[]}"#;
 
-/// A row of a table: an AIR, the height, a trace, the public values, and what is found.
+/// A case of a table: an AIR, the height, a trace, the public values, and what is found.
 type Line = (
     &'static str,
     usize,

@@ -19,7 +19,7 @@ pub(crate) enum Program {
     Voskligan,
 }
 
-/// What parts the two inputs of a run for a statement, in a row's input.
+/// What parts the two inputs of a run for a statement, in a case's input.
 const SEPARATOR: u8 = 0x1e;
 
 /// The input before the separator, and what stands behind it; nothing where there is none.
@@ -48,7 +48,7 @@ fn prover_of(flags: &[String]) -> Option<TraceTask> {
     }
 }
 
-/// The verb of a row's words.
+/// The verb of a case's words.
 pub(crate) fn verb_of(words: &[String]) -> Option<Verb> {
     match words {
         [verb] if verb.as_str() == "verify" => Some(Verb::Verify),

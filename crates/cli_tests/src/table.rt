@@ -46,7 +46,7 @@ fn expanded(alloc: Global, text: &str, names: &[Named]) -> Result<String, AllocE
 }
 
 /// Whether a line of a table is a run, or names a text.
-pub(crate) fn is_row(line: &str) -> bool {
+pub(crate) fn is_case(line: &str) -> bool {
     !line.is_empty() && !line.starts_with('#')
 }
 
@@ -54,7 +54,7 @@ pub(crate) fn is_row(line: &str) -> bool {
 fn named_texts(alloc: Global, program: Program) -> Result<Vec<Named>, Fail> {
     let mut names = Vec::new(alloc);
     for line in program.texts().lines() {
-        if is_row(line) {
+        if is_case(line) {
             let (name, text) = line.split_once(" =").ok_or("a text without a name")?;
             let name = String::from_str(alloc, name)?;
             let text = expanded(alloc, text.trim_start(), &names)?;
@@ -81,7 +81,7 @@ fn changed(alloc: Global, text: &str) -> Result<Option<String>, AllocError> {
 }
 
 /// The run that a line of a table is; none where it can't be read.
-fn row_of(
+fn case_of(
     alloc: Global,
     program: Program,
     written: &str,
@@ -111,8 +111,8 @@ pub(crate) fn cases_of(alloc: Global, program: Program, table: &str) -> Result<V
     let names = named_texts(alloc, program)?;
     let mut cases = Vec::new(alloc);
     for line in table.lines() {
-        if is_row(line) {
-            match row_of(alloc, program, line, &names)? {
+        if is_case(line) {
+            match case_of(alloc, program, line, &names)? {
                 Some(case) => cases.push(case)?,
                 None => return Err(Fail::new(format_args!("not read: {line}"))),
             }

@@ -2,7 +2,7 @@ use crate::delivery::{Asserted, all_runs};
 use crate::faults::{Spoiled, all_spoiled, written_or_no_memory};
 use crate::program::Program;
 use crate::runs::{all_cases, words_of};
-use crate::table::is_row;
+use crate::table::is_case;
 use crate::voskligan_cases::{
     BAD, CHECKED, DEAR, DELIVERED, EXAMPLES, HUGE, LARGE, SHOWN, STAGES, WHOLE, WORDS,
 };
@@ -145,7 +145,7 @@ fn request_text(alloc: Global, request: Request<'_>) -> Result<String, AllocErro
 fn words_are_compared_whole(rt: HostRuntime) -> Result<(), Fail> {
     let alloc = rt.alloc();
     let mut lines = 0usize;
-    for line in WORDS.lines().filter(|line| is_row(line)) {
+    for line in WORDS.lines().filter(|line| is_case(line)) {
         let (given, asked) = line.split_once(" = ").unwrap_or((line, "unknown"));
         let words = words_of(alloc, given)?;
         let actual = request_text(alloc, request_of(&words))?;

@@ -1,7 +1,7 @@
 //! The texts that have a name, which the tables of runs of `voskligan` cite.
 
 pub(crate) const VOSKLIGAN_TEXTS: &str = r#"
-# NAME = TEXT. A name that stands in a text, a row or a later name is that text.
+# NAME = TEXT. A name that stands in a text, a case or a later name is that text.
 
 <nothing> =
 

@@ -1,4 +1,4 @@
-//! The rows, and their answers over any field.
+//! The cases, and their answers over any field.
 use crate::agreement::compared;
 use crate::calls::{Places, columns_of_values, values_of_columns};
 use crate::lists::lists_in;
@@ -45,12 +45,12 @@ agrees | 11 409 => 54
 agrees | 12 1021 => 45
 "#;
 
-/// The answer to a row.
+/// The answer to a case.
 pub fn answer<F: PrimeField64 + TwoAdicField + Debug>(
     alloc: Global,
-    row: &str,
+    case: &str,
 ) -> Result<String, Fail> {
-    let (table, text) = apart(row)?;
+    let (table, text) = apart(case)?;
     match table {
         "values" => values::<F>(alloc, text),
         "columns" => columns::<F>(alloc, text),

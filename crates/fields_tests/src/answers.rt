@@ -1,4 +1,4 @@
-//! The answers to rows, over any of the fields.
+//! The answers to cases, over any of the fields.
 use crate::{challengers, cosets, fields};
 use stark_bench::{
     BabyBearField, Ext4, KoalaBearField, S12289, ScriptChallenger, Sha256Challenger,
@@ -9,13 +9,13 @@ use std::alloc::Global;
 use std::fmt::Debug;
 use std::test::Fail;
 
-/// The answer to a row of a field and its extension.
-fn of_fields<F, EF>(alloc: Global, row: &str) -> Result<String, Fail>
+/// The answer to a case of a field and its extension.
+fn of_fields<F, EF>(alloc: Global, case: &str) -> Result<String, Fail>
 where
     F: PrimeField64 + TwoAdicField + NeverNull + Debug,
     EF: ExtensionField<F> + TwoAdicField + NeverNull + Debug,
 {
-    let (table, text) = apart(row)?;
+    let (table, text) = apart(case)?;
     match table {
         "base" => fields::operation::<F>(alloc, text),
         "above" => fields::operation::<EF>(alloc, text),
@@ -29,19 +29,19 @@ where
     }
 }
 
-pub fn baby_bear(alloc: Global, row: &str) -> Result<String, Fail> {
-    of_fields::<BabyBearField, Ext4<BabyBearField>>(alloc, row)
+pub fn baby_bear(alloc: Global, case: &str) -> Result<String, Fail> {
+    of_fields::<BabyBearField, Ext4<BabyBearField>>(alloc, case)
 }
 
-pub fn koala_bear(alloc: Global, row: &str) -> Result<String, Fail> {
-    of_fields::<KoalaBearField, Ext4<KoalaBearField>>(alloc, row)
+pub fn koala_bear(alloc: Global, case: &str) -> Result<String, Fail> {
+    of_fields::<KoalaBearField, Ext4<KoalaBearField>>(alloc, case)
 }
 
-pub fn of_12289(alloc: Global, row: &str) -> Result<String, Fail> {
-    of_fields::<S12289, Ext4<S12289>>(alloc, row)
+pub fn of_12289(alloc: Global, case: &str) -> Result<String, Fail> {
+    of_fields::<S12289, Ext4<S12289>>(alloc, case)
 }
 
-/// The challenger that hands out the elements behind the word `script`; none where a row names
+/// The challenger that hands out the elements behind the word `script`; none where a case names
 /// another.
 fn script<F: JsonCodec + Drop>(
     alloc: Global,
@@ -53,9 +53,9 @@ fn script<F: JsonCodec + Drop>(
     Ok(Some(script_of(read_all::<F>(alloc, list)?)?))
 }
 
-/// The answer of the challenger that a row's first word names.
-pub fn drawn(alloc: Global, row: &str) -> Result<String, Fail> {
-    let (name, steps) = apart(row)?;
+/// The answer of the challenger that a case's first word names.
+pub fn drawn(alloc: Global, case: &str) -> Result<String, Fail> {
+    let (name, steps) = apart(case)?;
     match script::<BabyBearField>(alloc, name)? {
         Some(challenger) => challengers::answer::<
             BabyBearField,
@@ -70,9 +70,9 @@ pub fn drawn(alloc: Global, row: &str) -> Result<String, Fail> {
     }
 }
 
-/// What a challenger over the field of 12289 answers to a row of steps.
-pub fn drawn_of_12289(alloc: Global, row: &str) -> Result<String, Fail> {
-    let (name, steps) = apart(row)?;
+/// What a challenger over the field of 12289 answers to a case of steps.
+pub fn drawn_of_12289(alloc: Global, case: &str) -> Result<String, Fail> {
+    let (name, steps) = apart(case)?;
     match script::<S12289>(alloc, name)? {
         Some(challenger) => challengers::answer::<S12289, Ext4<S12289>, ScriptChallenger<S12289>>(
             alloc, challenger, steps,

@@ -62,7 +62,7 @@ script [4,3] | grind 0; grind 1; grind 13; grind 14; grind 64; draw => Some(0) S
 script [4,3] | check 0 5; check 3 7; check 3 8; check 64 0; draw => true true false false 4
 "#;
 
-/// The answers to a row's steps.
+/// The answers to a case's steps.
 pub fn answer<F, EF, C>(alloc: Global, mut challenger: C, text: &str) -> Result<String, Fail>
 where
     F: JsonCodec + Debug + Drop,

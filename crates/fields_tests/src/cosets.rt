@@ -56,7 +56,7 @@ coset disjoint | 4097 => None
 coset next | 1 [3,0,0,0] => Some(Ext4 { c0: 12286, c1: 0, c2: 0, c3: 0 })
 "#;
 
-/// The answer to a row of these tables.
+/// The answer to a case of these tables.
 pub fn answer<F, EF>(alloc: Global, name: &str, text: &str) -> Result<String, Fail>
 where
     F: TwoAdicField + JsonCodec + Debug,

@@ -1,4 +1,4 @@
-//! All rows.
+//! All cases.
 use crate::answers::{baby_bear, drawn, drawn_of_12289, koala_bear, of_12289};
 use crate::{challengers, cosets, fields};
 use stark_bench::{CircleShape, Coset, S12289};

@@ -47,7 +47,7 @@ const EXTENSION: &str =
 const PAIR: &str =
     r#"{"width":2,"publics":1,"periodic":[],"preprocessed":null,"constants":[1],"nodes":[["main",0],["main",1],["first"],["public",0],["sub",0,3],["mul",2,4],["sub",1,3],["mul",2,6],["transition"],["constant",0],["next",0],["sub",10,0],["sub",11,9],["mul",8,12],["next",1],["sub",14,1],["sub",15,9],["mul",8,16]],"constraints":[{"base":5},{"base":13},{"base":7},{"base":17}]}"#;
 
-/// A row of a table: the parameters, an AIR, the height, a trace, the public values, and the
+/// A case of a table: the parameters, an AIR, the height, a trace, the public values, and the
 /// verdict.
 type Line = (
     [usize; 5],

@@ -67,10 +67,10 @@ fn answer_to(alloc: Global, text: &str) -> Result<String, Fail> {
     }
 }
 
-/// The answer to a row: the name of a text, and the edits to it behind a bar, if there are some.
-pub fn answer(alloc: Global, row: &str) -> Result<String, Fail> {
-    match row.split_once(" | ") {
-        None => answer_to(alloc, &on_one_line(alloc, text_of(row)?)?),
+/// The answer to a case: the name of a text, and the edits to it behind a bar, if there are some.
+pub fn answer(alloc: Global, case: &str) -> Result<String, Fail> {
+    match case.split_once(" | ") {
+        None => answer_to(alloc, &on_one_line(alloc, text_of(case)?)?),
         Some((name, edits)) => {
             let text = on_one_line(alloc, text_of(name)?)?;
             answer_to(alloc, &edited(alloc, &text, edits)?)

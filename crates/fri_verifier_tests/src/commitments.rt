@@ -34,7 +34,7 @@ fn matrices_of<F: JsonCodec + Drop>(
     Ok(matrices)
 }
 
-/// The root over a row's columns, as JSON.
+/// The root over a case's columns, as JSON.
 fn root_of<F, H>(alloc: Global, height: usize, blowup: usize, text: &str) -> Result<String, Fail>
 where
     F: TwoAdicField + PrimeField64 + NeverNull,
@@ -54,9 +54,9 @@ where
     Ok(root.to_json(alloc)?.to_string(alloc)?)
 }
 
-/// The answer to a row, over the field of 12289 and SHA-256.
-pub fn answer(alloc: Global, row: &str) -> Result<String, Fail> {
-    let (height, rest) = row.split_once(' ').ok_or("one word")?;
+/// The answer to a case, over the field of 12289 and SHA-256.
+pub fn answer(alloc: Global, case: &str) -> Result<String, Fail> {
+    let (height, rest) = case.split_once(' ').ok_or("one word")?;
     let (blowup, columns) = rest.split_once(' ').ok_or("two words")?;
     root_of::<F12289, Sha256Tree>(
         alloc,

@@ -86,14 +86,14 @@ periodic | 5 6 | 7 => Some([[2013265446, 7], [486, 7], [2013265446, 7], [486, 7]
 configuration | sha256 => ([0, 27, 0], [1340248034, 1340248034])
 "#;
 
-/// The answer to a row of these tables.
-pub fn answer<F, EF, C>(alloc: Global, challenger: C, row: &str) -> Result<String, Fail>
+/// The answer to a case of these tables.
+pub fn answer<F, EF, C>(alloc: Global, challenger: C, case: &str) -> Result<String, Fail>
 where
     F: PrimeField64 + TwoAdicField + JsonCodec + Debug,
     EF: ExtensionField<F> + Debug,
     C: FieldChallenger<F> + CanObserve<ClearCommitment<F>> + ExtensionChallenger<F, EF> + Clone,
 {
-    let (table, text) = apart(row)?;
+    let (table, text) = apart(case)?;
     match table {
         "committed" => committed_text::<F, EF>(alloc, text),
         "opened" => opened_text::<F, EF>(alloc, text),

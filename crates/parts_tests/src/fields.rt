@@ -96,13 +96,13 @@ packs | 7 8 | 1 2 3 4, 0 0 0 0 => None None
 by lane | 5 6 => Some((5, 6)) Some((Ext4 { c0: 5, c1: 0, c2: 0, c3: 0 }, Ext4 { c0: 5, c1: 0, c2: 0, c3: 0 }))
 "#;
 
-/// The answer to a row of these tables.
-pub fn answer<F, EF>(alloc: Global, row: &str) -> Result<String, Fail>
+/// The answer to a case of these tables.
+pub fn answer<F, EF>(alloc: Global, case: &str) -> Result<String, Fail>
 where
     F: PrimeField64 + TwoAdicField + PackedField + NeverNull + Debug,
     EF: PackedExtensionField<F> + TwoAdicField + NeverNull + Debug,
 {
-    let (table, text) = apart(row)?;
+    let (table, text) = apart(case)?;
     match table {
         "base" => base_operation::<F>(alloc, text),
         "above" => operation_above::<F, EF>(alloc, text),

@@ -39,14 +39,14 @@ folded in pairs | 0 | 5 6 7 8 9 10 11 12 => Some([Ext4 { c0: 78, c1: 0, c2: 0, c
 folded in pairs | 7 | 5 6 7 8 9 10 11 12 => Some([Ext4 { c0: 78, c1: 0, c2: 0, c3: 0 }, Ext4 { c0: 99, c1: 0, c2: 0, c3: 0 }, Ext4 { c0: 120, c1: 0, c2: 0, c3: 0 }, Ext4 { c0: 141, c1: 0, c2: 0, c3: 0 }, Ext4 { c0: 162, c1: 0, c2: 0, c3: 0 }, Ext4 { c0: 183, c1: 0, c2: 0, c3: 0 }, Ext4 { c0: 204, c1: 0, c2: 0, c3: 0 }, Ext4 { c0: 225, c1: 0, c2: 0, c3: 0 }])
 "#;
 
-/// The answer to a row of these tables.
-pub fn answer<F, EF, C>(alloc: Global, row: &str) -> Result<String, Fail>
+/// The answer to a case of these tables.
+pub fn answer<F, EF, C>(alloc: Global, case: &str) -> Result<String, Fail>
 where
     F: TwoAdicField + PrimeField64 + PackedField + Debug,
     EF: PackedExtensionField<F> + Debug,
     C: FieldChallenger<F> + CanObserve<ClearCommitment<F>> + ExtensionChallenger<F, EF> + Clone,
 {
-    let (table, text) = apart(row)?;
+    let (table, text) = apart(case)?;
     match table {
         "lanes" => lanes::<F, EF>(alloc, text),
         "folded" => folded_text::<StarkConfig<ClearPcs<F>, EF, C>>(alloc, text),

@@ -1,8 +1,8 @@
-//! Worked rows, run on the parts that need no prover and no verifier: fields, numbers, polynomials,
-//! challengers, transcripts and the scheme in the clear. Each number was found apart from this
-//! code. The crate has nothing but tests; it stands apart from the other rows so that the gate
-//! checks both side by side. The rows are text, and what answers them is generic, so that a type is
-//! written out once for each field (`answers.rt`).
+//! Worked cases, run on the parts that need no prover and no verifier: fields, numbers,
+//! polynomials, challengers, transcripts and the scheme in the clear. Each number was found apart
+//! from this code. The crate has nothing but tests; it stands apart from the other cases so that
+//! the gate checks both side by side. The cases are text, and what answers them is generic, so that
+//! a type is written out once for each field (`answers.rt`).
 #![tactic(auto)]
 
 #[cfg(test)]

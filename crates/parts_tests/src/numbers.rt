@@ -26,7 +26,7 @@ packed rows | 1 2 3 4 | 1 => [[3, 4], [3, 4]]
 packed rows | 1 2 3 4 | 3 => [[3, 4], [3, 4]]
 "#;
 
-/// The answer to a row of these tables.
+/// The answer to a case of these tables.
 pub fn answer<F, EF>(alloc: Global, table: &str, text: &str) -> Result<String, Fail>
 where
     F: PrimeField64 + PackedField + Debug,

@@ -33,7 +33,7 @@ line | 1234567890 987654321 | 2013265920 2000000000 => [23249618, 1966536029]
 subgroup | 10 1024 => its laws are called
 "#;
 
-/// The answer to a row of these tables.
+/// The answer to a case of these tables.
 pub fn answer<F, EF>(alloc: Global, table: &str, text: &str) -> Result<String, Fail>
 where
     F: PrimeField64 + TwoAdicField + Debug,

@@ -43,7 +43,7 @@ seed of an air | 4 2 0 1 1 1 | 2 6 5 2 1 0 3 => 573 bytes, 11407991838644381288
 seed of an air | 1 0 0 0 0 0 | 0 0 0 1 0 0 0 => 443 bytes, 17590433122777902483
 "#;
 
-/// The answer to a row of these tables.
+/// The answer to a case of these tables.
 pub fn answer<F: Field, EF: ExtensionField<F>>(
     alloc: Global,
     table: &str,

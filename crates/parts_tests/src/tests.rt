@@ -1,4 +1,4 @@
-//! The rows of all subjects; those of fields and lanes over each field.
+//! The cases of all subjects; those of fields and lanes over each field.
 use crate::answers::{baby_bear, lockstep, packed, scalar};
 use crate::{clear_scheme, fields, lanes, numbers, polynomials, seeds, transcripts};
 use stark_bench::S12289;

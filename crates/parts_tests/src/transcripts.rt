@@ -55,17 +55,17 @@ struct Asked {
     is_random_given: bool,
 }
 
-/// What a row asks for: a failure, or runs by the numbers of the trace, the preprocessed columns, a
-/// public value, the quotient and the random commitment.
+/// What a case asks for: a failure, or runs by the numbers of the trace, the preprocessed columns,
+/// a public value, the quotient and the random commitment.
 enum Question {
     Failure(Asked),
     Sides([u32; 5]),
     Changed([u32; 5], [u32; 5]),
 }
 
-fn question_in(row: &str) -> Result<Question, Fail> {
-    let (_challenger, row) = apart(row)?;
-    let (table, text) = apart(row)?;
+fn question_in(case: &str) -> Result<Question, Fail> {
+    let (_challenger, case) = apart(case)?;
+    let (table, text) = apart(case)?;
     match table {
         "first" => Ok(Question::Failure(first_phase(numbers_in::<3>(text)?))),
         "second" => Ok(Question::Failure(second_phase(numbers_in::<3>(text)?))),
@@ -107,14 +107,14 @@ fn second_phase(numbers: [u32; 3]) -> Asked {
     }
 }
 
-/// The answer to a row of these tables.
-pub fn answer<F, EF, C>(alloc: Global, mut challenger: C, row: &str) -> Result<String, Fail>
+/// The answer to a case of these tables.
+pub fn answer<F, EF, C>(alloc: Global, mut challenger: C, case: &str) -> Result<String, Fail>
 where
     F: PrimeField64,
     EF: ExtensionField<F>,
     C: StarkChallenger<F, EF, ClearCommitment<F>>,
 {
-    match question_in(row)? {
+    match question_in(case)? {
         Question::Failure(asked) => {
             shown(alloc, &failure::<F, EF, C>(alloc, &mut challenger, asked)?)
         }

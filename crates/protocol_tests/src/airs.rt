@@ -77,14 +77,14 @@ folded | preprocessed | 5 | empty | 1234567890 | empty | empty => Ext4 { c0: 778
 folded | periodic | 987654321 | empty | empty | 2013265920 | empty => Ext4 { c0: 987654322, c1: 0, c2: 0, c3: 0 }
 "#;
 
-/// The answer to a row of these tables.
-pub fn answer<F, EF, C>(alloc: Global, row: &str) -> Result<String, Fail>
+/// The answer to a case of these tables.
+pub fn answer<F, EF, C>(alloc: Global, case: &str) -> Result<String, Fail>
 where
     F: PrimeField64 + TwoAdicField + Debug,
     EF: ExtensionField<F> + Debug,
     C: FieldChallenger<F> + CanObserve<ClearCommitment<F>> + ExtensionChallenger<F, EF> + Clone,
 {
-    let (table, text) = apart(row)?;
+    let (table, text) = apart(case)?;
     match table {
         "folded" => folded_by_name::<F, EF, C>(alloc, text),
         "declared" => declared_by_name::<F>(alloc, text),

@@ -1,4 +1,4 @@
-//! The library's calls that the rows make of a configuration, over any base field, extension and
+//! The library's calls that the cases make of a configuration, over any base field, extension and
 //! challenger.
 ghost use Rattle.std.specs.Prelude.{◌≡◌, ◌↔◌, ◌+◌, ◌^◌, ◌≤◌, ◌<◌, All, IfOk, IsTrue, [], length, vec_len};
 ghost use Rattle.stark_air.specs.Layout.{Covers};

@@ -1,4 +1,4 @@
-//! Rows of proofs, and what is said of numbers in them.
+//! Cases of proofs, and what is said of numbers in them.
 use stark_test_cases::given_and_answer;
 use std::alloc::Global;
 use std::process::Abort;

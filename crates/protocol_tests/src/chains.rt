@@ -40,12 +40,12 @@ degrees | 18446744073709551615 | 0 | 1 | 0 | {"width":1,"publics":0,"periodic":[
 degrees | 1 | 1 | 1 | 1 | {"width":1,"publics":0,"periodic":[],"constants":[],"nodes":[],"constraints":[]} => GreatestDegrees { num_constraints: 0, first: Some(0), second: Some(0) } 0
 "#;
 
-/// The answer to a row of these tables.
+/// The answer to a case of these tables.
 pub fn answer<F: Field + JsonCodec, EF: ExtensionField<F>>(
     alloc: Global,
-    row: &str,
+    case: &str,
 ) -> Result<String, Fail> {
-    let (table, text) = apart(row)?;
+    let (table, text) = apart(case)?;
     match table {
         "chain" => chain::<F, EF>(alloc, text),
         "degrees" => degrees::<F, EF>(alloc, text),
@@ -92,7 +92,7 @@ fn chain<F: Field, EF: ExtensionField<F>>(alloc: Global, text: &str) -> Result<S
     Ok(format!(in alloc; "{degree} {log} {places:?} {bound:?}")?)
 }
 
-/// The degrees of leaves at the front of a row, and what stands behind them.
+/// The degrees of leaves at the front of a case, and what stands behind them.
 fn leaves_in(text: &str) -> Result<(LeafDegrees, &str), Fail> {
     let (column, rest) = apart(text)?;
     let (periodic, rest) = apart(rest)?;

@@ -67,14 +67,14 @@ where
     shown(alloc, &answer)
 }
 
-/// The answer to a row of this table.
-pub fn answer<F, EF, C>(alloc: Global, row: &str) -> Result<String, Fail>
+/// The answer to a case of this table.
+pub fn answer<F, EF, C>(alloc: Global, case: &str) -> Result<String, Fail>
 where
     F: PrimeField64 + TwoAdicField,
     EF: ExtensionField<F> + Debug,
     C: FieldChallenger<F> + CanObserve<ClearCommitment<F>> + ExtensionChallenger<F, EF> + Clone,
 {
-    let (numbers, preprocessed) = apart(row)?;
+    let (numbers, preprocessed) = apart(case)?;
     let [local, quotient] = numbers_in::<2>(numbers)?;
     let is_there = preprocessed != "none";
     let text = if is_there { preprocessed } else { "" };

@@ -53,7 +53,7 @@ recomposed | 5 2 | 2013265920 1234567890 987654321 2000000000, 1789456123 167772
 recomposed | 4 0 | 2013265920 1234567890 987654321 2000000000 => Some(Ext4 { c0: 2013265920, c1: 1234567890, c2: 987654321, c3: 2000000000 })
 "#;
 
-/// The answer to a row of these tables.
+/// The answer to a case of these tables.
 pub fn answer<F, EF, C>(alloc: Global, table: &str, text: &str) -> Result<String, Fail>
 where
     F: PrimeField64 + TwoAdicField + Debug,

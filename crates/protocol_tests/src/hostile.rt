@@ -141,8 +141,8 @@ fn answer_to(alloc: Global, scheme: &str, text: &str) -> Result<String, Fail> {
     let (_front, rest) = text.split_once("\"challenger\":[").ok_or("no challenger")?;
     let (numbers, _rest) = rest.split_once(']').ok_or("an open list")?;
     let numbers = numbers.replace(alloc, ",", " ")?;
-    let row = format!(in alloc; "script {numbers} | {scheme} | {text}")?;
-    scalar(alloc, "hostile inputs", &row)
+    let case = format!(in alloc; "script {numbers} | {scheme} | {text}")?;
+    scalar(alloc, "hostile inputs", &case)
 }
 
 /// One fault of an input.
@@ -154,8 +154,8 @@ struct Fault<'a> {
     answer: &'a str,
 }
 
-fn fault_in(row: &str) -> Result<Fault<'_>, Fail> {
-    let (given, answer) = row.split_once(" => ").ok_or("a row without an answer")?;
+fn fault_in(case: &str) -> Result<Fault<'_>, Fail> {
+    let (given, answer) = case.split_once(" => ").ok_or("a case without an answer")?;
     let (name, given) = apart(given)?;
     let (schemes, edits) = apart(given)?;
     Ok(Fault {
@@ -184,12 +184,12 @@ fn edited(alloc: Global, text: &str, edits: &str) -> Result<Option<String>, Fail
     Ok(Some(text))
 }
 
-/// The row of a table that begins with the names of these two faults.
-fn row_of<'a>(table: &'a str, first: &str, second: &str) -> Option<&'a str> {
-    for row in table.lines() {
-        let (names, _said) = row.split_once(" | ")?;
+/// The case of a table that begins with the names of these two faults.
+fn case_of<'a>(table: &'a str, first: &str, second: &str) -> Option<&'a str> {
+    for case in table.lines() {
+        let (names, _said) = case.split_once(" | ")?;
         if names.split_once(" & ") == Some((first, second)) {
-            return Some(row);
+            return Some(case);
         }
     }
     None
@@ -203,9 +203,9 @@ fn spoiled<'a>(
     first: Fault<'a>,
     second: Fault<'a>,
 ) -> Result<Option<(String, &'a str)>, Fail> {
-    let row = row_of(JOINT, first.name, second.name).unwrap_or("neither | both => first");
-    let (_names, said) = apart(row)?;
-    let (edits, answer) = said.split_once(" => ").ok_or("a row without an answer")?;
+    let case = case_of(JOINT, first.name, second.name).unwrap_or("neither | both => first");
+    let (_names, said) = apart(case)?;
+    let (edits, answer) = said.split_once(" => ").ok_or("a case without an answer")?;
     let answer = if answer == "first" {
         first.answer
     } else {
@@ -222,14 +222,14 @@ fn spoiled<'a>(
 /// Asserts that of each fault of a scheme alone the answer is its own.
 fn each_alone(rt: &impl Abort, alloc: Global, scheme: &str, text: &str) -> Result<(), Fail> {
     assert_eq!(rt; answer_to(alloc, scheme, text)?.as_str(), "Ok(())");
-    for row in FAULTS.lines() {
-        let fault = fault_in(row)?;
+    for case in FAULTS.lines() {
+        let fault = fault_in(case)?;
         if is_under(fault, scheme) {
             let spoiled = edited(alloc, text, fault.edits)?.ok_or("nothing is taken out")?;
             assert_eq!(rt;
                 answer_to(alloc, scheme, &spoiled)?.as_str(),
                 fault.answer,
-                "{row}"
+                "{case}"
             );
         }
     }
@@ -245,7 +245,7 @@ fn both_together(
     first: Fault<'_>,
     second: Fault<'_>,
 ) -> Result<(), Fail> {
-    if row_of(NEVER, first.name, second.name).is_some() {
+    if case_of(NEVER, first.name, second.name).is_some() {
         return Ok(());
     }
     let case = spoiled(alloc, text, first, second)?;
@@ -267,10 +267,10 @@ fn both_together(
 
 /// Asserts that of all pairs of a scheme's faults the first in order is told.
 fn all_pairs(rt: &impl Abort, alloc: Global, scheme: &str, text: &str) -> Result<(), Fail> {
-    for (place, row) in FAULTS.lines().enumerate() {
-        let first = fault_in(row)?;
-        for row in FAULTS.lines().skip(place).skip(1) {
-            let second = fault_in(row)?;
+    for (place, case) in FAULTS.lines().enumerate() {
+        let first = fault_in(case)?;
+        for case in FAULTS.lines().skip(place).skip(1) {
+            let second = fault_in(case)?;
             if is_under(first, scheme) && is_under(second, scheme) {
                 both_together(rt, alloc, scheme, text, first, second)?;
             }
@@ -293,7 +293,7 @@ fn first_faults_under_masks(rt: HostRuntime) -> Result<(), Fail> {
 
 /// The place of the fault of this name.
 fn place_of(name: &str) -> Option<usize> {
-    FAULTS.lines().position(|row| row
+    FAULTS.lines().position(|case| case
         .split_once(" | ")
         .is_some_and(|(known, _)| known == name))
 }
@@ -301,12 +301,12 @@ fn place_of(name: &str) -> Option<usize> {
 // A pair whose names are no faults', or stand in the other order, would never be looked up.
 #[test]
 fn pairs_are_of_faults_in_their_order(rt: HostRuntime) -> Result<(), Fail> {
-    for row in JOINT.lines().chain(NEVER.lines()) {
-        let (names, _said) = apart(row)?;
+    for case in JOINT.lines().chain(NEVER.lines()) {
+        let (names, _said) = apart(case)?;
         let (first, second) = names.split_once(" & ").ok_or("one name")?;
         let first = place_of(first).ok_or("no such fault")?;
         let second = place_of(second).ok_or("no such fault")?;
-        assert!(rt; first < second, "{row}");
+        assert!(rt; first < second, "{case}");
     }
     Ok(())
 }
@@ -354,8 +354,8 @@ const COUNTERS: &str = "\
 #[test]
 fn spoiled_counters(rt: HostRuntime) -> Result<(), Fail> {
     let alloc = rt.alloc();
-    for row in COUNTERS.lines() {
-        let (edits, expected) = row.split_once(" => ").ok_or("a row without an answer")?;
+    for case in COUNTERS.lines() {
+        let (edits, expected) = case.split_once(" => ").ok_or("a case without an answer")?;
         let spoiled = edited(alloc, COUNTER, edits)?.ok_or("nothing is taken out")?;
         assert_eq!(rt;
             answer_to(alloc, "clear", &spoiled)?.as_str(),

@@ -144,14 +144,14 @@ fn bits_of(value: &Value) -> Result<[usize; 2], Fail> {
 
 /// What the verifier answers of an input: the challenger | the scheme | the input. No mask is read
 /// by it.
-pub fn answer<F, EF, C>(alloc: Global, challenger: C, row: &str) -> Result<String, Fail>
+pub fn answer<F, EF, C>(alloc: Global, challenger: C, case: &str) -> Result<String, Fail>
 where
     F: TwoAdicField + PrimeField64 + NeverNull,
     EF: ExtensionField<F> + JsonCodec,
     C: StarkChallenger<F, EF, ClearCommitment<F>>,
 {
-    let (_challenger, row) = apart(row)?;
-    let (scheme, text) = apart(row)?;
+    let (_challenger, case) = apart(case)?;
+    let (scheme, text) = apart(case)?;
     let value = value_of(alloc, text)?;
     let [ood_bits, alpha_bits] = bits_of(&value)?;
     let input = input_of::<ClearCommitment<F>, EF, ClearProof, F>(alloc, &value)?;

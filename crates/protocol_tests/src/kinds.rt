@@ -1,4 +1,4 @@
-//! The AIRs of the rows, and what one reads, as types.
+//! The AIRs of the cases, and what one reads, as types.
 use stark_samples::{AnySampleAir, SmallAir};
 use stark_tree_air::TreeAir;
 
@@ -49,7 +49,7 @@ pub struct DeclaringAir<F> {
     pub hint: Option<usize>,
 }
 
-/// Any AIR that a row names, or that is made of what stands in one. What a table asks of them is
+/// Any AIR that a case names, or that is made of what stands in one. What a table asks of them is
 /// asked of this type alone.
 #[derive(Drop)]
 pub enum NamedAir<F> {

@@ -1,4 +1,4 @@
-//! Worked rows, run on the crates below. Each number was found apart from this code: by hand, or
+//! Worked cases, run on the crates below. Each number was found apart from this code: by hand, or
 //! from the modular powers and inverses of another language. Beside its tests the crate has the
 //! kinds of their AIRs alone, which definitions name.
 #![tactic(auto)]

@@ -1,4 +1,4 @@
-//! The AIRs of the rows by their names, as one type.
+//! The AIRs of the cases by their names, as one type.
 ghost use Rattle.std.specs.Prelude.{⊤};
 ghost use Rattle.protocol_tests.specs.NamedAirs.{named_constraints, named_declared, named_degree_hint, named_layout, named_next_columns, named_num_constraints, named_periodic_columns, named_preprocessed_next_columns, named_preprocessed_trace, named_within};
 

@@ -46,14 +46,14 @@ masked | 2 => Some((1, 3))
 counter | 28 => nothing
 "#;
 
-/// The answer to a row of this table.
-pub fn answer<F, EF, C>(alloc: Global, challenger: C, row: &str) -> Result<String, Fail>
+/// The answer to a case of this table.
+pub fn answer<F, EF, C>(alloc: Global, challenger: C, case: &str) -> Result<String, Fail>
 where
     F: TwoAdicField + PrimeField64 + Debug,
     EF: ExtensionField<F>,
     C: FieldChallenger<F> + CanObserve<ClearCommitment<F>> + ExtensionChallenger<F, EF> + Clone,
 {
-    let (name, height) = apart(row)?;
+    let (name, height) = apart(case)?;
     let [height] = numbers_in::<1>(height)?;
     if F::TWO_ADICITY < 3 {
         return Err(Fail::new("no such height"));

@@ -98,7 +98,7 @@ height | none | 63 1 0 100 => Ok((62, 9223372036854775808))
 height | none | 64 0 0 100 => Err(DegreeBitsTooLarge { air: None, maximum: 63, got: 64 })
 "#;
 
-/// The answer to a row of these tables.
+/// The answer to a case of these tables.
 pub fn answer<F, EF>(alloc: Global, table: &str, text: &str) -> Result<String, Fail>
 where
     F: Field + NeverNull + Debug,

@@ -1,4 +1,4 @@
-//! Proofs that are made of a trace, and what the verifier answers of them. A row gives the
+//! Proofs that are made of a trace, and what the verifier answers of them. A case gives the
 //! challenger | a table's name | the scheme, with its masks and the call at which it stops | the
 //! bits of work before zeta, and those before alpha where there are any | an AIR | the logarithm of
 //! the height | the trace, row after row | the public values.
@@ -147,15 +147,15 @@ script 4 0 0 0 3 0 0 0 | not made | masked by 1 | stopping at CommitPreprocessin
 const MASKED_PROOF: &str =
     r#"{"commitments":{"quotient_chunks":[[[244,5,1625,1625],[12288,12288,1625,1625],[12288,12288,1625,1625],[12288,12288,1625,1625]],[[1539,5,5269,5269],[12288,12288,5269,5269],[12288,12288,5269,5269],[12288,12288,5269,5269]],[[12049,5,10664,10664],[12288,12288,10664,10664],[12288,12288,10664,10664],[12288,12288,10664,10664]],[[10758,9,3518,3518],[3,3,3518,3518],[3,3,3518,3518],[3,3,3518,3518]]],"random":[[[1,1,1,1],[1,1,1,1],[1,1,1,1],[1,1,1,1]]],"trace":[[[6149,6143,1,1]]]},"degree_bits":2,"ood_pow_witness":0,"opened_values":{"preprocessed_local":null,"preprocessed_next":null,"quotient_chunks":[[[9603,0,0,0],[9340,0,0,0],[9340,0,0,0],[9340,0,0,0]],[[6903,0,0,0],[5345,0,0,0],[5345,0,0,0],[5345,0,0,0]],[[2720,0,0,0],[2941,0,0,0],[2941,0,0,0],[2941,0,0,0]],[[2254,0,0,0],[3770,0,0,0],[3770,0,0,0],[3770,0,0,0]]],"random":[[40,0,0,0],[40,0,0,0],[40,0,0,0],[40,0,0,0]],"trace_local":[[36,0,0,0]],"trace_next":[[12280,0,0,0]]},"opening_proof":null}"#;
 
-/// The answer to a row of these tables.
-pub fn answer<F, EF, C>(alloc: Global, challenger: C, row: &str) -> Result<String, Fail>
+/// The answer to a case of these tables.
+pub fn answer<F, EF, C>(alloc: Global, challenger: C, case: &str) -> Result<String, Fail>
 where
     F: PrimeField64 + TwoAdicField + PackedField + NeverNull,
     EF: PackedExtensionField<F> + JsonCodec,
     C: StarkChallenger<F, EF, ClearCommitment<F>>,
 {
-    let (_challenger, row) = apart(row)?;
-    let (table, text) = apart(row)?;
+    let (_challenger, case) = apart(case)?;
+    let (table, text) = apart(case)?;
     match table {
         "made" => made::<F, EF, C>(alloc, challenger, text),
         "stopped" => without_proof(alloc, made::<F, EF, C>(alloc, challenger, text)?),
@@ -227,7 +227,7 @@ fn call_in(name: &str) -> Result<ClearCall, Fail> {
 }
 
 /// A scheme, with its masks where it has some, the call at which it stops, the bits of work before
-/// zeta and before alpha, and the rest of a row: an AIR and its trace.
+/// zeta and before alpha, and the rest of a case: an AIR and its trace.
 #[derive(Clone, Copy)]
 struct Wanted<'a> {
     masks: Option<&'a str>,
@@ -297,7 +297,7 @@ fn masked_scheme<F: PrimeField64>(
 }
 
 /// The text of a named AIR's proof and the verifier's answer, or the prover's error: the scheme |
-/// the rest of a row.
+/// the rest of a case.
 fn made<F, EF, C>(alloc: Global, challenger: C, text: &str) -> Result<String, Fail>
 where
     F: PrimeField64 + TwoAdicField + PackedField + NeverNull,
@@ -326,7 +326,7 @@ fn without_proof(alloc: Global, text: String) -> Result<String, Fail> {
     }
 }
 
-/// Of the scheme | the call at which it stops | the rest of a row, the row without that call and
+/// Of the scheme | the call at which it stops | the rest of a case, the case without that call and
 /// the one with it.
 fn without_and_with_call(alloc: Global, text: &str) -> Result<[String; 2], Fail> {
     let (scheme, rest) = apart(text)?;

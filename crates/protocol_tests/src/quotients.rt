@@ -104,7 +104,7 @@ where
     Ok(Some(values))
 }
 
-/// A row: the AIR, the logarithm of the height, the column and the public values.
+/// A case: the AIR, the logarithm of the height, the column and the public values.
 #[derive(Drop)]
 struct Given<F> {
     air: NamedAir<F>,
@@ -113,8 +113,8 @@ struct Given<F> {
     public_values: Vec<F>,
 }
 
-fn given_in<F: PrimeField64>(alloc: Global, row: &str) -> Result<Given<F>, Fail> {
-    let (name, rest) = apart(row)?;
+fn given_in<F: PrimeField64>(alloc: Global, case: &str) -> Result<Given<F>, Fail> {
+    let (name, rest) = apart(case)?;
     let (log_height, rest) = apart(rest)?;
     let (column, public_values) = apart(rest)?;
     let [log_height] = numbers_in::<1>(log_height)?;
@@ -126,7 +126,7 @@ fn given_in<F: PrimeField64>(alloc: Global, row: &str) -> Result<Given<F>, Fail>
     })
 }
 
-/// The values for the AIR of a row, with alpha 4.
+/// The values for the AIR of a case, with alpha 4.
 fn values_of_row<SC: StarkGenericConfig>(
     alloc: Global,
     config: &SC,
@@ -154,14 +154,14 @@ where
     )
 }
 
-/// The answer to a row of this table.
-pub fn answer<F, EF, C>(alloc: Global, challenger: C, row: &str) -> Result<String, Fail>
+/// The answer to a case of this table.
+pub fn answer<F, EF, C>(alloc: Global, challenger: C, case: &str) -> Result<String, Fail>
 where
     F: TwoAdicField + PrimeField64 + PackedField,
     EF: PackedExtensionField<F> + Debug,
     C: FieldChallenger<F> + CanObserve<ClearCommitment<F>> + ExtensionChallenger<F, EF> + Clone,
 {
-    let given = given_in::<F>(alloc, row)?;
+    let given = given_in::<F>(alloc, case)?;
     let config = StarkConfig::new(ClearPcs::new(), challenger);
     shown(
         alloc,

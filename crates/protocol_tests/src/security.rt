@@ -63,14 +63,14 @@ bad alphas | 6 7 12289 => [0]
 bad alphas | 7 12 12289 => [12287]
 "#;
 
-/// The answer to a row of these tables.
-pub fn answer<F, EF, C>(alloc: Global, row: &str) -> Result<String, Fail>
+/// The answer to a case of these tables.
+pub fn answer<F, EF, C>(alloc: Global, case: &str) -> Result<String, Fail>
 where
     F: PrimeField64 + TwoAdicField + QuarticBase,
     EF: ExtensionField<F>,
     C: FieldChallenger<F> + CanObserve<ClearCommitment<F>> + ExtensionChallenger<F, EF> + Clone,
 {
-    let (table, text) = apart(row)?;
+    let (table, text) = apart(case)?;
     match table {
         "bound" => bound_by_name::<F, EF>(alloc, text),
         "bound of a kind" => bound_of_kind::<F, EF>(alloc, text),

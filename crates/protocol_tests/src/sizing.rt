@@ -58,7 +58,7 @@ constants | all => ([(Some(1), 1, false), (Some(3), 1, false)], [(Some(2), 1, fa
 refused | all => ([true, true, true], 0, 1)
 "#;
 
-/// The answer to a row of these tables.
+/// The answer to a case of these tables.
 pub fn answer<F, EF>(alloc: Global, table: &str, text: &str) -> Result<String, Fail>
 where
     F: PrimeField64 + TwoAdicField + Debug,
@@ -143,19 +143,19 @@ fn log_chunks<F: TwoAdicField>(
     Ok(Some((on_coset, on_circle)))
 }
 
-/// A row: the AIR, whether there is zero knowledge, and the trace's length.
+/// A case: the AIR, whether there is zero knowledge, and the trace's length.
 #[derive(Drop)]
-struct Row {
+struct Case {
     air: SizedAir,
     is_zk: bool,
     trace_len: usize,
 }
 
-fn row_of(text: &str) -> Result<Row, Fail> {
+fn case_of(text: &str) -> Result<Case, Fail> {
     let (kind, rest) = apart(text)?;
     let (hint, numbers) = apart(rest)?;
     let [is_zk, trace_len] = numbers_in::<2>(numbers)?;
-    Ok(Row {
+    Ok(Case {
         air: SizedAir {
             kind: kind_in(kind),
             hint: option_in(hint)?,
@@ -181,16 +181,16 @@ fn sizes_text<F: TwoAdicField, EF: ExtensionField<F>>(
     alloc: Global,
     text: &str,
 ) -> Result<String, Fail> {
-    let row = row_of(text)?;
-    let is_zk = if row.is_zk { 1 } else { 0 };
-    let layout = AirLayout::from_air::<F, SizedAir>(&row.air);
+    let case = case_of(text)?;
+    let is_zk = if case.is_zk { 1 } else { 0 };
+    let layout = AirLayout::from_air::<F, SizedAir>(&case.air);
     let columns = [layout.main_width, layout.preprocessed_width];
-    let sizes = sizes::<F, EF>(alloc, &row.air, is_zk, row.trace_len)?;
+    let sizes = sizes::<F, EF>(alloc, &case.air, is_zk, case.trace_len)?;
     words_of(
         alloc,
         columns,
         sizes,
-        log_chunks::<F>(alloc, &row.air, is_zk)?,
+        log_chunks::<F>(alloc, &case.air, is_zk)?,
     )
 }
 

@@ -1,4 +1,4 @@
-//! The rows of all subjects; those of quotients and of proofs over each field.
+//! The cases of all subjects; those of quotients and of proofs over each field.
 use crate::answers::{baby_bear, lockstep, packed, scalar};
 use crate::cases::{agreeing_cases, proof_cases};
 use crate::{

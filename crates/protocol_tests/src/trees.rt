@@ -124,14 +124,14 @@ hint => {"constants":[1,2,3],"constraints":[{"base":2},{"ext":5},{"base":8}],"ma
 preprocessed => {"constants":[],"constraints":[{"base":2}],"nodes":[["main",0],["preprocessed",0],["sub",0,1]],"periodic":[],"preprocessed":{"rows":[[1],[2],[3],[4]],"width":1},"publics":0,"width":1}
 "#;
 
-/// The answer to a row of these tables.
-pub fn answer<F, EF, C>(alloc: Global, challenger: C, row: &str) -> Result<String, Fail>
+/// The answer to a case of these tables.
+pub fn answer<F, EF, C>(alloc: Global, challenger: C, case: &str) -> Result<String, Fail>
 where
     F: PrimeField64 + TwoAdicField + PackedField + NeverNull,
     EF: PackedExtensionField<F> + JsonCodec + Debug,
     C: StarkChallenger<F, EF, ClearCommitment<F>>,
 {
-    let (table, text) = apart(row)?;
+    let (table, text) = apart(case)?;
     match table {
         "folded" => folded_text::<F, EF, C>(alloc, text),
         "tree" => tree_text::<F>(alloc, text),

@@ -1,6 +1,6 @@
 //! Proofs that are accepted and refused, over the scheme in the clear. They are of one trace column
-//! and one chunk, and in a row stand for one: the challenger | the AIR | the trace's value at zeta,
-//! the chunk, the height's logarithm, the witness, the bits of work | the column's coefficients |
+//! and one chunk, and a case gives one: the challenger | the AIR | the trace's value at zeta, the
+//! chunk, the height's logarithm, the witness, the bits of work | the column's coefficients |
 //! the trace's value at the next point | the public values | the key's width and height | the
 //! preprocessed row | the next one.
 use crate::airs::row_in;
@@ -103,15 +103,15 @@ script 4 0 0 0 3 0 0 0 | counter | 4 2013265920 28 0 0 | 1006632966 1006632960 |
 script 4 0 0 0 3 0 0 0 | cubic | 0 0 27 0 0 | 0 | none | empty | none | none | none => Err(InvalidProofShape(QuotientDomainTooLarge { air: None, maximum: 27, got: 28 }))
 "#;
 
-/// The answer to a row of this table.
-pub fn answer<F, EF, C>(alloc: Global, challenger: C, row: &str) -> Result<String, Fail>
+/// The answer to a case of this table.
+pub fn answer<F, EF, C>(alloc: Global, challenger: C, case: &str) -> Result<String, Fail>
 where
     F: PrimeField64 + TwoAdicField,
     EF: ExtensionField<F>,
     C: StarkChallenger<F, EF, ClearCommitment<F>>,
 {
-    let (_challenger, row) = apart(row)?;
-    let (name, text) = apart(row)?;
+    let (_challenger, case) = apart(case)?;
+    let (name, text) = apart(case)?;
     let shown = shown_in::<F, EF>(alloc, text)?;
     let config = StarkConfig::new(ClearPcs::new(), challenger).with_ood_proof_of_work_bits(
         shown.bits,
@@ -266,7 +266,7 @@ where
     calls::answer::<F, EF, C, A>(alloc, config, air, proof, &shown.public_values, key)
 }
 
-/// The parts of a row: the numbers of a proof | the column | the next value | the public values |
+/// The parts of a case: the numbers of a proof | the column | the next value | the public values |
 /// the key | the preprocessed rows.
 #[derive(Clone, Copy)]
 struct Parts<'a> {

@@ -70,6 +70,7 @@ pub enum Request<'w> {
     Unknown,
 }
 
+/// The verb that a word is.
 #[tactic(auto, unfolding(crate::specs::Arguments::verb_of))]
 fn verb_of(word: &str) -> Option<Verb>
     ensures { result ≡ verb_of word.now }
@@ -95,6 +96,7 @@ fn path_of(word: &str) -> Option<&str>
     }
 }
 
+/// The input that a word names: standard input or a file.
 #[tactic(auto, unfolding(crate::specs::Arguments::input_of))]
 fn input_of(word: &str) -> Option<InputWord<'_>>
     ensures { option_map input_view result ≡ input_of word.now }

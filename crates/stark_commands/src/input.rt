@@ -51,6 +51,7 @@ impl CheckInput {
     }
 }
 
+/// The logarithm of a height: a whole number of at most 12, as the field has no greater group.
 #[tactic(auto, unfolding(crate::specs::Input::log_height_at))]
 fn log_height_of(value: &Value) -> Result<u64, JsonFault>
     ensures number { Gives (λ n. n) result (log_height_at (view value.now)) }

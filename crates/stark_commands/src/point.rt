@@ -149,8 +149,9 @@ pub fn equation_at<SC: StarkGenericConfig, A: Air<Val<SC>>>(
     check_equation::<SC, A>(air, opened, &periodic_values, trace_domain, quotient)
 }
 
-/// `equation_at` with a scheme in the clear, over any field and extension. A call of this one
-/// writes out no scheme.
+/// `equation_at` with a scheme in the clear, over any field and extension. It is generic for the
+/// sake of its callers' proofs alone: a call at concrete types has all that is proved of the scheme
+/// written out in it, and one at type parameters its name.
 #[tactic(auto, unfolding(crate::specs::Point::PointVerdict, crate::specs::Point::IsOutsideCoset))]
 pub fn equation_over<F, EF, C, A>(
     alloc: Global,

@@ -108,8 +108,8 @@ impl ProvedInput for SampleAir {
         (λ numbers. (numbers, 0)) (sample air) (trace_numbers_in input) f finds is };
 }
 
-/// The answer with the scheme in the clear that stops nowhere, over any field and extension: a call
-/// of this function writes out no scheme, so that its proof is short.
+/// The answer with the scheme in the clear that stops nowhere, over any field and extension, as
+/// `equation_over` is and for its reason.
 fn prove_in_the_clear<F, EF, C, A>(
     alloc: Global,
     config: &ClearConfig<F, EF, C>,

@@ -70,6 +70,7 @@ macro_rules! counter_nodes {
     };
 }
 
+/// A column that counts up by one from a public value.
 fn counter(alloc: Global) -> Result<TreeAir<F12289>, AllocError>
     ensures { IfOk result (λ air. ⟦<TreeAir<F12289> as DeclaredAir<F12289>>⟧.declared air
         ≡ sample Counter) }
@@ -80,6 +81,7 @@ fn counter(alloc: Global) -> Result<TreeAir<F12289>, AllocError>
     written_out(alloc, columns, [F12289::ONE], nodes, constraints)
 }
 
+/// A column whose cube is zero.
 fn cubic(alloc: Global) -> Result<TreeAir<F12289>, AllocError>
     ensures { IfOk result (λ air. ⟦<TreeAir<F12289> as DeclaredAir<F12289>>⟧.declared air
         ≡ sample Cubic) }
@@ -93,6 +95,7 @@ fn cubic(alloc: Global) -> Result<TreeAir<F12289>, AllocError>
     written_out(alloc, columns, [], nodes, [TreeConstraint::Base(2)])
 }
 
+/// Two columns of Fibonacci numbers, from two public values to a third.
 fn fibonacci(alloc: Global) -> Result<TreeAir<F12289>, AllocError>
     ensures { IfOk result (λ air. ⟦<TreeAir<F12289> as DeclaredAir<F12289>>⟧.declared air
         ≡ sample Fibonacci) }
@@ -131,6 +134,7 @@ fn fibonacci(alloc: Global) -> Result<TreeAir<F12289>, AllocError>
     written_out(alloc, columns, [], nodes, constraints)
 }
 
+/// A column that is a periodic one.
 fn periodic(alloc: Global) -> Result<TreeAir<F12289>, AllocError>
     ensures { IfOk result (λ air. ⟦<TreeAir<F12289> as DeclaredAir<F12289>>⟧.declared air
         ≡ sample Periodic) }
@@ -154,6 +158,7 @@ fn periodic(alloc: Global) -> Result<TreeAir<F12289>, AllocError>
     written_out(alloc, columns, [], nodes, [TreeConstraint::Base(2)])
 }
 
+/// A column that is a preprocessed one of four rows.
 fn preprocessed(alloc: Global) -> Result<TreeAir<F12289>, AllocError>
     ensures { IfOk result (λ air. ⟦<TreeAir<F12289> as DeclaredAir<F12289>>⟧.declared air
         ≡ sample Preprocessed) }
@@ -177,6 +182,7 @@ fn preprocessed(alloc: Global) -> Result<TreeAir<F12289>, AllocError>
     written_out(alloc, columns, [], nodes, [TreeConstraint::Base(2)])
 }
 
+/// Two columns that count up by one from a public value.
 fn pair(alloc: Global) -> Result<TreeAir<F12289>, AllocError>
     ensures { IfOk result (λ air. ⟦<TreeAir<F12289> as DeclaredAir<F12289>>⟧.declared air
         ≡ sample Pair) }

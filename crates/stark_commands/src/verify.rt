@@ -52,8 +52,8 @@ impl VerifiedInput for SampleAir {
         (⟦<ClearProof as JsonCodec>⟧.reading) input) };
 }
 
-/// The answer with the scheme in the clear that stops nowhere, over any field and extension: a call
-/// of this function writes out no scheme, so that its proof is short.
+/// The answer with the scheme in the clear that stops nowhere, over any field and extension, as
+/// `equation_over` is and for its reason.
 fn verify_in_the_clear<F, EF, C, A>(
     alloc: Global,
     config: &ClearConfig<F, EF, C>,

@@ -1,4 +1,4 @@
-//! Worked rows of parameters and of proofs in JSON. Elements are whole numbers here, of the field
+//! Worked cases of parameters and of proofs in JSON. Elements are whole numbers here, of the field
 //! and of the extension alike.
 ghost use Rattle.std.specs.Prelude.{option_map, refl};
 ghost use Rattle.serde_json.specs.Data.{number, unsigned};
@@ -38,7 +38,7 @@ impl JsonCodec for Whole {
 // A table's name | what is given => the answer. In a JSON text @ stands for the 64 digits below.
 const DIGITS: &str = "00112233445566778899aabbccddeeff0123456789abcdeffedcba9876543210";
 
-const ROWS: &str = r#"
+const CASES: &str = r#"
 # The five numbers, in the order of the fields.
 parameters | 1 0 1 0 0 => taken
 parameters | 63 63 18446744073709551615 63 63 => taken
@@ -125,12 +125,12 @@ fn of_proof(alloc: Global, text: &str) -> Result<String, Fail> {
 }
 
 #[test]
-fn rows_are_answered(rt: HostRuntime) -> Result<(), Fail> {
+fn cases_are_answered(rt: HostRuntime) -> Result<(), Fail> {
     let alloc = rt.alloc();
     let mut count = 0usize;
-    for row in ROWS.lines() {
-        if !row.is_empty() && !row.starts_with('#') {
-            let (input, expected) = row.split_once(" => ").ok_or("a row without an answer")?;
+    for case in CASES.lines() {
+        if !case.is_empty() && !case.starts_with('#') {
+            let (input, expected) = case.split_once(" => ").ok_or("a case without an answer")?;
             let (table, text) = input.split_once(" | ").ok_or("no bar")?;
             let actual = if table == "parameters" {
                 of_parameters(alloc, text)?

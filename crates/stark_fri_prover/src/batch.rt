@@ -10,6 +10,7 @@ use crate::layers::{coordinate_columns, element_of};
 use stark_support::{ExtensionField, Field, OpeningRound, TwoAdicField};
 use std::alloc::{AllocError, Global};
 
+/// So many zeros.
 fn zeros<E: Field>(alloc: Global, count: usize) -> Result<Vec<E>, AllocError>
     ensures { IfOk result (λ list. AreZeros E.ring count list.items) }
 {

@@ -180,9 +180,9 @@ fn compared(alloc: Global, bytes: &[u8]) -> Result<(&'static str, bool), Fail> {
 #[test]
 fn documents_are_the_trees(rt: HostRuntime) -> Result<(), Fail> {
     let mut count = 0usize;
-    for row in TEXTS.lines() {
-        if !row.is_empty() && !row.starts_with('#') {
-            let (text, expected) = row.split_once(" => ").ok_or("a row without an answer")?;
+    for case in TEXTS.lines() {
+        if !case.is_empty() && !case.starts_with('#') {
+            let (text, expected) = case.split_once(" => ").ok_or("a case without an answer")?;
             let bytes = bytes_of(rt.alloc(), text)?;
             let (place, same) = compared(rt.alloc(), &bytes)?;
             assert_eq!(rt; place, expected, "{text}");

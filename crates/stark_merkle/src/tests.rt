@@ -1,4 +1,4 @@
-//! Worked rows of trees over SHA-256. Row i of a tree is the text `row i`. The digests were
+//! Worked cases of trees over SHA-256. Row i of a tree is the text `row i`. The digests were
 //! computed in Python with hashlib, and which altered claims are refused by a verifier written
 //! there.
 use crate::{
@@ -10,7 +10,7 @@ use std::alloc::Global;
 use std::test::Fail;
 
 // A table's name | what is given => the answer.
-const ROWS: &str = r#"
+const CASES: &str = r#"
 # How many leaves there are. Answered is the root.
 root | 1 => 000c835b247f77f7f1a2ade1f76cd63e3760a4b5407fb46a7969c55413496358
 root | 2 => 6f30c90fee3730f57dbb469964df952a2e98e969be8a383424ad72be9103e045
@@ -331,9 +331,9 @@ fn spelled(alloc: Global, json: &str) -> Result<String, Fail> {
     }
 }
 
-/// The answer to a row.
-fn answer<H: TreeHash>(alloc: Global, row: &str) -> Result<String, Fail> {
-    let (table, text) = row.split_once(" | ").ok_or("no bar")?;
+/// The answer to a case.
+fn answer<H: TreeHash>(alloc: Global, case: &str) -> Result<String, Fail> {
+    let (table, text) = case.split_once(" | ").ok_or("no bar")?;
     if table == "json" {
         return spelled(alloc, text);
     }
@@ -355,11 +355,11 @@ fn answer<H: TreeHash>(alloc: Global, row: &str) -> Result<String, Fail> {
 }
 
 #[test]
-fn rows_are_answered(rt: HostRuntime) -> Result<(), Fail> {
+fn cases_are_answered(rt: HostRuntime) -> Result<(), Fail> {
     let mut count = 0usize;
-    for row in ROWS.lines() {
-        if !row.is_empty() && !row.starts_with('#') {
-            let (input, expected) = row.split_once(" => ").ok_or("a row without an answer")?;
+    for case in CASES.lines() {
+        if !case.is_empty() && !case.starts_with('#') {
+            let (input, expected) = case.split_once(" => ").ok_or("a case without an answer")?;
             let actual = answer::<Sha256Tree>(rt.alloc(), input)?;
             assert_eq!(rt; actual.as_str(), expected, "{input}");
             count = count.saturating_add(1);

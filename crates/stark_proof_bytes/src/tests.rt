@@ -1,4 +1,4 @@
-//! Worked rows of proofs as bytes.
+//! Worked cases of proofs as bytes.
 use crate::{BytesCodec, proof_from_bytes, proof_to_bytes};
 use stark_bench::ClearCommitment;
 use stark_clear::ClearProof;
@@ -13,7 +13,7 @@ use std::test::Fail;
 // A scheme's name | the digits of a file's bytes => the proof's JSON, or what is at fault. A script
 // outside this repository wrote the bytes from the JSON, by what `proof_from_bytes` says.
 // FRI's are over BabyBear, those in the clear over the field of 12289.
-const ROWS: &str = r#"
+const CASES: &str = r#"
 fri | 766f736b6c6967616e2070726f6f66203100112233445566778899aabbccddeeff0123456789abcdeffedcba9876543210ffffffffffffffffffffffffffffffffffffffffffffffffffffffffffffffff0000000000000000010000000100000002000000030000000401000000000000000178000000000000000000000000000005010000000000000001000000070000000000000000000000000000000000000000020000000000000001000000010000000000000000000000000000000000000000000000000000000001ffffffffffffffffffffffffffffffffffffffffffffffffffffffffffffffff000000090000000000000001000000080000000700000006000000050000000300000000000000010000000000000001000000000000000200000000000000020000000100000002000000000000000100000003000000000000000100112233445566778899aabbccddeeff0123456789abcdeffedcba9876543210000000000000000100000000000000000000000000000001000000000000000000000000000000030000000000000102 => {"alpha_pow_witness":258,"commitments":{"quotient_chunks":"ffffffffffffffffffffffffffffffffffffffffffffffffffffffffffffffff","random":null,"trace":"00112233445566778899aabbccddeeff0123456789abcdeffedcba9876543210"},"degree_bits":3,"ood_pow_witness":0,"opened_values":{"preprocessed_local":[[7,0,0,0]],"preprocessed_next":null,"quotient_chunks":[[[1,0,0,0]],[]],"random":null,"trace_local":[[1,2,3,4]],"trace_next":[[2013265920,0,0,5]]},"opening_proof":{"final_polynomial":[[8,7,6,5]],"phases":[{"commitment":"ffffffffffffffffffffffffffffffffffffffffffffffffffffffffffffffff","witness":9}],"queries":[{"inputs":[{"path":["00112233445566778899aabbccddeeff0123456789abcdeffedcba9876543210"],"rows":[[1,2],[3]]}],"layers":[{"path":[],"sibling":[0,0,0,1]}]}],"query_witness":3}}
 clear | 766f736b6c6967616e2070726f6f6620310000000000000001000000000000000200000000000000020000000300000004000000000000000200000005000030000000000000000000010000000000000001000000000000000100000000000000010000000100000000000000000001000000000000000100000001000000000000000000000000010000000000000001000000020000000000000000000000000000000000000000010000000000000001000000000000000000000000000000010000000000000000010000000200000000 => {"commitments":{"quotient_chunks":[],"random":[[[1]]],"trace":[[[3,4],[5,12288]]]},"degree_bits":1,"ood_pow_witness":2,"opened_values":{"preprocessed_local":[[1,0,0,0]],"preprocessed_next":[[2,0,0,0]],"quotient_chunks":[],"random":[[0,0,0,1]],"trace_local":[],"trace_next":null},"opening_proof":null}
 clear |  => the bytes do not begin as a proof's
@@ -75,12 +75,12 @@ fn answer(alloc: Global, scheme: &str, bytes: &[u8]) -> Result<String, Fail> {
 }
 
 #[test]
-fn rows_are_answered(rt: HostRuntime) -> Result<(), Fail> {
+fn cases_are_answered(rt: HostRuntime) -> Result<(), Fail> {
     let alloc = rt.alloc();
     let mut count = 0usize;
-    for row in ROWS.lines() {
-        if !row.is_empty() {
-            let (input, expected) = row.split_once(" => ").ok_or("a row without an answer")?;
+    for case in CASES.lines() {
+        if !case.is_empty() {
+            let (input, expected) = case.split_once(" => ").ok_or("a case without an answer")?;
             let (scheme, digits) = input.split_once(" | ").ok_or("no bar")?;
             let bytes = hex::decode(alloc, digits).ok().ok_or("no digits")?;
             let actual = answer(alloc, scheme, &bytes)?;

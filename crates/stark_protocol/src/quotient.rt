@@ -28,6 +28,7 @@ pub fn log_parts_of<D: PolynomialSpace, A: Air<D::Val>>(
     Ok(log)
 }
 
+/// The error of a quotient's domain whose logarithm is greater than that of the largest.
 fn too_large(maximum: usize, got: usize) -> InvalidProofShapeError
     ensures { result ≡ InvalidProofShapeError.QuotientDomainTooLarge None maximum got }
 {

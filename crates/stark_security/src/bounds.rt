@@ -41,6 +41,7 @@ fn greater(left: Option<usize>, right: Option<usize>) -> Option<usize>
     Some(left?.max(right?))
 }
 
+/// `2^bits`, which fits.
 fn two_power(bits: usize) -> usize
     requires { bits ≤ 63 }
     ensures power { result ≡ 2 ^ bits }

@@ -43,6 +43,7 @@ pub(crate) fn challenges_line(
     )
 }
 
+/// The line of a scheme in the clear, of which nothing is conjectured.
 fn clear_line(alloc: Global) -> Result<String, AllocError>
     ensures { IfOk result (λ line. string_bytes line ≡ clear_line) }
 {
@@ -51,6 +52,7 @@ fn clear_line(alloc: Global) -> Result<String, AllocError>
     )
 }
 
+/// The line where the constraints' degree is greater than FRI's parameters are taken for.
 fn steep_line(alloc: Global, most: usize) -> Result<String, AllocError>
     ensures { IfOk result (λ line. string_bytes line ≡ steep_line most) }
 {
@@ -59,6 +61,7 @@ fn steep_line(alloc: Global, most: usize) -> Result<String, AllocError>
     )
 }
 
+/// The line where the number of opened values doesn't fit.
 fn crowded_line(alloc: Global) -> Result<String, AllocError>
     ensures { IfOk result (λ line. string_bytes line ≡ crowded_line) }
 {
@@ -93,6 +96,7 @@ fn bits_up_to(
     format!(in alloc; "{usual}, {most}")
 }
 
+/// The line of the conjectured bits, at 2^16 rows and at the greatest height.
 fn conjectured_line(
     alloc: Global,
     params: &StarkSecurityParams,

@@ -1,4 +1,4 @@
-//! Worked rows. Byte k of the text in lane j is (k mod 251) * (2 * j + 3), modulo 256. The digests
+//! Worked cases. Byte k of the text in lane j is (k mod 251) * (2 * j + 3), modulo 256. The digests
 //! were computed in Python with hashlib.
 use crate::{LANES, sha256_lanes};
 use std::alloc::Global;
@@ -7,7 +7,7 @@ use std::test::Fail;
 // The byte at the front in the first lane, and in each further one 17 more modulo 256; how many
 // bytes the first piece and the second one have, and how many more the first piece has from lane to
 // lane => the first bytes of each digest.
-const ROWS: &str = r#"
+const CASES: &str = r#"
 # A leaf over so many bytes.
 0 0 0 0 => 6e340b9cffb37a98 4a64a107f0cb3253 8a331fdde7032f33 4e07408562bedb8b
 0 1 0 0 => 96a296d224f285c6 d94e7f1e9bb1f8a9 37aa3970b6801c9d ac11339ffa8f270c
@@ -88,15 +88,15 @@ fn shown(alloc: Global, digests: [[u8; 32]; LANES]) -> Result<String, Fail> {
     Ok(text)
 }
 
-/// The number that a row has next, and the rest of it.
-fn next_number(row: &str) -> Result<(usize, &str), Fail> {
-    let (number, rest) = row.split_once(' ').unwrap_or((row, ""));
+/// The number that a case has next, and the rest of it.
+fn next_number(case: &str) -> Result<(usize, &str), Fail> {
+    let (number, rest) = case.split_once(' ').unwrap_or((case, ""));
     Ok((number.parse::<usize>()?, rest))
 }
 
-/// The answer to a row.
-fn answer(alloc: Global, row: &str) -> Result<String, Fail> {
-    let (tag, rest) = next_number(row)?;
+/// The answer to a case.
+fn answer(alloc: Global, case: &str) -> Result<String, Fail> {
+    let (tag, rest) = next_number(case)?;
     let (first_len, rest) = next_number(rest)?;
     let (second_len, rest) = next_number(rest)?;
     let (more, _) = next_number(rest)?;
@@ -123,11 +123,11 @@ fn answer(alloc: Global, row: &str) -> Result<String, Fail> {
 }
 
 #[test]
-fn rows_are_answered(rt: HostRuntime) -> Result<(), Fail> {
+fn cases_are_answered(rt: HostRuntime) -> Result<(), Fail> {
     let mut count = 0usize;
-    for row in ROWS.lines() {
-        if !row.is_empty() && !row.starts_with('#') {
-            let (input, expected) = row.split_once(" => ").ok_or("a row without an answer")?;
+    for case in CASES.lines() {
+        if !case.is_empty() && !case.starts_with('#') {
+            let (input, expected) = case.split_once(" => ").ok_or("a case without an answer")?;
             let actual = answer(rt.alloc(), input)?;
             assert_eq!(rt; actual.as_str(), expected, "{input}");
             count = count.saturating_add(1);

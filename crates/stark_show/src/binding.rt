@@ -16,6 +16,7 @@ pub enum Binding {
 }
 
 impl Binding {
+    /// How tightly it binds: the greater number binds its operands first.
     pub(crate) fn strength(self) -> u8
         ensures { result ≡ strength self }
     {

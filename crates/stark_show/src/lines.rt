@@ -25,6 +25,7 @@ pub fn columns_line(
     )
 }
 
+/// The word for a constraint's kind.
 fn kind_name(constraint: TreeConstraint) -> &'static str
     ensures { result.now ≡ kind_name constraint }
 {
@@ -49,6 +50,7 @@ pub fn constraint_line(
     format!(in alloc; "constraint {number} ({kind}, degree {degree}): {text} = 0\n")
 }
 
+/// The place of a constraint's node.
 fn constraint_place(constraint: TreeConstraint) -> usize
     ensures { result ≡ constraint_place constraint }
 {

@@ -20,12 +20,14 @@ pub(crate) struct ShownNodes {
     pub lines: String,
 }
 
+/// The line that names a node whose text is too long to be written where it is used.
 fn node_line(alloc: Global, place: usize, text: &str) -> Result<String, AllocError>
     ensures { IfOk result (λ line. string_bytes line ≡ node_line place text.now) }
 {
     format!(in alloc; "node {place} = {text}\n")
 }
 
+/// The name by which such a node is written.
 fn node_name(alloc: Global, place: usize) -> Result<String, AllocError>
     ensures { IfOk result (λ text. string_bytes text ≡ codes "node " ++ decimal place) }
 {

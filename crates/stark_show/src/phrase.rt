@@ -16,6 +16,7 @@ pub struct Phrase {
 }
 
 impl Phrase {
+    /// A text that needs no brackets.
     fn leaf(text: String) -> Phrase
         ensures { phrase_view result ≡ leaf_written (string_bytes text) }
     {
@@ -40,18 +41,21 @@ impl Phrase {
     }
 }
 
+/// A name by itself.
 pub(crate) fn name(alloc: Global, name: &str) -> Result<Phrase, AllocError>
     ensures { IfOk result (λ phrase. phrase_view phrase ≡ leaf_written name.now) }
 {
     Ok(Phrase::leaf(format!(in alloc; "{name}")?))
 }
 
+/// A name with an index.
 fn entry(alloc: Global, name: &str, index: usize) -> Result<Phrase, AllocError>
     ensures { IfOk result (λ phrase. phrase_view phrase ≡ entry_written name.now index) }
 {
     Ok(Phrase::leaf(format!(in alloc; "{name}[{index}]")?))
 }
 
+/// A constant, as its canonical number.
 fn constant<F: PrimeField64>(alloc: Global, constant: F) -> Result<Phrase, AllocError>
     ensures { IfOk result (λ phrase. phrase_view phrase ≡ constant_written F.number_of constant) }
 {
@@ -91,6 +95,7 @@ fn pair(
     Ok(Phrase { binding, text })
 }
 
+/// The sum of two phrases, with sums and differences on the right in brackets.
 fn sum(alloc: Global, left: &Phrase, right: &Phrase) -> Result<Phrase, AllocError>
     ensures { IfOk result (λ phrase. phrase_view phrase
         ≡ sum_written (phrase_view left.now) (phrase_view right.now)) }
@@ -105,6 +110,7 @@ fn sum(alloc: Global, left: &Phrase, right: &Phrase) -> Result<Phrase, AllocErro
     )
 }
 
+/// The difference of two phrases, with brackets as a sum has them.
 fn difference(alloc: Global, left: &Phrase, right: &Phrase) -> Result<Phrase, AllocError>
     ensures { IfOk result (λ phrase. phrase_view phrase
         ≡ difference_written (phrase_view left.now) (phrase_view right.now)) }
@@ -119,6 +125,7 @@ fn difference(alloc: Global, left: &Phrase, right: &Phrase) -> Result<Phrase, Al
     )
 }
 
+/// The product of two phrases, with sums in brackets, and on the right products too.
 fn product(alloc: Global, left: &Phrase, right: &Phrase) -> Result<Phrase, AllocError>
     ensures { IfOk result (λ phrase. phrase_view phrase
         ≡ product_written (phrase_view left.now) (phrase_view right.now)) }
@@ -133,6 +140,7 @@ fn product(alloc: Global, left: &Phrase, right: &Phrase) -> Result<Phrase, Alloc
     )
 }
 
+/// The opposite of a phrase, in brackets unless it is a leaf.
 fn negation(alloc: Global, inner: &Phrase) -> Result<Phrase, AllocError>
     ensures { IfOk result (λ phrase. phrase_view phrase
         ≡ negation_written (phrase_view inner.now)) }

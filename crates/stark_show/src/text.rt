@@ -32,6 +32,7 @@ struct Sections {
 }
 
 impl Sections {
+    /// The sections, one behind the other.
     fn joined(&self, alloc: Global) -> Result<String, AllocError>
         ensures { IfOk result (λ text. string_bytes text ≡ sections_text self.now) }
     {

@@ -50,6 +50,7 @@ fn all_are_members(members: &Map<String, Value>) -> bool
     true
 }
 
+/// Refuses what isn't an object of known members alone.
 fn check_configuration(config: &Value) -> Result<(), ConfigurationError>
     ensures { result ≡ configuration_members (view config.now) }
 {
@@ -70,6 +71,7 @@ fn given_at<'a>(value: &'a Value, name: &str) -> Option<&'a Value>
     if member.is_null() { None } else { Some(member) }
 }
 
+/// The field of a name.
 #[tactic(auto, unfolding(crate::specs::ConfigurationJson::field_named))]
 fn field_named(name: &str) -> Option<FieldName>
     ensures { result ≡ field_named name.now }
@@ -82,6 +84,7 @@ fn field_named(name: &str) -> Option<FieldName>
     }
 }
 
+/// The kind of scheme of a name.
 #[tactic(auto, unfolding(crate::specs::ConfigurationJson::scheme_named))]
 fn scheme_named(name: &str) -> Option<SchemeName>
     ensures { result ≡ scheme_named name.now }
@@ -171,6 +174,7 @@ fn fri_at(config: &Value, field: FieldName) -> Result<FriParameters, Configurati
     Ok(parameters)
 }
 
+/// Refuses a number of FRI's that is given beside the scheme in the clear.
 fn refuse_given(config: &Value, member: ConfigurationMember) -> Result<(), ConfigurationError>
     ensures { result ≡ not_given member (view config.now) }
 {
@@ -192,6 +196,7 @@ fn refuse_numbers(config: &Value) -> Result<(), ConfigurationError>
     refuse_given(config, ConfigurationMember::QueryProofOfWorkBits)
 }
 
+/// The configuration that the value of `config` spells, or its first fault.
 #[tactic(auto, unfolding(crate::specs::ConfigurationJson::configuration_at))]
 fn configuration_at(config: &Value) -> Result<Configuration, ConfigurationError>
     ensures read { Reads configuration_view result (configuration_at (view config.now)) }

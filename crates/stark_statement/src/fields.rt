@@ -57,6 +57,7 @@ pub(crate) fn check_members(value: &Value) -> Result<(), StatementError>
     Ok(())
 }
 
+/// The value of a member that has to be there.
 fn required<'a>(value: &'a Value, field: &'static str) -> Result<&'a Value, StatementError>
     ensures { Decodes (λ v. view v.now) result
         (ok_or (get field.now (view value.now)) (missing_field field.now)) }
@@ -67,6 +68,7 @@ fn required<'a>(value: &'a Value, field: &'static str) -> Result<&'a Value, Stat
     }
 }
 
+/// The AIR of its value, with the rows of preprocessed columns that were read apart from it.
 fn air_at<F: Field + JsonCodec>(
     alloc: Global,
     value: &Value,
@@ -96,6 +98,7 @@ pub(crate) fn required_air<F: Field + JsonCodec>(
     air_at(alloc, member, rows)
 }
 
+/// The elements of an array.
 fn list_at<F: JsonCodec + Copy>(
     alloc: Global,
     value: &Value,

@@ -1,4 +1,4 @@
-//! Worked rows of configurations in JSON, the limits under a scheme, and the digest of a statement.
+//! Worked cases: configurations in JSON, the limits under a scheme, and the digest of a statement.
 use crate::{AirLimits, Configuration, FieldName, SchemeChoice, Statement};
 use sha2::{Digest, Sha256};
 use stark_fields::F12289;
@@ -8,7 +8,7 @@ use std::alloc::Global;
 use std::test::Fail;
 
 // A statement's text => its configuration, or what is at fault.
-const ROWS: &str = r#"
+const CASES: &str = r#"
 {} => BabyBear 1 0 85 0 16
 {"config":null} => BabyBear 1 0 85 0 16
 {"config":{}} => BabyBear 1 0 85 0 16
@@ -66,9 +66,9 @@ fn spelled(alloc: Global, config: Configuration) -> Result<String, Fail> {
 fn configurations_are_read(rt: HostRuntime) -> Result<(), Fail> {
     let alloc = rt.alloc();
     let mut count = 0usize;
-    for row in ROWS.lines() {
-        if !row.is_empty() {
-            let (text, expected) = row.split_once(" => ").ok_or("a row without an answer")?;
+    for case in CASES.lines() {
+        if !case.is_empty() {
+            let (text, expected) = case.split_once(" => ").ok_or("a case without an answer")?;
             let value = value_from_bytes(alloc, text.as_bytes())
                 .ok()
                 .ok_or("no JSON")?;
@@ -96,8 +96,8 @@ const CELLS: [(usize, usize); 6] = [
 
 #[test]
 fn preprocessed_columns_are_fewer_under_a_blowup(rt: HostRuntime) -> Result<(), Fail> {
-    for row in &CELLS {
-        let (log_blowup, cells) = *row;
+    for case in &CELLS {
+        let (log_blowup, cells) = *case;
         let parameters = FriParameters::new(log_blowup, 0, 1, 0, 0);
         let parameters = parameters.ok().ok_or("no parameters")?;
         let wanted = AirLimits {

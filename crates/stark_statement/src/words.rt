@@ -14,6 +14,7 @@ use stark_support::{PrimeField64, RowMajorMatrix};
 use stark_tree_air::{TreeAir, TreeColumns, TreeConstraint, TreeList, TreeNode};
 use std::alloc::{AllocError, Global};
 
+/// Writes a number as one word.
 fn push_word(words: &mut Vec<u64>, number: usize) -> Result<(), AllocError>
     ensures { OnOk result (words.new.items ≡ words.old.items ++ word number) }
 {
@@ -21,6 +22,7 @@ fn push_word(words: &mut Vec<u64>, number: usize) -> Result<(), AllocError>
     Ok(())
 }
 
+/// Writes 1 and a number, or 0 where there is none.
 fn push_optional(words: &mut Vec<u64>, number: Option<usize>) -> Result<(), AllocError>
     ensures { OnOk result (words.new.items ≡ words.old.items ++ optional word number) }
 {
@@ -33,6 +35,7 @@ fn push_optional(words: &mut Vec<u64>, number: Option<usize>) -> Result<(), Allo
     }
 }
 
+/// Writes how many elements there are, and each.
 fn push_elements<F: PrimeField64>(words: &mut Vec<u64>, elements: &[F]) -> Result<(), AllocError>
     ensures { OnOk result (words.new.items
         ≡ words.old.items ++ elements_words F.number_of elements.now) }
@@ -44,6 +47,7 @@ fn push_elements<F: PrimeField64>(words: &mut Vec<u64>, elements: &[F]) -> Resul
     Ok(())
 }
 
+/// Writes how many lists there are, and each with its length.
 fn push_lists<F: PrimeField64>(words: &mut Vec<u64>, lists: &[Vec<F>]) -> Result<(), AllocError>
     ensures { OnOk result (words.new.items
         ≡ words.old.items ++ counted (elements_words F.number_of)
@@ -56,6 +60,7 @@ fn push_lists<F: PrimeField64>(words: &mut Vec<u64>, lists: &[Vec<F>]) -> Result
     Ok(())
 }
 
+/// Writes 1, a matrix's width and its values with their number, or 0 where there is none.
 fn push_trace<F: PrimeField64>(
     words: &mut Vec<u64>,
     trace: &Option<RowMajorMatrix<F>>,
@@ -73,6 +78,7 @@ fn push_trace<F: PrimeField64>(
     }
 }
 
+/// Writes a tag, and the one place behind it.
 fn push_place(words: &mut Vec<u64>, tag: usize, place: usize) -> Result<(), AllocError>
     ensures { OnOk result (words.new.items ≡ words.old.items ++ (word tag ++ word place)) }
 {
@@ -80,6 +86,7 @@ fn push_place(words: &mut Vec<u64>, tag: usize, place: usize) -> Result<(), Allo
     push_word(words, place)
 }
 
+/// Writes a tag, and the two places behind it.
 fn push_places(
     words: &mut Vec<u64>,
     tag: usize,
@@ -93,6 +100,7 @@ fn push_places(
     push_place(words, left, right)
 }
 
+/// Writes a node: a tag for its kind, and the places that it names. No two kinds share a tag.
 fn push_node(words: &mut Vec<u64>, node: TreeNode) -> Result<(), AllocError>
     ensures { OnOk result (words.new.items ≡ words.old.items ++ node_words node) }
 {
@@ -114,6 +122,7 @@ fn push_node(words: &mut Vec<u64>, node: TreeNode) -> Result<(), AllocError>
     }
 }
 
+/// Writes how many nodes there are, and each.
 fn push_nodes(words: &mut Vec<u64>, nodes: &[TreeNode]) -> Result<(), AllocError>
     ensures { OnOk result (words.new.items ≡ words.old.items ++ counted node_words nodes.now) }
 {
@@ -124,6 +133,7 @@ fn push_nodes(words: &mut Vec<u64>, nodes: &[TreeNode]) -> Result<(), AllocError
     Ok(())
 }
 
+/// Writes a constraint: 0 for one in the base field, 1 for one in the extension, and its place.
 fn push_constraint(words: &mut Vec<u64>, constraint: TreeConstraint) -> Result<(), AllocError>
     ensures { OnOk result (words.new.items ≡ words.old.items ++ constraint_words constraint) }
 {
@@ -133,6 +143,7 @@ fn push_constraint(words: &mut Vec<u64>, constraint: TreeConstraint) -> Result<(
     }
 }
 
+/// Writes how many constraints there are, and each.
 fn push_constraints(words: &mut Vec<u64>, constraints: &[TreeConstraint]) -> Result<(), AllocError>
     ensures { OnOk result (words.new.items
         ≡ words.old.items ++ counted constraint_words constraints.now) }
@@ -144,6 +155,7 @@ fn push_constraints(words: &mut Vec<u64>, constraints: &[TreeConstraint]) -> Res
     Ok(())
 }
 
+/// Writes width, number of public values, periodic columns and the preprocessed trace.
 #[tactic(auto, unfolding(crate::specs::StatementBytes::columns_words))]
 fn push_columns<F: PrimeField64>(
     words: &mut Vec<u64>,
@@ -158,6 +170,7 @@ fn push_columns<F: PrimeField64>(
     push_trace(words, &columns.preprocessed_trace)
 }
 
+/// Writes constants, nodes and constraints.
 #[tactic(auto, unfolding(crate::specs::StatementBytes::list_words))]
 fn push_list<F: PrimeField64>(words: &mut Vec<u64>, list: &TreeList<F>) -> Result<(), AllocError>
     ensures { OnOk result (words.new.items
@@ -168,6 +181,7 @@ fn push_list<F: PrimeField64>(words: &mut Vec<u64>, list: &TreeList<F>) -> Resul
     push_constraints(words, &list.constraints)
 }
 
+/// Writes the columns, the author's bound and count, and the lists of an AIR.
 #[tactic(auto, unfolding(crate::specs::StatementBytes::air_words))]
 fn push_air<F: PrimeField64>(words: &mut Vec<u64>, air: &TreeAir<F>) -> Result<(), AllocError>
     ensures { OnOk result (words.new.items
@@ -190,6 +204,7 @@ fn field_tag(field: FieldName) -> usize
     }
 }
 
+/// Writes FRI's five numbers.
 #[tactic(auto, unfolding(crate::specs::StatementBytes::fri_words))]
 fn push_fri(words: &mut Vec<u64>, parameters: &FriParameters) -> Result<(), AllocError>
     ensures { OnOk result (words.new.items
@@ -202,6 +217,7 @@ fn push_fri(words: &mut Vec<u64>, parameters: &FriParameters) -> Result<(), Allo
     push_word(words, parameters.query_proof_of_work_bits())
 }
 
+/// Writes the field's number, and 1 with FRI's numbers, or 0 for the scheme in the clear.
 #[tactic(auto, unfolding(crate::specs::StatementBytes::configuration_words))]
 fn push_configuration(words: &mut Vec<u64>, config: Configuration) -> Result<(), AllocError>
     ensures { OnOk result (words.new.items

@@ -1,4 +1,4 @@
-//! Words and numbers of a row.
+//! Words and numbers of a case.
 use std::alloc::Global;
 use std::fmt::Debug;
 use std::test::Fail;

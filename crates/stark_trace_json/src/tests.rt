@@ -9,7 +9,7 @@ use std::test::Fail;
 
 // A text, in which a backslash stands before the two digits of a byte => whether it is read at once
 // or by the tree of its values | the number of rows and their length, and the values.
-const ROWS: &str = r#"
+const CASES: &str = r#"
 # Empty, and rows with nothing in them.
 [] => at once | 0 x 0:
  [ ]  => at once | 0 x 0:
@@ -204,9 +204,9 @@ fn lists_of(alloc: Global, bytes: &[u8]) -> Result<Vec<Vec<F12289>>, JsonFault> 
 #[test]
 fn rows_are_read(rt: HostRuntime) -> Result<(), Fail> {
     let mut count = 0usize;
-    for row in ROWS.lines() {
-        if !row.is_empty() && !row.starts_with('#') {
-            let (text, expected) = row.split_once(" => ").ok_or("a row without an answer")?;
+    for case in CASES.lines() {
+        if !case.is_empty() && !case.starts_with('#') {
+            let (text, expected) = case.split_once(" => ").ok_or("a case without an answer")?;
             let (way, expected) = expected.split_once(" | ").ok_or("no bar")?;
             let bytes = bytes_of(rt.alloc(), text)?;
             let actual = answer(rt.alloc(), &bytes)?;

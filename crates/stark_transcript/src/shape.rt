@@ -86,24 +86,28 @@ pub enum TranscriptPhase {
     Failed,
 }
 
+/// The step that observes one commitment.
 fn message(label: &'static str) -> Interaction
     ensures { step_view result ≡ message label.now }
 {
     Interaction::opaque(Hierarchy::Atomic, Kind::Message, label, Length::Scalar)
 }
 
+/// The step that observes or draws so many elements, each of `degree` base elements.
 fn elements(kind: Kind, label: &'static str, length: Length, degree: usize) -> Interaction
     ensures { step_view result ≡ elements kind label.now length degree }
 {
     Interaction::algebra(Hierarchy::Atomic, kind, label, length, degree)
 }
 
+/// The mark at which the scheme's opening argument begins or ends.
 fn opening(hierarchy: Hierarchy) -> Interaction
     ensures { step_view result ≡ marker hierarchy (codes "opening_argument") }
 {
     Interaction::marker(hierarchy, Kind::Protocol, "opening_argument")
 }
 
+/// 1 for what is there, 0 for what isn't.
 fn flag(is_set: bool) -> usize
     ensures { result ≡ flag is_set }
 {

@@ -18,6 +18,7 @@ use stark_support::{
 use std::alloc::{AllocError, Global};
 pub use verifier::StarkVerifierTranscript;
 
+/// The failure of a commitment that the shape describes and isn't there, or the other way round.
 fn optional_fault(
     is_described: bool,
     is_there: bool,
@@ -33,6 +34,8 @@ fn optional_fault(
     }
 }
 
+/// The failure of a preprocessed commitment that the shape's width doesn't announce, or does in
+/// vain.
 fn preprocessed_fault(shape: &StarkShape, is_there: bool) -> Option<StarkTranscriptFailure>
     ensures { result ≡ preprocessed_fault shape.now is_there }
 {
@@ -45,6 +48,8 @@ fn preprocessed_fault(shape: &StarkShape, is_there: bool) -> Option<StarkTranscr
     )
 }
 
+/// The failure of a randomization commitment that is there where the shape masks nothing, or isn't
+/// where it does.
 fn random_fault(shape: &StarkShape, is_there: bool) -> Option<StarkTranscriptFailure>
     ensures { result ≡ random_fault shape.now is_there }
 {
@@ -75,6 +80,7 @@ where
     Ok(())
 }
 
+/// Observes a commitment, where there is one: its presence itself is in the seed, not here.
 fn observe_optional<C, F, EF, K>(challenger: &mut C, commitment: Option<&K>)
 where
     F: PrimeField64,

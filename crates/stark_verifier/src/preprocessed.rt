@@ -43,6 +43,7 @@ fn width_of<EF>(row: &Option<Vec<EF>>) -> usize
     }
 }
 
+/// Refuses next values of preprocessed columns whose next row the AIR doesn't read.
 fn check_unread_next<EF>(
     reads_next: bool,
     next: &Option<Vec<EF>>,

@@ -27,6 +27,7 @@ pub enum ClearError {
     Value { round: usize },
 }
 
+/// Whether each column has so many coefficients.
 fn columns_have_size<F>(columns: &[Vec<F>], size: usize) -> bool
     ensures { IsTrue result ↔ AllByRecursion (λ column. length column
         ≡ size) (map column_list columns.now) }
@@ -46,6 +47,7 @@ fn has_count<EF>(point: &(EF, &[EF]), count: usize) -> bool
     point.1.len() == count
 }
 
+/// Whether so many values are claimed at each point.
 fn points_have_count<EF>(points: &[(EF, &[EF])], count: usize) -> bool
     ensures { IsTrue result ↔ AllByRecursion (λ p. length p.1 ≡ count) (map point_view points.now) }
 {
@@ -57,6 +59,8 @@ fn points_have_count<EF>(points: &[(EF, &[EF])], count: usize) -> bool
     true
 }
 
+/// Whether the claims of a round are of as many matrices as the commitment has, each of its
+/// columns' size and number.
 fn round_has_shape<D: PolynomialSpace, EF>(
     matrices: &[Vec<Vec<D::Val>>],
     claims: &[MatrixClaim<'_, EF, D>],
@@ -80,6 +84,7 @@ fn round_has_shape<D: PolynomialSpace, EF>(
     true
 }
 
+/// Whether the columns take these values at a point.
 fn has_values<F: Field, EF: ExtensionField<F>>(
     alloc: Global,
     columns: &[Vec<F>],
@@ -101,6 +106,7 @@ fn has_values<F: Field, EF: ExtensionField<F>>(
     true
 }
 
+/// Whether a matrix's columns take the values that are claimed, at each point.
 fn matrix_is_true<F: Field, EF: ExtensionField<F>>(
     alloc: Global,
     columns: &[Vec<F>],
@@ -117,6 +123,7 @@ fn matrix_is_true<F: Field, EF: ExtensionField<F>>(
     true
 }
 
+/// Whether all that is claimed of a round's matrices is true.
 fn round_is_true<D: PolynomialSpace, EF: ExtensionField<D::Val>>(
     alloc: Global,
     matrices: &[Vec<Vec<D::Val>>],
@@ -137,6 +144,7 @@ fn round_is_true<D: PolynomialSpace, EF: ExtensionField<D::Val>>(
     true
 }
 
+/// The first round whose claims don't fit its commitment.
 fn first_wrong_shape<D: PolynomialSpace, EF>(
     claims: &[OpeningClaim<'_, EF, ClearCommitment<D::Val>, D>],
 ) -> Option<usize>
@@ -152,6 +160,7 @@ fn first_wrong_shape<D: PolynomialSpace, EF>(
     None
 }
 
+/// The first round of which something is claimed that isn't true.
 fn first_wrong_value<D: PolynomialSpace, EF: ExtensionField<D::Val>>(
     alloc: Global,
     claims: &[OpeningClaim<'_, EF, ClearCommitment<D::Val>, D>],

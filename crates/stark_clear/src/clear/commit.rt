@@ -20,6 +20,7 @@ pub fn copied<F: Copy>(
     Ok(copy)
 }
 
+/// A copy of columns.
 fn copied_columns<F: Copy>(alloc: Global, columns: &[Vec<F>]) -> Result<Vec<Vec<F>>, AllocError>
     ensures { IfOk result (λ copy. columns_list copy ≡ map column_list columns.now) }
 {

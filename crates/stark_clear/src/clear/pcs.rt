@@ -80,6 +80,7 @@ impl<F> ClearPcs<F> {
         }
     }
 
+    /// Whether the scheme refuses at this call.
     fn stops(&self, call: ClearCall) -> bool
         ensures { IsTrue result ↔ StopsAt self.now.stops_at call }
     {

@@ -104,18 +104,18 @@ def number(n):
 
 
 def row_bytes(rows):
-    told = number(len(rows))
+    data = number(len(rows))
     for row in rows:
-        told += number(len(row)) + b"".join(number(x) for x in row)
-    return told
+        data += number(len(row)) + b"".join(number(x) for x in row)
+    return data
 
 
 def pair_bytes(x, y):
     return b"".join(number(c) for c in x + y)
 
 
-def digest(tag, told):
-    return hashlib.sha256(bytes([tag]) + told).digest()
+def digest(tag, data):
+    return hashlib.sha256(bytes([tag]) + data).digest()
 
 
 def tree_of(leaves):
@@ -134,8 +134,8 @@ def path_in(layers, place):
     return path
 
 
-def leads_to(root, depth, place, told, path):
-    reached = digest(0, told)
+def leads_to(root, depth, place, data, path):
+    reached = digest(0, data)
     for beside in path:
         reached = digest(1, beside + reached if place % 2 else reached + beside)
         place //= 2
@@ -146,8 +146,8 @@ class Challenger:
     def __init__(self):
         self.state = bytes(32)
 
-    def absorb(self, tag, told):
-        self.state = hashlib.sha256(self.state + bytes([tag]) + told).digest()
+    def absorb(self, tag, data):
+        self.state = hashlib.sha256(self.state + bytes([tag]) + data).digest()
 
     def leading(self):
         return int.from_bytes(self.state[:8], "big")
@@ -221,8 +221,8 @@ class Drawer:
 
     def element(self):
         self.count += 1
-        told = hashlib.sha256(f"{self.text} {self.count}".encode()).digest()
-        return int.from_bytes(told[:8], "big") % PRIME
+        data = hashlib.sha256(f"{self.text} {self.count}".encode()).digest()
+        return int.from_bytes(data[:8], "big") % PRIME
 
     def extension(self):
         return [self.element() for _ in range(4)]
@@ -472,29 +472,29 @@ def vector(words):
     fault = first_fault(parameters, claims, proof)
     if (fault is not None) != is_false:
         raise SystemExit(f"{' '.join(words)}: {fault}")
-    told = {"parameters": parameters, "claims": claims_json(claims), "proof": proof_json(proof)}
-    return json.dumps(told | {"fault": fault}, sort_keys=True, separators=(",", ":"))
+    vector = {"parameters": parameters, "claims": claims_json(claims), "proof": proof_json(proof)}
+    return json.dumps(vector | {"fault": fault}, sort_keys=True, separators=(",", ":"))
 
 
 # ---- back from JSON
 
-def path_of(told):
-    return [bytes.fromhex(beside) for beside in told]
+def path_of(digests):
+    return [bytes.fromhex(beside) for beside in digests]
 
 
-def judged(told):
+def judged(vector):
     """The first fault of a vector that was changed, by the name that the verifier gives it."""
     claims = [(bytes.fromhex(made["commitment"]), [
         (matrix["log_height"], [(p["point"], p["values"]) for p in matrix["points"]])
-        for matrix in made["matrices"]]) for made in told["claims"]]
-    proof = told["proof"]
+        for matrix in made["matrices"]]) for made in vector["claims"]]
+    proof = vector["proof"]
     phases = [(bytes.fromhex(phase["commitment"]), phase["witness"]) for phase in proof["phases"]]
     queries = [(
         [(opened["rows"], path_of(opened["path"])) for opened in query["inputs"]],
         [(opened["sibling"], path_of(opened["path"])) for opened in query["layers"]],
     ) for query in proof["queries"]]
     parts = phases, proof["final_polynomial"], proof["query_witness"], queries
-    return first_fault(told["parameters"], claims, parts)
+    return first_fault(vector["parameters"], claims, parts)
 
 
 def main():

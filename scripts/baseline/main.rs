@@ -51,7 +51,7 @@ fn read(path: &str) -> Result<Vec<u8>, String> {
 }
 
 /// Tells how long something took.
-fn told<T>(what: &str, work: impl FnOnce() -> T) -> T {
+fn timed<T>(what: &str, work: impl FnOnce() -> T) -> T {
     let start = Instant::now();
     let done = work();
     eprintln!("{what} {:.4} s", start.elapsed().as_secs_f64());
@@ -64,7 +64,7 @@ fn prove<A: Air<W, P>, const W: usize, const P: usize>(
     output: &str,
 ) -> Result<(), String> {
     let text = read(trace)?;
-    let rows = told("trace", || parse_rows::<W>(&text)).ok_or("the trace has another form")?;
+    let rows = timed("trace", || parse_rows::<W>(&text)).ok_or("the trace has another form")?;
     drop(text);
     let preprocessed = statement.preprocessed.as_ref();
     let count = preprocessed.map_or(rows.len(), |beside| beside.len());
@@ -72,10 +72,10 @@ fn prove<A: Air<W, P>, const W: usize, const P: usize>(
         return Err("the number of rows is no power of two, or another than beside".to_string());
     }
     let check = || first_broken::<A, W, P>(&rows, preprocessed, &statement.publics);
-    if let Some((row, constraint)) = told("check", check) {
+    if let Some((row, constraint)) = timed("check", check) {
         return Err(format!("row {row} breaks constraint {constraint}"));
     }
-    let proof = told("prove", || prover::prove::<A, W, P>(statement, rows));
+    let proof = timed("prove", || prover::prove::<A, W, P>(statement, rows));
     std::fs::write(output, proof.to_bytes()).map_err(|error| format!("{output}: {error}"))
 }
 
@@ -85,7 +85,7 @@ fn verify<A: Air<W, P>, const W: usize, const P: usize>(
 ) -> Result<(), String> {
     let bytes = read(proof)?;
     let proof = Proof::from_bytes(&bytes).ok_or("the bytes are no proof")?;
-    let verdict = told("verify", || verifier::verify::<A, W, P>(statement, &proof));
+    let verdict = timed("verify", || verifier::verify::<A, W, P>(statement, &proof));
     verdict.map_err(|refusal| format!("refused: {refusal}"))?;
     println!("accepted");
     Ok(())
@@ -107,7 +107,7 @@ fn run<A: Air<W, P>, const W: usize, const P: usize>(
 /// Does what is asked with the statement in a file, whichever AIR it has.
 fn run_file(statement: &str, command: Command) -> Result<(), String> {
     let text = read(statement)?;
-    let json = told("statement", || Json::parse(&text)).ok_or("the statement is no JSON")?;
+    let json = timed("statement", || Json::parse(&text)).ok_or("the statement is no JSON")?;
     drop(text);
     match air_digest(&json)
         .ok_or("the statement's AIR isn't plain")?

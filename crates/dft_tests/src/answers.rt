@@ -20,7 +20,8 @@ values | 7 2 | 1 2 3 4, 9, empty => [1534, 9, 0, 6768, 9, 0, 11051, 9, 0, 5229, 
 values | 11 3 | 1 0 0 0 0 0 0 1, 0 1, 12288 5 6 7 8 => [9107, 11, 4335, 10771, 4683, 2813, 971, 3980, 9537, 10004, 7450, 10976, 3184, 12278, 10169, 1520, 7606, 5642, 11320, 8309, 2063, 2287, 4839, 3613]
 values | 12288 3 | 1 2 3 4 5 6 7 8 => [12285, 10781, 5912, 10324, 36, 1957, 6369, 1500]
 
-# The shift, and the logarithm of the number of points | where the rows lie: first place, step and width; how many coefficients | a list. Answered are the columns.
+# The shift, and the logarithm of the number of points | where the rows lie: first place, step and width; how many
+# coefficients | a list. Answered are the columns.
 columns | 1 0 | 0 1 1 1 | 5 => [[5]]
 columns | 1 1 | 0 1 1 2 | 5 6 => [[6150, 6144]]
 columns | 1 2 | 0 1 1 4 | 1 2 3 4 => [[6147, 739, 6144, 11549]]

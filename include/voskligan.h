@@ -74,7 +74,8 @@ int voskligan_check(const uint8_t *statement, size_t statement_length, const uin
  *
  * `*needed` becomes the length of the proof, or 0 where there is none. Under VOSKLIGAN_ACCEPTED the first `*needed`
  * bytes of `proof` are the proof, with a newline at its end; else `proof` stays as it was, and under
- * VOSKLIGAN_NO_ROOM a call with `*needed` bytes makes the same proof. Nothing is written behind `proof_room` bytes.
+ * VOSKLIGAN_NO_ROOM the proof that was made has `*needed` bytes: call again with as much room. Nothing is written after
+ * `proof_room` bytes.
  * The message is "proved", "no room", or that of voskligan_check or of the prover's refusal.
  */
 int voskligan_prove(const uint8_t *statement, size_t statement_length, const uint8_t *trace, size_t trace_length,

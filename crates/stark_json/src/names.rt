@@ -1,10 +1,11 @@
 //! The names of an object's members.
-ghost use Rattle.std.specs.Prelude.{◌≡◌, option_map};
+ghost use Rattle.std.specs.Prelude.{◌≡◌, IfOk, option_map, string_bytes};
 ghost use Rattle.serde_json.specs.View.{members_view};
 ghost use Rattle.stark_json.specs.Apart.{names_of};
 ghost use Rattle.stark_json.specs.Names.{first_unknown, is_among};
 
 use serde_json::{Map, Value};
+use std::alloc::{AllocError, Global};
 use std::fmt;
 
 /// Whether a name is one of these, compared whole.
@@ -37,6 +38,16 @@ pub fn first_unknown<'a>(members: &'a Map<String, Value>, names: &[&str]) -> Opt
 #[derive(Debug, Drop)]
 pub struct QuotedName {
     pub name: String,
+}
+
+impl QuotedName {
+    /// A copy of the name. Err only where memory was refused.
+    pub fn new(alloc: Global, name: &str) -> Result<QuotedName, AllocError>
+        ensures { IfOk result (λ quoted. string_bytes quoted.name ≡ name.now) }
+    {
+        let name = String::from_str(alloc, name)?;
+        Ok(QuotedName { name })
+    }
 }
 
 impl fmt::Display for QuotedName {

@@ -11,11 +11,7 @@ use stark_support::{JsonCodec, JsonFault};
 use std::alloc::Global;
 
 /// The element that a value spells at this index.
-fn element_at<T: JsonCodec>(
-    alloc: Global,
-    value: &Value,
-    index: usize,
-) -> Result<T, ElementsFault>
+fn element_at<T: JsonCodec>(alloc: Global, value: &Value, index: usize) -> Result<T, ElementsFault>
     ensures { IsReading refused_element (λ x. x) result
         (element_at T.reading index (view value.now)) }
 {

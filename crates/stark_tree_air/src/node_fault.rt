@@ -18,9 +18,11 @@ pub enum NodeFault {
     NoName,
     /// No node has the name.
     #[error("there is no node {name}")]
-    UnknownName { name: QuotedName },
+    UnknownName {
+        name: QuotedName,
+    },
     /// Nodes of the name have another number of operands.
-    #[error("{name} has {got} operands in place of {expected}")]
+    #[error("{name} takes {}, and has {got}", operands(*.expected))]
     OperandCount {
         name: QuotedName,
         expected: usize,
@@ -28,7 +30,18 @@ pub enum NodeFault {
     },
     /// There are as many operands as there have to be, and one of them is no whole number.
     #[error("an operand of {name} is no whole number")]
-    Operand { name: QuotedName },
+    Operand {
+        name: QuotedName,
+    },
+}
+
+/// A number of operands in words; no node has more than two.
+fn operands(count: usize) -> &'static str {
+    match count {
+        0 => "no operand",
+        1 => "one operand",
+        _ => "two operands",
+    }
 }
 
 /// Why a JSON value spells no constraint.
@@ -67,7 +80,7 @@ fn operands_of(name: &str) -> Option<usize>
 }
 
 /// What is wrong with a node of a name that has this many operands.
-fn name_fault(alloc: Global, name: &str, got: usize) -> Result<NodeFault, AllocError>
+fn name_refusal(alloc: Global, name: &str, got: usize) -> Result<NodeFault, AllocError>
     ensures { IfOk result (λ fault. refused_node fault
         ≡ name_refusal name.now got (operands_of name.now)) }
 {
@@ -84,7 +97,8 @@ fn name_fault(alloc: Global, name: &str, got: usize) -> Result<NodeFault, AllocE
 }
 
 /// What is wrong with a value that spells no node.
-pub(crate) fn node_fault(alloc: Global, value: &Value) -> Result<NodeFault, AllocError>
+#[tactic(auto, using(crate::proofs::JsonSteps::items_length_view))]
+pub(crate) fn node_refusal(alloc: Global, value: &Value) -> Result<NodeFault, AllocError>
     ensures { IfOk result (λ fault. refused_node fault ≡ node_refusal (view value.now)) }
 {
     let Some(items) = value.as_array() else {
@@ -94,13 +108,13 @@ pub(crate) fn node_fault(alloc: Global, value: &Value) -> Result<NodeFault, Allo
         return Ok(NodeFault::NoName);
     };
     match tag.as_str() {
-        Some(name) => name_fault(alloc, name, operands.len()),
+        Some(name) => name_refusal(alloc, name, operands.len()),
         None => Ok(NodeFault::NoName),
     }
 }
 
 /// What is wrong with the marks of an object that spells no constraint.
-fn marks_fault(value: &Value) -> ConstraintFault
+fn marks_refusal(value: &Value) -> ConstraintFault
     ensures { refused_constraint result ≡ marks_refusal (view value.now) }
 {
     match (value.get("base"), value.get("ext")) {
@@ -111,7 +125,7 @@ fn marks_fault(value: &Value) -> ConstraintFault
 }
 
 /// What is wrong with a value that spells no constraint.
-pub(crate) fn constraint_fault(
+pub(crate) fn constraint_refusal(
     alloc: Global,
     value: &Value,
 ) -> Result<ConstraintFault, AllocError>
@@ -125,6 +139,6 @@ pub(crate) fn constraint_fault(
         Some(name) => Ok(ConstraintFault::UnknownMember {
             name: QuotedName::new(alloc, name)?,
         }),
-        None => Ok(marks_fault(value)),
+        None => Ok(marks_refusal(value)),
     }
 }

@@ -76,31 +76,31 @@ module _ {K : Type 0} {ring : RingOps K} {inverse : K → K} (laws : FieldLaws r
   agrees_of : (claim : Claim I K) → Sound claim → Agrees ring point n (suc d) places (columns claim.column)
   agrees_of claim sound = record { polynomial = sound.polynomial; degree = sound.degree; takes = sound.takes }
 
-  abbrev Decided : I → Type 0
+  abbrev pub Decided : I → Type 0
   Decided column = Agrees ring point n (suc d) places (columns column) ⊎ (Agrees ring point n (suc d) places (columns column) → ⊥)
 
   -- A column's polynomial, and the zero polynomial for a column that agrees with none.
-  abbrev polynomial_or_zero : (column : I) → Decided column → List K
+  abbrev pub polynomial_or_zero : (column : I) → Decided column → List K
   polynomial_or_zero column (inl agrees) = agrees.polynomial
   polynomial_or_zero column (inr never) = []
 
-  decided : (column : I) → Decided column
+  pub decided : (column : I) → Decided column
   decided column = decide_agrees laws point n (suc d) places (columns column) apart
 
-  abbrev polynomial_of : I → List K
+  abbrev pub polynomial_of : I → List K
   polynomial_of column = polynomial_or_zero column (decided column)
 
   nothing_below : HasDegreeBelow {K = K} (suc d) []
   nothing_below = omega arith
 
-  degree_of : (column : I) → HasDegreeBelow (suc d) (polynomial_of column)
+  pub degree_of : (column : I) → HasDegreeBelow (suc d) (polynomial_of column)
   degree_of column = elim (decided column) as (λ x. HasDegreeBelow (suc d) (polynomial_or_zero column x)) [ inl agrees ↦ agrees.degree | inr never ↦ nothing_below ]
 
-  takes_claimed : (claim : Claim I K) → Sound claim → (i : ℕ) → i < n → places i ≡ true → columns claim.column i ≡ value ring (polynomial_of claim.column) (point i)
-  takes_claimed claim sound i below is =
-      elim (decided claim.column) as (λ x. columns claim.column i ≡ value ring (polynomial_or_zero claim.column x) (point i)) [
-        | inl agrees ↦ agrees.takes i below is
-        | inr never ↦ absurd (never (agrees_of claim sound))
+  pub takes_of : (column : I) → Agrees ring point n (suc d) places (columns column) → (i : ℕ) → i < n → places i ≡ true → columns column i ≡ value ring (polynomial_of column) (point i)
+  takes_of column agrees i below is =
+      elim (decided column) as (λ x. columns column i ≡ value ring (polynomial_or_zero column x) (point i)) [
+        | inl own ↦ own.takes i below is
+        | inr never ↦ absurd (never agrees)
       ]
 
   claim_is_true : suc d ≤ count n places → (claim : Claim I K) → Sound claim → value ring (polynomial_of claim.column) claim.at ≡ claim.claimed
@@ -117,6 +117,6 @@ module _ {K : Type 0} {ring : RingOps K} {inverse : K → K} (laws : FieldLaws r
   claims_hold enough claims sound = record {
     polynomials = polynomial_of;
     degrees = degree_of;
-    takes = all_both Sound Sound (λ claim. (i : ℕ) → i < n → places i ≡ true → columns claim.column i ≡ value ring (polynomial_of claim.column) (point i)) (λ claim is _. takes_claimed claim is) claims sound sound;
+    takes = all_both Sound Sound (λ claim. (i : ℕ) → i < n → places i ≡ true → columns claim.column i ≡ value ring (polynomial_of claim.column) (point i)) (λ claim is _. takes_of claim.column (agrees_of claim is)) claims sound sound;
     are_true = all_both Sound Sound (λ claim. value ring (polynomial_of claim.column) claim.at ≡ claim.claimed) (λ claim is _. claim_is_true enough claim is) claims sound sound;
   }

@@ -1,6 +1,6 @@
 //! Claims of words' values.
-ghost use Rattle.stark_fri_soundness.specs.BaseWords.{BaseWordsAgree};
-ghost use Rattle.stark_fri_soundness.specs.Claims.{ClaimsAreSound, OnePolynomial};
+ghost use Rattle.stark_fri_soundness.specs.BaseWords.{BaseClaimsFollow, BaseWordsAgree};
+ghost use Rattle.stark_fri_soundness.specs.Claims.{ClaimsAreSound, ColumnIndex, OnePolynomial};
 
 use stark_support::{ExtensionField, Field, TwoAdicField};
 
@@ -20,4 +20,10 @@ pub fn one_polynomial<F: Field>(_some: F)
 /// polynomial of degree below `d` over the extension agrees there with one over the base field.
 pub fn base_words_agree<F: TwoAdicField, EF: ExtensionField<F>>(_base: F, _some: EF)
     ensures { BaseWordsAgree F.ring EF.ring EF.embed }
+{}
+
+/// A law, with no code: claims of columns over the base field that hold by polynomials over the
+/// extension hold by polynomials over the base field, where there are more places than the degree.
+pub fn base_claims_follow<F: TwoAdicField, EF: ExtensionField<F>>(_base: F, _some: EF)
+    ensures { BaseClaimsFollow ColumnIndex F.ring EF.ring EF.embed }
 {}

@@ -8,7 +8,7 @@ mod lines;
 mod powers;
 mod soundness;
 
-pub use claims::{base_words_agree, claims_are_sound, one_polynomial};
+pub use claims::{base_claims_follow, base_words_agree, claims_are_sound, one_polynomial};
 pub use folds::{few_bad_betas, folds_are_sound, queries_pass};
 pub use lines::few_bad_lines;
 pub use powers::{few_bad_powers, powers_are_sound};

@@ -10,8 +10,8 @@ pub fn few_bad_powers<F: Field>(_some: F)
     ensures { FewBadPowers F.ring }
 {}
 
-/// A law, with no code: where the element isn't bad and the combined word is near to a codeword, all
-/// words agree with codewords on the same places.
+/// A law, with no code: where the element isn't bad and the combined word is near to a codeword,
+/// all words agree with codewords on the same places.
 pub fn powers_are_sound<F: Field>(_some: F)
     ensures { PowersAreSound F.ring }
 {}

@@ -53,10 +53,11 @@ enum {
  * the form in bytes that `voskligan prove --binary` writes.
  *
  * VOSKLIGAN_ACCEPTED is answered where the verifier, whose challenger has observed the whole statement first, accepts
- * the proof, and nowhere else; but where memory is refused nothing is judged. Then columns break no constraint of the
- * statement's AIR, or one of the two challenges is among the few that are bad: by FRI, which a statement names by
- * leaving its scheme out, any columns that take the proof's opened values; in the clear those that the proof lists. The
- * statement, its field and its scheme with it, has to be fixed before a proof is looked at.
+ * the proof, and nowhere else; but where memory is refused nothing is judged. In the clear the columns that the proof
+ * lists then break no constraint of the statement's AIR, or one of the two challenges is among the few that are bad. By
+ * FRI, which a statement names by leaving its scheme out, this is said of any columns that take the proof's opened
+ * values, of whatever degree, and no count is said of the bad challenges (docs/SECURITY.md). The statement, its field
+ * and its scheme with it, has to be fixed before a proof is looked at.
  */
 int voskligan_verify(const uint8_t *statement, size_t statement_length, const uint8_t *proof, size_t proof_length,
                      uint8_t *message, size_t room);
@@ -73,7 +74,8 @@ int voskligan_check(const uint8_t *statement, size_t statement_length, const uin
  *
  * `*needed` becomes the length of the proof, or 0 where there is none. Under VOSKLIGAN_ACCEPTED the first `*needed`
  * bytes of `proof` are the proof, with a newline at its end; else `proof` stays as it was, and under
- * VOSKLIGAN_NO_ROOM a call with `*needed` bytes makes the same proof. Nothing is written behind `proof_room` bytes.
+ * VOSKLIGAN_NO_ROOM the proof that was made has `*needed` bytes: call again with as much room. Nothing is written after
+ * `proof_room` bytes.
  * The message is "proved", "no room", or that of voskligan_check or of the prover's refusal.
  */
 int voskligan_prove(const uint8_t *statement, size_t statement_length, const uint8_t *trace, size_t trace_length,

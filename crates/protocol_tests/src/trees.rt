@@ -47,23 +47,44 @@ folded | {"width":1,"publics":0,"periodic":[[0,1]],"constants":[],"nodes":[["mai
 
 # What is read of the text is answered as it is written; or the error by its name and fields, and as it is printed. The fields in
 # their order, whatever stands behind the first fault.
-tree | [] => WrongKind { field: "" }: the field  is of the wrong kind
+tree | [] => NotAnObject: it is no object
+tree | {"width":-1,"preprocesed":{}} => UnknownMember { name: QuotedName { name: "preprocesed" } }: it has a member "preprocesed", which is none of width, publics, periodic, preprocessed, max_constraint_degree, num_constraints, constants, nodes, constraints
+tree | {"a_name_that_is_longer_than_forty_bytes_is_cut":0} => UnknownMember { name: QuotedName { name: "a_name_that_is_longer_than_forty_bytes_is_cut" } }: it has a member "a_name_that_is_longer_than_forty_bytes_i".., which is none of width, publics, periodic, preprocessed, max_constraint_degree, num_constraints, constants, nodes, constraints
 tree | {"publics":-1} => MissingField { field: "width" }: the field width is missing
 tree | {"width":1.0,"publics":-1} => WrongKind { field: "width" }: the field width is of the wrong kind
 tree | {"width":18446744073709551616} => WrongKind { field: "width" }: the field width is of the wrong kind
 tree | {"width":1,"publics":1,"periodic":{}} => WrongKind { field: "periodic" }: the field periodic is of the wrong kind
-tree | {"width":1,"publics":1,"periodic":[1]} => Element { field: "periodic" }: an element of periodic is refused
+tree | {"width":1,"publics":1,"periodic":[1]} => PeriodicColumn { column: 0 }: periodic column 0 is no array
+tree | {"width":1,"publics":1,"periodic":[[1],[2,12289],3]} => PeriodicValue { column: 1, row: 1 }: row 1 of periodic column 1 is no whole number below the field's order
 tree | {"width":1,"publics":1,"periodic":[],"preprocessed":[]} => WrongKind { field: "preprocessed" }: the field preprocessed is of the wrong kind
-tree | {"width":1,"publics":1,"periodic":[],"preprocessed":{"width":1}} => MissingField { field: "rows" }: the field rows is missing
-tree | {"width":1,"publics":1,"periodic":[],"preprocessed":{"width":1,"rows":[[1],[2,3],[]]}} => RowWidth { row: 1 }: row 1 of the preprocessed trace has another width
+tree | {"width":1,"publics":1,"periodic":[],"preprocessed":{"width":-1,"row":[]}} => UnknownTraceMember { name: QuotedName { name: "row" } }: the preprocessed trace has a member "row", which is neither width nor rows
+tree | {"width":1,"publics":1,"periodic":[],"preprocessed":{"rows":[]}} => MissingField { field: "preprocessed.width" }: the field preprocessed.width is missing
+tree | {"width":1,"publics":1,"periodic":[],"preprocessed":{"width":"1"}} => WrongKind { field: "preprocessed.width" }: the field preprocessed.width is of the wrong kind
+tree | {"width":1,"publics":1,"periodic":[],"preprocessed":{"width":1}} => MissingField { field: "preprocessed.rows" }: the field preprocessed.rows is missing
+tree | {"width":1,"publics":1,"periodic":[],"preprocessed":{"width":1,"rows":{}}} => WrongKind { field: "preprocessed.rows" }: the field preprocessed.rows is of the wrong kind
+tree | {"width":1,"publics":1,"periodic":[],"preprocessed":{"width":1,"rows":[[1,2],3,[-1]]}} => PreprocessedRow { row: 1 }: row 1 of the preprocessed trace is no array
+tree | {"width":1,"publics":1,"periodic":[],"preprocessed":{"width":1,"rows":[[1,2],[3],[-1],4]}} => PreprocessedValue { row: 2, column: 0 }: row 2, column 0 of the preprocessed trace is no whole number below the field's order
+tree | {"width":1,"publics":1,"periodic":[],"preprocessed":{"width":1,"rows":[[1],[2,3],[]]}} => RowWidth { row: 1, expected: 1, got: 2 }: row 1 of the preprocessed trace has 2 columns, and its width is 1
 tree | {"width":1,"publics":1,"periodic":[],"max_constraint_degree":"3"} => WrongKind { field: "max_constraint_degree" }: the field max_constraint_degree is of the wrong kind
 tree | {"width":1,"publics":1,"periodic":[],"num_constraints":[]} => WrongKind { field: "num_constraints" }: the field num_constraints is of the wrong kind
-tree | {"width":1,"publics":1,"periodic":[],"constants":[1,12289]} => Element { field: "constants" }: an element of constants is refused
-tree | {"width":1,"publics":1,"periodic":[],"constants":[],"nodes":[["first",0]]} => Element { field: "nodes" }: an element of nodes is refused
-tree | {"width":1,"publics":1,"periodic":[],"constants":[],"nodes":[["mul",0]]} => Element { field: "nodes" }: an element of nodes is refused
-tree | {"width":1,"publics":1,"periodic":[],"constants":[],"nodes":[["div",0,0]]} => Element { field: "nodes" }: an element of nodes is refused
-tree | {"width":1,"publics":1,"periodic":[],"constants":[],"nodes":[["first"]],"constraints":[{"base":0,"ext":0}]} => Element { field: "constraints" }: an element of constraints is refused
-tree | {"width":1,"publics":1,"periodic":[],"constants":[],"nodes":[["main",1]],"constraints":[{}]} => Element { field: "constraints" }: an element of constraints is refused
+tree | {"width":1,"publics":1,"periodic":[],"constants":[1,12289]} => Constant { constant: 1 }: constant 1 is no whole number below the field's order
+tree | {"width":1,"publics":1,"periodic":[],"constants":[],"nodes":[7]} => Node { node: 0, fault: NoName }: node 0: it is no array that begins with a name
+tree | {"width":1,"publics":1,"periodic":[],"constants":[],"nodes":[["last"],[]]} => Node { node: 1, fault: NoName }: node 1: it is no array that begins with a name
+tree | {"width":1,"publics":1,"periodic":[],"constants":[],"nodes":[["last"],[0,"main"]]} => Node { node: 1, fault: NoName }: node 1: it is no array that begins with a name
+tree | {"width":1,"publics":1,"periodic":[],"constants":[],"nodes":[["div",0,0]]} => Node { node: 0, fault: UnknownName { name: QuotedName { name: "div" } } }: node 0: there is no node "div"
+tree | {"width":1,"publics":1,"periodic":[],"constants":[],"nodes":[["last"],["last"],["minus",0,1],["plus"]]} => Node { node: 2, fault: UnknownName { name: QuotedName { name: "minus" } } }: node 2: there is no node "minus"
+tree | {"width":1,"publics":1,"periodic":[],"constants":[],"nodes":[["first",0]]} => Node { node: 0, fault: OperandCount { name: QuotedName { name: "first" }, expected: 0, got: 1 } }: node 0: "first" takes no operand, and has 1
+tree | {"width":1,"publics":1,"periodic":[],"constants":[],"nodes":[["last"],["neg",0,0]]} => Node { node: 1, fault: OperandCount { name: QuotedName { name: "neg" }, expected: 1, got: 2 } }: node 1: "neg" takes one operand, and has 2
+tree | {"width":1,"publics":1,"periodic":[],"constants":[],"nodes":[["mul",0]]} => Node { node: 0, fault: OperandCount { name: QuotedName { name: "mul" }, expected: 2, got: 1 } }: node 0: "mul" takes two operands, and has 1
+tree | {"width":1,"publics":1,"periodic":[],"constants":[],"nodes":[["add","x",0,0,0]]} => Node { node: 0, fault: OperandCount { name: QuotedName { name: "add" }, expected: 2, got: 4 } }: node 0: "add" takes two operands, and has 4
+tree | {"width":1,"publics":1,"periodic":[],"constants":[],"nodes":[["main","x"]]} => Node { node: 0, fault: Operand { name: QuotedName { name: "main" } } }: node 0: an operand of "main" is no whole number
+tree | {"width":1,"publics":1,"periodic":[],"constants":[],"nodes":[["last"],["sub",0,-1]]} => Node { node: 1, fault: Operand { name: QuotedName { name: "sub" } } }: node 1: an operand of "sub" is no whole number
+tree | {"width":1,"publics":1,"periodic":[],"constants":[],"nodes":[["first"]],"constraints":[{"base":0},0]} => Constraint { constraint: 1, fault: NotAnObject }: constraint 1 is no object
+tree | {"width":1,"publics":1,"periodic":[],"constants":[],"nodes":[["first"]],"constraints":[{"base":0},{"ext":0},{"bas":19}]} => Constraint { constraint: 2, fault: UnknownMember { name: QuotedName { name: "bas" } } }: constraint 2 has a member "bas", which is neither base nor ext
+tree | {"width":1,"publics":1,"periodic":[],"constants":[],"nodes":[["first"]],"constraints":[{"base":0,"note":"the first row"}]} => Constraint { constraint: 0, fault: UnknownMember { name: QuotedName { name: "note" } } }: constraint 0 has a member "note", which is neither base nor ext
+tree | {"width":1,"publics":1,"periodic":[],"constants":[],"nodes":[["main",1]],"constraints":[{}]} => Constraint { constraint: 0, fault: NoMark }: constraint 0 is neither base nor ext
+tree | {"width":1,"publics":1,"periodic":[],"constants":[],"nodes":[["first"]],"constraints":[{"base":0,"ext":0}]} => Constraint { constraint: 0, fault: BothMarks }: constraint 0 is both base and ext
+tree | {"width":1,"publics":1,"periodic":[],"constants":[],"nodes":[["first"]],"constraints":[{"ext":0},{"base":[0]}]} => Constraint { constraint: 1, fault: Place }: constraint 1 names its node by no whole number
 
 # Each is the first of two faults: leaves outside, of each kind; operands that don't stand before their node; constraints that
 # name no node; an operand before a leaf; and a node before a constraint.
@@ -79,9 +100,8 @@ tree | {"width":1,"publics":0,"periodic":[],"constants":[],"nodes":[["mul",1,0],
 tree | {"width":1,"publics":0,"periodic":[],"constants":[],"nodes":[["last"]],"constraints":[{"base":0},{"ext":1},{"base":2}]} => Air(NoSuchNode { constraint: 1 }): constraint 1 names a node that isn't there
 tree | {"width":1,"publics":0,"periodic":[],"constants":[],"nodes":[["transition"],["main",1]],"constraints":[{"base":2}]} => Air(LeafOutside { node: 1 }): node 1 reads a constant, a column or a value that isn't there
 
-# Written with the fields in the order of their names, without those that it doesn't know, and read back; the trace and the
-# hints are written where there are any.
-tree | {"width":1,"publics":1,"periodic":[],"constants":[],"nodes":[],"constraints":[],"num_constraints":null,"name":"none"} => {"constants":[],"constraints":[],"nodes":[],"periodic":[],"preprocessed":null,"publics":1,"width":1}
+# Written with the fields in the order of their names, and read back; the trace and the hints are written where there are any.
+tree | {"width":1,"publics":1,"periodic":[],"constants":[],"nodes":[],"constraints":[],"num_constraints":null} => {"constants":[],"constraints":[],"nodes":[],"periodic":[],"preprocessed":null,"publics":1,"width":1}
 tree | {"width":2,"publics":1,"periodic":[[1,2],[3]],"preprocessed":{"rows":[[4,5],[6,7]],"width":2},"max_constraint_degree":3,"num_constraints":2,"constants":[12288],"nodes":[["constant",0],["main",1],["next",1],["preprocessed",1],["preprocessed_next",0],["public",0],["periodic",1],["first"],["last"],["transition"],["add",0,1],["sub",3,2],["mul",11,10],["neg",12]],"constraints":[{"ext":13},{"base":12}]} => {"constants":[12288],"constraints":[{"ext":13},{"base":12}],"max_constraint_degree":3,"nodes":[["constant",0],["main",1],["next",1],["preprocessed",1],["preprocessed_next",0],["public",0],["periodic",1],["first"],["last"],["transition"],["add",0,1],["sub",3,2],["mul",11,10],["neg",12]],"num_constraints":2,"periodic":[[1,2],[3]],"preprocessed":{"rows":[[4,5],[6,7]],"width":2},"publics":1,"width":2}
 
 # The main and the preprocessed columns whose next row is declared: a column for each node that reads one in the next row, in the

@@ -1,4 +1,5 @@
 pub mod AcceptSteps
+pub mod BoundSteps
 pub mod ClaimSteps
 pub mod FoldSteps
 pub mod FourSteps
@@ -9,6 +10,8 @@ pub mod PlaySteps
 pub mod PointSteps
 pub mod QuerySteps
 pub mod ReplaySteps
+pub mod SoundSteps
 pub mod VerifySteps
 pub mod ViewSteps
 pub mod WalkSteps
+pub mod WordSteps

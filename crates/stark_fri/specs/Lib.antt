@@ -7,5 +7,7 @@ pub mod Query
 pub mod Replayed
 pub mod Scheme
 pub mod SchemeFacts
+pub mod Soundness
 pub mod Transcript
 pub mod Walks
+pub mod Words

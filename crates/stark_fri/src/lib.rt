@@ -19,7 +19,7 @@ mod verify;
 pub use claims::check_claims;
 pub use error::{FriError, FriProverError, QueryFault};
 pub use fields::FoldingFields;
-pub use laws::{no_claim_is_both, own_claims_are_enough};
+pub use laws::{accepted_is_sound, no_claim_is_both, own_claims_are_enough};
 pub use replay::draw_places;
 pub use sponge::{FriCalls, FriChallenger, FriObserving, FriSponge};
 pub use transcript::{observe_claims, observe_parameters, observe_values};

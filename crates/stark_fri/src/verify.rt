@@ -3,6 +3,7 @@ ghost use Rattle.std.specs.Prelude.{◌≡◌, ◌≤◌, IfErr, IfOk, length};
 ghost use Rattle.stark_fri.specs.Accept.{log_final};
 ghost use Rattle.stark_fri.specs.Found.{AcceptsClaimed, RefusesClaimed, ShapeFits};
 ghost use Rattle.stark_fri.specs.Replayed.{FindsFirstQuery, IsCheckable};
+ghost use Rattle.stark_fri.specs.Soundness.{FewAreBadOfClaims, IsSoundOfClaims};
 
 use crate::claims::check_claims;
 use crate::error::{FriError, QueryFault};
@@ -78,6 +79,14 @@ where
 /// `Refused` with the first fault, in the order of `FriError`, or `OutOfMemory`. Any proof is
 /// taken: each of its lengths is tested before anything is read by it, so that time and memory are
 /// bounded by the lengths of the claims and the proof and by the parameters.
+///
+/// `sound` says what Ok shows of any words (a row of each matrix at each place, and a word for each
+/// fold) that lead to the proof's roots at the drawn places, within a radius `e` where
+/// `2 e + 2^height < 2^bits`. It is one of five: the columns agree with polynomials over the base
+/// field of degree at most `2^height`, at all places but `e`, and all claims are true of these;
+/// alpha is bad for the words; a beta is; all drawn places are among fewer than `2^bits - e` that
+/// pass; or a query opens something else than the words under the same root, so that two texts have
+/// one digest. `few` says how few alphas, betas and lists of places these are.
 pub fn verify_openings<C, EF, D, H>(
     alloc: Global,
     parameters: &FriParameters,
@@ -94,6 +103,10 @@ where
         AcceptsClaimed ⟦<C as FriCalls<D::Val, EF, H>>⟧.fri_ops D.coset_of parameters.now
         claims.now challenger.old proof.now) }
     ensures refused { IfErr result (RefusesClaimed ⟦<C as FriCalls<D::Val, EF, H>>⟧.fri_ops
+        D.coset_of parameters.now claims.now challenger.old proof.now) }
+    ensures sound { IfOk result (λ _. IsSoundOfClaims ⟦<C as FriCalls<D::Val, EF, H>>⟧.fri_ops
+        D.coset_of parameters.now claims.now challenger.old proof.now) }
+    ensures few { IfOk result (λ _. FewAreBadOfClaims ⟦<C as FriCalls<D::Val, EF, H>>⟧.fri_ops
         D.coset_of parameters.now claims.now challenger.old proof.now) }
 {
     let log_height = match check_claims::<EF, D>(parameters, claims) {

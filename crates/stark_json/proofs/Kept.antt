@@ -6,6 +6,7 @@ use Rattle.std.specs.Str.{bytes_eq}
 use Rattle.serde_json.specs.Data.{Data, null, boolean, number, string, array, object, Members, no_members, member}
 use Rattle.serde_json.specs.Find.{as_null, get, get_member}
 use Rattle.stark_json.specs.Apart.{changed, changed_members, joined}
+use Rattle.stark_json.specs.Names.{first_unknown, is_among}
 use Rattle.stark_json.proofs.Changed.{equal_names}
 
 module _ (name : List ℕ) (f : Data → Data) where
@@ -53,3 +54,8 @@ module _ (name : List ℕ) (f : Data → Data) where
   as_null-changed (string s) = refl
   as_null-changed (array ds) = refl
   as_null-changed (object ms) = refl
+
+  -- the names are as they were
+  pub first_unknown-changed : (names : List (List ℕ)) (ms : Members) → first_unknown names (changed_members name f ms) ≡ first_unknown names ms
+  first_unknown-changed names no_members = refl
+  first_unknown-changed names (member key d ms) = ap (λ rest. if is_among key names then rest else Some key) (first_unknown-changed names ms)

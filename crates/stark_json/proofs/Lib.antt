@@ -1,4 +1,5 @@
 pub mod Changed
+pub mod ElementSteps
 pub mod Kept
 pub mod Parted
 pub mod SoFar

@@ -1,2 +1,4 @@
 pub mod Apart
 pub mod Tokens
+pub mod Elements
+pub mod Names

@@ -5,7 +5,9 @@
 
 mod apart;
 mod document;
+mod element_faults;
 mod elements;
+mod names;
 mod number;
 mod rows;
 #[cfg(test)]
@@ -14,5 +16,7 @@ mod unread;
 mod values;
 
 pub use document::{Document, document_from_bytes};
-pub use elements::lists_of_numbers;
+pub use element_faults::{ElementsFault, ListsFault};
+pub use elements::{elements_from_json, lists_from_json, lists_of_numbers};
+pub use names::{QuotedName, first_unknown};
 pub use rows::NumberRows;

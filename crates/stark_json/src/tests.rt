@@ -1,6 +1,5 @@
 //! Texts, whether their rows are apart, and that what is read is what the tree has.
 use crate::document::{Document, document_from_bytes};
-use crate::elements::lists_of_numbers;
 use crate::rows::NumberRows;
 use serde_json::Value;
 use stark_support::{JsonFault, value_from_bytes};

@@ -1,17 +1,13 @@
 -- A statement whose preprocessed rows are apart is read as that with the rows in their place.
-use Rattle.std.proofs.Common.{◌≡◌, ◌&&◌, ℕ, List, Option, Some, None, option_map, false, ok_or, refl, sym, ap, codes}
+use Rattle.std.proofs.Common.{◌≡◌, ℕ, List, Option, Some, None, option_map, false, ok_or, refl, sym, codes}
 use Rattle.std.specs.Str.{bytes_eq}
-use Rattle.serde_json.specs.Data.{Data, null, boolean, number, string, array, object, Members, no_members, member}
+use Rattle.serde_json.specs.Data.{Data, null, boolean, number, string, array, object}
 use Rattle.serde_json.specs.Find.{get}
-use Rattle.stark_json.specs.Apart.{changed_members, joined, placed, rows_data}
-use Rattle.stark_json.proofs.Kept.{get_other, get_same}
+use Rattle.stark_json.specs.Apart.{joined, placed, rows_data}
+use Rattle.stark_json.proofs.Kept.{first_unknown-changed, get_other, get_same}
 use Rattle.stark_tree_air.specs.TreeApart.{trace_path}
 use Rattle.stark_statement.specs.StatementApart.{air_joined, statement_apart, statement_path}
-use Rattle.stark_statement.specs.StatementJson.{StatementFault, missing_field, air_at, all_known, configuration_reading, is_known, statement_reading, ◌>>=◌}
-
-all_known-changed : (name : List ℕ) (f : Data → Data) (ms : Members) → all_known (changed_members name f ms) ≡ all_known ms
-all_known-changed name f no_members = refl
-all_known-changed name f (member key d ms) = ap (λ b. is_known key && b) (all_known-changed name f ms)
+use Rattle.stark_statement.specs.StatementJson.{StatementFault, missing_field, air_at, configuration_reading, statement_names, statement_reading, ◌>>=◌}
 
 module _ (rows : List (List ℕ)) where
   abbrev inner : Data → Data
@@ -30,7 +26,7 @@ module _ (rows : List (List ℕ)) where
   configurations_are (number n) = refl
   configurations_are (string s) = refl
   configurations_are (array ds) = refl
-  configurations_are (object ms) = let config = kept (codes "config") (object ms) refl in rw (all_known-changed (codes "air") inner ms, config) refl
+  configurations_are (object ms) = let config = kept (codes "config") (object ms) refl in rw (first_unknown-changed (codes "air") inner statement_names ms, config) refl
 
   module _ {F : Type 0} (element : Data → Option F) where
     airs_are : (fault : StatementFault) (obtained : Option Data) → (ok_or obtained fault >>= air_joined element (Some rows)) ≡ (ok_or (option_map inner obtained) fault >>= air_at element)

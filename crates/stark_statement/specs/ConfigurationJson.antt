@@ -1,8 +1,8 @@
 -- The JSON of a configuration: what a JSON value is read as, or its first fault.
-use Rattle.std.specs.Prelude.{◌≡◌, ◌&&◌, ◌||◌, ℕ, List, Bool, true, if◌then◌else◌, nat_lt, Option, None, Some, is_some, ok_or, Result, Ok, Err, codes, ⊤}
+use Rattle.std.specs.Prelude.{◌≡◌, ℕ, List, [], ◌∷◌, if◌then◌else◌, nat_lt, Option, None, Some, is_some, ok_or, Result, Ok, Err, codes, ⊤}
 use Rattle.std.specs.Str.{bytes_eq}
-use Rattle.serde_json.specs.Data.{Data, Members, no_members, member}
-use Rattle.serde_json.specs.Find.{get, as_null, as_object, as_str}
+use Rattle.serde_json.specs.Data.{Data}
+use Rattle.serde_json.specs.Find.{get, as_null, as_str}
 use Rattle.stark_support.specs.Json.{whole_at}
 use Rattle.stark_fri_proof.specs.declared.parameters.FriParametersError.{FriParametersError}
 use Rattle.stark_fri_proof.specs.declared.parameters.FriParametersError.TheVariants.{NoBlowup, BlowupTooLarge, FinalPolynomialTooLong, NoQueries, CommitWorkTooLarge, QueryWorkTooLarge}
@@ -10,7 +10,7 @@ use Rattle.stark_statement.specs.Configuration.{ConfigurationView, FriNumbers, d
 use Rattle.stark_statement.specs.declared.configuration.FieldName.{FieldName}
 use Rattle.stark_statement.specs.declared.configuration.FieldName.TheVariants.{BabyBear, KoalaBear, F12289}
 use Rattle.stark_statement.specs.declared.configuration_error.ConfigurationError.{ConfigurationError}
-use Rattle.stark_statement.specs.declared.configuration_error.ConfigurationError.TheVariants.{NotAnObject, UnknownMember, WrongKind, UnknownField, UnknownScheme, NotInTheClear, Parameters, BlowupPastTwoAdicity}
+use Rattle.stark_statement.specs.declared.configuration_error.ConfigurationError.TheVariants.{WrongKind, UnknownField, UnknownScheme, NotInTheClear, Parameters, BlowupPastTwoAdicity}
 use Rattle.stark_statement.specs.declared.configuration_error.ConfigurationMember.{ConfigurationMember}
 use Rattle.stark_statement.specs.declared.configuration_error.ConfigurationMember.TheVariants.{Field, Scheme, LogBlowup, LogFinalPolyLen, NumQueries, CommitProofOfWorkBits, QueryProofOfWorkBits}
 use Rattle.stark_statement.specs.declared.configuration_json.SchemeName.{SchemeName}
@@ -37,24 +37,11 @@ member_name NumQueries = codes "num_queries"
 member_name CommitProofOfWorkBits = codes "commit_proof_of_work_bits"
 member_name QueryProofOfWorkBits = codes "query_proof_of_work_bits"
 
--- Whether a configuration has a member of this name.
-unfoldable pub is_member : List ℕ → Bool
-is_member name =
-    bytes_eq name (codes "field") || bytes_eq name (codes "scheme")
-    || bytes_eq name (codes "log_blowup") || bytes_eq name (codes "log_final_poly_len")
-    || bytes_eq name (codes "num_queries")
-    || bytes_eq name (codes "commit_proof_of_work_bits") || bytes_eq name (codes "query_proof_of_work_bits")
-
-abbrev pub all_are_members : Members → Bool
-all_are_members no_members = true
-all_are_members (member name d ms) = is_member name && all_are_members ms
-
-abbrev pub members_known : Members → Result ⊤ ConfigurationError
-members_known ms = if all_are_members ms then Ok tt else Err UnknownMember
-
--- an object without a member that no configuration has
-abbrev pub configuration_members : Data → Result ⊤ ConfigurationError
-configuration_members d = ok_or (as_object d) NotAnObject >>= members_known
+-- the names of a configuration's members
+abbrev pub config_names : List (List ℕ)
+config_names =
+    codes "field" ∷ codes "scheme" ∷ codes "log_blowup" ∷ codes "log_final_poly_len" ∷ codes "num_queries"
+    ∷ codes "commit_proof_of_work_bits" ∷ codes "query_proof_of_work_bits" ∷ []
 
 abbrev pub unless_null : Option Data → Option Data
 unless_null None = None
@@ -159,10 +146,9 @@ abbrev pub of_scheme : FieldName → Data → SchemeName → Result Configuratio
 of_scheme field d OfFri = fri_at field d >>= with_fri field
 of_scheme field d OfClear = no_numbers d >>= in_the_clear field
 
--- the configuration that an object spells, or its first fault
+-- the configuration that an object of known members spells, or its first fault
 unfoldable pub configuration_at : Data → Result ConfigurationView ConfigurationError
 configuration_at d = do
-  known ← configuration_members d
   field ← field_at d
   scheme ← scheme_at d
   of_scheme field d scheme

@@ -5,7 +5,7 @@ use Rattle.stark_json.specs.Apart.{document_data, joined}
 use Rattle.stark_json.specs.declared.document.Document.{Document}
 use Rattle.stark_tree_air.specs.TreeApart.{trace_path}
 use Rattle.stark_tree_air.specs.TreeJson.{AirView}
-use Rattle.stark_statement.specs.StatementJson.{StatementFault, air_at, bits_at, configuration_reading, list_at, required, with_count, ◌>>=◌}
+use Rattle.stark_statement.specs.StatementJson.{StatementFault, air_at, bits_at, configuration_reading, public_values_at, required, with_count, ◌>>=◌}
 use Rattle.stark_statement.specs.StatementView.{StatementView}
 
 -- where the rows stand in a statement
@@ -26,7 +26,7 @@ module _ {F : Type 0} (element : Data → Option F) (rows : Option (List (List �
   statement_apart d = do
     config ← configuration_reading d
     air ← required (codes "air") air_joined d
-    public_values ← required (codes "public_values") (list_at element (codes "public_values")) d
+    public_values ← required (codes "public_values") (public_values_at element) d
     alpha_bits ← bits_at (codes "alpha_bits") d
     ood_bits ← bits_at (codes "ood_bits") d
     with_count element config air public_values alpha_bits ood_bits

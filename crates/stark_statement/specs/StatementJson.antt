@@ -1,25 +1,28 @@
 -- The JSON of a statement: what a JSON value is read as, or its first fault.
-use Rattle.std.specs.Prelude.{◌≡◌, ◌==◌, ◌&&◌, ◌||◌, ℕ, List, length, Bool, true, if◌then◌else◌, Option, None, Some, IfSome, is_some, option_map, ok_or, Result, Ok, Err, codes, ⊤}
-use Rattle.std.specs.Str.{bytes_eq}
-use Rattle.serde_json.specs.Data.{Data, Members, no_members, member}
+use Rattle.std.specs.Prelude.{◌≡◌, ◌==◌, ℕ, List, [], ◌∷◌, length, if◌then◌else◌, Option, None, Some, IfSome, is_some, option_map, ok_or, Result, Ok, Err, codes, string_bytes, ⊤}
+use Rattle.serde_json.specs.Data.{Data, member}
 use Rattle.serde_json.specs.Find.{get, as_null, as_array, as_object}
-use Rattle.stark_support.specs.Json.{array_at, json_of, whole_at}
+use Rattle.stark_support.specs.Json.{json_of, whole_at}
+use Rattle.stark_json.specs.Elements.{elements_from}
+use Rattle.stark_json.specs.Names.{first_unknown}
 use Rattle.stark_tree_air.specs.TreeJson.{AirView, TreeFault, air_reading, tree_fault}
 use Rattle.stark_statement.specs.Configuration.{ConfigurationView, default_configuration}
-use Rattle.stark_statement.specs.ConfigurationJson.{configuration_at, given_at}
+use Rattle.stark_statement.specs.ConfigurationJson.{config_names, configuration_at, given_at}
 use Rattle.stark_statement.specs.StatementView.{StatementView}
 use Rattle.stark_statement.specs.declared.configuration_error.ConfigurationError.{ConfigurationError}
+use Rattle.stark_statement.specs.declared.configuration_error.ConfigurationError.TheVariants.{NotAnObject}
 use Rattle.stark_statement.specs.declared.error.StatementError.{StatementError}
 
 -- Why a JSON value is not read.
 pub data StatementFault : Type 0 where
   not_json : StatementFault
   not_an_object : StatementFault
-  unknown_field : StatementFault
+  unknown_field : List ℕ → StatementFault
+  unknown_config_member : List ℕ → StatementFault
   config_fault : ConfigurationError → StatementFault
   missing_field : List ℕ → StatementFault
   wrong_kind : List ℕ → StatementFault
-  element_refused : List ℕ → StatementFault
+  public_value_refused : ℕ → StatementFault
   air_fault : TreeFault → StatementFault
   public_values_count : ℕ → ℕ → StatementFault
 
@@ -27,11 +30,12 @@ pub data StatementFault : Type 0 where
 abbrev pub statement_fault : StatementError → Option StatementFault
 statement_fault StatementError.NotJson = Some not_json
 statement_fault StatementError.NotAnObject = Some not_an_object
-statement_fault StatementError.UnknownField = Some unknown_field
+statement_fault (StatementError.UnknownField name) = Some (unknown_field (string_bytes name.name))
+statement_fault (StatementError.UnknownConfigMember name) = Some (unknown_config_member (string_bytes name.name))
 statement_fault (StatementError.Config error) = Some (config_fault error)
 statement_fault (StatementError.MissingField field) = Some (missing_field field.now)
 statement_fault (StatementError.WrongKind field) = Some (wrong_kind field.now)
-statement_fault (StatementError.Element field) = Some (element_refused field.now)
+statement_fault (StatementError.PublicValue index) = Some (public_value_refused index)
 statement_fault (StatementError.Air error) = option_map air_fault (tree_fault error)
 statement_fault (StatementError.PublicValuesCount expected got) = Some (public_values_count expected got)
 statement_fault StatementError.OutOfMemory = None
@@ -48,22 +52,21 @@ abbrev pub ◌>>=◌ : {A : Type 0} {B : Type 0} → Result A StatementFault →
 
 -- ---- the members
 
--- Whether a statement has a field of this name.
-unfoldable pub is_known : List ℕ → Bool
-is_known name =
-    bytes_eq name (codes "config") || bytes_eq name (codes "air") || bytes_eq name (codes "public_values")
-    || bytes_eq name (codes "alpha_bits") || bytes_eq name (codes "ood_bits")
+-- the names of a statement's members
+abbrev pub statement_names : List (List ℕ)
+statement_names = codes "config" ∷ codes "air" ∷ codes "public_values" ∷ codes "alpha_bits" ∷ codes "ood_bits" ∷ []
 
-abbrev pub all_known : Members → Bool
-all_known no_members = true
-all_known (member name d ms) = is_known name && all_known ms
-
-abbrev pub known_members : Members → Result ⊤ StatementFault
-known_members ms = if all_known ms then Ok tt else Err unknown_field
+abbrev pub unless_unknown : (List ℕ → StatementFault) → Option (List ℕ) → Result ⊤ StatementFault
+unless_unknown unknown None = Ok tt
+unless_unknown unknown (Some name) = Err (unknown name)
 
 -- an object without a member that no statement has
 abbrev pub statement_members : Data → Result ⊤ StatementFault
-statement_members d = ok_or (as_object d) not_an_object >>= known_members
+statement_members d = ok_or (as_object d) not_an_object >>= λ ms. unless_unknown unknown_field (first_unknown statement_names ms)
+
+-- an object without a member that no configuration has
+abbrev pub config_members : Data → Result ⊤ StatementFault
+config_members d = ok_or (as_object d) (config_fault NotAnObject) >>= λ ms. unless_unknown unknown_config_member (first_unknown config_names ms)
 
 -- ---- the configuration
 
@@ -74,7 +77,7 @@ of_configuration (Err error) = Err (config_fault error)
 -- the default where no configuration is given
 abbrev pub configuration_in : Option Data → Result ConfigurationView StatementFault
 configuration_in None = Ok default_configuration
-configuration_in (Some d) = of_configuration (configuration_at d)
+configuration_in (Some d) = config_members d >>= λ known. of_configuration (configuration_at d)
 
 -- what a statement says of its configuration, or its first fault
 unfoldable pub configuration_reading : Data → Result ConfigurationView StatementFault
@@ -107,10 +110,13 @@ module _ {F : Type 0} (element : Data → Option F) where
   abbrev pub air_at : Data → Result (AirView F) StatementFault
   air_at d = of_air (air_reading element d)
 
+  abbrev pub public_values_in : Result (List F) ℕ → Result (List F) StatementFault
+  public_values_in (Ok xs) = Ok xs
+  public_values_in (Err i) = Err (public_value_refused i)
+
   -- an array of elements
-  abbrev pub list_at : List ℕ → Data → Result (List F) StatementFault
-  list_at field d =
-      if is_some (as_array d) then ok_or (array_at element d) (element_refused field) else Err (wrong_kind field)
+  abbrev pub public_values_at : Data → Result (List F) StatementFault
+  public_values_at d = ok_or (as_array d) (wrong_kind (codes "public_values")) >>= λ ds. public_values_in (elements_from element 0 ds)
 
   -- the statement, unless the AIR declares another number of public values
   abbrev pub with_count : ConfigurationView → AirView F → List F → ℕ → ℕ → Result (StatementView F) StatementFault
@@ -124,7 +130,7 @@ module _ {F : Type 0} (element : Data → Option F) where
   statement_reading d = do
     config ← configuration_reading d
     air ← required (codes "air") air_at d
-    public_values ← required (codes "public_values") (list_at (codes "public_values")) d
+    public_values ← required (codes "public_values") public_values_at d
     alpha_bits ← bits_at (codes "alpha_bits") d
     ood_bits ← bits_at (codes "ood_bits") d
     with_count config air public_values alpha_bits ood_bits

@@ -47,9 +47,6 @@ pub enum ConfigurationError {
     /// The value isn't an object.
     #[error("it is no object")]
     NotAnObject,
-    /// The object has a member that no configuration has.
-    #[error("it has a member that is neither field, scheme nor a number of FRI")]
-    UnknownMember,
     /// A name isn't a string, or a number no whole number below 2^64.
     #[error("{} is of the wrong kind", .0.name())]
     WrongKind(ConfigurationMember),

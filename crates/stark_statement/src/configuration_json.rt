@@ -1,66 +1,25 @@
 //! The JSON of a configuration.
 ghost use Rattle.std.specs.Prelude.{◌≡◌, ◌≤◌, IfOk, option_map};
-ghost use Rattle.serde_json.specs.View.{members_view, view};
+ghost use Rattle.serde_json.specs.View.{view};
 ghost use Rattle.stark_statement.specs.Configuration.{IsWithinField, configuration_view, fri_numbers, two_adicity};
-ghost use Rattle.stark_statement.specs.ConfigurationJson.{Reads, all_are_members, configuration_at, configuration_members, field_at, field_named, fri_at, given_at, is_member, no_numbers, not_given, number_at, numbers_at, scheme_at, scheme_named};
+ghost use Rattle.stark_statement.specs.ConfigurationJson.{Reads, configuration_at, field_at, field_named, fri_at, given_at, no_numbers, not_given, number_at, numbers_at, scheme_at, scheme_named};
 ghost use Rattle.stark_statement.specs.StatementApart.{data_of};
 ghost use Rattle.stark_statement.specs.StatementJson.{Decodes, configuration_reading};
 
 use crate::configuration::{Configuration, FieldName, SchemeChoice};
 use crate::configuration_error::{ConfigurationError, ConfigurationMember};
 use crate::error::StatementError;
-use crate::fields::check_members;
-use serde_json::{Map, Value};
+use crate::fields::{check_config_members, check_members};
+use serde_json::Value;
 use stark_fri_proof::FriParameters;
 use stark_json::Document;
+use std::alloc::Global;
 
 /// The schemes by name.
 #[derive(Clone, Copy)]
 enum SchemeName {
     OfFri,
     OfClear,
-}
-
-/// Whether a configuration has a member of this name, compared whole.
-#[tactic(auto, unfolding(crate::specs::ConfigurationJson::is_member))]
-fn is_member(name: &str) -> bool
-    ensures { result ≡ is_member name.now }
-{
-    match name {
-        "field" => true,
-        "scheme" => true,
-        "log_blowup" => true,
-        "log_final_poly_len" => true,
-        "num_queries" => true,
-        "commit_proof_of_work_bits" => true,
-        "query_proof_of_work_bits" => true,
-        _ => false,
-    }
-}
-
-/// Whether a configuration has members of all these names.
-fn all_are_members(members: &Map<String, Value>) -> bool
-    ensures { result ≡ all_are_members (members_view members.now.entries) }
-{
-    for (name, _member) in members.iter() {
-        if !is_member(name.as_str()) {
-            return false;
-        }
-    }
-    true
-}
-
-/// Refuses what isn't an object of known members alone.
-fn check_configuration(config: &Value) -> Result<(), ConfigurationError>
-    ensures { result ≡ configuration_members (view config.now) }
-{
-    let Some(members) = config.as_object() else {
-        return Err(ConfigurationError::NotAnObject);
-    };
-    if !all_are_members(members) {
-        return Err(ConfigurationError::UnknownMember);
-    }
-    Ok(())
 }
 
 /// What an object has under a name, unless it is null.
@@ -202,7 +161,6 @@ fn configuration_at(config: &Value) -> Result<Configuration, ConfigurationError>
     ensures read { Reads configuration_view result (configuration_at (view config.now)) }
     ensures fits { IfOk result IsWithinField }
 {
-    check_configuration(config)?;
     let field = field_at(config)?;
     match scheme_at(config)? {
         SchemeName::OfFri => {
@@ -227,8 +185,8 @@ impl Configuration {
     /// then the default is meant. Otherwise the first fault, in this order:
     ///
     /// - `NotAnObject` and `UnknownField` of the statement, as `Statement::from_json` says.
-    /// - `Config` with `NotAnObject` where `config` isn't an object, and with `UnknownMember` where
-    ///   it has a member of another name.
+    /// - `Config` with `NotAnObject` where `config` isn't an object, and `UnknownConfigMember` with
+    ///   the name where it has a member of another one.
     /// - `Config` with `WrongKind`, and `UnknownField` or `UnknownScheme`, of the field and then of
     ///   the scheme.
     /// - `Config` with `NotInTheClear` where a number is given beside "clear".
@@ -236,17 +194,19 @@ impl Configuration {
     /// - `Config` with `Parameters`, the fault of `FriParameters::new`.
     /// - `Config` with `BlowupPastTwoAdicity` where `log_blowup` is past the field's two-adicity.
     ///
-    /// It takes no memory.
+    /// It takes memory for the name of an unknown member alone, and answers `OutOfMemory` where
+    /// that was refused.
     #[tactic(auto, unfolding(crate::specs::StatementJson::configuration_reading))]
-    pub fn from_statement(value: &Value) -> Result<Configuration, StatementError>
+    pub fn from_statement(alloc: Global, value: &Value) -> Result<Configuration, StatementError>
         ensures decoded { Decodes configuration_view result
             (configuration_reading (view value.now)) }
         ensures fits { IfOk result IsWithinField }
     {
-        check_members(value)?;
+        check_members(alloc, value)?;
         let Some(config) = given_at(value, "config") else {
             return Ok(Configuration::default());
         };
+        check_config_members(alloc, config)?;
         match configuration_at(config) {
             Ok(configuration) => Ok(configuration),
             Err(error) => Err(StatementError::Config(error)),
@@ -255,11 +215,14 @@ impl Configuration {
 
     /// What `from_statement` answers of a document's value: the rows that stand apart are no part
     /// of the configuration.
-    pub fn from_document(document: &Document) -> Result<Configuration, StatementError>
+    pub fn from_document(
+        alloc: Global,
+        document: &Document,
+    ) -> Result<Configuration, StatementError>
         ensures decoded { Decodes configuration_view result
             (configuration_reading (data_of document.now)) }
         ensures fits { IfOk result IsWithinField }
     {
-        Configuration::from_statement(&document.value)
+        Configuration::from_statement(alloc, &document.value)
     }
 }

@@ -1,5 +1,6 @@
 //! Why a JSON value is not read as a statement.
 use crate::configuration_error::ConfigurationError;
+use stark_json::QuotedName;
 use stark_tree_air::TreeJsonError;
 use thiserror::Error;
 
@@ -13,9 +14,13 @@ pub enum StatementError {
     #[error("the statement is no object")]
     NotAnObject,
     /// The object has a member that no statement has.
-    #[error("the statement has a field that is none of config, air, public_values, alpha_bits, \
-         ood_bits")]
-    UnknownField,
+    #[error("the statement has a field {name}, which is none of config, air, public_values, \
+         alpha_bits, ood_bits")]
+    UnknownField { name: QuotedName },
+    /// The configuration has a member that none has.
+    #[error("the field config: it has a member {name}, which is neither field, scheme nor a number of \
+         FRI")]
+    UnknownConfigMember { name: QuotedName },
     /// The configuration is refused.
     #[error("the field config: {0}")]
     Config(ConfigurationError),
@@ -25,9 +30,9 @@ pub enum StatementError {
     /// A field isn't an array, or no whole number below 2^64.
     #[error("the field {field} is of the wrong kind")]
     WrongKind { field: &'static str },
-    /// An element of a field is refused.
-    #[error("an element of {field} is refused")]
-    Element { field: &'static str },
+    /// A public value is refused.
+    #[error("public value {index} is no whole number below the field's order")]
+    PublicValue { index: usize },
     /// The AIR is refused.
     #[error("the field air: {0}")]
     Air(TreeJsonError),

@@ -1,60 +1,83 @@
 //! The fields of a statement in JSON.
-ghost use Rattle.std.specs.Prelude.{◌≡◌, ok_or};
+ghost use Rattle.std.specs.Prelude.{◌≡◌, IfSome, codes, ok_or};
 ghost use Rattle.serde_json.specs.Find.{get};
-ghost use Rattle.serde_json.specs.View.{members_view, view};
+ghost use Rattle.serde_json.specs.View.{view};
 ghost use Rattle.stark_tree_air.specs.TreeJson.{air_view};
 ghost use Rattle.stark_json.specs.Apart.{rows_apart};
 ghost use Rattle.stark_statement.specs.StatementApart.{air_joined};
-ghost use Rattle.stark_statement.specs.StatementJson.{Decodes, all_known, bits_at, is_known, list_at, missing_field, required, statement_members};
+ghost use Rattle.stark_statement.specs.StatementJson.{Decodes, bits_at, config_members, missing_field, public_values_at, required, statement_fault, statement_members, unknown_config_member, unknown_field};
 
+use crate::configuration_error::ConfigurationError;
 use crate::error::StatementError;
-use serde_json::{Map, Value};
-use stark_json::NumberRows;
-use stark_support::{Field, JsonCodec, JsonFault, list_from_json};
+use serde_json::Value;
+use stark_json::{ElementsFault, NumberRows, QuotedName, elements_from_json, first_unknown};
+use stark_support::{Field, JsonCodec};
 use stark_tree_air::{TreeAir, TreeJsonError};
 use std::alloc::Global;
 
 /// The bits of work where a statement says nothing of them.
 const NO_WORK: usize = 0;
 
-/// Whether a statement has a field of this name, compared whole.
-#[tactic(auto, unfolding(crate::specs::StatementJson::is_known))]
-fn is_known(name: &str) -> bool
-    ensures { result ≡ is_known name.now }
+/// That a statement has a field of this name, which none has.
+fn unknown_field(alloc: Global, name: &str) -> StatementError
+    ensures { IfSome (statement_fault result) (λ fault. fault ≡ unknown_field name.now) }
 {
-    match name {
-        "config" => true,
-        "air" => true,
-        "public_values" => true,
-        "alpha_bits" => true,
-        "ood_bits" => true,
-        _ => false,
+    match QuotedName::new(alloc, name) {
+        Ok(name) => StatementError::UnknownField { name },
+        Err(_) => StatementError::OutOfMemory,
     }
-}
-
-/// Whether a statement has fields of all these names.
-fn all_known(members: &Map<String, Value>) -> bool
-    ensures { result ≡ all_known (members_view members.now.entries) }
-{
-    for (name, _member) in members.iter() {
-        if !is_known(name.as_str()) {
-            return false;
-        }
-    }
-    true
 }
 
 /// Refuses what isn't an object, or has a member that no statement has.
-pub(crate) fn check_members(value: &Value) -> Result<(), StatementError>
+pub(crate) fn check_members(alloc: Global, value: &Value) -> Result<(), StatementError>
     ensures { Decodes (λ nothing. nothing) result (statement_members (view value.now)) }
 {
     let Some(members) = value.as_object() else {
         return Err(StatementError::NotAnObject);
     };
-    if !all_known(members) {
-        return Err(StatementError::UnknownField);
+    let unknown = first_unknown(
+        members,
+        &["config", "air", "public_values", "alpha_bits", "ood_bits"],
+    );
+    match unknown {
+        Some(name) => Err(unknown_field(alloc, name)),
+        None => Ok(()),
     }
-    Ok(())
+}
+
+/// That a configuration has a member of this name, which none has.
+fn unknown_config_member(alloc: Global, name: &str) -> StatementError
+    ensures { IfSome (statement_fault result) (λ fault. fault ≡ unknown_config_member name.now) }
+{
+    match QuotedName::new(alloc, name) {
+        Ok(name) => StatementError::UnknownConfigMember { name },
+        Err(_) => StatementError::OutOfMemory,
+    }
+}
+
+/// Refuses a configuration that isn't an object, or has a member that none has.
+pub(crate) fn check_config_members(alloc: Global, config: &Value) -> Result<(), StatementError>
+    ensures { Decodes (λ nothing. nothing) result (config_members (view config.now)) }
+{
+    let Some(members) = config.as_object() else {
+        return Err(StatementError::Config(ConfigurationError::NotAnObject));
+    };
+    let unknown = first_unknown(
+        members,
+        &[
+            "field",
+            "scheme",
+            "log_blowup",
+            "log_final_poly_len",
+            "num_queries",
+            "commit_proof_of_work_bits",
+            "query_proof_of_work_bits",
+        ],
+    );
+    match unknown {
+        Some(name) => Err(unknown_config_member(alloc, name)),
+        None => Ok(()),
+    }
 }
 
 /// The value of a member that has to be there.
@@ -98,35 +121,35 @@ pub(crate) fn required_air<F: Field + JsonCodec>(
     air_at(alloc, member, rows)
 }
 
-/// The elements of an array.
-fn list_at<F: JsonCodec + Copy>(
+/// The public values of an array.
+fn public_values_at<F: JsonCodec + Copy>(
     alloc: Global,
     value: &Value,
-    field: &'static str,
 ) -> Result<Vec<F>, StatementError>
-    ensures { Decodes (λ v. v.items) result (list_at F.reading field.now (view value.now)) }
+    ensures { Decodes (λ v. v.items) result (public_values_at F.reading (view value.now)) }
 {
-    if !value.is_array() {
-        return Err(StatementError::WrongKind { field });
-    }
-    match list_from_json(alloc, value) {
-        Ok(list) => Ok(list),
-        Err(JsonFault::Invalid) => Err(StatementError::Element { field }),
-        Err(JsonFault::OutOfMemory) => Err(StatementError::OutOfMemory),
+    let Some(values) = value.as_array() else {
+        return Err(StatementError::WrongKind {
+            field: "public_values",
+        });
+    };
+    match elements_from_json(alloc, values) {
+        Ok(public_values) => Ok(public_values),
+        Err(ElementsFault::Element { index }) => Err(StatementError::PublicValue { index }),
+        Err(ElementsFault::OutOfMemory) => Err(StatementError::OutOfMemory),
     }
 }
 
-/// The elements of the array under a required name.
-pub(crate) fn required_list<F: JsonCodec + Copy>(
+/// The public values, which are required.
+pub(crate) fn required_public_values<F: JsonCodec + Copy>(
     alloc: Global,
     value: &Value,
-    field: &'static str,
 ) -> Result<Vec<F>, StatementError>
     ensures { Decodes (λ v. v.items) result
-        (required field.now (list_at F.reading field.now) (view value.now)) }
+        (required (codes "public_values") (public_values_at F.reading) (view value.now)) }
 {
-    let member = required(value, field)?;
-    list_at(alloc, member, field)
+    let member = required(value, "public_values")?;
+    public_values_at(alloc, member)
 }
 
 /// The bits of work under a name; 0 where it is missing or null.

@@ -10,7 +10,7 @@ ghost use Rattle.stark_statement.specs.StatementView.{statement_view};
 
 use crate::configuration::Configuration;
 use crate::error::StatementError;
-use crate::fields::{bits_at, required_air, required_list};
+use crate::fields::{bits_at, required_air, required_public_values};
 use serde_json::Value;
 use stark_json::{Document, NumberRows, document_from_bytes};
 use stark_support::{Field, JsonCodec, JsonFault};
@@ -50,9 +50,9 @@ fn statement_of_parts<F: Field + JsonCodec>(
         (statement_apart F.reading (rows_apart rows.now) (view value.now)) }
     ensures fits { IfOk result (λ statement. IsWithinField statement.config) }
 {
-    let config = Configuration::from_statement(value)?;
+    let config = Configuration::from_statement(alloc, value)?;
     let air = required_air::<F>(alloc, value, "air", rows)?;
-    let public_values = required_list(alloc, value, "public_values")?;
+    let public_values = required_public_values(alloc, value)?;
     let alpha_bits = bits_at(value, "alpha_bits")?;
     let ood_bits = bits_at(value, "ood_bits")?;
     let expected = air.declaration.columns.num_public_values;
@@ -90,16 +90,17 @@ impl<F: Field + JsonCodec> Statement<F> {
     /// caller to see to.
     ///
     /// - `NotAnObject` where the value isn't an object.
-    /// - `UnknownField` where it has a member of another name.
-    /// - `Config` where the configuration is refused.
+    /// - `UnknownField` with the name where it has a member of another one, the first in the order
+    ///   of the names.
+    /// - `Config` or `UnknownConfigMember` where the configuration is refused.
     /// - `MissingField` where `air` or `public_values` isn't there.
     /// - `Air` with the fault of `TreeAir::from_json`.
     /// - `WrongKind` where `public_values` isn't an array, or bits aren't a whole number below
     ///   2^64.
-    /// - `Element` where a public value is refused.
+    /// - `PublicValue` with the index of the first public value that is refused.
     /// - `PublicValuesCount` after all fields, where the AIR declares another number of public
     ///   values.
-    /// - `OutOfMemory` wherever a growth was refused.
+    /// - `OutOfMemory` wherever an allocation was refused.
     pub fn from_json(alloc: Global, value: &Value) -> Result<Statement<F>, StatementError>
         ensures decoded { Decodes statement_view result
             (statement_reading F.reading (view value.now)) }

@@ -20,9 +20,11 @@ const CASES: &str = r#"
 {"config":{"scheme":"clear","num_queries":null}} => BabyBear clear
 
 [] => the statement is no object
-{"config":7,"other":1} => the statement has a field that is none of config, air, public_values, alpha_bits, ood_bits
+{"config":7,"other":1} => the statement has a field "other", which is none of config, air, public_values, alpha_bits, ood_bits
+{"zeta":1,"aIr":{},"air":{}} => the statement has a field "aIr", which is none of config, air, public_values, alpha_bits, ood_bits
+{"a\"b\\c":1} => the statement has a field "a\"b\\c", which is none of config, air, public_values, alpha_bits, ood_bits
 {"config":7} => the field config: it is no object
-{"config":{"field":7,"blowup":1}} => the field config: it has a member that is neither field, scheme nor a number of FRI
+{"config":{"field":7,"blowup":1}} => the field config: it has a member "blowup", which is neither field, scheme nor a number of FRI
 {"config":{"field":7,"scheme":7}} => the field config: field is of the wrong kind
 {"config":{"field":"BabyBear"}} => the field config: field is none of baby_bear, koala_bear, f12289
 {"config":{"scheme":7,"log_blowup":0}} => the field config: scheme is of the wrong kind
@@ -44,6 +46,46 @@ const CASES: &str = r#"
 {"config":{"field":"koala_bear","log_blowup":25}} => the field config: log_blowup is 25, and the field's two-adicity 24
 {"config":{"field":"f12289","log_blowup":13}} => the field config: log_blowup is 13, and the field's two-adicity 12
 "#;
+
+// A statement's text over 12289 => what is at fault.
+const FAULTS: &str = r#"
+{"air":[] => the statement is no JSON text
+{"air":null,"public_values":[]} => the field air: it is no object
+{"air":{"width":1},"publik_values":[]} => the statement has a field "publik_values", which is none of config, air, public_values, alpha_bits, ood_bits
+{"air":{"width":1,"ood_bits":20},"public_values":[]} => the field air: it has a member "ood_bits", which is none of width, publics, periodic, preprocessed, max_constraint_degree, num_constraints, constants, nodes, constraints
+{"air":{"width":1,"preprocesed":{}},"public_values":[]} => the field air: it has a member "preprocesed", which is none of width, publics, periodic, preprocessed, max_constraint_degree, num_constraints, constants, nodes, constraints
+{"air":{"width":1,"publics":0,"periodic":[],"preprocessed":{"width":1,"rows":[[1]],"row":1}},"public_values":[]} => the field air: the preprocessed trace has a member "row", which is neither width nor rows
+{"air":{"width":1,"publics":0,"periodic":[],"preprocessed":{"width":1,"rows":[[1],[2],[12289]]}},"public_values":[]} => the field air: row 2, column 0 of the preprocessed trace is no whole number below the field's order
+{"air":{"width":1,"publics":0,"periodic":[],"preprocessed":{"width":1,"rows":[[1],[2],[-1]]}},"public_values":[]} => the field air: row 2, column 0 of the preprocessed trace is no whole number below the field's order
+{"air":{"width":1,"publics":0,"periodic":[],"preprocessed":{"width":1,"rows":[[1],[2,3]]}},"public_values":[]} => the field air: row 1 of the preprocessed trace has 2 columns, and its width is 1
+{"air":{"width":1,"publics":0,"periodic":[],"constants":[0,1,2,3,-3]},"public_values":[]} => the field air: constant 4 is no whole number below the field's order
+{"air":{"width":1,"publics":0,"periodic":[],"constants":[],"nodes":[["main",0],["minus",0,0]]},"public_values":[]} => the field air: node 1: there is no node "minus"
+{"air":{"width":1,"publics":0,"periodic":[],"constants":[],"nodes":[["main",0],["add",0]]},"public_values":[]} => the field air: node 1: "add" takes two operands, and has 1
+{"air":{"width":1,"publics":0,"periodic":[],"constants":[],"nodes":[["main","x"]]},"public_values":[]} => the field air: node 0: an operand of "main" is no whole number
+{"air":{"width":1,"publics":0,"periodic":[],"constants":[],"nodes":[["main",0]],"constraints":[{"bas":0}]},"public_values":[]} => the field air: constraint 0 has a member "bas", which is neither base nor ext
+{"air":{"width":1,"publics":0,"periodic":[],"constants":[],"nodes":[["main",0]],"constraints":[{"base":0},{}]},"public_values":[]} => the field air: constraint 1 is neither base nor ext
+{"air":{"width":1,"publics":2,"periodic":[],"constants":[],"nodes":[],"constraints":[]},"public_values":[5,12289]} => public value 1 is no whole number below the field's order
+{"air":{"width":1,"publics":2,"periodic":[],"constants":[],"nodes":[],"constraints":[]},"public_values":[5]} => the field public_values has 1 values, and air declares 2
+"#;
+
+#[test]
+fn faults_have_their_places(rt: HostRuntime) -> Result<(), Fail> {
+    let alloc = rt.alloc();
+    let mut count = 0usize;
+    for case in FAULTS.lines() {
+        if !case.is_empty() {
+            let (text, expected) = case.split_once(" => ").ok_or("a case without an answer")?;
+            let error = Statement::<F12289>::from_slice(alloc, text.as_bytes())
+                .err()
+                .ok_or("a statement")?;
+            let actual = format!(in alloc; "{error}")?;
+            assert_eq!(rt; actual.as_str(), expected, "{text}");
+            count = count.saturating_add(1);
+        }
+    }
+    assert_eq!(rt; count, 17);
+    Ok(())
+}
 
 /// A configuration in words.
 fn spelled(alloc: Global, config: Configuration) -> Result<String, Fail> {
@@ -72,7 +114,7 @@ fn configurations_are_read(rt: HostRuntime) -> Result<(), Fail> {
             let value = value_from_bytes(alloc, text.as_bytes())
                 .ok()
                 .ok_or("no JSON")?;
-            let actual = match Configuration::from_statement(&value) {
+            let actual = match Configuration::from_statement(alloc, &value) {
                 Ok(config) => spelled(alloc, config)?,
                 Err(error) => format!(in alloc; "{error}")?,
             };
@@ -80,7 +122,7 @@ fn configurations_are_read(rt: HostRuntime) -> Result<(), Fail> {
             count = count.saturating_add(1);
         }
     }
-    assert_eq!(rt; count, 33);
+    assert_eq!(rt; count, 35);
     Ok(())
 }
 

@@ -1,27 +1,39 @@
 -- What is written of an AIR is read back.
-use Rattle.std.proofs.Common.{◌≡◌, ◌∙◌, ℕ, suc, zero, ◌+◌, ◌-◌, ◌*◌, ◌/◌, ◌%◌, ◌≤◌, ◌==◌, true, false, List, ◌++◌, Option, None, Some, Ok, is_some, length, map, take, drop, refl, sym, ap, arith, codes, length-drop}
+use Rattle.std.proofs.Common.{◌≡◌, ◌∙◌, ℕ, suc, zero, ◌+◌, ◌-◌, ◌*◌, ◌/◌, ◌%◌, ◌≤◌, ◌==◌, true, false, List, [], ◌∷◌, ◌++◌, Option, None, Some, Ok, is_some, length, map, take, drop, refl, sym, ap, arith, codes, length-drop}
 use Rattle.std.proofs.Math.Nat.{mod-eq-sub-div-mul, div-mul-le_self, suc-mul, zero-mul}
 use Rattle.std.proofs.lemmas.List.{drop_all, length-map, length-take-le}
 use Rattle.std.proofs.lemmas.List.Folds.{drop_split}
 use Rattle.std.specs.List.{range_with_len}
 use Rattle.std.specs.Option.{option_or}
 use Rattle.serde_json.specs.Data.{Data, number, unsigned}
-use Rattle.serde_json.specs.Find.{get, as_null, as_object}
-use Rattle.stark_support.specs.Json.{array_at}
-use Rattle.stark_support.specs.JsonFacts.{list_written, list_back}
+use Rattle.serde_json.specs.Find.{get, as_null}
+use Rattle.serde_json.specs.View.{items_of}
+use Rattle.stark_support.specs.JsonFacts.{list_written}
 use Rattle.stark_support.specs.declared.matrix.RowMajorMatrix.{RowMajorMatrix}
+use Rattle.stark_json.specs.Elements.{elements_from, list_at, lists_from}
 use Rattle.stark_air.specs.Declaration.{Trace}
 use Rattle.stark_tree_air.specs.Faults.{first_node_fault, first_constraint_fault, tree_air_fault, tree_layout}
 use Rattle.stark_tree_air.specs.NodeJson.{node_reading, node_writing, constraint_reading, constraint_writing}
 use Rattle.stark_tree_air.specs.NodeJsonFacts.{node_back, constraint_back}
 use Rattle.stark_tree_air.specs.Traces.{declared_trace}
-use Rattle.stark_tree_air.specs.TreeJson.{ColumnsView, ListView, AirView, columns_view, list_view, view_fault, number_at, optional_at, unless_null, list_at, lists_at, joined_rows, trace_at, columns_at, list_reading, air_reading, trace_row, trace_rows, trace_writing, trace_or_null, columns_writing, list_writing, air_writing}
+use Rattle.stark_tree_air.specs.TreeJson.{ColumnsView, ListView, AirView, columns_view, list_view, view_fault, number_at, optional_at, unless_null, air_object, columns_at, constants_at, constraints_at, nodes_at, rows_at, joined_rows, trace_at, columns_reading, list_reading, air_reading, trace_row, trace_rows, trace_writing, trace_or_null, columns_writing, list_writing, air_writing}
 use Rattle.stark_tree_air.specs.declared.columns.TreeColumns.{TreeColumns}
 use Rattle.stark_tree_air.specs.declared.list.TreeList.{TreeList}
+use Rattle.stark_tree_air.specs.declared.node.TreeConstraint.{TreeConstraint}
+use Rattle.stark_tree_air.specs.declared.node.TreeNode.{TreeNode}
 use Rattle.stark_tree_air.proofs.JsonSteps.{is_equal, next_times}
 
-list_read : {A : Type 0} (reading : Data → Option A) (writing : A → Data) → ((x : A) → reading (writing x) ≡ Some x) → (field : List ℕ) (xs : List A) → list_at reading field (list_written writing xs) ≡ Ok xs
-list_read reading writing back field xs = let e : array_at reading (list_written writing xs) ≡ Some xs = list_back reading writing back xs in rw e refl
+module _ {A : Type 0} (reading : Data → Option A) (writing : A → Data) (back : (x : A) → reading (writing x) ≡ Some x) where
+  elements_back : (i : ℕ) (xs : List A) → elements_from reading i (items_of (map writing xs)) ≡ Ok xs
+  elements_back i [] = refl
+  elements_back i (x ∷ xs) = rw (back x, elements_back (i + 1) xs) refl
+
+  list_back : (i : ℕ) (xs : List A) → list_at reading i (list_written writing xs) ≡ Ok xs
+  list_back i xs = rw (elements_back 0 xs) refl
+
+  lists_back : (i : ℕ) (xss : List (List A)) → lists_from reading i (items_of (map (list_written writing) xss)) ≡ Ok xss
+  lists_back i [] = refl
+  lists_back i (xs ∷ xss) = rw (elements_back 0 xs, lists_back (i + 1) xss) refl
 
 number_read : (field : List ℕ) (n : ℕ) → number_at field (number (unsigned n)) ≡ Ok n
 number_read field n = refl
@@ -97,12 +109,24 @@ no_view_fault columns list none =
     none
 
 module _ {F : Type 0} (reading : Data → Option F) (writing : F → Data) (back : (x : F) → reading (writing x) ≡ Some x) where
-  lists_read : (field : List ℕ) (xs : List (List F)) → lists_at reading field (list_written (list_written writing) xs) ≡ Ok xs
-  lists_read field xs = list_read (array_at reading) (list_written writing) (list_back reading writing back) field xs
+  columns_back : (xss : List (List F)) → columns_at reading (list_written (list_written writing) xss) ≡ Ok xss
+  columns_back xss = rw (lists_back reading writing back 0 xss) refl
+
+  rows_back : (xss : List (List F)) → rows_at reading (list_written (list_written writing) xss) ≡ Ok xss
+  rows_back xss = rw (lists_back reading writing back 0 xss) refl
+
+  constants_back : (xs : List F) → constants_at reading (list_written writing xs) ≡ Ok xs
+  constants_back xs = rw (elements_back reading writing back 0 xs) refl
+
+  nodes_back : (ns : List TreeNode) → nodes_at (list_written node_writing ns) ≡ Ok ns
+  nodes_back ns = rw (elements_back node_reading node_writing node_back 0 ns) refl
+
+  constraints_back : (cs : List TreeConstraint) → constraints_at (list_written constraint_writing cs) ≡ Ok cs
+  constraints_back cs = rw (elements_back constraint_reading constraint_writing constraint_back 0 cs) refl
 
   trace_read : (t : Trace F) → length t.values % t.width ≡ 0 → trace_at reading (trace_writing writing t) ≡ Ok t
   unfolding trace_at trace_writing
-  trace_read t whole = rw (lists_read (codes "rows") (trace_rows writing t), trace_joined writing t whole) refl
+  trace_read t whole = rw (rows_back (trace_rows writing t), trace_joined writing t whole) refl
 
   trace_null : (t : Trace F) → is_some (as_null (trace_writing writing t)) ≡ false
   unfolding trace_writing
@@ -114,7 +138,7 @@ module _ {F : Type 0} (reading : Data → Option F) (writing : F → Data) (back
 
   -- an object with the fields of an AIR
   record Has (o : Data) (a : AirView F) : Type 0 where
-    is_object : is_some (as_object o) ≡ true
+    known : air_object o ≡ Ok o
     width : get (codes "width") o ≡ Some (number (unsigned a.columns.width))
     public_values : get (codes "publics") o ≡ Some (number (unsigned a.columns.public_values))
     periodic : get (codes "periodic") o ≡ Some (list_written (list_written writing) a.columns.periodic)
@@ -125,20 +149,20 @@ module _ {F : Type 0} (reading : Data → Option F) (writing : F → Data) (back
     nodes : get (codes "nodes") o ≡ Some (list_written node_writing a.list.nodes)
     constraints : get (codes "constraints") o ≡ Some (list_written constraint_writing a.list.constraints)
 
-  columns_read : (o : Data) (a : AirView F) → Has o a → IsWhole a.columns.preprocessed → columns_at reading o ≡ Ok a.columns
-  unfolding columns_at
-  columns_read o a h whole = rw (h.width, h.public_values, h.periodic, lists_read (codes "periodic") a.columns.periodic, h.preprocessed, optional_read a.columns.preprocessed whole) refl
+  columns_read : (o : Data) (a : AirView F) → Has o a → IsWhole a.columns.preprocessed → columns_reading reading o ≡ Ok a.columns
+  unfolding columns_reading
+  columns_read o a h whole = rw (h.width, h.public_values, h.periodic, columns_back a.columns.periodic, h.preprocessed, optional_read a.columns.preprocessed whole) refl
 
   lists_are_read : (o : Data) (a : AirView F) → Has o a → list_reading reading o ≡ Ok a.list
   unfolding list_reading
   lists_are_read o a h =
       rw (
         h.constants,
-        list_read reading writing back (codes "constants") a.list.constants,
+        constants_back a.list.constants,
         h.nodes,
-        list_read node_reading node_writing node_back (codes "nodes") a.list.nodes,
+        nodes_back a.list.nodes,
         h.constraints,
-        list_read constraint_reading constraint_writing constraint_back (codes "constraints") a.list.constraints,
+        constraints_back a.list.constraints,
       )
       refl
 
@@ -146,7 +170,7 @@ module _ {F : Type 0} (reading : Data → Option F) (writing : F → Data) (back
   unfolding air_reading
   air_read o a h whole none =
       rw (
-        h.is_object,
+        h.known,
         columns_read o a h whole,
         h.degree,
         hint_read (codes "max_constraint_degree") a.degree,
@@ -159,10 +183,10 @@ module _ {F : Type 0} (reading : Data → Option F) (writing : F → Data) (back
 
   written_has : (columns : ColumnsView F) (degree count : Option ℕ) (list : ListView F) → Has (air_writing writing (record { columns = columns; degree = degree; count = count; list = list })) (record { columns = columns; degree = degree; count = count; list = list })
   unfolding air_writing columns_writing list_writing
-  written_has columns None None list = record { is_object = refl; width = refl; public_values = refl; periodic = refl; preprocessed = refl; degree = refl; count = refl; constants = refl; nodes = refl; constraints = refl }
-  written_has columns None (Some n) list = record { is_object = refl; width = refl; public_values = refl; periodic = refl; preprocessed = refl; degree = refl; count = refl; constants = refl; nodes = refl; constraints = refl }
-  written_has columns (Some d) None list = record { is_object = refl; width = refl; public_values = refl; periodic = refl; preprocessed = refl; degree = refl; count = refl; constants = refl; nodes = refl; constraints = refl }
-  written_has columns (Some d) (Some n) list = record { is_object = refl; width = refl; public_values = refl; periodic = refl; preprocessed = refl; degree = refl; count = refl; constants = refl; nodes = refl; constraints = refl }
+  written_has columns None None list = record { known = refl; width = refl; public_values = refl; periodic = refl; preprocessed = refl; degree = refl; count = refl; constants = refl; nodes = refl; constraints = refl }
+  written_has columns None (Some n) list = record { known = refl; width = refl; public_values = refl; periodic = refl; preprocessed = refl; degree = refl; count = refl; constants = refl; nodes = refl; constraints = refl }
+  written_has columns (Some d) None list = record { known = refl; width = refl; public_values = refl; periodic = refl; preprocessed = refl; degree = refl; count = refl; constants = refl; nodes = refl; constraints = refl }
+  written_has columns (Some d) (Some n) list = record { known = refl; width = refl; public_values = refl; periodic = refl; preprocessed = refl; degree = refl; count = refl; constants = refl; nodes = refl; constraints = refl }
 
   pub air_back : (a : AirView F) → IsWhole a.columns.preprocessed → view_fault a.columns a.list ≡ None → air_reading reading (air_writing writing a) ≡ Ok a
   air_back a whole none = air_read (air_writing writing a) a (written_has a.columns a.degree a.count a.list) whole none

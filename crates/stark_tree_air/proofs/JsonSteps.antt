@@ -8,6 +8,7 @@ use Rattle.serde_json.specs.View.{items_view}
 use Rattle.serde_json.specs.declared.value.Value.{Value}
 use Rattle.stark_support.proofs.Places.{from_place}
 use Rattle.stark_tree_air.specs.NodeJson.{node_at}
+use Rattle.stark_tree_air.specs.NodeRefusal.{items_length}
 use Rattle.stark_tree_air.specs.TreeJson.{TreeFault, row_width, joined_rows, ◌>>=◌}
 
 -- what was read before, and what is still read
@@ -28,12 +29,13 @@ regrouped front row (Err fault) = refl
 head_taken : {F : Type 0} (width i : ℕ) (front row : List F) (rows : List (List F)) → length row ≡ width → with_values front (joined_rows width i (row ∷ rows)) ≡ with_values (front ++ row) (joined_rows width (i + 1) rows)
 head_taken width i front row rows e = let t : (length row == width) ≡ true = is_equal (length row) width e in rw t (regrouped front row (joined_rows width (i + 1) rows))
 
-head_refused : {F : Type 0} (width i : ℕ) (front row : List F) (rows : List (List F)) → (length row ≡ width → ⊥) → with_values front (joined_rows width i (row ∷ rows)) ≡ Err (row_width i)
+head_refused : {F : Type 0} (width i : ℕ) (front row : List F) (rows : List (List F)) → (length row ≡ width → ⊥) → with_values front (joined_rows width i (row ∷ rows)) ≡ Err (row_width i width (length row))
 head_refused width i front row rows other = let t : (length row == width) ≡ false = not_equal (length row) width other in rw t refl
 
 module _ {A F : Type 0} (f : A → List F) (as' : List A) (width : ℕ) (whole : Result (List F) TreeFault) (i : ℕ) (front : List F) (so_far : with_values front (joined_rows width i (map f (drop i as'))) ≡ whole) where
-  pub row_refused : (a : A) → i < length as' → a ≡ get_or as' i a → (length (f a) ≡ width → ⊥) → whole ≡ Err (row_width i)
-  row_refused a within is other = sym so_far ∙ ap (λ bs. with_values front (joined_rows width i (map f bs))) (from_place as' i (i + 1) a refl within is) ∙ head_refused width i front (f a) (map f (drop (i + 1) as')) other
+  pub row_refused : (a : A) (n : ℕ) → i < length as' → a ≡ get_or as' i a → (length (f a) ≡ width → ⊥) → n ≡ length (f a) → whole ≡ Err (row_width i width n)
+  row_refused a n within is other counted =
+      sym so_far ∙ ap (λ bs. with_values front (joined_rows width i (map f bs))) (from_place as' i (i + 1) a refl within is) ∙ head_refused width i front (f a) (map f (drop (i + 1) as')) other ∙ ap (λ k. Err (row_width i width k)) (sym counted)
 
   pub row_taken : (a : A) (now : List F) → i < length as' → a ≡ get_or as' i a → length (f a) ≡ width → now ≡ front ++ f a → with_values now (joined_rows width (i + 1) (map f (drop (i + 1) as'))) ≡ whole
   row_taken a now within is e pushed =
@@ -82,3 +84,8 @@ too_many (a ∷ []) h = absurd (omega arith)
 too_many (a ∷ (b ∷ [])) h = absurd (omega arith)
 too_many (a ∷ (b ∷ (d ∷ []))) h = absurd (omega arith)
 too_many (a ∷ (b ∷ (d ∷ (e ∷ vs)))) h = refl
+
+-- as many items as values
+pub items_length_view : (vs : List Value) → items_length (items_view vs) ≡ length vs
+items_length_view [] = refl
+items_length_view (v ∷ vs) = let rest = items_length_view vs in omega (arith, rest)

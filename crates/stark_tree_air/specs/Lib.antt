@@ -8,5 +8,6 @@ pub mod Writing
 pub mod Named
 pub mod NodeJson
 pub mod NodeJsonFacts
+pub mod NodeRefusal
 pub mod TreeJson
 pub mod TreeApart

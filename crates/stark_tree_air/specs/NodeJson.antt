@@ -1,8 +1,9 @@
 -- Nodes and constraints in JSON.
-use Rattle.std.specs.Prelude.{ℕ, List, if◌then◌else◌, Option, None, Some, option_map, codes}
+use Rattle.std.specs.Prelude.{ℕ, List, [], ◌∷◌, if◌then◌else◌, Option, None, Some, is_some, option_map, codes}
 use Rattle.std.specs.Str.{bytes_eq}
 use Rattle.serde_json.specs.Data.{Data, number, string, array, object, unsigned, Items, no_items, item, member, no_members}
-use Rattle.serde_json.specs.Find.{get, as_array, as_str}
+use Rattle.serde_json.specs.Find.{get, as_array, as_object, as_str}
+use Rattle.stark_json.specs.Names.{first_unknown}
 use Rattle.stark_support.specs.Json.{◌>>=◌, whole_at}
 use Rattle.stark_tree_air.specs.declared.node.TreeNode.{TreeNode}
 use Rattle.stark_tree_air.specs.declared.node.TreeNode.TheVariants.{Constant, MainCurrent, MainNext, PreprocessedCurrent, PreprocessedNext, PublicValue, PeriodicValue, FirstRow, LastRow, Transition, Sum, Difference, Product, Negation}
@@ -74,6 +75,18 @@ node_writing (Difference i j) = pair_json (codes "sub") i j
 node_writing (Product i j) = pair_json (codes "mul") i j
 node_writing (Negation i) = single_json (codes "neg") i
 
+-- how many operands the nodes of a name have
+abbrev pub operands_of : List ℕ → Option ℕ
+operands_of name =
+    if is_some (selector_named name) then Some 0
+    else if is_some (single_named name 0) then Some 1
+    else if is_some (pair_named name 0 0) then Some 2
+    else None
+
+-- the names of a constraint's members
+abbrev pub marks : List (List ℕ)
+marks = codes "base" ∷ codes "ext" ∷ []
+
 -- one of the two marks, and not both
 abbrev pub constraint_of : Option Data → Option Data → Option TreeConstraint
 constraint_of None None = None
@@ -81,9 +94,13 @@ constraint_of None (Some d) = option_map Extension (whole_at d)
 constraint_of (Some d) None = option_map Base (whole_at d)
 constraint_of (Some d) (Some e) = None
 
--- an object of the mark and the place
+abbrev pub constraint_unless : Data → Option (List ℕ) → Option TreeConstraint
+constraint_unless d None = constraint_of (get (codes "base") d) (get (codes "ext") d)
+constraint_unless d (Some unknown) = None
+
+-- an object of the mark and the place, and of nothing else
 abbrev pub constraint_reading : Data → Option TreeConstraint
-constraint_reading d = constraint_of (get (codes "base") d) (get (codes "ext") d)
+constraint_reading d = as_object d >>= λ ms. constraint_unless d (first_unknown marks ms)
 
 abbrev pub marked_json : List ℕ → ℕ → Data
 marked_json mark i = object (member mark (number (unsigned i)) no_members)

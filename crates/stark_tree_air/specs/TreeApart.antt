@@ -3,7 +3,7 @@ use Rattle.std.specs.Prelude.{ℕ, List, [], ◌∷◌, Option, Result, Ok, code
 use Rattle.serde_json.specs.Data.{Data}
 use Rattle.stark_json.specs.Apart.{joined}
 use Rattle.stark_air.specs.Declaration.{Trace}
-use Rattle.stark_tree_air.specs.TreeJson.{AirView, ColumnsView, TreeFault, joined_rows, list_reading, lists_at, number_at, object_at, optional, required, view_fault, without_fault, ◌>>=◌}
+use Rattle.stark_tree_air.specs.TreeJson.{AirView, ColumnsView, TreeFault, air_object, columns_at, joined_rows, list_reading, number_at, optional, required, required_rows, trace_object, trace_width_at, view_fault, without_fault, ◌>>=◌}
 
 -- where the rows stand in a preprocessed trace
 abbrev pub rows_path : List (List ℕ)
@@ -16,13 +16,13 @@ trace_path = codes "preprocessed" ∷ rows_path
 module _ {F : Type 0} (element : Data → Option F) (rows : Option (List (List ℕ))) where
   -- the lists under the name `rows`, which may be apart
   abbrev pub lists_apart : Data → Result (List (List F)) TreeFault
-  lists_apart d = required (codes "rows") (lists_at element (codes "rows")) (joined rows_path rows d)
+  lists_apart d = required_rows element (joined rows_path rows d)
 
   -- an object of a width and rows
   unfoldable pub trace_apart : Data → Result (Trace F) TreeFault
   trace_apart d = do
-    o ← object_at (codes "preprocessed") d
-    width ← required (codes "width") (number_at (codes "width")) o
+    o ← trace_object d
+    width ← trace_width_at o
     lists ← lists_apart o
     values ← joined_rows width 0 lists
     Ok (record { width = width; values = values })
@@ -31,14 +31,14 @@ module _ {F : Type 0} (element : Data → Option F) (rows : Option (List (List �
   columns_apart d = do
     width ← required (codes "width") (number_at (codes "width")) d
     public_values ← required (codes "publics") (number_at (codes "publics")) d
-    periodic ← required (codes "periodic") (lists_at element (codes "periodic")) d
+    periodic ← required (codes "periodic") (columns_at element) d
     preprocessed ← optional (codes "preprocessed") trace_apart d
     Ok (record { width = width; public_values = public_values; periodic = periodic; preprocessed = preprocessed })
 
   -- the AIR that an object spells whose rows may be apart, or its first fault
   unfoldable pub air_apart : Data → Result (AirView F) TreeFault
   air_apart d = do
-    o ← object_at (codes "") d
+    o ← air_object d
     columns ← columns_apart o
     degree ← optional (codes "max_constraint_degree") (number_at (codes "max_constraint_degree")) o
     count ← optional (codes "num_constraints") (number_at (codes "num_constraints")) o

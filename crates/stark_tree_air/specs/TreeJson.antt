@@ -1,15 +1,18 @@
 -- The JSON of an AIR that is data: what a JSON value is read as, or its first fault, and what is written.
-use Rattle.std.specs.Prelude.{◌≡◌, ◌==◌, ℕ, ◌+◌, ◌*◌, ◌/◌, List, [], ◌∷◌, ◌++◌, length, map, if◌then◌else◌, Option, None, Some, IfSome, is_some, ok_or, Result, Ok, Err, codes}
+use Rattle.std.specs.Prelude.{◌≡◌, ◌==◌, ℕ, ◌+◌, ◌*◌, ◌/◌, List, [], ◌∷◌, ◌++◌, length, map, if◌then◌else◌, Option, None, Some, IfSome, is_some, ok_or, unwrap_or, Result, Ok, Err, codes, string_bytes}
 use Rattle.std.specs.List.{range_with_len, slice_range}
 use Rattle.std.specs.Option.{option_or}
-use Rattle.serde_json.specs.Data.{Data, null, number, object, unsigned, Members, no_members, put as with_member}
-use Rattle.serde_json.specs.Find.{get, as_null, as_array, as_object}
-use Rattle.stark_support.specs.Json.{array_at, whole_at}
+use Rattle.serde_json.specs.Data.{Data, null, number, object, unsigned, Items, Members, no_members, put as with_member}
+use Rattle.serde_json.specs.Find.{at, get, as_null, as_array, as_object}
+use Rattle.stark_support.specs.Json.{whole_at}
 use Rattle.stark_support.specs.JsonFacts.{list_written}
+use Rattle.stark_json.specs.Elements.{ListRefusal, no_list, no_element, elements_from, lists_from}
+use Rattle.stark_json.specs.Names.{first_unknown}
 use Rattle.stark_air.specs.Declaration.{Trace, trace_width}
 use Rattle.stark_air.specs.Layout.{Layout}
 use Rattle.stark_tree_air.specs.Faults.{first_node_fault, first_constraint_fault, reads_main_next, reads_preprocessed_next}
 use Rattle.stark_tree_air.specs.NodeJson.{node_reading, node_writing, constraint_reading, constraint_writing}
+use Rattle.stark_tree_air.specs.NodeRefusal.{NodeRefusal, ConstraintRefusal, refused_node, refused_constraint, node_refusal, constraint_refusal}
 use Rattle.stark_tree_air.specs.Traces.{declared_trace}
 use Rattle.stark_tree_air.specs.declared.columns.TreeColumns.{TreeColumns}
 use Rattle.stark_tree_air.specs.declared.columns.TreeDeclaration.{TreeDeclaration}
@@ -21,18 +24,39 @@ use Rattle.stark_tree_air.specs.declared.node.TreeConstraint.{TreeConstraint}
 
 -- Why a JSON value is not read.
 pub data TreeFault : Type 0 where
+  not_an_object : TreeFault
+  unknown_member : List ℕ → TreeFault
+  unknown_trace_member : List ℕ → TreeFault
   missing_field : List ℕ → TreeFault
   wrong_kind : List ℕ → TreeFault
-  element_refused : List ℕ → TreeFault
-  row_width : ℕ → TreeFault
+  constant_refused : ℕ → TreeFault
+  -- a periodic column that is no array; the row of one
+  column_refused : ℕ → TreeFault
+  periodic_refused : ℕ → ℕ → TreeFault
+  -- a preprocessed row that is no array; the column of one
+  row_refused : ℕ → TreeFault
+  preprocessed_refused : ℕ → ℕ → TreeFault
+  -- a preprocessed row, the width that it has to have, and the one that it has
+  row_width : ℕ → ℕ → ℕ → TreeFault
+  node_refused : ℕ → NodeRefusal → TreeFault
+  constraint_refused : ℕ → ConstraintRefusal → TreeFault
   air_fault : TreeAirError → TreeFault
 
 -- The fault that an error names; want of memory names none.
 abbrev pub tree_fault : TreeJsonError → Option TreeFault
+tree_fault TreeJsonError.NotAnObject = Some not_an_object
+tree_fault (TreeJsonError.UnknownMember name) = Some (unknown_member (string_bytes name.name))
+tree_fault (TreeJsonError.UnknownTraceMember name) = Some (unknown_trace_member (string_bytes name.name))
 tree_fault (TreeJsonError.MissingField field) = Some (missing_field field.now)
 tree_fault (TreeJsonError.WrongKind field) = Some (wrong_kind field.now)
-tree_fault (TreeJsonError.Element field) = Some (element_refused field.now)
-tree_fault (TreeJsonError.RowWidth row) = Some (row_width row)
+tree_fault (TreeJsonError.Constant constant) = Some (constant_refused constant)
+tree_fault (TreeJsonError.PeriodicColumn column) = Some (column_refused column)
+tree_fault (TreeJsonError.PeriodicValue column row) = Some (periodic_refused column row)
+tree_fault (TreeJsonError.PreprocessedRow row) = Some (row_refused row)
+tree_fault (TreeJsonError.PreprocessedValue row column) = Some (preprocessed_refused row column)
+tree_fault (TreeJsonError.RowWidth row expected got) = Some (row_width row expected got)
+tree_fault (TreeJsonError.Node node fault) = Some (node_refused node (refused_node fault))
+tree_fault (TreeJsonError.Constraint constraint fault) = Some (constraint_refused constraint (refused_constraint fault))
 tree_fault (TreeJsonError.Air error) = Some (air_fault error)
 tree_fault TreeJsonError.OutOfMemory = None
 
@@ -102,11 +126,20 @@ view_fault columns list = option_or (first_node_fault (view_layout columns list.
 
 -- ---- fields
 
-abbrev pub object_at : List ℕ → Data → Result Data TreeFault
-object_at field d = if is_some (as_object d) then Ok d else Err (wrong_kind field)
+abbrev pub unless_unknown : (List ℕ → TreeFault) → Data → Option (List ℕ) → Result Data TreeFault
+unless_unknown unknown d None = Ok d
+unless_unknown unknown d (Some name) = Err (unknown name)
+
+-- an object whose members have no other names than these
+abbrev pub object_at : TreeFault → (List ℕ → TreeFault) → List (List ℕ) → Data → Result Data TreeFault
+object_at kind unknown names d = ok_or (as_object d) kind >>= λ ms. unless_unknown unknown d (first_unknown names ms)
+
+-- a field of a name, which a fault calls otherwise
+abbrev pub required_as : {A : Type 0} → List ℕ → List ℕ → (Data → Result A TreeFault) → Data → Result A TreeFault
+required_as field name reading d = ok_or (get name d) (missing_field field) >>= reading
 
 abbrev pub required : {A : Type 0} → List ℕ → (Data → Result A TreeFault) → Data → Result A TreeFault
-required field reading d = ok_or (get field d) (missing_field field) >>= reading
+required field reading d = required_as field field reading d
 
 abbrev pub unless_null : {A : Type 0} → (Data → Result A TreeFault) → Data → Result (Option A) TreeFault
 unless_null reading d = if is_some (as_null d) then Ok None else reading d >>= λ a. Ok (Some a)
@@ -122,42 +155,100 @@ optional field reading d = optional_at reading (get field d)
 abbrev pub number_at : List ℕ → Data → Result ℕ TreeFault
 number_at field d = ok_or (whole_at d) (wrong_kind field)
 
--- an array of elements
-abbrev pub list_at : {A : Type 0} → (Data → Option A) → List ℕ → Data → Result (List A) TreeFault
-list_at reading field d = if is_some (as_array d) then ok_or (array_at reading d) (element_refused field) else Err (wrong_kind field)
+abbrev pub array_of : List ℕ → Data → Result Items TreeFault
+array_of field d = ok_or (as_array d) (wrong_kind field)
+
+-- what was read, whose fault is one of the AIR
+abbrev pub with_fault : {A E : Type 0} → (E → TreeFault) → Result A E → Result A TreeFault
+with_fault fault (Ok a) = Ok a
+with_fault fault (Err e) = Err (fault e)
+
+abbrev pub column_fault : ListRefusal → TreeFault
+column_fault (no_list column) = column_refused column
+column_fault (no_element column row) = periodic_refused column row
+
+abbrev pub row_fault : ListRefusal → TreeFault
+row_fault (no_list row) = row_refused row
+row_fault (no_element row column) = preprocessed_refused row column
+
+-- what stands at this place of an array; null where nothing does
+abbrev pub item_at : ℕ → Data → Data
+item_at i d = unwrap_or (at i d) null
+
+abbrev pub node_fault : Data → ℕ → TreeFault
+node_fault d i = node_refused i (node_refusal (item_at i d))
+
+abbrev pub constraint_fault : Data → ℕ → TreeFault
+constraint_fault d i = constraint_refused i (constraint_refusal (item_at i d))
+
+-- an array of nodes
+abbrev pub nodes_at : Data → Result (List TreeNode) TreeFault
+nodes_at d = array_of (codes "nodes") d >>= λ ds. with_fault (node_fault d) (elements_from node_reading 0 ds)
+
+-- an array of constraints
+abbrev pub constraints_at : Data → Result (List TreeConstraint) TreeFault
+constraints_at d = array_of (codes "constraints") d >>= λ ds. with_fault (constraint_fault d) (elements_from constraint_reading 0 ds)
 
 -- rows of this width, joined, from the row r on
 abbrev pub joined_rows : {F : Type 0} → ℕ → ℕ → List (List F) → Result (List F) TreeFault
 joined_rows width r [] = Ok []
-joined_rows width r (row ∷ rows) = if length row == width then (joined_rows width (r + 1) rows >>= λ rest. Ok (row ++ rest)) else Err (row_width r)
+joined_rows width r (row ∷ rows) = if length row == width then (joined_rows width (r + 1) rows >>= λ rest. Ok (row ++ rest)) else Err (row_width r width (length row))
+
+-- the names of an AIR's members, and of a preprocessed trace's
+abbrev pub air_names : List (List ℕ)
+air_names =
+    codes "width" ∷ codes "publics" ∷ codes "periodic" ∷ codes "preprocessed" ∷ codes "max_constraint_degree" ∷ codes "num_constraints"
+    ∷ codes "constants" ∷ codes "nodes" ∷ codes "constraints" ∷ []
+
+abbrev pub trace_names : List (List ℕ)
+trace_names = codes "width" ∷ codes "rows" ∷ []
+
+abbrev pub air_object : Data → Result Data TreeFault
+air_object d = object_at not_an_object unknown_member air_names d
+
+abbrev pub trace_object : Data → Result Data TreeFault
+trace_object d = object_at (wrong_kind (codes "preprocessed")) unknown_trace_member trace_names d
+
+abbrev pub trace_width_at : Data → Result ℕ TreeFault
+trace_width_at d = required_as (codes "preprocessed.width") (codes "width") (number_at (codes "preprocessed.width")) d
 
 module _ {F : Type 0} (element : Data → Option F) where
+  -- an array of elements
+  abbrev pub constants_at : Data → Result (List F) TreeFault
+  constants_at d = array_of (codes "constants") d >>= λ ds. with_fault constant_refused (elements_from element 0 ds)
+
   -- an array of arrays of elements
-  abbrev pub lists_at : List ℕ → Data → Result (List (List F)) TreeFault
-  lists_at field d = list_at (array_at element) field d
+  abbrev pub columns_at : Data → Result (List (List F)) TreeFault
+  columns_at d = array_of (codes "periodic") d >>= λ ds. with_fault column_fault (lists_from element 0 ds)
+
+  abbrev pub rows_at : Data → Result (List (List F)) TreeFault
+  rows_at d = array_of (codes "preprocessed.rows") d >>= λ ds. with_fault row_fault (lists_from element 0 ds)
+
+  abbrev pub required_rows : Data → Result (List (List F)) TreeFault
+  required_rows d = required_as (codes "preprocessed.rows") (codes "rows") rows_at d
 
   -- an object of a width and rows
   unfoldable pub trace_at : Data → Result (Trace F) TreeFault
   trace_at d = do
-    o ← object_at (codes "preprocessed") d
-    width ← required (codes "width") (number_at (codes "width")) o
-    rows ← required (codes "rows") (lists_at (codes "rows")) o
+    o ← trace_object d
+    width ← trace_width_at o
+    rows ← required_rows o
     values ← joined_rows width 0 rows
     Ok (record { width = width; values = values })
 
-  unfoldable pub columns_at : Data → Result (ColumnsView F) TreeFault
-  columns_at d = do
+  unfoldable pub columns_reading : Data → Result (ColumnsView F) TreeFault
+  columns_reading d = do
     width ← required (codes "width") (number_at (codes "width")) d
     public_values ← required (codes "publics") (number_at (codes "publics")) d
-    periodic ← required (codes "periodic") (lists_at (codes "periodic")) d
+    periodic ← required (codes "periodic") columns_at d
     preprocessed ← optional (codes "preprocessed") trace_at d
     Ok (record { width = width; public_values = public_values; periodic = periodic; preprocessed = preprocessed })
 
   unfoldable pub list_reading : Data → Result (ListView F) TreeFault
   list_reading d = do
-    constants ← required (codes "constants") (list_at element (codes "constants")) d
-    nodes ← required (codes "nodes") (list_at node_reading (codes "nodes")) d
-    constraints ← required (codes "constraints") (list_at constraint_reading (codes "constraints")) d
+    constants ← required (codes "constants") constants_at d
+    nodes ← required (codes "nodes") nodes_at d
+    constraints ← required (codes "constraints") constraints_at d
     Ok (record { constants = constants; nodes = nodes; constraints = constraints })
 
   -- the AIR, unless its nodes or constraints have a fault
@@ -168,8 +259,8 @@ module _ {F : Type 0} (element : Data → Option F) where
   -- the AIR that a JSON value spells, or its first fault
   unfoldable pub air_reading : Data → Result (AirView F) TreeFault
   air_reading d = do
-    o ← object_at (codes "") d
-    columns ← columns_at o
+    o ← air_object d
+    columns ← columns_reading o
     degree ← optional (codes "max_constraint_degree") (number_at (codes "max_constraint_degree")) o
     count ← optional (codes "num_constraints") (number_at (codes "num_constraints")) o
     list ← list_reading o

@@ -11,8 +11,9 @@ use crate::air::TreeAir;
 use crate::columns::{TreeColumns, TreeDeclaration};
 use crate::json_error::TreeJsonError;
 use crate::json_fields::{
-    given_lists, joined_rows, list_to_json, lists_to_json, optional_number, put_number, required,
-    required_list, required_lists, required_number,
+    check_air_members, check_trace_members, given_rows, joined_rows, list_to_json, lists_to_json,
+    optional_number, put_number, required_as, required_columns, required_constants,
+    required_constraints, required_nodes, required_number, required_rows, trace_width_at,
 };
 use crate::list::TreeList;
 use serde_json::{Map, Value, put};
@@ -30,11 +31,11 @@ fn rows_from_json<F: JsonCodec + Copy>(
         (lists_apart F.reading (rows_apart rows.now) (view value.now)) }
 {
     match rows {
-        Some(rows) => match required(value, "rows") {
-            Ok(_) => given_lists(alloc, rows, "rows"),
+        Some(rows) => match required_as(value, "rows", "preprocessed.rows") {
+            Ok(_) => given_rows(alloc, rows),
             Err(fault) => Err(fault),
         },
-        None => required_lists(alloc, value, "rows"),
+        None => required_rows(alloc, value),
     }
 }
 
@@ -48,12 +49,8 @@ fn trace_from_json<F: JsonCodec + Copy>(
     ensures { Decodes matrix_trace result
         (trace_apart F.reading (rows_apart rows.now) (view value.now)) }
 {
-    if !value.is_object() {
-        return Err(TreeJsonError::WrongKind {
-            field: "preprocessed",
-        });
-    }
-    let width = required_number(value, "width")?;
+    check_trace_members(alloc, value)?;
+    let width = trace_width_at(value)?;
     let rows = rows_from_json(alloc, value, rows)?;
     let values = joined_rows(alloc, width, &rows)?;
     Ok(RowMajorMatrix::new(values, width))
@@ -79,6 +76,7 @@ fn optional_trace<F: JsonCodec + Copy>(
     Ok(Some(trace))
 }
 
+/// The columns, the public values and the preprocessed trace of an object.
 #[tactic(auto, unfolding(crate::specs::TreeApart::columns_apart))]
 fn columns_from_json<F: JsonCodec + Copy>(
     alloc: Global,
@@ -90,7 +88,7 @@ fn columns_from_json<F: JsonCodec + Copy>(
 {
     let width = required_number(value, "width")?;
     let num_public_values = required_number(value, "publics")?;
-    let periodic_columns = required_lists(alloc, value, "periodic")?;
+    let periodic_columns = required_columns(alloc, value)?;
     let preprocessed_trace = optional_trace(alloc, value, "preprocessed", rows)?;
     Ok(TreeColumns {
         width,
@@ -100,6 +98,7 @@ fn columns_from_json<F: JsonCodec + Copy>(
     })
 }
 
+/// The constants, the nodes and the constraints of an object.
 #[tactic(auto, unfolding(crate::specs::TreeJson::list_reading))]
 fn tree_list_from_json<F: JsonCodec + Copy>(
     alloc: Global,
@@ -107,9 +106,9 @@ fn tree_list_from_json<F: JsonCodec + Copy>(
 ) -> Result<TreeList<F>, TreeJsonError>
     ensures { Decodes list_view result (list_reading F.reading (view value.now)) }
 {
-    let constants = required_list(alloc, value, "constants")?;
-    let nodes = required_list(alloc, value, "nodes")?;
-    let constraints = required_list(alloc, value, "constraints")?;
+    let constants = required_constants(alloc, value)?;
+    let nodes = required_nodes(alloc, value)?;
+    let constraints = required_constraints(alloc, value)?;
     Ok(TreeList {
         constants,
         nodes,
@@ -117,6 +116,7 @@ fn tree_list_from_json<F: JsonCodec + Copy>(
     })
 }
 
+/// The array of the rows of a matrix.
 fn rows_to_json<F: JsonCodec>(alloc: Global, trace: &RowMajorMatrix<F>) -> Result<Value, AllocError>
     ensures { IfOk result (λ value. view value
         ≡ list_written (list_written F.writing) (trace_rows F.writing (matrix_trace trace.now))) }
@@ -128,6 +128,7 @@ fn rows_to_json<F: JsonCodec>(alloc: Global, trace: &RowMajorMatrix<F>) -> Resul
     Ok(Value::Array(rows))
 }
 
+/// The object of the width and the rows of a matrix.
 #[tactic(auto, unfolding(crate::specs::TreeJson::trace_writing))]
 fn trace_to_json<F: JsonCodec>(
     alloc: Global,
@@ -141,6 +142,7 @@ fn trace_to_json<F: JsonCodec>(
     Ok(Value::Object(map))
 }
 
+/// The object of a matrix; null where there is none.
 fn trace_or_null<F: JsonCodec>(
     alloc: Global,
     trace: &Option<RowMajorMatrix<F>>,
@@ -154,6 +156,7 @@ fn trace_or_null<F: JsonCodec>(
     }
 }
 
+/// The members of the columns, the public values and the preprocessed trace.
 #[tactic(auto, unfolding(crate::specs::TreeJson::columns_writing))]
 fn columns_to_map<F: JsonCodec>(
     alloc: Global,
@@ -177,6 +180,7 @@ fn columns_to_map<F: JsonCodec>(
     Ok(map)
 }
 
+/// Puts the constants, the nodes and the constraints under their names.
 #[tactic(auto, unfolding(crate::specs::TreeJson::list_writing))]
 fn put_list<F: JsonCodec>(
     map: &mut Map<String, Value>,
@@ -204,9 +208,7 @@ fn air_from_json<F: Field + JsonCodec>(
     ensures { Decodes (λ air. air_view air.declaration air.list) result
         (air_apart F.reading (rows_apart rows.now) (view value.now)) }
 {
-    if !value.is_object() {
-        return Err(TreeJsonError::WrongKind { field: "" });
-    }
+    check_air_members(alloc, value)?;
     let columns = columns_from_json(alloc, value, rows)?;
     let max_constraint_degree = optional_number(value, "max_constraint_degree")?;
     let num_constraints = optional_number(value, "num_constraints")?;
@@ -225,18 +227,23 @@ fn air_from_json<F: Field + JsonCodec>(
 impl<F: Field + JsonCodec> TreeAir<F> {
     /// The AIR that an object spells. Its fields are read in the order `width`, `publics`,
     /// `periodic`, `preprocessed`, `max_constraint_degree`, `num_constraints`, `constants`,
-    /// `nodes`, `constraints`, others are ignored, and the first fault is answered. The
-    /// preprocessed trace and the hints are None where they are missing or null; the rest is
-    /// required.
+    /// `nodes`, `constraints`, and the first fault is answered. The preprocessed trace and the
+    /// hints are None where they are missing or null; the rest is required.
     ///
-    /// - `WrongKind` with an empty name where the value isn't an object.
+    /// - `NotAnObject` where the value isn't an object.
+    /// - `UnknownMember` before all fields, where it has a member of another name: the first in the
+    ///   order of the names; `UnknownTraceMember` the same of the preprocessed trace, before its
+    ///   fields.
     /// - `MissingField` where a required field isn't there, also one of the preprocessed trace.
     /// - `WrongKind` where a number isn't a whole one that fits, a list isn't an array, or the
     ///   preprocessed trace isn't an object.
-    /// - `Element` where an element of a list is refused.
+    /// - `Constant`, `PeriodicValue`, `PreprocessedValue` where an element of the field is refused,
+    ///   and `PeriodicColumn`, `PreprocessedRow` where a list of them isn't an array: the first of
+    ///   its field.
     /// - `RowWidth` where a row of the preprocessed trace has another width.
+    /// - `Node`, `Constraint` where one is refused, the first: with its place and what is wrong.
     /// - `Air` after all fields, where the nodes or the constraints have a fault.
-    /// - `OutOfMemory` wherever a growth was refused.
+    /// - `OutOfMemory` wherever an allocation was refused.
     pub fn from_json(alloc: Global, value: &Value) -> Result<TreeAir<F>, TreeJsonError>
         ensures decoded { Decodes (λ air. air_view air.declaration air.list) result
             (air_reading F.reading (view value.now)) }

@@ -1,18 +1,95 @@
 //! The fields of an AIR in JSON.
-ghost use Rattle.std.specs.Prelude.{◌≡◌, ◌%◌, IfOk, OnOk, length, map, ok_or};
+ghost use Rattle.std.specs.Prelude.{◌≡◌, ◌%◌, IfOk, MatchResult, OnOk, codes, length, map, ok_or, option_map, string_bytes};
 ghost use Rattle.serde_json.specs.Find.{get};
-ghost use Rattle.serde_json.specs.View.{members_view, view};
-ghost use Rattle.stark_support.specs.Json.{array_at};
+ghost use Rattle.serde_json.specs.View.{items_view, members_view, view};
 ghost use Rattle.stark_support.specs.JsonFacts.{list_written};
 ghost use Rattle.stark_json.specs.Apart.{lists_of, rows_data};
-ghost use Rattle.stark_tree_air.specs.TreeJson.{Decodes, joined_rows, list_at, lists_at, missing_field, number_at, optional, required, with_number};
+ghost use Rattle.stark_json.specs.Elements.{refused_list};
+ghost use Rattle.stark_tree_air.specs.NodeRefusal.{constraint_refusal, node_refusal, refused_constraint, refused_node};
+ghost use Rattle.stark_tree_air.specs.TreeJson.{Decodes, air_object, array_of, column_fault, columns_at, constants_at, constraints_at, item_at, joined_rows, missing_field, nodes_at, number_at, optional, required, required_rows, row_fault, rows_at, trace_object, trace_width_at, tree_fault, with_number};
+ghost use Rattle.stark_tree_air.specs.declared.json_error.TreeJsonError.TheVariants.{OutOfMemory};
 
 use crate::json_error::TreeJsonError;
+use crate::node::{TreeConstraint, TreeNode};
+use crate::node_fault::{ConstraintFault, NodeFault, constraint_refusal, node_refusal};
 use crate::node_json::whole_number;
 use serde_json::{Map, Value, put};
-use stark_json::{NumberRows, lists_of_numbers};
-use stark_support::{JsonCodec, JsonFault, list_from_json, lists_from_json};
+use stark_json::{
+    ElementsFault, ListsFault, NumberRows, QuotedName, elements_from_json, first_unknown,
+    lists_from_json, lists_of_numbers,
+};
+use stark_support::JsonCodec;
 use std::alloc::{AllocError, Global};
+
+/// The name of an unknown member, for a message.
+fn quoted(alloc: Global, name: &str) -> Result<QuotedName, TreeJsonError>
+    ensures { MatchResult result (λ quoted. string_bytes quoted.name ≡ name.now)
+        (λ error. error ≡ OutOfMemory) }
+{
+    let name = QuotedName::new(alloc, name)?;
+    Ok(name)
+}
+
+/// Refuses what isn't an object, or has a member that no AIR has.
+pub(crate) fn check_air_members(alloc: Global, value: &Value) -> Result<(), TreeJsonError>
+    ensures { Decodes (λ _. view value.now) result (air_object (view value.now)) }
+{
+    let Some(members) = value.as_object() else {
+        return Err(TreeJsonError::NotAnObject);
+    };
+    let unknown = first_unknown(
+        members,
+        &[
+            "width",
+            "publics",
+            "periodic",
+            "preprocessed",
+            "max_constraint_degree",
+            "num_constraints",
+            "constants",
+            "nodes",
+            "constraints",
+        ],
+    );
+    match unknown {
+        None => Ok(()),
+        Some(name) => Err(TreeJsonError::UnknownMember {
+            name: quoted(alloc, name)?,
+        }),
+    }
+}
+
+/// Refuses what isn't an object, or has a member that no preprocessed trace has.
+pub(crate) fn check_trace_members(alloc: Global, value: &Value) -> Result<(), TreeJsonError>
+    ensures { Decodes (λ _. view value.now) result (trace_object (view value.now)) }
+{
+    let Some(members) = value.as_object() else {
+        return Err(TreeJsonError::WrongKind {
+            field: "preprocessed",
+        });
+    };
+    match first_unknown(members, &["width", "rows"]) {
+        None => Ok(()),
+        Some(name) => Err(TreeJsonError::UnknownTraceMember {
+            name: quoted(alloc, name)?,
+        }),
+    }
+}
+
+/// What an object has under a name, or that the field is missing, by the name that a fault has.
+pub(crate) fn required_as<'a>(
+    value: &'a Value,
+    name: &str,
+    field: &'static str,
+) -> Result<&'a Value, TreeJsonError>
+    ensures { Decodes (λ v. view v.now) result
+        (ok_or (get name.now (view value.now)) (missing_field field.now)) }
+{
+    match value.get(name) {
+        Some(member) => Ok(member),
+        None => Err(TreeJsonError::MissingField { field }),
+    }
+}
 
 /// What an object has under a required name.
 pub(crate) fn required<'a>(
@@ -22,12 +99,10 @@ pub(crate) fn required<'a>(
     ensures { Decodes (λ v. view v.now) result
         (ok_or (get field.now (view value.now)) (missing_field field.now)) }
 {
-    match value.get(field) {
-        Some(member) => Ok(member),
-        None => Err(TreeJsonError::MissingField { field }),
-    }
+    required_as(value, field, field)
 }
 
+/// The whole number that a value is.
 fn number_from_json(value: &Value, field: &'static str) -> Result<usize, TreeJsonError>
     ensures { Decodes (λ n. n) result (number_at field.now (view value.now)) }
 {
@@ -43,6 +118,14 @@ pub(crate) fn required_number(value: &Value, field: &'static str) -> Result<usiz
 {
     let member = required(value, field)?;
     number_from_json(member, field)
+}
+
+/// The width of a preprocessed trace.
+pub(crate) fn trace_width_at(value: &Value) -> Result<usize, TreeJsonError>
+    ensures { Decodes (λ n. n) result (trace_width_at (view value.now)) }
+{
+    let member = required_as(value, "width", "preprocessed.width")?;
+    number_from_json(member, "preprocessed.width")
 }
 
 /// The whole number under a name; None where it is missing or null.
@@ -62,80 +145,207 @@ pub(crate) fn optional_number(
     Ok(Some(number))
 }
 
-fn list_at<T: JsonCodec + Drop>(
-    alloc: Global,
-    value: &Value,
-    field: &'static str,
-) -> Result<Vec<T>, TreeJsonError>
-    ensures { Decodes (λ v. v.items) result (list_at T.reading field.now (view value.now)) }
+/// The items of an array.
+fn array_of<'a>(value: &'a Value, field: &'static str) -> Result<&'a Vec<Value>, TreeJsonError>
+    ensures { Decodes (λ v. items_view v.now.items) result (array_of field.now (view value.now)) }
 {
-    if !value.is_array() {
-        return Err(TreeJsonError::WrongKind { field });
-    }
-    match list_from_json(alloc, value) {
-        Ok(list) => Ok(list),
-        Err(JsonFault::Invalid) => Err(TreeJsonError::Element { field }),
-        Err(JsonFault::OutOfMemory) => Err(TreeJsonError::OutOfMemory),
+    match value.as_array() {
+        Some(values) => Ok(values),
+        None => Err(TreeJsonError::WrongKind { field }),
     }
 }
 
-/// The values of the array under a required name.
-pub(crate) fn required_list<T: JsonCodec + Drop>(
+/// The constants of an array.
+fn constants_at<F: JsonCodec + Drop>(alloc: Global, value: &Value) -> Result<Vec<F>, TreeJsonError>
+    ensures { Decodes (λ v. v.items) result (constants_at F.reading (view value.now)) }
+{
+    let values = array_of(value, "constants")?;
+    match elements_from_json(alloc, values) {
+        Ok(constants) => Ok(constants),
+        Err(ElementsFault::Element { index }) => Err(TreeJsonError::Constant { constant: index }),
+        Err(ElementsFault::OutOfMemory) => Err(TreeJsonError::OutOfMemory),
+    }
+}
+
+/// The constants, which are required.
+pub(crate) fn required_constants<F: JsonCodec + Drop>(
     alloc: Global,
     value: &Value,
-    field: &'static str,
-) -> Result<Vec<T>, TreeJsonError>
+) -> Result<Vec<F>, TreeJsonError>
     ensures { Decodes (λ v. v.items) result
-        (required field.now (list_at T.reading field.now) (view value.now)) }
+        (required (codes "constants") (constants_at F.reading) (view value.now)) }
 {
-    let member = required(value, field)?;
-    list_at(alloc, member, field)
+    let member = required(value, "constants")?;
+    constants_at(alloc, member)
 }
 
-fn lists_at<T: JsonCodec + Drop>(
-    alloc: Global,
-    value: &Value,
-    field: &'static str,
-) -> Result<Vec<Vec<T>>, TreeJsonError>
-    ensures { Decodes (λ v. map (λ list. list.items) v.items) result
-        (lists_at T.reading field.now (view value.now)) }
+/// The fault of the node at this place of an array.
+fn refused_node(alloc: Global, value: &Value, node: usize) -> Result<NodeFault, AllocError>
+    ensures { IfOk result (λ fault. refused_node fault
+        ≡ node_refusal (item_at node (view value.now))) }
 {
-    if !value.is_array() {
-        return Err(TreeJsonError::WrongKind { field });
-    }
-    match lists_from_json(alloc, value) {
-        Ok(lists) => Ok(lists),
-        Err(JsonFault::Invalid) => Err(TreeJsonError::Element { field }),
-        Err(JsonFault::OutOfMemory) => Err(TreeJsonError::OutOfMemory),
+    match value.get(node) {
+        Some(element) => node_refusal(alloc, element),
+        None => node_refusal(alloc, &Value::Null),
     }
 }
 
-/// The lists of the array of arrays under a required name.
-pub(crate) fn required_lists<T: JsonCodec + Drop>(
-    alloc: Global,
-    value: &Value,
-    field: &'static str,
-) -> Result<Vec<Vec<T>>, TreeJsonError>
-    ensures { Decodes (λ v. map (λ list. list.items) v.items) result
-        (required field.now (lists_at T.reading field.now) (view value.now)) }
+/// The nodes of an array.
+fn nodes_at(alloc: Global, value: &Value) -> Result<Vec<TreeNode>, TreeJsonError>
+    ensures { Decodes (λ v. v.items) result (nodes_at (view value.now)) }
 {
-    let member = required(value, field)?;
-    lists_at(alloc, member, field)
+    let values = array_of(value, "nodes")?;
+    match elements_from_json(alloc, values) {
+        Ok(nodes) => Ok(nodes),
+        Err(ElementsFault::Element { index }) => Err(TreeJsonError::Node {
+            node: index,
+            fault: refused_node(alloc, value, index)?,
+        }),
+        Err(ElementsFault::OutOfMemory) => Err(TreeJsonError::OutOfMemory),
+    }
 }
 
-/// The lists that were given in place of an array of arrays.
-pub(crate) fn given_lists<T: JsonCodec + Drop>(
+/// The nodes, which are required.
+pub(crate) fn required_nodes(alloc: Global, value: &Value) -> Result<Vec<TreeNode>, TreeJsonError>
+    ensures { Decodes (λ v. v.items) result
+        (required (codes "nodes") nodes_at (view value.now)) }
+{
+    let member = required(value, "nodes")?;
+    nodes_at(alloc, member)
+}
+
+/// The fault of the constraint at this place of an array.
+fn refused_constraint(
+    alloc: Global,
+    value: &Value,
+    constraint: usize,
+) -> Result<ConstraintFault, AllocError>
+    ensures { IfOk result (λ fault. refused_constraint fault
+        ≡ constraint_refusal (item_at constraint (view value.now))) }
+{
+    match value.get(constraint) {
+        Some(element) => constraint_refusal(alloc, element),
+        None => constraint_refusal(alloc, &Value::Null),
+    }
+}
+
+/// The constraints of an array.
+fn constraints_at(alloc: Global, value: &Value) -> Result<Vec<TreeConstraint>, TreeJsonError>
+    ensures { Decodes (λ v. v.items) result (constraints_at (view value.now)) }
+{
+    let values = array_of(value, "constraints")?;
+    match elements_from_json(alloc, values) {
+        Ok(constraints) => Ok(constraints),
+        Err(ElementsFault::Element { index }) => Err(TreeJsonError::Constraint {
+            constraint: index,
+            fault: refused_constraint(alloc, value, index)?,
+        }),
+        Err(ElementsFault::OutOfMemory) => Err(TreeJsonError::OutOfMemory),
+    }
+}
+
+/// The constraints, which are required.
+pub(crate) fn required_constraints(
+    alloc: Global,
+    value: &Value,
+) -> Result<Vec<TreeConstraint>, TreeJsonError>
+    ensures { Decodes (λ v. v.items) result
+        (required (codes "constraints") constraints_at (view value.now)) }
+{
+    let member = required(value, "constraints")?;
+    constraints_at(alloc, member)
+}
+
+/// What is said of periodic columns with a fault.
+fn column_fault(fault: ListsFault) -> TreeJsonError
+    ensures { tree_fault result ≡ option_map column_fault (refused_list fault) }
+{
+    match fault {
+        ListsFault::List { index } => TreeJsonError::PeriodicColumn { column: index },
+        ListsFault::Element { list, index } => TreeJsonError::PeriodicValue {
+            column: list,
+            row: index,
+        },
+        ListsFault::OutOfMemory => TreeJsonError::OutOfMemory,
+    }
+}
+
+/// The periodic columns of an array.
+fn columns_at<F: JsonCodec + Drop>(
+    alloc: Global,
+    value: &Value,
+) -> Result<Vec<Vec<F>>, TreeJsonError>
+    ensures { Decodes (λ v. map (λ list. list.items) v.items) result
+        (columns_at F.reading (view value.now)) }
+{
+    let values = array_of(value, "periodic")?;
+    match lists_from_json(alloc, values) {
+        Ok(columns) => Ok(columns),
+        Err(fault) => Err(column_fault(fault)),
+    }
+}
+
+/// The periodic columns, which are required.
+pub(crate) fn required_columns<F: JsonCodec + Drop>(
+    alloc: Global,
+    value: &Value,
+) -> Result<Vec<Vec<F>>, TreeJsonError>
+    ensures { Decodes (λ v. map (λ list. list.items) v.items) result
+        (required (codes "periodic") (columns_at F.reading) (view value.now)) }
+{
+    let member = required(value, "periodic")?;
+    columns_at(alloc, member)
+}
+
+/// What is said of preprocessed rows with a fault.
+fn row_fault(fault: ListsFault) -> TreeJsonError
+    ensures { tree_fault result ≡ option_map row_fault (refused_list fault) }
+{
+    match fault {
+        ListsFault::List { index } => TreeJsonError::PreprocessedRow { row: index },
+        ListsFault::Element { list, index } => TreeJsonError::PreprocessedValue {
+            row: list,
+            column: index,
+        },
+        ListsFault::OutOfMemory => TreeJsonError::OutOfMemory,
+    }
+}
+
+/// The preprocessed rows of an array.
+fn rows_at<F: JsonCodec + Drop>(alloc: Global, value: &Value) -> Result<Vec<Vec<F>>, TreeJsonError>
+    ensures { Decodes (λ v. map (λ list. list.items) v.items) result
+        (rows_at F.reading (view value.now)) }
+{
+    let values = array_of(value, "preprocessed.rows")?;
+    match lists_from_json(alloc, values) {
+        Ok(rows) => Ok(rows),
+        Err(fault) => Err(row_fault(fault)),
+    }
+}
+
+/// The rows of a preprocessed trace.
+pub(crate) fn required_rows<F: JsonCodec + Drop>(
+    alloc: Global,
+    value: &Value,
+) -> Result<Vec<Vec<F>>, TreeJsonError>
+    ensures { Decodes (λ v. map (λ list. list.items) v.items) result
+        (required_rows F.reading (view value.now)) }
+{
+    let member = required_as(value, "rows", "preprocessed.rows")?;
+    rows_at(alloc, member)
+}
+
+/// The preprocessed rows that were given in place of an array of arrays.
+pub(crate) fn given_rows<F: JsonCodec + Drop>(
     alloc: Global,
     rows: &NumberRows,
-    field: &'static str,
-) -> Result<Vec<Vec<T>>, TreeJsonError>
+) -> Result<Vec<Vec<F>>, TreeJsonError>
     ensures { Decodes (λ v. map (λ list. list.items) v.items) result
-        (lists_at T.reading field.now (rows_data (lists_of rows.now))) }
+        (rows_at F.reading (rows_data (lists_of rows.now))) }
 {
     match lists_of_numbers(alloc, rows) {
         Ok(lists) => Ok(lists),
-        Err(JsonFault::Invalid) => Err(TreeJsonError::Element { field }),
-        Err(JsonFault::OutOfMemory) => Err(TreeJsonError::OutOfMemory),
+        Err(fault) => Err(row_fault(fault)),
     }
 }
 
@@ -151,8 +361,13 @@ pub(crate) fn joined_rows<F: Copy>(
 {
     let mut values = Vec::new(alloc);
     for (place, row) in rows.iter().enumerate() {
-        if row.len() != width {
-            return Err(TreeJsonError::RowWidth { row: place });
+        let got = row.len();
+        if got != width {
+            return Err(TreeJsonError::RowWidth {
+                row: place,
+                expected: width,
+                got,
+            });
         }
         values.extend_from_slice(row)?;
     }

@@ -7,6 +7,7 @@ ghost use Rattle.stark_tree_air.specs.NodeJsonFacts.{constraint_back, node_back}
 
 use crate::node::{TreeConstraint, TreeNode};
 use serde_json::{Value, json};
+use stark_json::first_unknown;
 use stark_support::{JsonCodec, JsonFault};
 use std::alloc::{AllocError, Global};
 
@@ -20,8 +21,9 @@ pub(crate) fn whole_number(value: &Value) -> Option<usize>
     }
 }
 
+/// The selector of a name.
 #[tactic(auto, unfolding(crate::specs::NodeJson::selector_named))]
-fn selector_named(name: &str) -> Option<TreeNode>
+pub(crate) fn selector_named(name: &str) -> Option<TreeNode>
     ensures { result ≡ selector_named name.now }
 {
     match name {
@@ -32,8 +34,9 @@ fn selector_named(name: &str) -> Option<TreeNode>
     }
 }
 
+/// The node of a name and its one operand.
 #[tactic(auto, unfolding(crate::specs::NodeJson::single_named))]
-fn single_named(name: &str, place: usize) -> Option<TreeNode>
+pub(crate) fn single_named(name: &str, place: usize) -> Option<TreeNode>
     ensures { result ≡ single_named name.now place }
 {
     match name {
@@ -49,8 +52,9 @@ fn single_named(name: &str, place: usize) -> Option<TreeNode>
     }
 }
 
+/// The node of a name and its two operands.
 #[tactic(auto, unfolding(crate::specs::NodeJson::pair_named))]
-fn pair_named(name: &str, left: usize, right: usize) -> Option<TreeNode>
+pub(crate) fn pair_named(name: &str, left: usize, right: usize) -> Option<TreeNode>
     ensures { result ≡ pair_named name.now left right }
 {
     match name {
@@ -61,6 +65,7 @@ fn pair_named(name: &str, left: usize, right: usize) -> Option<TreeNode>
     }
 }
 
+/// The node that an array of its name and its operands spells.
 fn node_from_json(value: &Value) -> Option<TreeNode>
     ensures { result ≡ node_reading (view value.now) }
 {
@@ -73,9 +78,14 @@ fn node_from_json(value: &Value) -> Option<TreeNode>
     }
 }
 
+/// The constraint that an object of one mark and no other member spells.
 fn constraint_from_json(value: &Value) -> Option<TreeConstraint>
     ensures { result ≡ constraint_reading (view value.now) }
 {
+    let members = value.as_object()?;
+    if first_unknown(members, &["base", "ext"]).is_some() {
+        return None;
+    }
     match (value.get("base"), value.get("ext")) {
         (Some(place), None) => Some(TreeConstraint::Base(whole_number(place)?)),
         (None, Some(place)) => Some(TreeConstraint::Extension(whole_number(place)?)),
@@ -83,18 +93,21 @@ fn constraint_from_json(value: &Value) -> Option<TreeConstraint>
     }
 }
 
+/// The array of a name alone.
 fn selector_json(alloc: Global, name: &str) -> Result<Value, AllocError>
     ensures { IfOk result (λ value. view value ≡ selector_json name.now) }
 {
     json!(in alloc; [name])
 }
 
+/// The array of a name and one place.
 fn single_json(alloc: Global, name: &str, place: usize) -> Result<Value, AllocError>
     ensures { IfOk result (λ value. view value ≡ single_json name.now place) }
 {
     json!(in alloc; [name, place])
 }
 
+/// The array of a name and two places.
 fn pair_json(alloc: Global, name: &str, left: usize, right: usize) -> Result<Value, AllocError>
     ensures { IfOk result (λ value. view value ≡ pair_json name.now left right) }
 {
@@ -136,12 +149,14 @@ impl JsonCodec for TreeNode {
     ghost reads_back = { node_back };
 }
 
+/// The object of a constraint over the base field.
 fn base_json(alloc: Global, place: usize) -> Result<Value, AllocError>
     ensures { IfOk result (λ value. view value ≡ constraint_writing (TreeConstraint.Base place)) }
 {
     json!(in alloc; { "base": place })
 }
 
+/// The object of a constraint over the extension.
 fn extension_json(alloc: Global, place: usize) -> Result<Value, AllocError>
     ensures { IfOk result (λ value. view value
         ≡ constraint_writing (TreeConstraint.Extension place)) }

@@ -11,9 +11,9 @@ returns-in-Ok g c =
     let element = g.F.JsonCodec.reading in
     let d = view c.args.value.now in
     let rows = lists_of c.in-Some.rows in
-    subst (Decodes (λ v. map (λ list. list.items) v.items) c.given_lists.result)
+    subst (Decodes (λ v. map (λ list. list.items) v.items) c.given_rows.result)
     (sym (rows_found element rows d _ c.in-Ok.ensures) ∙ ap (λ obtained. lists_apart element (rows_apart obtained) d) (sym c.in-Some.is))
-    c.given_lists.ensures
+    c.given_rows.ensures
 
 pub returns-in-Err : goal.returns-in-Err
 returns-in-Err g c =

@@ -2,9 +2,9 @@ use Rattle.std.proofs.Common.{◌≡◌, ◌∙◌, ◌++◌, ap, arith, length}
 use Rattle.stark_tree_air.proofs.JsonSteps.{one_more_row, row_refused, row_taken, rows_taken, whole_rows}
 use Rattle.stark_tree_air.proofs.json_fields.joined_rows.Goals as goal
 
-pub returns-then-len-width-clause-joined : goal.returns-then-len-width-clause-joined
-returns-then-len-width-clause-joined g c =
-    row_refused (λ row. row.items) c.args.rows.now c.args.width _ c.loop-place.place c.loop-place.values.items c.loop-place.invariant.joined c.index-rows-place.result (omega arith) c.index-rows-place.is (λ e. absurd (omega arith))
+pub returns-then-got-width-clause-joined : goal.returns-then-got-width-clause-joined
+returns-then-got-width-clause-joined g c =
+    row_refused (λ row. row.items) c.args.rows.now c.args.width _ c.loop-place.place c.loop-place.values.items c.loop-place.invariant.joined c.index-rows-place.result _ (omega arith) c.index-rows-place.is (λ e. absurd (omega arith)) (omega arith)
 
 pub loop-place-preserved : goal.loop-place-preserved
 loop-place-preserved g c =

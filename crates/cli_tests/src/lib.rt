@@ -21,6 +21,10 @@ mod program;
 #[cfg(test)]
 mod prove_cases;
 #[cfg(test)]
+mod reason_cases;
+#[cfg(test)]
+mod reasons;
+#[cfg(test)]
 mod runs;
 #[cfg(test)]
 mod streams;

@@ -322,8 +322,8 @@ verify | <proved> | reading the statement\0areading the proof\0averifying: state
 show | <small> | reading the statement\0ashowing: statement of 152 bytes
 "#;
 
-// Words and what they ask for, which is nothing where a line says no more. A line that is empty or
-// begins with `#` is none. Two quotes stand for the empty word.
+// Words and what they ask for, or what is wrong with them. A line that is empty or begins with `#`
+// is none. Two quotes stand for the empty word.
 pub(crate) const WORDS: &str = "
 verify statement.json proof.json = verify, file statement.json, file proof.json
 verify statement.json - = verify, file statement.json, standard
@@ -337,6 +337,8 @@ show statement.json = show, file statement.json, nothing
 show - = show, standard, nothing
 show verify = show, file verify, nothing
 --help = help
+-h = help
+help = help
 --version = version
 
 prove --unchecked statement.json trace.json = prove unchecked, file statement.json, file trace.json
@@ -370,100 +372,100 @@ prove --output ./--out ./--in ./--trace = prove, file ./--in, file ./--trace, ou
 prove --output quiet output unchecked = prove, file output, file unchecked, output quiet
 
 # Options that are given twice.
-verify --quiet --quiet statement.json
-check --quiet --quiet statement.json
-prove --quiet --quiet statement.json
-prove --quiet --unchecked --quiet statement.json
-prove --unchecked --unchecked statement.json
-prove --binary --binary statement.json
-prove --binary --unchecked --binary statement.json
-verify --binary statement.json proof.json
-check --binary statement.json trace.json
-show --binary statement.json
-prove --unchecked --quiet --unchecked statement.json
-prove --output out --output out statement.json
-prove --output out --quiet --output another statement.json
+verify --quiet --quiet statement.json = --quiet is there twice
+check --quiet --quiet statement.json = --quiet is there twice
+prove --quiet --quiet statement.json = --quiet is there twice
+prove --quiet --unchecked --quiet statement.json = --quiet is there twice
+prove --unchecked --unchecked statement.json = --unchecked is there twice
+prove --binary --binary statement.json = --binary is there twice
+prove --binary --unchecked --binary statement.json = --binary is there twice
+verify --binary statement.json proof.json = verify takes no --binary
+check --binary statement.json trace.json = check takes no --binary
+show --binary statement.json = show takes no --binary
+prove --unchecked --quiet --unchecked statement.json = --unchecked is there twice
+prove --output out --output out statement.json = --output is there twice
+prove --output out --quiet --output another statement.json = --output is there twice
 
 # Options of another verb.
-verify --unchecked statement.json proof.json
-verify --output out statement.json proof.json
-check --unchecked statement.json trace.json
-check --output out statement.json trace.json
-check --unchecked statement.json
-show --quiet statement.json
-show --unchecked statement.json
-show --output out statement.json
+verify --unchecked statement.json proof.json = verify takes no --unchecked
+verify --output out statement.json proof.json = verify takes no --output
+check --unchecked statement.json trace.json = check takes no --unchecked
+check --output out statement.json trace.json = check takes no --output
+check --unchecked statement.json = check takes no --unchecked
+show --quiet statement.json = show takes no --quiet
+show --unchecked statement.json = show takes no --unchecked
+show --output out statement.json = show takes no --output
 
 # Options of none.
-prove --uncheck statement.json trace.json
-prove --quie statement.json
-prove --quietly statement.json
-prove --Quiet statement.json
-prove --output=out statement.json
-prove -- statement.json
-prove --force statement.json
-verify --help
-show --help
-show --statement.json
-verify --statement.json proof.json
-verify statement.json --proof.json
+prove --uncheck statement.json trace.json = unknown option --uncheck
+prove --quie statement.json = unknown option --quie
+prove --quietly statement.json = unknown option --quietly
+prove --Quiet statement.json = unknown option --Quiet
+prove --output=out statement.json = unknown option --output=out
+prove -- statement.json = unknown option --
+prove --force statement.json = unknown option --force
+verify --help = unknown option --help
+show --help = unknown option --help
+show --statement.json = unknown option --statement.json
+verify --statement.json proof.json = unknown option --statement.json
+verify statement.json --proof.json = unknown option --proof.json
 
 # Options behind an input, or before the verb.
-prove statement.json --unchecked
-prove statement.json --quiet
-prove statement.json --output
-prove statement.json trace.json --quiet
-prove statement.json --output out
-prove - --quiet
-prove --unchecked statement.json --quiet
-verify statement.json --quiet
-check statement.json --quiet
---quiet
---quiet verify statement.json
---unchecked prove statement.json
+prove statement.json --unchecked = --unchecked stands after an input
+prove statement.json --quiet = --quiet stands after an input
+prove statement.json --output = --output stands after an input
+prove statement.json trace.json --quiet = --quiet stands after an input
+prove statement.json --output out = --output stands after an input
+prove - --quiet = --quiet stands after an input
+prove --unchecked statement.json --quiet = --quiet stands after an input
+verify statement.json --quiet = --quiet stands after an input
+check statement.json --quiet = --quiet stands after an input
+--quiet = unknown verb --quiet
+--quiet verify statement.json = unknown verb --quiet
+--unchecked prove statement.json = unknown verb --unchecked
 
 # No path for the proof.
-prove --output
-prove --output out
-prove --output - statement.json
-prove --output -- statement.json
-prove --output --quiet statement.json trace.json
-prove --output --quiet out statement.json
-prove --quiet --output
+prove --output = no path stands after --output
+prove --output out = prove wants a statement
+prove --output - statement.json = no path stands after --output
+prove --output -- statement.json = no path stands after --output
+prove --output --quiet statement.json trace.json = no path stands after --output
+prove --output --quiet out statement.json = no path stands after --output
+prove --quiet --output = no path stands after --output
 
 # No inputs, too many, or standard input twice.
-verify
-verify -
-verify - -
-verify --quiet
-verify --quiet -
-verify --quiet - -
-verify statement.json proof.json more
-verify --quiet statement.json proof.json more
-prove
-prove -
-prove - -
-prove --unchecked
-prove --unchecked -
-prove --unchecked - -
-prove --unchecked statement.json trace.json more
-prove --output out -
-prove --output out - -
-prove --output out statement.json trace.json more
-check
-check - -
-check --quiet
-check statement.json trace.json more
-show
-show statement.json proof.json
+verify = verify wants a statement
+verify - = both inputs would be standard input
+verify - - = both inputs would be standard input
+verify --quiet = verify wants a statement
+verify --quiet - = both inputs would be standard input
+verify --quiet - - = both inputs would be standard input
+verify statement.json proof.json more = one word more than wanted: more
+verify --quiet statement.json proof.json more = one word more than wanted: more
+prove = prove wants a statement
+prove - = both inputs would be standard input
+prove - - = both inputs would be standard input
+prove --unchecked = prove wants a statement
+prove --unchecked - = both inputs would be standard input
+prove --unchecked - - = both inputs would be standard input
+prove --unchecked statement.json trace.json more = one word more than wanted: more
+prove --output out - = both inputs would be standard input
+prove --output out - - = both inputs would be standard input
+prove --output out statement.json trace.json more = one word more than wanted: more
+check = check wants a statement
+check - - = both inputs would be standard input
+check --quiet = check wants a statement
+check statement.json trace.json more = one word more than wanted: more
+show = show wants a statement
+show statement.json proof.json = one word more than wanted: proof.json
 
 # Other verbs.
-Check statement.json
-Verify statement.json proof.json
-verif statement.json
---help --help
---version --quiet
--help
-''
-'' statement.json
+Check statement.json = unknown verb Check
+Verify statement.json proof.json = unknown verb Verify
+verif statement.json = unknown verb verif
+--help --help = unknown verb --help
+--version --quiet = unknown verb --version
+-help = unknown verb -help
+'' = the first word is empty
+'' statement.json = the first word is empty
 ";

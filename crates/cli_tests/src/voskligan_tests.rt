@@ -9,7 +9,7 @@ use crate::voskligan_cases::{
 use stark_answers::{ProofForm, TraceTask};
 use stark_bench::{F12289, Sha256Challenger};
 use stark_cli::statements::Verb;
-use stark_cli::{InputWord, Request, Task, request_of};
+use stark_cli::{InputWord, Request, Task, misuse_of, request_of};
 use stark_statement::Statement;
 use stark_support::{CanSample, PrimeField64};
 use std::alloc::{AllocError, Global};
@@ -131,12 +131,12 @@ fn task_text(alloc: Global, task: Task<'_>) -> Result<String, AllocError> {
     Ok(text)
 }
 
-/// What words ask for, in words.
-fn request_text(alloc: Global, request: Request<'_>) -> Result<String, AllocError> {
-    match request {
+/// What words ask for, or what is wrong with them, in words.
+fn request_text(alloc: Global, words: &[String]) -> Result<String, AllocError> {
+    match request_of(words) {
         Request::Help => String::from_str(alloc, "help"),
         Request::Version => String::from_str(alloc, "version"),
-        Request::Unknown => String::from_str(alloc, "unknown"),
+        Request::Unknown => format!(in alloc; "{}", misuse_of(words)),
         Request::Run(task) => task_text(alloc, task),
     }
 }
@@ -146,13 +146,13 @@ fn words_are_compared_whole(rt: HostRuntime) -> Result<(), Fail> {
     let alloc = rt.alloc();
     let mut lines = 0usize;
     for line in WORDS.lines().filter(|line| is_case(line)) {
-        let (given, asked) = line.split_once(" = ").unwrap_or((line, "unknown"));
+        let (given, asked) = line.split_once(" = ").ok_or("words without an answer")?;
         let words = words_of(alloc, given)?;
-        let actual = request_text(alloc, request_of(&words))?;
+        let actual = request_text(alloc, &words)?;
         assert_eq!(rt; actual.as_str(), asked, "{line}");
         lines = lines.saturating_add(1);
     }
-    assert_eq!(rt; lines, 122);
+    assert_eq!(rt; lines, 124);
     Ok(())
 }
 

@@ -173,7 +173,8 @@ abbrev mutual
   output_of asked (w ∷ rest) = option_and_then (λ more. task_of more rest) (with_output w asked)
 
 abbrev pub alone : List ℕ → Asked
-alone w = if bytes_eq w (codes "--help") then help else if bytes_eq w (codes "--version") then version else unknown
+alone w =
+    if bytes_eq w (codes "--help") || bytes_eq w (codes "-h") || bytes_eq w (codes "help") then help else if bytes_eq w (codes "--version") then version else unknown
 
 abbrev pub or_unknown : Option AskedTask → Asked
 or_unknown None = unknown

@@ -1,4 +1,5 @@
 pub mod Running
+pub mod Misuses
 pub mod Words
 pub mod SampleRun
 pub mod StatementRun

@@ -41,8 +41,8 @@ struct Inputs<'w> {
 
 /// A verb and its options.
 #[derive(Clone, Copy, Debug)]
-struct Options<'w> {
-    verb: Verb,
+pub(crate) struct Options<'w> {
+    pub(crate) verb: Verb,
     output: Option<&'w str>,
     quiet: bool,
 }
@@ -72,7 +72,7 @@ pub enum Request<'w> {
 
 /// The verb that a word is.
 #[tactic(auto, unfolding(crate::specs::Arguments::verb_of))]
-fn verb_of(word: &str) -> Option<Verb>
+pub(crate) fn verb_of(word: &str) -> Option<Verb>
     ensures { result ≡ verb_of word.now }
 {
     match word {
@@ -86,7 +86,7 @@ fn verb_of(word: &str) -> Option<Verb>
 
 /// The path that a word is; none where it is `-`, or begins as an option does.
 #[tactic(auto, unfolding(crate::specs::Arguments::path_of))]
-fn path_of(word: &str) -> Option<&str>
+pub(crate) fn path_of(word: &str) -> Option<&str>
     ensures { option_copied result ≡ path_of word.now }
 {
     if word == "-" || word.starts_with("--") {
@@ -160,7 +160,7 @@ fn inputs_of<'w>(verb: Verb, words: &'w [String]) -> Option<Inputs<'w>>
 
 impl<'w> Options<'w> {
     /// A verb without options.
-    fn none(verb: Verb) -> Options<'w>
+    pub(crate) fn none(verb: Verb) -> Options<'w>
         ensures { options_view result ≡ without_options verb }
     {
         Options {
@@ -172,7 +172,7 @@ impl<'w> Options<'w> {
 
     /// With `--quiet`; none where it is there, or the verb is to show.
     #[tactic(auto, unfolding(crate::specs::Arguments::with_quiet))]
-    fn with_quiet(self) -> Option<Options<'w>>
+    pub(crate) fn with_quiet(self) -> Option<Options<'w>>
         ensures { option_map options_view result ≡ with_quiet (options_view self.entry) }
     {
         match self.verb {
@@ -186,7 +186,7 @@ impl<'w> Options<'w> {
 
     /// With `--unchecked`; none where it is there, or the verb is no prover's.
     #[tactic(auto, unfolding(crate::specs::Arguments::with_unchecked))]
-    fn with_unchecked(self) -> Option<Options<'w>>
+    pub(crate) fn with_unchecked(self) -> Option<Options<'w>>
         ensures { option_map options_view result ≡ with_unchecked (options_view self.entry) }
     {
         match self.verb {
@@ -200,7 +200,7 @@ impl<'w> Options<'w> {
 
     /// With `--binary`; none where it is there, or the verb is no prover's.
     #[tactic(auto, unfolding(crate::specs::Arguments::with_binary))]
-    fn with_binary(self) -> Option<Options<'w>>
+    pub(crate) fn with_binary(self) -> Option<Options<'w>>
         ensures { option_map options_view result ≡ with_binary (options_view self.entry) }
     {
         let task = match self.verb {
@@ -219,7 +219,7 @@ impl<'w> Options<'w> {
     /// With `--output` and the word behind it; none where it is there, the verb is no prover's or
     /// the word no path.
     #[tactic(auto, unfolding(crate::specs::Arguments::with_output))]
-    fn with_output(self, word: &'w str) -> Option<Options<'w>>
+    pub(crate) fn with_output(self, word: &'w str) -> Option<Options<'w>>
         ensures { option_map options_view result ≡ with_output word.now
             (options_view self.entry) }
     {
@@ -278,7 +278,7 @@ fn alone(word: &str) -> Request<'_>
     ensures { request_view result ≡ alone word.now }
 {
     match word {
-        "--help" => Request::Help,
+        "--help" | "-h" | "help" => Request::Help,
         "--version" => Request::Version,
         _ => Request::Unknown,
     }

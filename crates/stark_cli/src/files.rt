@@ -1,6 +1,7 @@
 //! What a program reads from: a file, standard input, or nothing.
 
 use crate::arguments::InputWord;
+use std::fmt::{self, Display, Formatter};
 use std::fs::File;
 use std::io::{self, Read, Stdin};
 
@@ -15,16 +16,29 @@ pub enum InputFile {
     Nothing,
 }
 
+/// A file of this path can't be opened, for what the system says.
+#[derive(Debug, Drop)]
+pub struct OpenFault<'w> {
+    pub path: &'w str,
+    pub error: io::Error,
+}
+
+impl Display for OpenFault<'_> {
+    fn fmt<W: fmt::Write>(&self, f: &mut Formatter<W>) -> fmt::Result {
+        write!(f, "{}: {}", self.path, self.error)
+    }
+}
+
 impl InputFile {
     /// What a word names, opened for reading. Err where the file can't be opened.
-    pub fn open(rt: &HostRuntime, word: InputWord<'_>) -> io::Result<InputFile> {
+    pub fn open<'w>(rt: &HostRuntime, word: InputWord<'w>) -> Result<InputFile, OpenFault<'w>> {
         match word {
             InputWord::Nothing => Ok(InputFile::Nothing),
             InputWord::Standard => Ok(InputFile::Standard(rt.stdin())),
-            InputWord::File(path) => {
-                let file = File::open(rt, path)?;
-                Ok(InputFile::File(file))
-            }
+            InputWord::File(path) => match File::open(rt, path) {
+                Ok(file) => Ok(InputFile::File(file)),
+                Err(error) => Err(OpenFault { path, error }),
+            },
         }
     }
 }

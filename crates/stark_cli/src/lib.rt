@@ -5,6 +5,7 @@
 mod arguments;
 mod files;
 mod host;
+mod misuse;
 mod outcome;
 mod output;
 mod progress;
@@ -15,8 +16,9 @@ mod streams;
 mod words;
 
 pub use arguments::{InputWord, Request, Task, USAGE, request_of};
-pub use files::InputFile;
+pub use files::{InputFile, OpenFault};
 pub use host::{exit_code, words_of};
+pub use misuse::{Misuse, misuse_of};
 pub use outcome::tell;
 pub use output::{OutputFault, PartialFile};
 pub use progress::StageLines;

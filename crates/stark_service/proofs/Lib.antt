@@ -10,3 +10,4 @@ pub mod StatementsSound
 mod FittingRows
 pub mod TraceTasks
 pub mod UnreadFindings
+pub mod UnreadRows

@@ -9,6 +9,7 @@ use Rattle.stark_completeness.specs.declared.violation.ConstraintCheckError.TheV
 use Rattle.stark_completeness.specs.declared.violation.ConstraintViolation.{ConstraintViolation}
 use Rattle.stark_protocol.specs.Preprocessing.{HasHeight}
 use Rattle.stark_statement.specs.StatementView.{StatementView}
+use Rattle.stark_trace_json.specs.Rows.{SpellsNoTrace}
 use Rattle.stark_answers.specs.CheckedAir.{CheckedAir, shape_of}
 use Rattle.stark_answers.specs.Prove.{IsTraceFor}
 use Rattle.stark_answers.specs.TraceShape.{FitsShape, trace_of}
@@ -23,7 +24,7 @@ use Rattle.stark_answers.specs.declared.verdict.Verdict.TheVariants as verdict
 use Rattle.stark_answers.proofs.TraceSteps.{trace_fits}
 use Rattle.stark_service.specs.StatementAir.{declared_of}
 use Rattle.stark_service.specs.Service.{ServiceOps}
-use Rattle.stark_service.specs.Statements.{IsFoundWithRows, IsAnswerWithRows, SpellsNoTrace}
+use Rattle.stark_service.specs.Statements.{IsFoundWithRows, IsAnswerWithRows}
 use Rattle.stark_service.specs.TraceChecks.{IsCheckedTrace, IsCheckedWithRows}
 use Rattle.stark_service.specs.Fitting.{IsUnfit}
 use Rattle.stark_service.proofs.FittingRows.{uneven_unfit}

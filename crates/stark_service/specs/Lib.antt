@@ -1,4 +1,5 @@
 pub mod Fitting
+pub mod Misfits
 pub mod NoFloats
 pub mod Schemes
 pub mod Security

@@ -1,5 +1,5 @@
 -- What is said of a statement, beside a proof or a trace.
-use Rattle.std.specs.Prelude.{◌≡◌, ◌⊎◌, ℕ, ◌<◌, ◌≤◌, if◌then◌else◌, false, List, Option, None, Some, Result, Ok, Err, nat_eq}
+use Rattle.std.specs.Prelude.{◌≡◌, ◌⊎◌, ℕ, ◌<◌, ◌≤◌, if◌then◌else◌, List, Option, None, Some, Result, Ok, Err, nat_eq}
 use Rattle.std.specs.List.{starts_with}
 use Rattle.std.specs.Result.{result_ok}
 use Rattle.serde_json.specs.Data.{Data}
@@ -8,7 +8,9 @@ use Rattle.stark_support.specs.declared.json.JsonFault.{JsonFault}
 use Rattle.stark_support.specs.declared.json.JsonFault.TheVariants.{Invalid, OutOfMemory}
 -- the rows that a file spells: an array of arrays of elements
 unfoldable pub use Rattle.stark_trace_json.specs.Rows.{rows_in}
-use Rattle.stark_trace_json.specs.Rows.{AreRowsIn, are_even}
+use Rattle.stark_trace_json.specs.Rows.{AreRowsIn, SpellsNoTrace}
+use Rattle.stark_trace_json.specs.declared.fault.RowsFault.{RowsFault}
+use Rattle.stark_trace_json.specs.declared.fault.RowsFault.TheVariants as unread
 use Rattle.stark_trace_json.specs.declared.rows.TraceRows.{TraceRows}
 use Rattle.stark_air.specs.Declaration.{IsDeclared}
 use Rattle.stark_air.specs.Layout.{LeavesWithin}
@@ -62,15 +64,19 @@ abbrev pub verdict_of_fault : JsonFault → Verdict
 verdict_of_fault Invalid = verdict.BadInput
 verdict_of_fault OutOfMemory = verdict.OutOfMemory
 
+-- what is said where the rows of a trace weren't read
+abbrev pub verdict_of_rows : RowsFault → Verdict
+verdict_of_rows unread.OutOfMemory = verdict.OutOfMemory
+verdict_of_rows unread.NoJson = verdict.BadInput
+verdict_of_rows unread.NoArray = verdict.BadInput
+verdict_of_rows (unread.NoRow row) = verdict.BadInput
+verdict_of_rows (unread.NoElement row column value) = verdict.BadInput
+verdict_of_rows (unread.Uneven row expected got) = verdict.BadInput
+
 -- A part was read as this, or the report says why not: the file spells none, or memory was wanting.
 abbrev pub ReadsPart : {X Y : Type 0} → (X → Y) → Result X (Report Verdict) → Option Y → Type 0
 ReadsPart view (Ok x) reading = reading ≡ Some (view x)
 ReadsPart view (Err report) reading = (report.answer ≡ verdict.OutOfMemory) ⊎ ((reading ≡ None) × (report.answer ≡ verdict.BadInput))
-
--- A file spells no rows, or rows of different lengths.
-abbrev pub SpellsNoTrace : {F : Type 0} → Option (List (List F)) → Type 0
-SpellsNoTrace None = Unit {0}
-SpellsNoTrace (Some rows) = are_even rows ≡ false
 
 -- Rows of one length were read, or the report says why not: the file spells none, or memory was wanting.
 abbrev pub ReadsRows : {F : Type 0} → Result (TraceRows F) (Report Verdict) → Option (List (List F)) → Type 0

@@ -1,6 +1,7 @@
 //! What statements ask of a field, of its extension, of a challenger and of a configuration, each
 //! list in a name. Every type with the traits of a list has its name.
 
+use crate::words::SchemeWords;
 use stark_bench::ClearCommitment;
 use stark_merkle::Root;
 use stark_parts::{Com, PcsError, StarkChallenger, StarkGenericConfig, Val};
@@ -63,11 +64,13 @@ where
 
 /// One with which proofs are judged: its scheme's faults are told in words.
 pub trait JudgingConfig: ServiceConfig
-    + StarkGenericConfig<Pcs: Pcs<Self::Challenge, Self::Challenger, Error: Display>> {}
+    + StarkGenericConfig<
+        Pcs: Pcs<Self::Challenge, Self::Challenger, Error: SchemeWords + Display>,
+    > {}
 
 impl<SC: ServiceConfig> JudgingConfig for SC
 where
-    PcsError<SC>: Display,
+    PcsError<SC>: SchemeWords + Display,
 {}
 
 /// One with which traces are proved.

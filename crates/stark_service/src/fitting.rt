@@ -1,11 +1,14 @@
 //! The trace that rows are which were read, where they are one of a statement's AIR.
 
-ghost use Rattle.std.specs.Prelude.{◌≤◌, ℕ, IfSome, IsNone};
+ghost use Rattle.std.specs.Prelude.{◌≡◌, ◌≤◌, ℕ, IfSome, IsNone};
 ghost use Rattle.stark_statement.specs.StatementView.{statement_view};
 ghost use Rattle.stark_answers.specs.TraceShape.{FitsShape};
+ghost use Rattle.stark_answers.specs.declared.verdict.Verdict.{Verdict};
 ghost use Rattle.stark_service.specs.Fitting.{AreSomeRows, FitsOrNot, OfRead};
 
-use stark_answers::{CheckShape, Finding, Report, log_of_height};
+use crate::misfit::TraceMisfit;
+use crate::words::bad_input;
+use stark_answers::{CheckShape, Finding, Report, Verdict, log_of_height};
 use stark_statement::Statement;
 use stark_support::{Field, RowMajorMatrix};
 use stark_trace_json::TraceRows;
@@ -43,6 +46,24 @@ fn log_height_of_read<F>(
     Some(log_height)
 }
 
+/// What is said of rows that are no trace of a statement's AIR.
+fn unfit<F>(
+    alloc: Global,
+    statement: &Statement<F>,
+    rows: &TraceRows<F>,
+    shape: CheckShape,
+    log_rows: usize,
+    greatest: usize,
+) -> Report<Verdict>
+    ensures { result.answer ≡ Verdict.BadInput }
+{
+    let got = statement.public_values.len();
+    bad_input(
+        alloc,
+        &TraceMisfit::of_counts(got, rows.height, rows.width, shape, log_rows, greatest),
+    )
+}
+
 /// The trace of rows that were read, with preprocessed columns of `2^log_rows` rows; or `bad input`
 /// where they are no trace of the AIR's widths and counts with a power of two of rows, at most
 /// `2^greatest`, or don't have as many rows as its preprocessed columns; or `out of memory`.
@@ -61,7 +82,8 @@ pub(crate) fn fitting_trace<F: Field>(
         return Err(Report::out_of_memory().as_finding());
     };
     let Some(_log_height) = log_height_of_read(statement, &rows, shape, log_rows, greatest) else {
-        return Err(Report::unfit_trace(alloc).as_finding());
+        let report = unfit(alloc, statement, &rows, shape, log_rows, greatest);
+        return Err(report.as_finding());
     };
     Ok(RowMajorMatrix::new(rows.values, shape.width))
 }

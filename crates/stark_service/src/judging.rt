@@ -9,8 +9,9 @@ ghost use Rattle.stark_service.specs.Statements.{OrUnjudged};
 use crate::bounds::JudgingConfig;
 use crate::reading::read_proof;
 use crate::service::ServiceAnswers;
+use crate::words::reason_of;
 use stark_air::BaseAir;
-use stark_answers::{Report, Verdict, log_rows_of, verdict_of, verify_with_key, words_of_refusal};
+use stark_answers::{Report, Verdict, log_rows_of, verdict_of, verify_with_key};
 use stark_parts::{StarkGenericConfig, Val};
 use stark_protocol::StarkProof;
 use stark_statement::Statement;
@@ -58,7 +59,7 @@ fn verify_with_rows<SC: JudgingConfig>(
     );
     let report = Report {
         answer: verdict_of(&answer),
-        reason: words_of_refusal(alloc, &answer),
+        reason: reason_of(alloc, &answer),
     };
     report.unless_unjudged()
 }

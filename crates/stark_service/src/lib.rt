@@ -8,6 +8,7 @@ mod counted;
 mod field;
 mod fitting;
 mod judging;
+mod misfit;
 mod over;
 mod progress;
 mod proving;
@@ -17,6 +18,9 @@ mod security;
 mod service;
 mod showing;
 mod statement;
+#[cfg(test)]
+mod tests;
+mod words;
 
 pub use bounds::{
     JudgingConfig, ProvingConfig, ServiceConfig, StatementChallenger, StatementExtension,
@@ -35,3 +39,4 @@ pub use statement::{
     NamedFields, StatementAnswers, answer_trace, check_statement, prove_statement, show_statement,
     verify_statement,
 };
+pub use words::SchemeWords;

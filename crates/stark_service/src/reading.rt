@@ -11,17 +11,20 @@ ghost use Rattle.stark_statement.specs.StatementApart.{data_of};
 ghost use Rattle.stark_statement.specs.StatementJson.{statement_fault, statement_reading};
 ghost use Rattle.stark_answers.specs.declared.report.Report.{Report};
 ghost use Rattle.stark_answers.specs.declared.verdict.Verdict.{Verdict};
-ghost use Rattle.stark_service.specs.Statements.{ReadsPart, ReadsRows, ReadsStatement, proof_in, rows_in, verdict_of_fault, verdict_without};
+ghost use Rattle.stark_service.specs.Statements.{ReadsPart, ReadsRows, ReadsStatement, proof_in, rows_in, verdict_of_fault, verdict_of_rows, verdict_without};
 
+use crate::words::{bad_input, value_front};
+use serde_json::Value;
 use stark_answers::{Report, Verdict};
 use stark_json::Document;
-use stark_proof::{Proof, ProofDecodeError};
+use stark_proof::{OpeningsDecodeError, Proof, ProofDecodeError};
 use stark_proof_bytes::{BytesCodec, BytesFault, proof_from_bytes};
 use stark_statement::{AirLimits, Statement, StatementError};
-use stark_support::{Field, JsonCodec, JsonFault, NeverNull, value_from_bytes};
+use stark_support::{Field, JsonCodec, JsonFault, NeverNull, PrimeField64, value_from_bytes};
+use stark_text_faults::first_fault_of_json;
 use stark_trace_json::{RowsFault, TraceRows, rows_from_bytes};
 use stark_tree_air::TreeJsonError;
-use std::alloc::Global;
+use std::alloc::{AllocError, Global};
 
 /// The statement that a JSON document spells, whose AIR is within the limits (`AirLimits::under`
 /// its scheme); or what is said where there is none: `bad input`, with the field, node or
@@ -95,7 +98,7 @@ where
     }
     let value = match value_from_bytes(alloc, bytes) {
         Ok(value) => value,
-        Err(error) => return Err(unread_text(alloc, "the proof", &error)),
+        Err(error) => return Err(unread_text(alloc, "the proof", bytes, &error)),
     };
     match Proof::from_json(alloc, &value) {
         Ok(proof) => Ok(proof),
@@ -117,6 +120,20 @@ fn unread_proof(alloc: Global, error: &ProofDecodeError) -> Report<Verdict>
 {
     match error {
         ProofDecodeError::OutOfMemory => Report::out_of_memory(),
+        _ => no_proof(alloc, error),
+    }
+}
+
+/// The input is bad: it is no proof, for this error. The field at fault has no name where it is the
+/// proof or the opened values as a whole.
+fn no_proof(alloc: Global, error: &ProofDecodeError) -> Report<Verdict>
+    ensures { result.answer ≡ Verdict.BadInput }
+{
+    match error {
+        ProofDecodeError::WrongKind { field: "" } => { bad_input(alloc, &"the proof is no object") }
+        ProofDecodeError::Openings(OpeningsDecodeError::WrongKind { field: "" }) => {
+            bad_input(alloc, &"the proof: the opened values are no object")
+        }
         _ => Report::bad_input(alloc, "the proof", error),
     }
 }
@@ -132,8 +149,8 @@ fn unread_bytes(alloc: Global, fault: &BytesFault) -> Report<Verdict>
 }
 
 /// The rows of a trace that the bytes of a JSON text spell: an array of arrays of numbers, all of
-/// one length. The bytes are let go of once they are read.
-pub(crate) fn read_rows<F: JsonCodec + Copy>(
+/// one length; or what is said of the first fault. The bytes are dropped once they are read.
+pub(crate) fn read_rows<F: PrimeField64 + JsonCodec>(
     alloc: Global,
     bytes: Vec<u8>,
 ) -> Result<TraceRows<F>, Report<Verdict>>
@@ -141,18 +158,70 @@ pub(crate) fn read_rows<F: JsonCodec + Copy>(
 {
     match rows_from_bytes::<F>(alloc, &bytes) {
         Ok(rows) => Ok(rows),
-        Err(RowsFault::Invalid) => Err(Report::bad_input(alloc, "the trace", &JsonFault::Invalid)),
-        Err(RowsFault::Uneven) => Err(Report::unfit_trace(alloc)),
-        Err(RowsFault::OutOfMemory) => Err(Report::out_of_memory()),
+        Err(fault) => Err(unread_rows::<F>(alloc, &bytes, &fault)),
     }
 }
 
-/// What is said of a text that wasn't read.
-pub(crate) fn unread_text(alloc: Global, subject: &str, error: &JsonFault) -> Report<Verdict>
+/// How many elements a field has, in words.
+fn order_of<F: PrimeField64>() -> u64 {
+    let greatest = F::from_u8(0) - F::from_u8(1);
+    greatest.as_canonical_u64().saturating_add(1)
+}
+
+/// The words for a value in a row that is no element of a field.
+fn words_of_element<F: PrimeField64>(
+    alloc: Global,
+    row: usize,
+    column: usize,
+    value: &Value,
+) -> Result<String, AllocError> {
+    let text = value.to_string(alloc)?;
+    let (front, order) = (value_front(&text), order_of::<F>());
+    format!(in alloc;
+        "the trace: row {row}, column {column}: {front} is no whole number below {order}"
+    )
+}
+
+/// What is said of a text that spells no rows of one length, whose first fault this is.
+fn unread_rows<F: PrimeField64>(alloc: Global, bytes: &[u8], fault: &RowsFault) -> Report<Verdict>
+    ensures { result.answer ≡ verdict_of_rows fault.now }
+{
+    match fault {
+        RowsFault::OutOfMemory => Report::out_of_memory(),
+        RowsFault::NoJson => unread_text(alloc, "the trace", bytes, &JsonFault::Invalid),
+        RowsFault::NoArray => bad_input(alloc, &"the trace is no array of rows"),
+        RowsFault::NoElement { row, column, value } => Report {
+            answer: Verdict::BadInput,
+            reason: words_of_element::<F>(alloc, *row, *column, value).ok(),
+        },
+        RowsFault::NoRow { .. } | RowsFault::Uneven { .. } => {
+            Report::bad_input(alloc, "the trace", fault)
+        }
+    }
+}
+
+/// What is said of a text that wasn't read: where it stops being JSON.
+pub(crate) fn unread_text(
+    alloc: Global,
+    subject: &str,
+    bytes: &[u8],
+    error: &JsonFault,
+) -> Report<Verdict>
     ensures { result.answer ≡ verdict_of_fault error.now }
 {
     match error {
         JsonFault::OutOfMemory => Report::out_of_memory(),
-        JsonFault::Invalid => Report::bad_input(alloc, subject, error),
+        JsonFault::Invalid => not_json(alloc, subject, bytes),
+    }
+}
+
+/// The input is bad: it is no JSON, and where it stops being so is said, if there is memory for
+/// that.
+fn not_json(alloc: Global, subject: &str, bytes: &[u8]) -> Report<Verdict>
+    ensures { result.answer ≡ Verdict.BadInput }
+{
+    match first_fault_of_json(alloc, bytes) {
+        Ok(Some(fault)) => Report::bad_input(alloc, subject, &fault),
+        Ok(None) | Err(_) => Report::bad_input(alloc, subject, &JsonFault::Invalid),
     }
 }

@@ -174,7 +174,7 @@ fn read_configured(
 {
     let value = match statement_document(alloc, &bytes) {
         Ok(value) => value,
-        Err(error) => return Err(unread_text(alloc, "the statement", &error)),
+        Err(error) => return Err(unread_text(alloc, "the statement", &bytes, &error)),
     };
     match Configuration::from_document(&value) {
         Ok(configuration) => Ok((value, configuration)),

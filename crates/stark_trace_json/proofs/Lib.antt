@@ -1,2 +1,4 @@
+pub mod Even
+pub mod Items
 pub mod Lexed
 pub mod Tables

@@ -1,13 +1,9 @@
 -- The rows of a trace, as a JSON text spells them.
-use Rattle.std.specs.Prelude.{◌≡◌, ℕ, ◌==◌, Bool, true, false, List, [], ◌∷◌, length, Option, None, Some, Result, Ok, Err}
+use Rattle.std.specs.Prelude.{◌≡◌, ℕ, ◌==◌, Bool, true, false, List, [], ◌∷◌, length, Option, None, Some}
 use Rattle.std.specs.List.{flat_map, list_all}
 use Rattle.serde_json.specs.Data.{Data}
 use Rattle.stark_support.specs.Json.{◌>>=◌, array_at, json_of}
-use Rattle.stark_support.specs.declared.json.JsonFault.{JsonFault}
-use Rattle.stark_support.specs.declared.json.JsonFault.TheVariants as json
 use Rattle.stark_trace_json.specs.declared.rows.TraceRows.{TraceRows}
-use Rattle.stark_trace_json.specs.declared.rows.RowsFault.{RowsFault}
-use Rattle.stark_trace_json.specs.declared.rows.RowsFault.TheVariants.{Invalid, Uneven, OutOfMemory}
 
 -- the rows that a text spells: an array of arrays of elements
 unfoldable pub rows_in : {F : Type 0} → (Data → Option F) → List ℕ → Option (List (List F))
@@ -37,14 +33,7 @@ HasRows table rows = AreRows table.values.items table.height table.width rows
 abbrev pub AreRowsIn : {F : Type 0} → TraceRows F → Option (List (List F)) → Type 0
 AreRowsIn {F} table reading = (rows : List (List F)) × (reading ≡ Some rows) × HasRows table rows
 
--- What was read is what reading gives: rows of one length, rows of different lengths, or none; unless memory ran out.
-abbrev pub GivesRows : {F : Type 0} → Result (TraceRows F) RowsFault → Option (List (List F)) → Type 0
-GivesRows {F} (Ok table) reading = AreRowsIn table reading
-GivesRows {F} (Err Uneven) reading = (rows : List (List F)) × (reading ≡ Some rows) × (are_even rows ≡ false)
-GivesRows (Err Invalid) reading = reading ≡ None
-GivesRows (Err OutOfMemory) reading = Unit {0}
-
--- the fault of a text that wasn't read as JSON
-abbrev pub of_json_fault : JsonFault → RowsFault
-of_json_fault json.Invalid = Invalid
-of_json_fault json.OutOfMemory = OutOfMemory
+-- A text spells no rows, or rows of different lengths.
+abbrev pub SpellsNoTrace : {F : Type 0} → Option (List (List F)) → Type 0
+SpellsNoTrace None = Unit {0}
+SpellsNoTrace (Some rows) = are_even rows ≡ false

@@ -2,10 +2,13 @@
 //! in one pass, with no tree, and any other text by the tree.
 #![tactic(auto)]
 
+mod fault;
 mod rows;
 mod scanner;
 mod table;
 #[cfg(test)]
 mod tests;
+mod tree;
 
-pub use rows::{RowsFault, TraceRows, rows_from_bytes};
+pub use fault::RowsFault;
+pub use rows::{TraceRows, rows_from_bytes};

@@ -1,11 +1,11 @@
 //! Verifies a proof for a statement, proves a trace, or shows the statement's AIR.
 #![tactic(auto)]
 
-use stark_answers::RunEnd;
+use stark_answers::{RunEnd, Verdict};
 use stark_cli::statements::{Delivered, Ended, Verb, run, run_to};
 use stark_cli::{
-    InputFile, PartialFile, Request, StageLines, Task, USAGE, WatchedReader, WatchedWriter,
-    exit_code, request_of, words_of,
+    InputFile, InputWord, PartialFile, Request, StageLines, Task, USAGE, WatchedReader,
+    WatchedWriter, exit_code, misuse_of, request_of, words_of,
 };
 use stark_service::NamedFields;
 use std::fmt::Display;
@@ -40,16 +40,30 @@ fn ended_code(rt: &HostRuntime, ended: &Ended) -> ExitCode {
     exit_code(rt, ended.end)
 }
 
+/// Tells which input failed, where one did.
+fn tell_failed_read(rt: &HostRuntime, word: InputWord<'_>, input: &WatchedReader<InputFile>) {
+    if input.failed {
+        match word {
+            InputWord::File(path) => tell_error(rt, &format_args!("{path}: a read failed")),
+            _ => tell_error(rt, &"standard input: a read failed"),
+        }
+    }
+}
+
 /// Runs a task on its two inputs, and writes what is found to standard output.
 fn perform(rt: &HostRuntime, task: Task<'_>, statement: InputFile, second: InputFile) -> ExitCode {
+    let mut statement = WatchedReader::new(statement);
+    let mut second = WatchedReader::new(second);
     let ended = run::<NamedFields, _, _, _, _>(
         rt.alloc(),
         task.verb,
-        &mut WatchedReader::new(statement),
-        &mut WatchedReader::new(second),
+        &mut statement,
+        &mut second,
         &mut WatchedWriter::new(rt.stdout()),
         &mut stages_of(rt, task),
     );
+    tell_failed_read(rt, task.statement, &statement);
+    tell_failed_read(rt, task.second, &second);
     ended_code(rt, &ended)
 }
 
@@ -86,26 +100,41 @@ fn perform_to(
             return exit_code(rt, RunEnd::OutputFailed);
         }
     };
+    let mut statement = WatchedReader::new(statement);
+    let mut second = WatchedReader::new(second);
     let mut output = WatchedWriter::new(file);
     let mut delivered = run_to::<NamedFields, _, _, _, _, _>(
         rt.alloc(),
         task.verb,
-        &mut WatchedReader::new(statement),
-        &mut WatchedReader::new(second),
+        &mut statement,
+        &mut second,
         &mut output,
         &mut WatchedWriter::new(rt.stdout()),
         &mut stages_of(rt, task),
     );
+    tell_failed_read(rt, task.statement, &statement);
+    tell_failed_read(rt, task.second, &second);
     delivered.ended.end = settled(rt, output.into_inner(), &delivered);
     ended_code(rt, &delivered.ended)
 }
 
+/// Opens what a word names. Where that can't be opened, it is told which and why.
+fn open(rt: &HostRuntime, word: InputWord<'_>) -> Option<InputFile> {
+    match InputFile::open(rt, word) {
+        Ok(file) => Some(file),
+        Err(fault) => {
+            tell_error(rt, &fault);
+            None
+        }
+    }
+}
+
 /// Runs a task on the files that it names. A file that can't be opened is a failed input.
 fn open_and_perform(rt: &HostRuntime, task: Task<'_>) -> ExitCode {
-    let Ok(statement) = InputFile::open(rt, task.statement) else {
+    let Some(statement) = open(rt, task.statement) else {
         return exit_code(rt, RunEnd::InputFailed);
     };
-    let Ok(second) = InputFile::open(rt, task.second) else {
+    let Some(second) = open(rt, task.second) else {
         return exit_code(rt, RunEnd::InputFailed);
     };
     match task.output {
@@ -122,21 +151,22 @@ fn print(rt: &HostRuntime, text: &str) -> ExitCode {
     }
 }
 
+/// Tells what is wrong with the words, and how the program is used.
+fn refuse_words<E: Display>(rt: &HostRuntime, misuse: &E) -> ExitCode {
+    let _ = eprint!(rt; "{misuse}\n{USAGE}");
+    exit_code(rt, RunEnd::NotJudged)
+}
+
 fn main(rt: HostRuntime) -> ExitCode {
     let words = match words_of(&rt) {
         Ok(words) => words,
-        Err(_) => {
-            let _ = eprint!(rt; "{USAGE}");
-            return exit_code(&rt, RunEnd::NotJudged);
-        }
+        Err(Verdict::BadInput) => return refuse_words(&rt, &"a word is no UTF-8"),
+        Err(_) => return refuse_words(&rt, &"out of memory"),
     };
     match request_of(&words) {
         Request::Run(task) => open_and_perform(&rt, task),
         Request::Help => print(&rt, USAGE),
         Request::Version => print(&rt, VERSION),
-        Request::Unknown => {
-            let _ = eprint!(rt; "{USAGE}");
-            exit_code(&rt, RunEnd::NotJudged)
-        }
+        Request::Unknown => refuse_words(&rt, &misuse_of(&words)),
     }
 }

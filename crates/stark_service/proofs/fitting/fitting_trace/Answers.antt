@@ -32,5 +32,5 @@ returns-in_default-log_height_of_read g c = λ list has.
       subst (λ a. IsUnfit c.args.greatest c.args.log_rows a c.args.statement.now.public_values.items list) (same_declared d l)
           (λ height fits. c.in_default-log_height_of_read.ensures.none refl list has height
           (subst (λ k. FitsShape k c.args.log_rows c.args.greatest list c.args.statement.now.public_values.items height) (sym c.in-Ok.ensures) fits)),
-      c.as_finding-in_default-log_height_of_read.ensures ∙ ap (λ v. finding.Verdict v) c.unfit_trace.ensures,
+      c.as_finding-in_default-log_height_of_read.ensures ∙ ap (λ v. finding.Verdict v) c.unfit-report.ensures,
     )

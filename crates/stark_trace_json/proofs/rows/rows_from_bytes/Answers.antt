@@ -1,16 +1,11 @@
-use Rattle.std.proofs.Common.{ap}
 use Rattle.json.specs.Lex.{tokens}
-use Rattle.stark_support.specs.Json.{◌>>=◌, array_at}
 use Rattle.stark_support.proofs.Readings.{json_of-none}
-use Rattle.stark_trace_json.specs.Rows.{rows_in}
 use Rattle.stark_trace_json.specs.Scanned.{HasTable}
 use Rattle.stark_trace_json.proofs.Tables.{some_holds, table_read}
 use Rattle.stark_trace_json.proofs.rows.rows_from_bytes.Goals as goal
 
 pub returns-in_default : goal.returns-in_default
-unfolding rows_in
-returns-in_default g c =
-    ap (λ o. o >>= array_at (array_at g.F.JsonCodec.reading)) (json_of-none c.args.bytes.now (λ utf8. absurd (c.in_default.ensures.cases.0 utf8)))
+returns-in_default g c = json_of-none c.args.bytes.now (λ utf8. absurd (c.in_default.ensures.cases.0 utf8))
 
 pub returns-in-Some : goal.returns-in-Some
 unfolding HasTable

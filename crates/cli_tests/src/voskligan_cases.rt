@@ -176,6 +176,13 @@ prove | <counter> | "public_values" => "ood_bit":3,"public_values" | bad input
 verify | <proved> | "public_values" => "challenger":"sha256","public_values" | bad input
 verify | <proved> | "public_values":[5] => "public_values":[5],"proof":null | bad input
 
+# Nor have an AIR, its preprocessed trace and a constraint other members.
+show | <counter> | "periodic":[] => "periodic":[],"preprocesed":{} | bad input
+show | <counter> | "periodic":[] => "periodic":[],"ood_bits":20 | bad input
+show | <preprocessed> | "preprocessed":{ => "preprocessed":{"row":[], | bad input
+check | <counter> | {"base":4} => {"base":4,"bas":4} | bad input
+check | <counter> | {"base":4} => {"bas":4} | bad input
+
 # A configuration that is none: each fault, and numbers of FRI beside the scheme in the clear.
 show | <counter> | {"field":"f12289","scheme":"clear"} => [] | bad input
 show | <counter> | "f12289" => "F12289" | bad input

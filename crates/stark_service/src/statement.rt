@@ -176,7 +176,7 @@ fn read_configured(
         Ok(value) => value,
         Err(error) => return Err(unread_text(alloc, "the statement", &bytes, &error)),
     };
-    match Configuration::from_document(&value) {
+    match Configuration::from_document(alloc, &value) {
         Ok(configuration) => Ok((value, configuration)),
         Err(error) => Err(unread_statement(alloc, &error)),
     }

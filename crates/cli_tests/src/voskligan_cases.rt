@@ -97,6 +97,16 @@ check | <preprocessed> | \1e[[1],[2],[3],[4]] => \1e[[1],[2],[3],[5]] | row 3: c
 check | <periodic>\1e[[1],[3],[1],[4]] | row 3: constraint 0 is 1\0a<equation of periodic>
 check | <periodic>\1e[[1],[3],[1],[3]] | satisfied
 
+# A periodic column that doesn't fit the trace: longer than it, empty, or of three values.
+check | <periodic>\1e[[1]] | refused PeriodicColumn
+prove | <periodic>\1e[[1]] | refused PeriodicColumn
+prove --unchecked | <periodic>\1e[[1]] | refused PeriodicColumn
+check | <periodic>\1e[[2]] | refused PeriodicColumn
+check | <counter> | "periodic":[] => "periodic":[[]] | refused PeriodicColumn
+prove | <counter> | "periodic":[] => "periodic":[[]] | refused PeriodicColumn
+check | <counter false> | "periodic":[] => "periodic":[[1],[1,2,3]] | refused PeriodicColumn
+prove | <counter false> | "periodic":[] => "periodic":[[1],[1,2,3]] | refused PeriodicColumn
+
 # One row, which is the first, the last and behind itself.
 check | <counter> | \1e[[5],[6],[7],[8],[9],[10],[11],[12]] => \1e[[5]] | satisfied
 check | <counter> | \1e[[5],[6],[7],[8],[9],[10],[11],[12]] => \1e[[6]] | row 0: constraint 0 is 1\0a<equation 0 of counter>

@@ -1,13 +1,19 @@
 -- From what a check and a prover find of rows to what is told under a task.
-use Rattle.std.proofs.Common.{◌≡◌, ◌⊎◌, ◌∙◌, inl, inr, ap, refl, subst, sym, ℕ, ◌*◌, ◌^◌, ◌<◌, List, Option, None, Some, length}
+use Rattle.std.proofs.Common.{◌≡◌, ◌⊎◌, ◌∙◌, inl, inr, ap, refl, subst, sym, ℕ, ◌*◌, ◌/◌, ◌^◌, ◌<◌, List, Option, None, Some, length, map, vec_len}
+use Rattle.std.proofs.Math.Nat.{mul-div_cancel}
 use Rattle.std.specs.List.{flat_map}
+use Rattle.std.specs.declared.vec.Vec.{Vec}
 use Rattle.stark_support.specs.FieldPair.{FieldsOps}
 use Rattle.stark_air.specs.Declaration.{Trace, trace_width}
 use Rattle.stark_completeness.specs.RowCheck.{IsRefusedOr}
 use Rattle.stark_completeness.specs.declared.violation.ConstraintCheckError.{ConstraintCheckError}
 use Rattle.stark_completeness.specs.declared.violation.ConstraintCheckError.TheVariants.{Violation}
 use Rattle.stark_completeness.specs.declared.violation.ConstraintViolation.{ConstraintViolation}
+use Rattle.stark_support.specs.Periodic.{first_fault}
+use Rattle.stark_support.specs.declared.periodic.PeriodicColumnShapeError.{PeriodicColumnShapeError}
 use Rattle.stark_protocol.specs.Preprocessing.{HasHeight}
+use Rattle.stark_prover.specs.Sizes.{periodic_fault}
+use Rattle.stark_prover.proofs.Columns.{fault_of_lists}
 use Rattle.stark_statement.specs.StatementView.{StatementView}
 use Rattle.stark_trace_json.specs.Rows.{SpellsNoTrace}
 use Rattle.stark_answers.specs.CheckedAir.{CheckedAir, shape_of}
@@ -19,13 +25,14 @@ use Rattle.stark_answers.specs.declared.shape.CheckShape.{CheckShape}
 use Rattle.stark_answers.specs.declared.task.ProofForm.{ProofForm}
 use Rattle.stark_answers.specs.declared.task.TraceTask.{TraceTask}
 use Rattle.stark_answers.specs.declared.task.TraceTask.TheVariants as task
+use Rattle.stark_answers.specs.declared.verdict.Refusal.TheVariants as refusal
 use Rattle.stark_answers.specs.declared.verdict.Verdict.{Verdict}
 use Rattle.stark_answers.specs.declared.verdict.Verdict.TheVariants as verdict
 use Rattle.stark_answers.proofs.TraceSteps.{trace_fits}
 use Rattle.stark_service.specs.StatementAir.{declared_of}
 use Rattle.stark_service.specs.Service.{ServiceOps}
 use Rattle.stark_service.specs.Statements.{IsFoundWithRows, IsAnswerWithRows}
-use Rattle.stark_service.specs.TraceChecks.{IsCheckedTrace, IsCheckedWithRows}
+use Rattle.stark_service.specs.TraceChecks.{IsCheckedTrace, IsCheckedWithRows, UnlessUnfit}
 use Rattle.stark_service.specs.Fitting.{IsUnfit}
 use Rattle.stark_service.proofs.FittingRows.{uneven_unfit}
 
@@ -39,23 +46,42 @@ violation_found Holds error violation is holds = subst (IsRefusedOr Holds) is ho
 -- ---- what a check finds of rows
 
 module _ {F E : Type 0} (fields : FieldsOps F E) (number : F → ℕ) (greatest : ℕ) (s : StatementView F) (log_rows : ℕ) (rows : List (List F)) (air : CheckedAir F) (shape : CheckShape) (f : Finding) (same : shape ≡ shape_of air) (declares : air ≡ declared_of s.air) where
-  -- of rows in the AIR's widths and counts
+  -- of rows in the AIR's widths and counts, whose number its periodic columns fit
   pub checked_shaped : (height : ℕ) (trace : Trace F) (listed : List F) → FitsShape shape log_rows greatest rows s.public_values height → trace ≡ trace_of air.layout.main rows → listed ≡ s.public_values
+      → periodic_fault air.periodic_columns height ≡ None
       → (f ≡ no_memory) ⊎ IsCheckedTrace fields number air s.air.list trace listed f → (f ≡ no_memory) ⊎ IsCheckedWithRows fields number greatest s log_rows (Some rows) f
   unfolding IsCheckedWithRows
-  checked_shaped height trace listed fits is lists (inl memory) = inl memory
-  checked_shaped height trace listed fits is lists (inr checked) = inr (inl (
+  checked_shaped height trace listed fits is lists fitting (inl memory) = inl memory
+  checked_shaped height trace listed fits is lists fitting (inr checked) = inr (inl (
     height,
     subst (λ a. FitsShape (shape_of a) log_rows greatest rows s.public_values height) declares (subst (λ k. FitsShape k log_rows greatest rows s.public_values height) same fits),
-    subst (λ (a : CheckedAir F). IsCheckedTrace fields number a s.air.list (trace_of a.layout.main rows) s.public_values f) declares
+    subst (λ (a : CheckedAir F). UnlessUnfit (periodic_fault a.periodic_columns height) (IsCheckedTrace fields number a s.air.list (trace_of a.layout.main rows) s.public_values) f) declares
+        (subst (λ fault. UnlessUnfit fault (IsCheckedTrace fields number air s.air.list (trace_of air.layout.main rows) s.public_values) f) (sym fitting)
         (subst (λ ps. IsCheckedTrace fields number air s.air.list (trace_of air.layout.main rows) ps f) lists
-        (subst (λ t. IsCheckedTrace fields number air s.air.list t listed f) is checked)),
+        (subst (λ t. IsCheckedTrace fields number air s.air.list t listed f) is checked))),
+  ))
+
+  -- of rows whose number a periodic column doesn't fit
+  pub checked_unfit : (height : ℕ) (fault : PeriodicColumnShapeError) → FitsShape shape log_rows greatest rows s.public_values height → periodic_fault air.periodic_columns height ≡ Some fault
+      → f ≡ finding.Verdict (verdict.Refused refusal.PeriodicColumn) → (f ≡ no_memory) ⊎ IsCheckedWithRows fields number greatest s log_rows (Some rows) f
+  unfolding IsCheckedWithRows
+  checked_unfit height fault fits unfit is = inr (inl (
+    height,
+    subst (λ a. FitsShape (shape_of a) log_rows greatest rows s.public_values height) declares (subst (λ k. FitsShape k log_rows greatest rows s.public_values height) same fits),
+    subst (λ (a : CheckedAir F). UnlessUnfit (periodic_fault a.periodic_columns height) (IsCheckedTrace fields number a s.air.list (trace_of a.layout.main rows) s.public_values) f) declares
+        (subst (λ found. UnlessUnfit found (IsCheckedTrace fields number air s.air.list (trace_of air.layout.main rows) s.public_values) f) (sym unfit) is),
   ))
 
   -- of others
   pub unchecked_unshaped : ((height : ℕ) → FitsShape shape log_rows greatest rows s.public_values height → ⊥) → f ≡ finding.Verdict verdict.BadInput → (f ≡ no_memory) ⊎ IsCheckedWithRows fields number greatest s log_rows (Some rows) f
   unfolding IsCheckedWithRows
   unchecked_unshaped none is = inr (inr (λ height fits. none height (subst (λ k. FitsShape k log_rows greatest rows s.public_values height) (sym same) (subst (λ a. FitsShape (shape_of a) log_rows greatest rows s.public_values height) (sym declares) fits)), is))
+
+-- What is wrong with columns beside a matrix of 2 ^ height rows.
+pub fault_at_height : {F A : Type 0} (columns : List (Vec F A)) (height values width rows : ℕ) → values ≡ 2 ^ height * width → 0 < width → rows ≡ values / width → (fault : Option PeriodicColumnShapeError) → fault ≡ first_fault rows 0 (map vec_len columns)
+    → periodic_fault (map (λ column. column.items) columns) height ≡ fault
+fault_at_height columns height values width rows whole wide counted fault obtained =
+    fault_of_lists (λ column. column.items) vec_len (λ column. column.ok.0) columns (map (λ column. column.items) columns) refl rows (2 ^ height) (counted ∙ ap (λ k. k / width) whole ∙ mul-div_cancel (2 ^ height) wide) fault (sym obtained)
 
 -- At another name of the greatest height.
 pub checked_within : {F E : Type 0} (fields : FieldsOps F E) (number : F → ℕ) (greatest most : ℕ) → greatest ≡ most → (s : StatementView F) (log_rows : ℕ) (read : Option (List (List F))) (f : Finding)

@@ -2,8 +2,10 @@
 use Rattle.std.specs.Prelude.{◌≡◌, ℕ, List, Option, None, Some, take}
 use Rattle.std.proofs.Common.{ap, inl, inr, refl, subst, sym}
 use Rattle.stark_support.specs.FieldPair.{FieldsOps}
+use Rattle.stark_support.specs.declared.periodic.PeriodicColumnShapeError.{PeriodicColumnShapeError}
 use Rattle.stark_air.specs.Declaration.{Trace}
 use Rattle.stark_tree_air.specs.TreeJson.{ListView}
+use Rattle.stark_prover.specs.Sizes.{periodic_fault}
 use Rattle.stark_statement.specs.StatementView.{StatementView}
 use Rattle.stark_answers.specs.CheckedAir.{CheckedAir}
 use Rattle.stark_answers.specs.Finding.{AsksFor, BeginsAsItsKind, IsProof, IsText, WhereProof, finding_bytes}
@@ -15,12 +17,13 @@ use Rattle.stark_answers.specs.declared.finding.Finding.TheVariants as finding
 use Rattle.stark_answers.specs.declared.task.ProofForm.{ProofForm}
 use Rattle.stark_answers.specs.declared.task.TraceTask.{TraceTask}
 use Rattle.stark_answers.specs.declared.task.TraceTask.TheVariants as task
+use Rattle.stark_answers.specs.declared.verdict.Refusal.TheVariants as refusal
 use Rattle.stark_answers.specs.declared.verdict.Verdict.{Verdict}
 use Rattle.stark_answers.specs.declared.verdict.Verdict.TheVariants as verdict
 use Rattle.stark_service.specs.StatementAir.{declared_of}
 use Rattle.stark_service.specs.Service.{ServiceOps, proof_file}
 use Rattle.stark_service.specs.Statements.{IsFileOn, IsFileWithRows, IsFoundWithRows, IsAnswerOn, IsAnswerWithRows}
-use Rattle.stark_service.specs.TraceChecks.{IsCheckedTrace, IsCheckedWithRows}
+use Rattle.stark_service.specs.TraceChecks.{IsCheckedTrace, IsCheckedWithRows, UnlessUnfit}
 
 -- ---- what no finding of a trace is
 
@@ -74,17 +77,27 @@ module _ {F E : Type 0} (fields : FieldsOps F E) (number : F → ℕ) where
   checked_no_proof air list trace public_values (finding.ProofBytes bytes) checked form is = checked
   checked_no_proof air list trace public_values (finding.Text text) checked form is = is
 
+  unless_alone : (asked : TraceTask) (fault : Option PeriodicColumnShapeError) (air : CheckedAir F) (list : ListView F) (trace : Trace F) (public_values : List F) (f : Finding)
+      → UnlessUnfit fault (IsCheckedTrace fields number air list trace public_values) f → (f ≡ finding.Satisfied → asked ≡ task.Check) → IsOfTrace asked f
+  unless_alone asked None air list trace public_values f checked satisfied = checked_alone asked air list trace public_values f checked satisfied
+  unless_alone asked (Some fault) air list trace public_values f is satisfied = subst (IsOfTrace asked) (sym is) (verdict_alone asked (verdict.Refused refusal.PeriodicColumn) (λ same. cc))
+
+  unless_no_proof : (fault : Option PeriodicColumnShapeError) (air : CheckedAir F) (list : ListView F) (trace : Trace F) (public_values : List F) (f : Finding)
+      → UnlessUnfit fault (IsCheckedTrace fields number air list trace public_values) f → (form : ProofForm) → IsProof form f → ⊥
+  unless_no_proof None air list trace public_values f checked form proof = checked_no_proof air list trace public_values f checked form proof
+  unless_no_proof (Some fault) air list trace public_values f is form proof = subst (IsProof form) is proof
+
   module _ (greatest : ℕ) (s : StatementView F) (log_rows : ℕ) where
     rows_checked : (asked : TraceTask) (read : Option (List (List F))) (f : Finding) → IsCheckedWithRows fields number greatest s log_rows read f → (f ≡ finding.Satisfied → asked ≡ task.Check) → IsOfTrace asked f
     unfolding IsCheckedWithRows
     rows_checked asked None f is satisfied = subst (IsOfTrace asked) (sym is) (bad_alone asked)
-    rows_checked asked (Some rows) f (inl obtained) satisfied = checked_alone asked (declared_of s.air) s.air.list (trace_of (declared_of s.air).layout.main rows) s.public_values f obtained.2 satisfied
+    rows_checked asked (Some rows) f (inl obtained) satisfied = unless_alone asked (periodic_fault (declared_of s.air).periodic_columns obtained.0) (declared_of s.air) s.air.list (trace_of (declared_of s.air).layout.main rows) s.public_values f obtained.2 satisfied
     rows_checked asked (Some rows) f (inr other) satisfied = subst (IsOfTrace asked) (sym other.1) (bad_alone asked)
 
     rows_prove_none : (read : Option (List (List F))) (f : Finding) → IsCheckedWithRows fields number greatest s log_rows read f → (form : ProofForm) → IsProof form f → ⊥
     unfolding IsCheckedWithRows
     rows_prove_none None f is form proof = bad_no_proof f is form proof
-    rows_prove_none (Some rows) f (inl obtained) form proof = checked_no_proof (declared_of s.air) s.air.list (trace_of (declared_of s.air).layout.main rows) s.public_values f obtained.2 form proof
+    rows_prove_none (Some rows) f (inl obtained) form proof = unless_no_proof (periodic_fault (declared_of s.air).periodic_columns obtained.0) (declared_of s.air) s.air.list (trace_of (declared_of s.air).layout.main rows) s.public_values f obtained.2 form proof
     rows_prove_none (Some rows) f (inr other) form proof = bad_no_proof f other.1 form proof
 
 -- ---- what is told under a task

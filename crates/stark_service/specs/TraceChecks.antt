@@ -6,7 +6,9 @@ use Rattle.stark_support.specs.FieldPair.{FieldsOps}
 use Rattle.stark_air.specs.Declaration.{Trace}
 use Rattle.stark_completeness.specs.RowCheck.{IsFirstOfTrace, IsSatisfiedByTrace, trace_of as view_of}
 use Rattle.stark_completeness.specs.declared.violation.ConstraintViolation.{ConstraintViolation}
+use Rattle.stark_support.specs.declared.periodic.PeriodicColumnShapeError.{PeriodicColumnShapeError}
 use Rattle.stark_protocol.specs.Preprocessing.{HasHeight}
+use Rattle.stark_prover.specs.Sizes.{periodic_fault}
 use Rattle.stark_show.specs.Shown.{equation_line}
 use Rattle.stark_statement.specs.StatementView.{StatementView}
 use Rattle.stark_tree_air.specs.TreeJson.{ListView, list_view}
@@ -16,6 +18,7 @@ use Rattle.stark_answers.specs.TraceShape.{FitsShape, trace_of}
 use Rattle.stark_answers.specs.declared.finding.BrokenRow.{BrokenRow}
 use Rattle.stark_answers.specs.declared.finding.Finding.{Finding}
 use Rattle.stark_answers.specs.declared.finding.Finding.TheVariants as finding
+use Rattle.stark_answers.specs.declared.verdict.Refusal.TheVariants as refusal
 use Rattle.stark_answers.specs.declared.verdict.Verdict.TheVariants as verdict
 use Rattle.stark_service.specs.StatementAir.{declared_of}
 
@@ -38,6 +41,11 @@ pub record TellsBroken {F : Type 0} (number : F → ℕ) (list : ListView F) (vi
   pub constraint_is : row.constraint ≡ violation.constraint
   pub value_is : row.value ≡ number violation.value
   pub lines_are : string_bytes row.lines ≡ broken_lines number list violation
+
+-- Of a trace of 2 ^ height rows: a periodic column doesn't fit it, which is refused as a prover refuses it; or they all do, and this is found.
+abbrev pub UnlessUnfit : Option PeriodicColumnShapeError → (Finding → Type 0) → Finding → Type 0
+UnlessUnfit None IsFound f = IsFound f
+UnlessUnfit (Some fault) IsFound f = f ≡ finding.Verdict (verdict.Refused refusal.PeriodicColumn)
 
 module _ {F E : Type 0} (fields : FieldsOps F E) (number : F → ℕ) where
   -- Each constraint of an AIR is zero in each row of a trace.
@@ -63,13 +71,13 @@ module _ {F E : Type 0} (fields : FieldsOps F E) (number : F → ℕ) where
   abbrev pub ChecksMatrix : (TreeAir F → CheckedAir F) → TreeAir F → RowMajorMatrix F → List F → Finding → Type 0
   ChecksMatrix declared air matrix public_values f = OrLacksMemory (IsCheckedTrace (declared air) (list_view air.list) (view_of matrix) public_values) f
 
-  -- The rows are a trace of the AIR's of at most 2 ^ greatest rows, and this is found of it; rows that are none are bad input, and so is
-  -- a file that spells no rows.
+  -- The rows are a trace of the AIR's of at most 2 ^ greatest rows, and this is found of it, unless a periodic column doesn't fit it; rows
+  -- that are none are bad input, and so is a file that spells no rows.
   unfoldable pub IsCheckedWithRows : ℕ → StatementView F → ℕ → Option (List (List F)) → Finding → Type 0
   IsCheckedWithRows greatest s log_rows None f = f ≡ finding.Verdict verdict.BadInput
   IsCheckedWithRows greatest s log_rows (Some rows) f =
       ((height : ℕ) × FitsShape (shape_of (declared_of s.air)) log_rows greatest rows s.public_values height
-      × IsCheckedTrace (declared_of s.air) s.air.list (trace_of (declared_of s.air).layout.main rows) s.public_values f)
+      × UnlessUnfit (periodic_fault (declared_of s.air).periodic_columns height) (IsCheckedTrace (declared_of s.air) s.air.list (trace_of (declared_of s.air).layout.main rows) s.public_values) f)
       ⊎ (((height : ℕ) → FitsShape (shape_of (declared_of s.air)) log_rows greatest rows s.public_values height → ⊥) × (f ≡ finding.Verdict verdict.BadInput))
 
 -- What a check finds stands, unless it finds a trace that satisfies its AIR: then this is found behind it.

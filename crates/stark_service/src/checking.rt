@@ -1,19 +1,26 @@
 //! The check of a trace: whether it satisfies a statement's AIR.
 
-ghost use Rattle.std.specs.Prelude.{◌≡◌, ◌<◌, IfOk, Some, length};
+ghost use Rattle.std.specs.Prelude.{◌≡◌, ◌<◌, IfOk, Some, length, map, vec_len};
+ghost use Rattle.stark_support.specs.Periodic.{first_fault};
 ghost use Rattle.stark_protocol.specs.Preprocessing.{HasHeight};
 ghost use Rattle.stark_statement.specs.StatementView.{statement_view};
 ghost use Rattle.stark_support.specs.FieldPair.{FieldsOps};
 ghost use Rattle.stark_tree_air.specs.TreeJson.{list_view};
+ghost use Rattle.stark_answers.specs.declared.finding.Finding.{Finding};
+ghost use Rattle.stark_answers.specs.declared.verdict.Refusal.{Refusal};
+ghost use Rattle.stark_answers.specs.declared.verdict.Verdict.{Verdict};
 ghost use Rattle.stark_service.specs.Fitting.{ChecksTrace, IsOfRows};
 ghost use Rattle.stark_service.specs.TraceChecks.{ChecksMatrix, IsAsHighAs, TellsBroken};
 
 use stark_air::BaseAir;
-use stark_answers::{BrokenRow, DeclaredAir, Finding, Report};
+use stark_answers::{BrokenRow, DeclaredAir, Finding, Refusal, Report, Verdict};
 use stark_completeness::{ConstraintCheckError, ConstraintViolation, check_declared};
 use stark_show::equation;
 use stark_statement::Statement;
-use stark_support::{ExtensionField, FieldPair, PrimeField64, RowMajorMatrix, TwoAdicField};
+use stark_support::{
+    ExtensionField, FieldPair, PeriodicColumnShapeError, PeriodicColumns, PrimeField64,
+    RowMajorMatrix, TwoAdicField,
+};
 use stark_tree_air::TreeAir;
 use std::alloc::{AllocError, Global};
 
@@ -76,7 +83,29 @@ fn check_trace<F: PrimeField64 + TwoAdicField, EF: ExtensionField<F>>(
     }
 }
 
-/// What a check finds of the trace that rows are.
+/// What is wrong with the periodic columns of an AIR beside this many rows, if anything is.
+fn columns_fault<F>(air: &TreeAir<F>, rows: usize) -> Option<PeriodicColumnShapeError>
+    ensures { result ≡ first_fault rows 0
+        (map vec_len air.now.declaration.columns.periodic_columns.items) }
+{
+    match PeriodicColumns::new(&air.declaration.columns.periodic_columns, rows) {
+        Ok(_) => None,
+        Err(fault) => Some(fault),
+    }
+}
+
+/// What is said of a trace that a periodic column doesn't fit, as a prover says it.
+fn unfit_column(alloc: Global, fault: &PeriodicColumnShapeError) -> Report<Finding>
+    ensures { result.answer ≡ Finding.Verdict (Verdict.Refused Refusal.PeriodicColumn) }
+{
+    Report {
+        answer: Finding::Verdict(Verdict::Refused(Refusal::PeriodicColumn)),
+        reason: format!(in alloc; "the trace doesn't fit the AIR: {fault}").ok(),
+    }
+}
+
+/// What a check finds of the trace that rows are: what a prover would say of a periodic column that
+/// doesn't fit it, and else whether it satisfies the AIR.
 pub(crate) fn check_rows<F: PrimeField64 + TwoAdicField, EF: ExtensionField<F>>(
     alloc: Global,
     greatest: usize,
@@ -91,6 +120,11 @@ pub(crate) fn check_rows<F: PrimeField64 + TwoAdicField, EF: ExtensionField<F>>(
     ensures { ChecksTrace greatest log_rows (statement_view statement.now)
         ⟦<EF as FieldPair<F>>⟧.fields F.number_of trace.now result.answer }
 {
-    let public_values = statement.public_values.as_slice();
-    check_trace::<F, EF>(alloc, &statement.air, trace, public_values)
+    match columns_fault(&statement.air, trace.height()) {
+        Some(fault) => unfit_column(alloc, &fault),
+        None => {
+            let public_values = statement.public_values.as_slice();
+            check_trace::<F, EF>(alloc, &statement.air, trace, public_values)
+        }
+    }
 }

@@ -2,7 +2,7 @@
 use Rattle.std.specs.Prelude.{ℕ, List, Option}
 use Rattle.std.specs.Borrow.{Bor}
 use Rattle.std.specs.declared.vec.Vec.{Vec}
-use Rattle.stark_support.specs.Claims.{rounds_view}
+use Rattle.stark_support.specs.Claims.{RoundClaim, rounds_view}
 use Rattle.stark_support.specs.Coset.{TwoAdicCoset}
 use Rattle.stark_support.specs.Scheme.{SchemeOps}
 use Rattle.stark_support.specs.declared.matrix.RowMajorMatrix.{RowMajorMatrix}
@@ -10,6 +10,8 @@ use Rattle.stark_support.specs.declared.scheme.SchemeFault.{SchemeFault}
 use Rattle.stark_merkle.specs.declared.root.Root.{Root}
 use Rattle.stark_fri.specs.Found.{AcceptsClaimed, RefusesClaimed}
 use Rattle.stark_fri.specs.Parts.{FriDataView, FriOps}
+use Rattle.stark_fri.specs.Scheme.{claimed_of}
+use Rattle.stark_fri.specs.Soundness.{FewAreBad, FewAreBadOfClaims, IsSound, IsSoundOfClaims}
 use Rattle.stark_fri.specs.declared.error.FriError.{FriError}
 use Rattle.stark_fri.specs.declared.error.FriProverError.{FriProverError}
 use Rattle.stark_fri_proof.specs.Parts.{FriProofView}
@@ -48,6 +50,13 @@ module _ {C F E T D : Type 0} (calls : ProverCalls C F E T D) (s : FriParameters
     abbrev pub Refuses : SchemeFault FriError → Type 0
     Refuses fault = RefusesClaimed calls.ops calls.coset_of s claims.items state proof fault
 
+    -- What the proof shows of all words that lead to its roots, and that few draws are bad for them.
+    abbrev pub ProofShows : Type 0
+    ProofShows = IsSoundOfClaims calls.ops calls.coset_of s claims.items state proof
+
+    abbrev pub FewBadDraws : Type 0
+    FewBadDraws = FewAreBadOfClaims calls.ops calls.coset_of s claims.items state proof
+
 -- ---- calls of any scheme
 
 module _ {S F E C K T P X Y : Type 0} (scheme : SchemeOps S F E C K T P X Y) (s : S) where
@@ -58,3 +67,8 @@ module _ {S F E C K T P X Y : Type 0} (scheme : SchemeOps S F E C K T P X Y) (s 
   -- The rounds are not opened with this error.
   abbrev pub RefusesRoundsIn : {A B G : Type 0} → Vec (Bor T × Vec (Vec E A) B) G → C → Option ℕ → Y → Type 0
   RefusesRoundsIn rounds state index error = scheme.RefusesOpening s (rounds_view rounds) state index error
+
+-- What the scheme accepts shows what accepted FRI proofs show, and few draws are bad: for callers that know of a proof by its scheme alone.
+abbrev pub AcceptsSoundly : {S F E C T X Y : Type 0} → SchemeOps S F E C Root T (FriProofView F E) X Y → FriOps C F E → (S → FriParameters) → Type 0
+AcceptsSoundly {S} {F} {E} {C} scheme ops parameters_of = (s : S) (claims : List (RoundClaim F E Root)) (proof : FriProofView F E) (state : C) (index : Option ℕ) → scheme.Accepts s claims proof state index
+    → IsSound ops (claimed_of (parameters_of s) claims proof state) × FewAreBad ops (claimed_of (parameters_of s) claims proof state)

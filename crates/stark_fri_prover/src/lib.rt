@@ -6,10 +6,12 @@ mod batch;
 mod calls;
 mod claims;
 mod commit;
+mod laws;
 mod layers;
 mod opening;
 mod pcs;
 mod phases;
 
 pub use commit::{FriData, commit_columns};
+pub use laws::accepts_soundly;
 pub use pcs::FriPcs;

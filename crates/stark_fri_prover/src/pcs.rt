@@ -8,7 +8,7 @@ ghost use Rattle.stark_columns.specs.ColumnPoints.{height_of};
 ghost use Rattle.stark_columns.specs.Columns.{columns_list};
 ghost use Rattle.stark_fri.specs.Scheme.{ArePlain, fri_calls};
 ghost use Rattle.stark_merkle.specs.Tree.{digests_in};
-ghost use Rattle.stark_fri_prover.specs.Calls.{Accepts, CommitsQuotient, Refuses, RefusesRoundsIn};
+ghost use Rattle.stark_fri_prover.specs.Calls.{Accepts, CommitsQuotient, FewBadDraws, ProofShows, Refuses, RefusesRoundsIn};
 ghost use Rattle.stark_fri_prover.specs.Commit.{AreLayersOver, data_seen, extension_of, IsKept, IsTopOf};
 ghost use Rattle.stark_fri_prover.specs.CompletenessFactsScheme.{kept_laws};
 ghost use Rattle.stark_fri_prover.specs.MadeOpening.{kept_scheme};
@@ -300,6 +300,12 @@ where
             ⟦<FriData<F> as Proving<F, EF, C, H, Coset<F>>>⟧.calls self.now.parameters
             claims.entry challenger.old proof.now) }
         ensures refused { IfErr result (Refuses
+            ⟦<FriData<F> as Proving<F, EF, C, H, Coset<F>>>⟧.calls self.now.parameters
+            claims.entry challenger.old proof.now) }
+        ensures sound { IfOk result (λ _. ProofShows
+            ⟦<FriData<F> as Proving<F, EF, C, H, Coset<F>>>⟧.calls self.now.parameters
+            claims.entry challenger.old proof.now) }
+        ensures few { IfOk result (λ _. FewBadDraws
             ⟦<FriData<F> as Proving<F, EF, C, H, Coset<F>>>⟧.calls self.now.parameters
             claims.entry challenger.old proof.now) }
     {

@@ -177,8 +177,9 @@ fn words_of_element<F: PrimeField64>(
 ) -> Result<String, AllocError> {
     let text = value.to_string(alloc)?;
     let (front, order) = (value_front(&text), order_of::<F>());
+    let dots = if front.len() < text.len() { ".." } else { "" };
     format!(in alloc;
-        "the trace: row {row}, column {column}: {front} is no whole number below {order}"
+        "the trace: row {row}, column {column}: {front}{dots} is no whole number below {order}"
     )
 }
 

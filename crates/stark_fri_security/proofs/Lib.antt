@@ -1,2 +1,3 @@
-pub mod Saturation
+pub mod CountSteps
 pub mod Powers
+pub mod Saturation

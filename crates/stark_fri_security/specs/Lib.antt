@@ -1,3 +1,4 @@
 pub mod ConjecturedBits
 pub mod FieldBits
+pub mod ProvedBits
 pub mod Regime

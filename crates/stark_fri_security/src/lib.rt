@@ -4,10 +4,12 @@
 
 mod bits;
 mod field;
+mod proved;
 mod regime;
 #[cfg(test)]
 mod tests;
 
 pub use bits::conjectured_security_bits;
 pub use field::field_bits;
+pub use proved::{proved_bits_hold, proved_security_bits};
 pub use regime::fri_regime;

@@ -1,5 +1,5 @@
-//! Conjectured bits, worked by hand.
-use crate::{conjectured_security_bits, field_bits, fri_regime};
+//! Conjectured and proved bits, worked apart from the code.
+use crate::{conjectured_security_bits, field_bits, fri_regime, proved_security_bits};
 use stark_fri_proof::FriParameters;
 use stark_security::StarkSecurityParams;
 use std::test::Fail;
@@ -26,28 +26,55 @@ const LINES: [Line; 7] = [
     ([1, 0, 1, 0, 0], [54, 0], [0, 0, 0, 0], 63, 0),
 ];
 
+// Worked in Python, with whole numbers of any size.
+const PROVED_LINES: [Line; 6] = [
+    // The queries: 3^85 * 2^35 is at most 4^85, and 16 bits of work.
+    ([1, 0, 85, 0, 16], [123, 128], [8, 2, 20, 1], 16, 50),
+    ([2, 0, 120, 0, 16], [123, 128], [8, 2, 32, 1], 16, 96),
+    // The draws: 123 - 16 - 3 - 5 - 1, where the queries have 83 + 16.
+    ([3, 0, 100, 0, 16], [123, 128], [8, 2, 32, 1], 16, 97),
+    // Many claims: 123 - 20 - 3 - 10 - 1.
+    ([3, 0, 120, 0, 16], [123, 128], [8, 2, 1024, 1], 20, 88),
+    // No more than 99 by queries alone.
+    ([2, 0, 2000, 0, 0], [256, 128], [8, 2, 32, 1], 16, 98),
+    // Nothing below zero.
+    ([1, 0, 1, 0, 0], [54, 0], [0, 0, 0, 0], 63, 0),
+];
+
+/// What the numbers of a line are reckoned from.
+fn params_of(line: &Line) -> Result<StarkSecurityParams, Fail> {
+    let (numbers, field, shape, _log_height, _bits) = *line;
+    let parameters = FriParameters::new(numbers[0], numbers[1], numbers[2], numbers[3], numbers[4]);
+    let parameters = parameters.ok().ok_or("no parameters")?;
+    if shape[1] > 2 {
+        return Err(Fail::new("no such degree"));
+    }
+    Ok(StarkSecurityParams::new(
+        fri_regime(&parameters),
+        field[0],
+        field[1],
+        shape[0],
+        shape[1],
+        2,
+        shape[2],
+        shape[3],
+    ))
+}
+
 #[test]
 fn worked_by_hand(rt: HostRuntime) -> Result<(), Fail> {
     for line in &LINES {
-        let (numbers, field, shape, log_height, bits) = *line;
-        let parameters = FriParameters::new(
-            numbers[0], numbers[1], numbers[2], numbers[3], numbers[4],
-        );
-        let parameters = parameters.ok().ok_or("no parameters")?;
-        if shape[1] > 2 {
-            return Err(Fail::new("no such degree"));
-        }
-        let params = StarkSecurityParams::new(
-            fri_regime(&parameters),
-            field[0],
-            field[1],
-            shape[0],
-            shape[1],
-            2,
-            shape[2],
-            shape[3],
-        );
-        assert_eq!(rt; conjectured_security_bits(&params, log_height), bits);
+        let params = params_of(line)?;
+        assert_eq!(rt; conjectured_security_bits(&params, line.3), line.4);
+    }
+    Ok(())
+}
+
+#[test]
+fn proved_bits(rt: HostRuntime) -> Result<(), Fail> {
+    for line in &PROVED_LINES {
+        let params = params_of(line)?;
+        assert_eq!(rt; proved_security_bits(&params, line.3), line.4);
     }
     Ok(())
 }

@@ -1,4 +1,4 @@
-use Rattle.std.proofs.Common.{◌-◌, arith}
+use Rattle.std.proofs.Common.{arith}
 use Rattle.stark_fri_security.proofs.Powers.{capped_positive}
 use Rattle.stark_fri_security.proofs.field.field_bits.Goals as goal
 

@@ -182,7 +182,7 @@ fn one_case(rt: &impl Abort, alloc: Global, case: &Case) -> Result<(), Fail> {
     Ok(())
 }
 
-/// Asserts that each of a table's runs says what its case asks for, and that there are so many.
+/// Asserts that each of a table's runs says what its case asks for, and that it has `count` cases.
 pub(crate) fn all_cases(
     rt: &impl Abort,
     alloc: Global,

@@ -24,7 +24,7 @@ fn examples(rt: HostRuntime) -> Result<(), Fail> {
 
 #[test]
 fn checked_traces(rt: HostRuntime) -> Result<(), Fail> {
-    all_cases(&rt, rt.alloc(), PROGRAM, CHECKED, 45)
+    all_cases(&rt, rt.alloc(), PROGRAM, CHECKED, 53)
 }
 
 #[test]
@@ -34,7 +34,7 @@ fn shown_airs(rt: HostRuntime) -> Result<(), Fail> {
 
 #[test]
 fn bad_inputs(rt: HostRuntime) -> Result<(), Fail> {
-    all_cases(&rt, rt.alloc(), PROGRAM, BAD, 53)
+    all_cases(&rt, rt.alloc(), PROGRAM, BAD, 58)
 }
 
 #[test]

@@ -1,5 +1,5 @@
 //! Proofs over the FRI scheme, and the verifier's verdicts on them, over any field.
-use p3_uni_stark::{StarkConfig, StarkGenericConfig, Val};
+use p3_uni_stark::{StarkConfig, StarkGenericConfig, Val, VerificationError};
 use stark_fri_proof::FriParameters;
 use stark_fri_prover::FriPcs;
 use stark_merkle::{Root, Sha256Tree};
@@ -38,8 +38,8 @@ fn spelled<F: PrimeField64 + NeverNull>(alloc: Global, text: &str) -> Result<Tre
     }
 }
 
-/// The verifier's verdict on a proof of a trace: `accepted` or `refused`; `no proof` where the
-/// prover refuses.
+/// The verifier's verdict on a proof of a trace: `accepted`, or `refused` where the equation fails
+/// at zeta; `no proof` where the prover refuses.
 fn verdict<SC: StarkGenericConfig>(
     alloc: Global,
     config: &SC,
@@ -60,7 +60,8 @@ where
     }
     match made_by(alloc, config, air, log_height, trace, public_values) {
         Ok((_proof, Ok(()))) => Ok("accepted"),
-        Ok((_proof, Err(_))) => Ok("refused"),
+        Ok((_proof, Err(VerificationError::OodEvaluationMismatch { .. }))) => Ok("refused"),
+        Ok((_proof, Err(_))) => Ok("refused for another fault"),
         Err(_) => Ok("no proof"),
     }
 }

@@ -2,9 +2,10 @@
 use crate::checked::prove_over_baby_bear;
 use crate::proving::{Rows, proved};
 use crate::service::{Config, configuration, counted};
-use p3_uni_stark::{CheckedProvingError, StarkProof, prove, verify};
+use p3_uni_stark::{CheckedProvingError, StarkProof, VerificationError, prove, verify};
 use stark_bench::Sha256Challenger;
 use stark_fields::{BabyBearField, Ext4, F12289, KoalaBearField};
+use stark_over_fri::verify_over_fri;
 use stark_samples::CounterAir;
 use stark_support::{PrimeField64, RowMajorMatrix};
 use stark_test_proofs::fits;
@@ -267,6 +268,20 @@ fn checked_proof(
     }
 }
 
+/// What the verifier with the theorem on tables says of a counter's proof.
+fn over_fri(
+    alloc: Global,
+    config: &Config,
+    proof: &StarkProof<Config>,
+    public_values: [BabyBearField; 1],
+) -> &'static str {
+    match verify_over_fri(alloc, config, &CounterAir, proof, &public_values, None) {
+        Ok(()) => "accepted",
+        Err(VerificationError::InvalidOpeningArgument(_)) => "another opening",
+        Err(_) => "another fault",
+    }
+}
+
 #[test]
 fn checked(rt: HostRuntime) -> Result<(), Fail> {
     let alloc = rt.alloc();
@@ -275,7 +290,12 @@ fn checked(rt: HostRuntime) -> Result<(), Fail> {
     };
     let five = [BabyBearField::from_u8(5)];
     match checked_proof(alloc, &config, [5, 6, 7, 8])? {
-        Ok(proof) => assert!(rt; verify(alloc, &config, &CounterAir, &proof, &five).is_ok()),
+        Ok(proof) => {
+            assert!(rt; verify(alloc, &config, &CounterAir, &proof, &five).is_ok());
+            assert_eq!(rt; over_fri(alloc, &config, &proof, five), "accepted");
+            let six = [BabyBearField::from_u8(6)];
+            assert_eq!(rt; over_fri(alloc, &config, &proof, six), "another opening");
+        }
         Err(_) => return Err(Fail::new("no proof")),
     }
     // The third number isn't one more than the second.

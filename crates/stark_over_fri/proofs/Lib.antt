@@ -1,0 +1,2 @@
+mod TableSteps
+mod AcceptedSteps

@@ -61,7 +61,8 @@ pub trait StatementFindings {
     /// Where it wrote `accepted`, a verifier was asked, and accepts;
     ghost accepted: { Verb → Exchange (List ℕ × List ℕ) → Type 0 };
 
-    /// and the listed columns break no constraint, unless a challenge is bad.
+    /// and its columns break no constraint, unless a challenge is bad: in the clear those that the
+    /// proof lists, by FRI whatever columns take the opened values.
     ghost sound: { Exchange (List ℕ × List ℕ) → Type 0 };
 
     /// Where it wrote what begins as a proof does, that is the front of the file of one of the
@@ -271,17 +272,17 @@ pub fn run<A: StatementAnswers, S: Source, R: Source, W: Sink, P: Progress>(
     // the statement.
     ensures accepted { ⟦<A as StatementFindings>⟧.accepted verb
         (⟦<W as RunWithBoth<S, R>>⟧.run statement.old second.old writer.old writer.new) }
-    // Then the columns that the proof lists break no constraint of the statement's AIR, or alpha is
-    // bad for them, or zeta is.
+    // Then the columns (in the clear those that the proof lists, by FRI any that take the opened
+    // values) break no constraint of the statement's AIR, or alpha is bad for them, or zeta is.
     ensures sound { ⟦<A as StatementFindings>⟧.sound
         (⟦<W as RunWithBoth<S, R>>⟧.run statement.old second.old writer.old writer.new) }
-    // In every run what begins as a proof in a form does, as an object or by the text that tells a
+    // In every run what begins as a proof in a form does, as an object or by the text that marks a
     // proof's bytes, is the front of the file of one, for the statement, of the trace.
     ensures proved { ⟦<A as StatementFindings>⟧.proved verb
         (⟦<W as RunWithBoth<S, R>>⟧.run statement.old second.old writer.old writer.new) }
     // A run ends so only where it wrote `accepted` for inputs that are accepted, a proof's file, a
     // text that shows a statement, or, of a trace that is checked and satisfies the statement's
-    // AIR, that it does; whether or not the readers tell their bytes.
+    // AIR, that it does; whether or not the readers' bytes are known.
     ensures accepted_end { ⟦<A as StatementFindings>⟧.ends verb
         (⟦<W as RunWithBoth<S, R>>⟧.run statement.old second.old writer.old writer.new)
         result.end }
@@ -358,7 +359,7 @@ pub fn run_to<A: StatementAnswers, S: Source, R: Source, O: Sink, W: Sink, P: Pr
     ensures untouched { result.is_proof ≡ false → output.new ≡ output.old }
     ensures says { ⟦<A as DeliveryFindings>⟧.says verb
         (⟦<W as RunWithBoth<S, R>>⟧.run statement.old second.old writer.old writer.new) result }
-    // Without a proof no prover's run ends well, whether or not the readers tell their bytes.
+    // Without a proof no prover's run ends well, whether or not the readers' bytes are known.
     ensures ends { ⟦<A as DeliveryFindings>⟧.ends verb
         (⟦<W as RunWithBoth<S, R>>⟧.run statement.old second.old writer.old writer.new) result }
     // After a failed read nothing is written.

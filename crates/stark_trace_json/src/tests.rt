@@ -74,7 +74,7 @@ const CASES: &str = r#"
 [[18446744073709551616]] => by the tree | row 0, column 0: 1.8446744073709552e+19
 [[18446744073709563905]] => by the tree | row 0, column 0: 1.8446744073709564e+19
 [[100000000000000000000]] => by the tree | row 0, column 0: 1e+20
-[[340282366920938463463374607431768211456]] => by the tree | row 0, column 0: 3.402823669209385e38
+[[340282366920938463463374607431768211456]] => by the tree | row 0, column 0: 3.402823669209385e+38
 
 # Other values.
 [[true]] => by the tree | row 0, column 0: true

@@ -19,19 +19,19 @@ prove --unchecked then verify | <machine false> | refused OodEvaluationMismatch
 prove --unchecked then verify | <preprocessed> | \1e[[1] => \1e[[2] | refused OodEvaluationMismatch
 prove --unchecked then verify | <counter> | accepted
 
-# Over BabyBear by FRI, where the statement names no configuration.
+# Over BabyBear by FRI: where the statement names no configuration, and else with few bits of work.
 prove then verify | <example counter> | accepted
-prove then verify | <example fibonacci> | accepted
-prove then verify | <example range> | accepted
-prove then verify | <example machine> | accepted
-prove --unchecked then verify | <example counter false> | refused OodEvaluationMismatch
-prove --unchecked then verify | <example fibonacci false> | refused OodEvaluationMismatch
-prove --unchecked then verify | <example range false> | refused OodEvaluationMismatch
-prove --unchecked then verify | <example machine false> | refused OodEvaluationMismatch
+prove then verify | <example fibonacci> | "air" => "config":{"query_proof_of_work_bits":2},"air" | accepted
+prove then verify | <example range> | "air" => "config":{"query_proof_of_work_bits":2},"air" | accepted
+prove then verify | <example machine> | "air" => "config":{"query_proof_of_work_bits":2},"air" | accepted
+prove --unchecked then verify | <example counter false> | "air" => "config":{"query_proof_of_work_bits":2},"air" | refused OodEvaluationMismatch
+prove --unchecked then verify | <example fibonacci false> | "air" => "config":{"query_proof_of_work_bits":2},"air" | refused OodEvaluationMismatch
+prove --unchecked then verify | <example range false> | "air" => "config":{"query_proof_of_work_bits":2},"air" | refused OodEvaluationMismatch
+prove --unchecked then verify | <example machine false> | "air" => "config":{"query_proof_of_work_bits":2},"air" | refused OodEvaluationMismatch
 
 # Each field by each scheme.
 prove then verify | <example counter> | "air" => "config":{},"air" | accepted
-prove then verify | <example counter> | "air" => "config":{"field":"koala_bear","num_queries":20},"air" | accepted
+prove then verify | <example counter> | "air" => "config":{"field":"koala_bear","num_queries":20,"query_proof_of_work_bits":2},"air" | accepted
 prove then verify | <example counter> | "air" => "config":{"field":"f12289","scheme":"fri","log_blowup":2,"log_final_poly_len":1,"num_queries":4,"commit_proof_of_work_bits":2,"query_proof_of_work_bits":3},"air" | accepted
 prove then verify | <example counter> | "air" => "config":{"scheme":"clear"},"air" | accepted
 prove then verify | <example counter> | "air" => "config":{"field":"koala_bear","scheme":"clear"},"air" | accepted
@@ -39,10 +39,10 @@ prove then verify | <example counter> | "air" => "config":{"field":"koala_bear",
 # A proof as bytes says what it says as JSON.
 prove --binary then verify | <counter> | accepted
 prove --binary then verify | <preprocessed> | accepted
-prove --binary then verify | <example range> | accepted
-prove --binary then verify | <example machine> | accepted
+prove --binary then verify | <example range> | "air" => "config":{"query_proof_of_work_bits":2},"air" | accepted
+prove --binary then verify | <example machine> | "air" => "config":{"query_proof_of_work_bits":2},"air" | accepted
 prove --unchecked --binary then verify | <counter false> | refused OodEvaluationMismatch
-prove --unchecked --binary then verify | <example counter false> | refused OodEvaluationMismatch
+prove --unchecked --binary then verify | <example counter false> | "air" => "config":{"query_proof_of_work_bits":2},"air" | refused OodEvaluationMismatch
 
 # A proof with another configuration is none.
 verify | <proved> | "field":"f12289" => "field":"baby_bear" | refused InvalidOpeningArgument

@@ -1,10 +1,10 @@
 /*
  * voskligan.h: a STARK verifier, a check of traces and a prover, as libvoskligan.a.
  *
- * Each function is proved: what a call answers and what it writes is told below, and holds of every statement, proof
+ * Each function is proved: what a call answers and what it writes is said below, and holds of every statement, proof
  * and trace, whatever their bytes. It is proved of the code that is compiled, under this one condition on a call:
  *
- *   - each pointer is valid for as many bytes as the length behind it says, for reads where it is `const` and for
+ *   - each pointer is valid for as many bytes as the length after it says, for reads where it is `const` and for
  *     reads and writes otherwise, from the call to its return; and a length is at most PTRDIFF_MAX. Where a length is
  *     0 the pointer may be NULL. `needed` is never NULL, and points at an aligned `size_t`.
  *   - what a call writes (`message`, `proof` of voskligan_prove, `needed`, `text`) overlaps nothing else that the call
@@ -43,8 +43,8 @@ enum {
 /*
  * A message is one line or two, each ended by a newline: the line that the program `voskligan` writes, as "accepted",
  * "refused OodEvaluationMismatch", "bad input", "out of memory", "satisfied" or "row 3: constraint 1 is 423446388"; and
- * behind it, where there is something to say and memory to say it, the reason in words, or below a broken row its
- * constraint. It is cut to `room` - 1 bytes, a 0 byte stands behind it, and the bytes behind that stay as they were.
+ * after it, where there is something to say and memory to say it, the reason in words, or below a broken row its
+ * constraint. It is cut to `room` - 1 bytes, a 0 byte stands after it, and the bytes after that stay as they were.
  * Where `room` is 0 nothing is written.
  */
 
@@ -82,7 +82,7 @@ int voskligan_prove(const uint8_t *statement, size_t statement_length, const uin
                     uint8_t *proof, size_t proof_room, size_t *needed, uint8_t *message, size_t room);
 
 /*
- * The library's version, told to `text` as a message is, with no newline. Answers its length, whatever `room` is.
+ * The library's version, written to `text` as a message is, with no newline. Answers its length, whatever `room` is.
  */
 size_t voskligan_version(uint8_t *text, size_t room);
 

@@ -1,5 +1,5 @@
 -- From what the calls of an opening leave to an opening that was made so.
-use Rattle.std.proofs.Common.{◌≡◌, ◌∙◌, ℕ, ◌+◌, ◌^◌, List, ap, map, subst, sym}
+use Rattle.std.proofs.Common.{◌≡◌, ◌∙◌, ◌⊎◌, ℕ, ◌+◌, ◌^◌, List, ap, map, subst, sym}
 use Rattle.std.proofs.lemmas.Simd.{map-map}
 use Rattle.std.specs.Borrow.{Bor}
 use Rattle.std.specs.List.{AllByRecursion}
@@ -11,7 +11,7 @@ use Rattle.stark_fri.specs.Accept.{fold_count}
 use Rattle.stark_fri.specs.Claims.{ClaimsFit, RoundRead, height_of}
 use Rattle.stark_fri.specs.Parts.{FriDataView, FriOps}
 use Rattle.stark_fri.specs.Query.{extension_coset, extension_root}
-use Rattle.stark_fri.specs.Scheme.{OpeningRefused, own_rounds}
+use Rattle.stark_fri.specs.Scheme.{own_rounds}
 use Rattle.stark_fri.specs.declared.error.FriProverError.{FriProverError}
 use Rattle.stark_support.specs.declared.scheme.SchemeFault.{SchemeFault}
 use Rattle.stark_support.specs.declared.scheme.SchemeFault.TheVariants.{OutOfMemory, Refused}
@@ -20,13 +20,14 @@ use Rattle.stark_fri_proof.specs.Parts.{FriProofView}
 use Rattle.stark_fri_proof.specs.declared.parameters.FriParameters.{FriParameters}
 use Rattle.stark_fri_prover.specs.Folds.{AreFolds, IsWitness}
 use Rattle.stark_fri_prover.specs.Batching.{AreWordsOf, IsBatch}
-use Rattle.stark_fri_prover.specs.MadeOpening.{AreOfHeight, HaveDegreesBelow, IsMade, own_bits, own_height, seen_round, seen_rounds}
+use Rattle.stark_fri_prover.specs.MadeOpening.{AreOfHeight, HaveDegreesBelow, IsMade, LacksWitness, OpeningFault, own_bits, own_height, seen_round, seen_rounds}
 use Rattle.stark_fri_prover.specs.Layers.{AreLayersOf, OpensEach}
+use Rattle.stark_fri_prover.specs.Work.{StopsAtFold, StopsAtQueries}
 use Rattle.stark_fri_prover.specs.OwnClaims.{RefusesRounds, points_in}
 use Rattle.stark_fri_prover.specs.declared.layers.Layer.{Layer}
 
 module _ {C F E T X : Type 0} (ops : FriOps C F E) (number_of : F → ℕ) (coordinates : E → List F) (data_of : T → FriDataView F) (layers_of : T → List (List (List ℕ))) (points_of : X → List (List E))
-    (s : FriParameters) (rounds : List (Bor T × X)) (start : C) (proof : FriProofView F E) where
+    (s : FriParameters) (rounds : List (Bor T × X)) (start : C) where
   abbrev seen : List (RoundPoints E (FriDataView F))
   seen = seen_rounds data_of points_of rounds
 
@@ -37,8 +38,43 @@ module _ {C F E T X : Type 0} (ops : FriOps C F E) (number_of : F → ℕ) (coor
     claims_state : after_claims ≡ observed_claims ops.sponge.observing (observed_parameters ops.sponge.observing start s) (own_rounds ops seen)
     claims_state = is_claims ∙ ap (λ state. observed_claims ops.sponge.observing state read) is_parameters ∙ ap (observed_claims ops.sponge.observing (observed_parameters ops.sponge.observing start s)) own
 
+    -- All that is claimed is batched by this alpha.
+    batch_here : (batch : List E) → (HaveDegreesBelow (2 ^ log_height) seen → IsBatch ops.fields.ring ops.fields.embed alpha (2 ^ log_height) seen batch)
+        → HaveDegreesBelow (2 ^ height_of (own_rounds ops seen)) seen
+        → IsBatch ops.fields.ring ops.fields.embed (ops.sponge.draw (observed_claims ops.sponge.observing (observed_parameters ops.sponge.observing start s) (own_rounds ops seen)))
+        (2 ^ height_of (own_rounds ops seen)) seen batch
+    batch_here batch batched degrees =
+        let made = batched (subst (λ k. HaveDegreesBelow (2 ^ k) seen) (sym height) degrees) in
+        subst (λ a. IsBatch ops.fields.ring ops.fields.embed a (2 ^ height_of (own_rounds ops seen)) seen batch) (is_alpha ∙ ap ops.sponge.draw claims_state)
+        (subst (λ k. IsBatch ops.fields.ring ops.fields.embed alpha (2 ^ k) seen batch) height made)
+
+    -- A fold asks for work that no element passes, or the queries do.
+    abbrev Stops : ℕ → ℕ → C → List E → Type 0
+    Stops bits count state batch =
+        StopsAtFold ops number_of s.commit_proof_of_work_bits ops.fields.generator bits count state batch
+        ⊎ StopsAtQueries ops number_of s.commit_proof_of_work_bits ops.fields.generator bits count s.query_proof_of_work_bits state batch
+
+    pub lacks_witness : (bits count : ℕ) → bits ≡ log_height + s.log_blowup → count ≡ fold_count s log_height → (batch : List E) → ClaimsFit ops.fields s (own_rounds ops seen) → AreOfHeight log_height seen
+        → (HaveDegreesBelow (2 ^ log_height) seen → IsBatch ops.fields.ring ops.fields.embed alpha (2 ^ log_height) seen batch)
+        → StopsAtFold ops number_of s.commit_proof_of_work_bits ops.fields.generator bits count after_alpha batch
+        ⊎ StopsAtQueries ops number_of s.commit_proof_of_work_bits ops.fields.generator bits count s.query_proof_of_work_bits after_alpha batch
+        → LacksWitness ops number_of s seen start
+    lacks_witness bits count is_bits is_count batch fit heights batched stops =
+        let n = height_of (own_rounds ops seen) + s.log_blowup in
+        let folds = fold_count s (height_of (own_rounds ops seen)) in
+        record {
+          claims = fit;
+          heights = subst (λ k. AreOfHeight k seen) height heights;
+          polynomial = batch;
+          batch = batch_here batch batched;
+          stops = subst (λ state. Stops n folds state batch) (is_after ∙ ap ops.sponge.after_draw claims_state)
+              (subst (λ k. Stops n k after_alpha batch) (is_count ∙ ap (fold_count s) height)
+              (subst (λ k. Stops k count after_alpha batch) (is_bits ∙ ap (λ k. k + s.log_blowup) height) stops));
+        }
+
     -- The folds, the work and the places behind it.
-    module _ (bits count : ℕ) (is_bits : bits ≡ log_height + s.log_blowup) (is_count : count ≡ fold_count s log_height) (batch : List E) (layers : List (Layer E)) (after_folds after_final after_work : C)
+    module _ (proof : FriProofView F E) (bits count : ℕ) (is_bits : bits ≡ log_height + s.log_blowup) (is_count : count ≡ fold_count s log_height) (batch : List E) (layers : List (Layer E))
+        (after_folds after_final after_work : C)
         (is_final : after_final ≡ observed_all (observed_extension ops.sponge.observing) proof.final_polynomial after_folds) (places : List ℕ)
         (is_places : places ≡ places_from ops.sponge bits s.num_queries after_work) where
       bits_here : bits ≡ own_bits ops s seen start proof
@@ -56,10 +92,7 @@ module _ {C F E T X : Type 0} (ops : FriOps C F E) (number_of : F → ℕ) (coor
         claims = fit;
         heights = subst (λ k. AreOfHeight k seen) height heights;
         polynomial = batch;
-        batch = λ degrees.
-            let made = batched (subst (λ k. HaveDegreesBelow (2 ^ k) seen) (sym height) degrees) in
-            subst (λ a. IsBatch ops.fields.ring ops.fields.embed a (2 ^ own_height ops s seen start proof) seen batch) (is_alpha ∙ ap ops.sponge.draw claims_state)
-            (subst (λ k. IsBatch ops.fields.ring ops.fields.embed alpha (2 ^ k) seen batch) height made);
+        batch = batch_here batch batched;
         folding = record {
           after_folds = after_folds;
           folds = subst (λ state. AreFolds ops.sponge ops.fields.ring s.commit_proof_of_work_bits (fold_count s (own_height ops s seen start proof)) state after_folds batch proof.phases proof.final_polynomial)
@@ -92,7 +125,8 @@ module _ {F E T A B : Type 0} (data_of : T → FriDataView F) (k : ℕ) (rounds 
       (all_unmapped (seen_round data_of points_in) (λ (round : RoundPoints E (FriDataView F)). round.0.log_height ≡ k) rounds all)
 
 -- And so is what is refused of them.
-pub refused_again : {C F E T A B : Type 0} (ops : FriOps C F E) (data_of : T → FriDataView F) (s : FriParameters) (rounds : List (Bor T × Vec (Vec E A) B)) (fault : SchemeFault FriProverError)
-    → IfRefused fault (RefusesRounds ops data_of s rounds) → IfRefused fault (OpeningRefused ops s (map (λ (r : RoundPoints E T). (data_of r.0, r.1)) (map round_view rounds)))
-refused_again ops data_of s rounds OutOfMemory refused = tt
-refused_again ops data_of s rounds (Refused error) refused = subst (λ some. OpeningRefused ops s some error) (sym (seen_again data_of rounds)) refused
+pub refused_again : {C F E T A B : Type 0} (ops : FriOps C F E) (number_of : F → ℕ) (data_of : T → FriDataView F) (s : FriParameters) (rounds : List (Bor T × Vec (Vec E A) B)) (state : C) (fault : SchemeFault FriProverError)
+    → IfRefused fault (RefusesRounds ops number_of data_of s rounds state)
+    → IfRefused fault (OpeningFault ops number_of s (map (λ (r : RoundPoints E T). (data_of r.0, r.1)) (map round_view rounds)) state)
+refused_again ops number_of data_of s rounds state OutOfMemory refused = tt
+refused_again ops number_of data_of s rounds state (Refused error) refused = subst (λ some. OpeningFault ops number_of s some state error) (sym (seen_again data_of rounds)) refused

@@ -16,7 +16,7 @@ use Rattle.stark_fri.specs.declared.error.FriError.{FriError}
 use Rattle.stark_fri.specs.declared.error.FriProverError.{FriProverError}
 use Rattle.stark_fri_proof.specs.Parts.{FriProofView}
 use Rattle.stark_fri_proof.specs.declared.parameters.FriParameters.{FriParameters}
-use Rattle.stark_fri_prover.specs.MadeOpening.{IsMade}
+use Rattle.stark_fri_prover.specs.MadeOpening.{IsMade, LacksWitness, seen_rounds}
 use Rattle.stark_fri_prover.specs.OwnClaims.{AreFitting, RefusesRounds, points_in}
 
 -- What the verifier computes with, how elements are written, and how domains and the prover's data are read.
@@ -38,9 +38,13 @@ module _ {C F E T D : Type 0} (calls : ProverCalls C F E T D) (s : FriParameters
     abbrev pub IsProofOf : C → FriProofView F E → Type 0
     IsProofOf state proof = IsMade calls.ops calls.number_of calls.coordinates calls.data_of calls.layers_of points_in s rounds state proof
 
-    -- Why nothing is opened.
-    abbrev pub RefusesOpening : FriProverError → Type 0
-    RefusesOpening error = RefusesRounds calls.ops calls.data_of s rounds error
+    -- Why nothing is opened from this state.
+    abbrev pub RefusesOpening : C → FriProverError → Type 0
+    RefusesOpening state error = RefusesRounds calls.ops calls.number_of calls.data_of s rounds state error
+
+    -- From this state an honest transcript comes to a check that no element passes.
+    abbrev pub LacksWork : C → Type 0
+    LacksWork state = LacksWitness calls.ops calls.number_of s (seen_rounds calls.data_of points_in rounds) state
 
   module _ {A B G : Type 0} (claims : Vec (Bor Root × Vec (D × Vec (E × Bor (List E)) A) B) G) (state : C) (proof : FriProofView F E) where
     -- The verifier accepts the claims by the proof, or this is its first fault.

@@ -15,3 +15,4 @@ pub mod Layers
 pub mod MadeOpening
 pub mod OwnClaims
 pub mod Words
+pub mod Work

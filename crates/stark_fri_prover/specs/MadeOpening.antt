@@ -1,5 +1,5 @@
 -- What an honest prover opens, and what its proof is made of.
-use Rattle.std.specs.Prelude.{◌≡◌, ℕ, ◌+◌, ◌^◌, List, length, map}
+use Rattle.std.specs.Prelude.{◌≡◌, ◌⊎◌, ℕ, ◌+◌, ◌^◌, List, length, map}
 use Rattle.std.specs.Borrow.{Bor}
 use Rattle.std.specs.List.{AllByRecursion}
 use Rattle.stark_support.specs.Claims.{RoundPoints}
@@ -14,13 +14,14 @@ use Rattle.stark_merkle.specs.Bytes.{pair_bytes_of, row_bytes_of}
 use Rattle.stark_merkle.specs.Tree.{LeadsTo}
 use Rattle.stark_merkle.specs.declared.root.Root.{Root}
 use Rattle.stark_fri.specs.Accept.{bits_of, fold_count, log_height_of}
-use Rattle.stark_fri.specs.Claims.{ClaimsFit}
+use Rattle.stark_fri.specs.Claims.{ClaimsFit, height_of}
 use Rattle.stark_fri.specs.Parts.{FriDataView, FriFields, FriOps}
 use Rattle.stark_fri.specs.Query.{extension_coset, extension_root}
-use Rattle.stark_fri.specs.Scheme.{AreExtended, FriStands, extension_of, fri_scheme, instance_of, own_rounds}
-use Rattle.stark_fri.specs.Transcript.{Instance, after_alpha, alpha_of, fold_betas, observed_extension, places_from}
+use Rattle.stark_fri.specs.Scheme.{AreExtended, FriStands, OpeningRefused, extension_of, fri_scheme, instance_of, own_rounds, points_view}
+use Rattle.stark_fri.specs.Transcript.{Instance, after_alpha, alpha_of, fold_betas, observed_claims, observed_extension, observed_parameters, places_from}
 use Rattle.stark_fri.specs.declared.error.FriError.{FriError}
 use Rattle.stark_fri.specs.declared.error.FriProverError.{FriProverError}
+use Rattle.stark_fri.specs.declared.error.FriProverError.TheVariants.{Points, Claims, Heights, NoWork}
 use Rattle.stark_fri_proof.specs.Parts.{FriProofView, InputOpening, QueryProof}
 use Rattle.stark_fri_proof.specs.Paths.{digests_of}
 use Rattle.stark_fri_proof.specs.declared.parameters.FriParameters.{FriParameters}
@@ -29,6 +30,7 @@ use Rattle.stark_fri_prover.specs.Folds.{AreFolds, IsWitness}
 use Rattle.stark_fri_prover.specs.Layers.{AreLayersOf, OpensEach, OpensWay}
 use Rattle.stark_fri_prover.specs.declared.layers.Layer.{Layer}
 use Rattle.stark_fri_prover.specs.Batching.{AreWordsOf, IsBatch}
+use Rattle.stark_fri_prover.specs.Work.{StopsAtFold, StopsAtQueries}
 
 -- The base field and the extension are fields, the one inside the other, the base has its roots of one, and rows and pairs are
 -- written by the numbers of their elements.
@@ -141,10 +143,44 @@ module _ {C F E T X : Type 0} (ops : FriOps C F E) (number_of : F → ℕ) (coor
     pub folding : IsFolding ops number_of coordinates s seen start proof polynomial
     pub queries : OpensEach (λ stored. (data_of stored).extended) layers_of rounds folding.layers (places_from ops.sponge (own_bits ops s seen start proof) s.num_queries folding.after_work) proof.queries
 
--- The FRI scheme, where what stands for matrices also has the tree over their rows.
+-- ---- why there is no opening
+
+module _ {C F E : Type 0} (ops : FriOps C F E) (number_of : F → ℕ) (s : FriParameters) (rounds : List (RoundPoints E (FriDataView F))) (start : C) where
+  -- The state from which alpha is drawn, and the logarithm of the columns' length.
+  abbrev claimed : C
+  claimed = observed_claims ops.sponge.observing (observed_parameters ops.sponge.observing start s) (own_rounds ops rounds)
+
+  abbrev log_height : ℕ
+  log_height = height_of (own_rounds ops rounds)
+
+  abbrev FoldsStop : List E → Type 0
+  FoldsStop polynomial = StopsAtFold ops number_of s.commit_proof_of_work_bits ops.fields.generator (log_height + s.log_blowup) (fold_count s log_height) (ops.sponge.after_draw claimed) polynomial
+
+  abbrev QueriesStop : List E → Type 0
+  QueriesStop polynomial = StopsAtQueries ops number_of s.commit_proof_of_work_bits ops.fields.generator (log_height + s.log_blowup) (fold_count s log_height) s.query_proof_of_work_bits
+      (ops.sponge.after_draw claimed) polynomial
+
+  -- An honest transcript comes to a check that no element passes: the claims fit and are batched, and of the batch's folds one asks
+  -- for such work, or all are made and the queries do.
+  pub record LacksWitness : Type 0 where
+    pub claims : ClaimsFit ops.fields s (own_rounds ops rounds)
+    pub heights : AreOfHeight log_height rounds
+    pub polynomial : List E
+    pub batch : HaveDegreesBelow (2 ^ log_height) rounds → IsBatch ops.fields.ring ops.fields.embed (ops.sponge.draw claimed) (2 ^ log_height) rounds polynomial
+    pub stops : FoldsStop polynomial ⊎ QueriesStop polynomial
+
+  -- Why the prover answers no opening.
+  abbrev pub OpeningFault : FriProverError → Type 0
+  OpeningFault Points = OpeningRefused ops s rounds Points
+  OpeningFault (Claims error) = OpeningRefused ops s rounds (Claims error)
+  OpeningFault Heights = OpeningRefused ops s rounds Heights
+  OpeningFault NoWork = LacksWitness
+
+-- The FRI scheme, where what stands for matrices also has the tree over their rows, and work is lacking only where no witness passes.
 abbrev pub kept_scheme : {C F E S T P : Type 0} → FriOps C F E → (F → ℕ) → (S → FriParameters) → (T → FriDataView F) → (T → List (List (List ℕ))) → (P → FriProofView F E)
     → CommittingCalls S F Root T → SchemeOps S F E C Root T P FriError FriProverError
 kept_scheme ops number_of parameters_of data_of layers_of proof_of calls = record (fri_scheme ops parameters_of data_of proof_of calls) {
   Stands = λ s root stored matrices. FriStands ops (parameters_of s) root (data_of stored) matrices
       × AreLayersOver ops.hash number_of ((data_of stored).log_height + (parameters_of s).log_blowup) (data_of stored).extended (layers_of stored);
+  RefusesOpening = λ s rounds state index error. OpeningFault ops number_of (parameters_of s) (map (points_view ops parameters_of data_of proof_of) rounds) state error;
 }

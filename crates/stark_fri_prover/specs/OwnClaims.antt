@@ -3,10 +3,10 @@ use Rattle.std.specs.Prelude.{ℕ, List, [], ◌∷◌, map, ◌≡◌}
 use Rattle.stark_columns.specs.Opened.{opened_round}
 use Rattle.stark_fri.specs.Claims.{ClaimsFit, MatrixRead, RoundRead, height_of, matrix_seen, rounds_in}
 use Rattle.stark_fri.specs.Parts.{FriDataView, FriOps}
-use Rattle.stark_fri.specs.Scheme.{OpeningRefused, own_rounds}
+use Rattle.stark_fri.specs.Scheme.{own_rounds}
 use Rattle.stark_fri.specs.declared.error.FriProverError.{FriProverError}
 use Rattle.stark_fri_proof.specs.declared.parameters.FriParameters.{FriParameters}
-use Rattle.stark_fri_prover.specs.MadeOpening.{AreOfHeight, seen_rounds}
+use Rattle.stark_fri_prover.specs.MadeOpening.{AreOfHeight, OpeningFault, seen_rounds}
 use Rattle.stark_merkle.specs.declared.root.Root.{Root}
 use Rattle.stark_support.specs.Claims.{RoundPoints, round_view}
 use Rattle.stark_support.specs.Ring.{RingOps}
@@ -64,5 +64,5 @@ module _ {C F E D T A B G J : Type 0} (ops : FriOps C F E) (coset_of : D → Two
     pub heights : AreOfHeight log_height (seen_rounds data_of points_in rounds)
 
 -- What may be answered in place of an opening of rounds in memory.
-abbrev pub RefusesRounds : {C F E T A B : Type 0} → FriOps C F E → (T → FriDataView F) → FriParameters → List (Bor T × Vec (Vec E A) B) → FriProverError → Type 0
-RefusesRounds ops data_of s rounds error = OpeningRefused ops s (seen_rounds data_of points_in rounds) error
+abbrev pub RefusesRounds : {C F E T A B : Type 0} → FriOps C F E → (F → ℕ) → (T → FriDataView F) → FriParameters → List (Bor T × Vec (Vec E A) B) → C → FriProverError → Type 0
+RefusesRounds ops number_of data_of s rounds state error = OpeningFault ops number_of s (seen_rounds data_of points_in rounds) state error

@@ -1,5 +1,5 @@
 //! The layers of a folding: the words that are folded, and the trees over their pairs.
-ghost use Rattle.std.specs.Prelude.{◌≡◌, ◌+◌, ◌*◌, ◌/◌, ◌<◌, ◌≤◌, IfOk, IfSome, IsSome, length, map};
+ghost use Rattle.std.specs.Prelude.{◌≡◌, ◌+◌, ◌*◌, ◌/◌, ◌^◌, ◌<◌, ◌≤◌, IfOk, IfSome, IsSome, length, map};
 ghost use Rattle.stark_columns.specs.Columns.{columns_list};
 ghost use Rattle.stark_merkle.specs.Tree.{digests_in};
 ghost use Rattle.stark_fri_prover.specs.Words.{IsWordIn, coordinate_at, coordinate_columns, element_of, elements_of};
@@ -165,22 +165,23 @@ fn pair_leaves<F: PrimeField64, EF: ExtensionField<F>, H: TreeHash>(
     Ok(leaves)
 }
 
-/// The layer of a word of `2^log_size` values, and its root; None where that is one value.
+/// The layer of a word of `2^log_size` values, and its root.
 pub(crate) fn layer_of<F: TwoAdicField + PrimeField64, EF: ExtensionField<F>, H: TreeHash>(
     alloc: Global,
     values: Vec<EF>,
     log_size: usize,
-) -> Result<Option<(Root, Layer<EF>)>, AllocError>
-    ensures tree { IfOk result (λ made. IfSome made (λ m. IsLayerOf F.number_of EF.coordinates
-        EF.ring.zero H.digest_of log_size m.0 m.1)) }
-    ensures word { IfOk result (λ made. IfSome made (λ m. m.1.values.items ≡ values.items)) }
+) -> Result<(Root, Layer<EF>), AllocError>
+    requires pairs { 1 ≤ log_size }
+    requires number { length values.items ≡ 2 ^ log_size }
+    ensures tree { IfOk result (λ made. IsLayerOf F.number_of EF.coordinates EF.ring.zero
+        H.digest_of log_size made.0 made.1) }
+    ensures word { IfOk result (λ made. made.1.values.items ≡ values.items) }
 {
     let leaves = pair_leaves::<F, EF, H>(alloc, &values)?;
-    let tree = tree_layers::<H>(alloc, leaves, log_size.saturating_sub(1))?;
-    match root_in(&tree) {
-        Some(root) => Ok(Some((Root::new(root), Layer { values, tree }))),
-        None => Ok(None),
-    }
+    let tree = tree_layers::<H>(alloc, leaves, log_size - 1)?;
+    // Over 2^(log_size - 1) leaves there is a root.
+    let top = root_in(&tree).unwrap();
+    Ok((Root::new(top), Layer { values, tree }))
 }
 
 /// What a query opens of a layer at a place of it; None where the layer has no such pair.

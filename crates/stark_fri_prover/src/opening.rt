@@ -4,10 +4,11 @@ ghost use Rattle.std.specs.List.{AllByRecursion};
 ghost use Rattle.stark_support.specs.Claims.{IfRefusal, opened_view, round_view};
 ghost use Rattle.stark_columns.specs.Columns.{columns_list};
 ghost use Rattle.stark_merkle.specs.Tree.{digests_in};
-ghost use Rattle.stark_fri_prover.specs.Calls.{FitRounds, IsProofOf, RefusesOpening};
+ghost use Rattle.stark_fri_prover.specs.Calls.{FitRounds, IsProofOf, LacksWork, RefusesOpening};
 ghost use Rattle.stark_fri_prover.specs.Folds.{IfMade};
 ghost use Rattle.stark_fri_prover.specs.Layers.{OpensEach, OpensRows, OpensWay};
 ghost use Rattle.stark_fri_prover.specs.OwnClaims.{opened_rounds};
+ghost use Rattle.stark_fri_prover.specs.Work.{IfNoneMade};
 
 use crate::batch::batched;
 use crate::calls::Proving;
@@ -103,8 +104,11 @@ where
     C: FieldChallenger<F> + CanObserve<Root> + CanSample<EF> + GrindingChallenger<Witness = F>,
     requires { FitRounds ⟦<FriData<F> as Proving<F, EF, C, H, Coset<F>>>⟧.calls parameters.now
         rounds.now claims.now log_height }
-    ensures { IfMade result (IsProofOf ⟦<FriData<F> as Proving<F, EF, C, H, Coset<F>>>⟧.calls
+    ensures made { IfMade result (IsProofOf ⟦<FriData<F> as Proving<F, EF, C, H, Coset<F>>>⟧.calls
         parameters.now rounds.now challenger.old) }
+    ensures none { IfNoneMade result (LacksWork
+        ⟦<FriData<F> as Proving<F, EF, C, H, Coset<F>>>⟧.calls parameters.now rounds.now
+        challenger.old) }
 {
     let bits = log_height + parameters.log_blowup();
     observe_parameters::<C, F, EF>(&mut *challenger, parameters);
@@ -155,7 +159,8 @@ fn have_height<F: TwoAdicField, EF>(
 /// from the challenger's state. Otherwise it is `Refused` with `Points` where a round has another
 /// number of lists of points than matrices, with `Claims` and the verifier's fault where the claims
 /// don't fit, as where a point lies on the larger coset, with `Heights` where a round was made for
-/// columns of another length, and with `NoWork` where no witness passes.
+/// columns of another length, and with `NoWork` where a fold or the queries ask for work that no
+/// element passes.
 pub(crate) fn open<C, F, EF, H>(
     alloc: Global,
     parameters: &FriParameters,
@@ -174,7 +179,8 @@ where
         ⟦<FriData<F> as Proving<F, EF, C, H, Coset<F>>>⟧.calls parameters.now rounds.now
         challenger.old made.1) }
     ensures refused { IfRefusal result (RefusesOpening
-        ⟦<FriData<F> as Proving<F, EF, C, H, Coset<F>>>⟧.calls parameters.now rounds.now) }
+        ⟦<FriData<F> as Proving<F, EF, C, H, Coset<F>>>⟧.calls parameters.now rounds.now
+        challenger.old) }
 {
     if !have_points(rounds) {
         return Err(SchemeFault::Refused(FriProverError::Points));

@@ -1,12 +1,13 @@
 //! The folds' part of the transcript, as the prover plays it.
-ghost use Rattle.std.specs.Prelude.{◌≡◌, ◌-◌, ◌≤◌, IfSome};
+ghost use Rattle.std.specs.Prelude.{◌≡◌, ◌-◌, ◌≤◌, IfNone, IfSome};
 ghost use Rattle.stark_fri_prover.specs.Folds.{CommitsLayer, CommitsLayers, FoldsWord, IfMade, IsWitness, MakesFold, MakesFolds, WordsOf};
 ghost use Rattle.stark_fri_prover.specs.Words.{IsWordIn};
+ghost use Rattle.stark_fri_prover.specs.Work.{NonePasses, StopsTheFold, StopsTheFolds};
 
 use crate::layers::{Layer, layer_of, values_of};
 use stark_bench::Coset;
 use stark_folding::{fold_codeword_in, fold_coefficients};
-use stark_fri::{FriChallenger, FriSponge};
+use stark_fri::{FriCalls, FriChallenger, FriSponge};
 use stark_fri_proof::Phase;
 use stark_merkle::{Root, TreeHash};
 use stark_support::{
@@ -37,8 +38,9 @@ pub(crate) fn find_witness<C, F>(challenger: &mut C, bits: usize) -> Option<F>
 where
     F: PrimeField64,
     C: GrindingChallenger<Witness = F>,
-    ensures { IfSome result (IsWitness F.ring.zero C.passes C.after_check bits challenger.old
+    ensures found { IfSome result (IsWitness F.ring.zero C.passes C.after_check bits challenger.old
         challenger.new) }
+    ensures none { IfNone result (NonePasses C.passes bits challenger.old) }
 {
     if bits == 0 {
         return Some(F::ZERO);
@@ -78,10 +80,10 @@ where
         domain.now.log_size) }
     ensures words { IfMade result (FoldsWord EF.ring EF.embed F.root domain.now.shift
         domain.now.log_size polynomial.now) }
+    ensures none { StopsTheFold ⟦<C as FriCalls<F, EF, H>>⟧.fri_ops F.number_of bits
+        domain.now.shift domain.now.log_size challenger.old polynomial.now result }
 {
-    let Some((root, layer)) = layer_of::<F, EF, H>(alloc, word, domain.log_size)? else {
-        return Ok(None);
-    };
+    let (root, layer) = layer_of::<F, EF, H>(alloc, word, domain.log_size)?;
     <C as CanObserve<Root>>::observe(&mut *challenger, &root);
     // The work is on the root: another root asks for it anew.
     let Some(witness) = find_witness::<C, F>(&mut *challenger, bits) else {
@@ -98,7 +100,8 @@ where
     }))
 }
 
-/// Folds a polynomial `count` times, from its word on a coset on. None where no witness passes.
+/// Folds a polynomial `count` times, from its word on a coset on. None where no witness passes on
+/// the root of one of the folds.
 pub(crate) fn fold_all<C, F, EF, H>(
     alloc: Global,
     bits: usize,
@@ -119,6 +122,8 @@ where
         H.digest_of domain.log_size) }
     ensures word { WordsOf ⟦<C as FriSponge<F, EF>>⟧.sponge_calls EF.ring EF.embed F.root bits
         domain.shift domain.log_size challenger.old polynomial.items result }
+    ensures none { StopsTheFolds ⟦<C as FriCalls<F, EF, H>>⟧.fri_ops F.number_of bits
+        domain.shift domain.log_size count challenger.old polynomial.items result }
 {
     // The one transform: each next word is folded of the one before.
     let mut word = values_of(alloc, &polynomial, &domain)?;

@@ -4,8 +4,10 @@ use Rattle.stark_support.specs.Coset.{coset_from}
 use Rattle.stark_fri.specs.Transcript.{betas_of, worked}
 use Rattle.stark_fri_prover.specs.Folds.{AreFolds, CommitsLayer, FoldsWord, IsFold}
 use Rattle.stark_fri_prover.specs.Words.{IsWordIn}
+use Rattle.stark_fri_prover.specs.Work.{StopsAtRoot}
 use Rattle.stark_fri_prover.proofs.FoldSteps.{layer_more, no_betas, no_folds, no_layers, no_words, one_more_beta, one_more_fold, squares_embedded, words_all, words_more}
-use Rattle.stark_fri_prover.proofs.phases.fold_all.Invariants.{root_in, sponge_of}
+use Rattle.stark_fri_prover.proofs.WorkSteps.{stops_here, where_none}
+use Rattle.stark_fri_prover.proofs.phases.fold_all.Invariants.{ops_of, root_in, sponge_of}
 use Rattle.stark_fri_prover.proofs.phases.fold_all.Goals as goal
 
 pub loop-fold-init : goal.loop-fold-init
@@ -76,3 +78,11 @@ returns-clause-word g c =
     words_all g.EF.Field.ring (root_in g) (coset_from (g.EF.ExtensionField.embed c.args.domain.shift) c.args.domain.log_size) c.args.polynomial.items
     (betas_of (sponge_of g) c.args.bits c.args.challenger.now c.loop-fold.phases.items) c.loop-fold.layers.items
     (coset_from (g.EF.ExtensionField.embed c.loop-fold.coset.shift) c.loop-fold.coset.log_size) c.loop-fold.last.items c.loop-fold.word.items c.loop-fold.invariant.words
+
+pub returns-in_default-clause-none : goal.returns-in_default-clause-none
+returns-in_default-clause-none g c =
+    let stop = where_none _ _ c.in_default.not-Some c.in_ok-folded.ensures.none in
+    let here = subst (StopsAtRoot (ops_of g) g.F.PrimeField64.number_of c.args.bits c.loop-fold.coset.shift c.loop-fold.coset.log_size c.loop-fold.challenger) c.deref-in-loop-fold.ensures.value stop in
+    stops_here (ops_of g) g.F.PrimeField64.number_of c.args.bits c.args.domain.shift c.args.domain.log_size c.args.count c.args.challenger.now c.args.polynomial.items c.loop-fold._fold c.loop-fold.challenger
+    c.loop-fold.phases.items c.loop-fold.last.items c.loop-fold.layers.items c.loop-fold.coset.shift c.loop-fold.coset.log_size c.loop-fold.word.items (omega (arith, c.loop-fold-test.true))
+    c.loop-fold.invariant.folds c.loop-fold.invariant.layers c.loop-fold.invariant.words here

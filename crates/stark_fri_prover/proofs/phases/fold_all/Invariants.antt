@@ -1,14 +1,21 @@
 use Rattle.std.proofs.Common.{◌≡◌, ◌+◌, ℕ}
 use Rattle.stark_support.specs.Coset.{coset_from}
-use Rattle.stark_fri.specs.Parts.{SpongeCalls}
+use Rattle.stark_fri.specs.Parts.{FriOps, SpongeCalls}
 use Rattle.stark_fri.specs.Transcript.{betas_of}
-use Rattle.stark_fri.proofs.Members.{sponge_by}
+use Rattle.stark_fri.proofs.Members.{fields_by, sponge_by}
 use Rattle.stark_fri_prover.specs.Folds.{AreFolds}
 use Rattle.stark_fri_prover.proofs.FoldSteps.{LayersSoFar, WordsTo}
 use Rattle.stark_fri_prover.proofs.phases.fold_all.Given as goal
 
 abbrev pub sponge_of : (g : goal.Over) → SpongeCalls g.row.C.Denot g.row.F.Denot g.row.EF.Denot
 sponge_of g = sponge_by g.F.Field g.F.PrimeField64 g.EF.ExtensionField g.C.CanObserve-1 g.C.CanObserve-2 g.C.CanSample g.C.CanSampleBits g.C.GrindingChallenger
+
+abbrev pub ops_of : (g : goal.Over) → FriOps g.row.C.Denot g.row.F.Denot g.row.EF.Denot
+ops_of g = record {
+  fields = fields_by g.F.TwoAdicField g.F.Field g.F.PrimeField64 g.EF.Field g.EF.ExtensionField;
+  hash = g.H.TreeHash.digest_of;
+  sponge = sponge_of g;
+}
 
 abbrev pub root_in : (g : goal.Over) → ℕ → g.row.EF.Denot
 root_in g k = g.EF.ExtensionField.embed (g.F.TwoAdicField.root k)

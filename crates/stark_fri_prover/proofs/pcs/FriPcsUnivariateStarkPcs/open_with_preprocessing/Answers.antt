@@ -36,4 +36,5 @@ returns-in-Ok-clause-holds g c = λ made stand same complete.
 
 pub returns-clause-refused : goal.returns-clause-refused
 returns-clause-refused g c =
-    refused_again (ops_of g) (λ d. data_seen d.root d.domain.log_size d.matrices d.extended) c.args.self.now.parameters c.args.rounds.items c.in-Err.fault (rw c.deref.ensures.value at c.in-Err.ensures.refused)
+    refused_again (ops_of g) g.F.PrimeField64.number_of (λ d. data_seen d.root d.domain.log_size d.matrices d.extended) c.args.self.now.parameters c.args.rounds.items c.args.challenger.now
+    c.in-Err.fault (rw c.deref.ensures.value at c.in-Err.ensures.refused)

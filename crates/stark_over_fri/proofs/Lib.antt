@@ -1,2 +1,3 @@
 mod TableSteps
-mod AcceptedSteps
+mod BesideSteps
+pub mod AcceptedSteps

@@ -1,7 +1,7 @@
 //! The verifier over FRI, with what its answer shows of tables.
 ghost use Rattle.std.specs.Option.{option_copied};
 ghost use Rattle.std.specs.Prelude.{OnOk};
-ghost use Rattle.stark_over_fri.specs.Tables.{FewBadDrawsOfTables, TablesAreSound};
+ghost use Rattle.stark_over_fri.specs.Tables.{AreShown, AreSoundBesideKnown, FewBadDrawsOfTables, TablesAreSound};
 ghost use Rattle.stark_protocol.specs.FirstFault.{FirstFault};
 ghost use Rattle.stark_transcript.specs.declared.error.VerificationError.{VerificationError};
 ghost use Rattle.stark_verifier.specs.Given.{OfArguments, of_arguments};
@@ -32,8 +32,16 @@ pub trait Tables<A>: StarkGenericConfig {
     ghost tables: { OfArguments Self A Self.Pcs.Commitment Self.Challenge Self.Pcs.Proof
         Self.Pcs.Domain.Val (Type 0) };
 
+    /// What is shown of them where the preprocessed ones are the values of known columns.
+    ghost beside: { OfArguments Self A Self.Pcs.Commitment Self.Challenge Self.Pcs.Proof
+        Self.Pcs.Domain.Val (Type 0) };
+
     /// How few draws are bad for them.
     ghost few: { OfArguments Self A Self.Pcs.Commitment Self.Challenge Self.Pcs.Proof
+        Self.Pcs.Domain.Val (Type 0) };
+
+    /// All of it.
+    ghost shown: { OfArguments Self A Self.Pcs.Commitment Self.Challenge Self.Pcs.Proof
         Self.Pcs.Domain.Val (Type 0) };
 }
 
@@ -54,10 +62,45 @@ where
         ⟦<C as FriCalls<F, EF, H>>⟧.fri_ops (λ s. s.parameters) (λ p. p))
         ⟦<ByFri<F, EF, H, C> as StarkInstance<A>>⟧.instance };
 
+    ghost beside = { of_arguments (AreSoundBesideKnown
+        ⟦<ByFri<F, EF, H, C> as StarkOperations>⟧.operations
+        ⟦<C as FriCalls<F, EF, H>>⟧.fri_ops (λ s. s.parameters) (λ p. p))
+        ⟦<ByFri<F, EF, H, C> as StarkInstance<A>>⟧.instance };
+
     ghost few = { of_arguments (FewBadDrawsOfTables
         ⟦<ByFri<F, EF, H, C> as StarkOperations>⟧.operations
         ⟦<C as FriCalls<F, EF, H>>⟧.fri_ops (λ s. s.parameters) (λ p. p))
         ⟦<ByFri<F, EF, H, C> as StarkInstance<A>>⟧.instance };
+
+    ghost shown = { of_arguments (AreShown
+        ⟦<ByFri<F, EF, H, C> as StarkOperations>⟧.operations
+        ⟦<C as FriCalls<F, EF, H>>⟧.fri_ops (λ s. s.parameters) (λ p. p))
+        ⟦<ByFri<F, EF, H, C> as StarkInstance<A>>⟧.instance };
+}
+
+/// `verify_with_preprocessed` over FRI, with all that its Ok shows in one record.
+fn verify_shown<F, EF, H, C, A>(
+    alloc: Global,
+    config: &ByFri<F, EF, H, C>,
+    air: &A,
+    proof: &StarkProof<ByFri<F, EF, H, C>>,
+    public_values: &[F],
+    key: Option<&PreprocessedVerifierKey<Root>>,
+) -> Result<(), VerificationError<FriError>>
+where
+    F: TwoAdicField + PrimeField64,
+    EF: ExtensionField<F>,
+    H: TreeHash,
+    C: StarkChallenger<F, EF, Root>,
+    A: Air<F>,
+    ensures accepted { OnOk result (⟦<ByFri<F, EF, H, C> as StarkVerdict<A>>⟧.accepted
+        config.now air.now proof.now public_values.now (option_copied key.entry)) }
+    ensures refused { IfErrMemoryAside result (⟦<ByFri<F, EF, H, C> as Tables<A>>⟧.fault
+        config.now air.now proof.now public_values.now (option_copied key.entry)) }
+    ensures shown { OnOk result (⟦<ByFri<F, EF, H, C> as Tables<A>>⟧.shown config.now
+        air.now proof.now public_values.now (option_copied key.entry)) }
+{
+    verify_with_preprocessed(alloc, config, air, proof, public_values, key)
 }
 
 /// `verify_with_preprocessed` over FRI, with what its Ok shows of whatever tables stand for the
@@ -70,6 +113,10 @@ where
 /// opened values, and these columns satisfy the AIR on H, or alpha or zeta is bad for them; FRI's
 /// batching challenge is bad for the tables; a beta is; all drawn places lie in a set of fewer
 /// than all places but `e`; or two texts have one digest. `few` says how few of each draw are bad.
+///
+/// `beside`: where the preprocessed table is that of known columns, the values of which the owner
+/// of the key committed to, these are the columns beside which the trace satisfies the AIR: a proof
+/// that opens another row shows two texts with one digest.
 pub fn verify_over_fri<F, EF, H, C, A>(
     alloc: Global,
     config: &ByFri<F, EF, H, C>,
@@ -90,8 +137,10 @@ where
         config.now air.now proof.now public_values.now (option_copied key.entry)) }
     ensures sound { OnOk result (⟦<ByFri<F, EF, H, C> as Tables<A>>⟧.tables config.now
         air.now proof.now public_values.now (option_copied key.entry)) }
+    ensures beside { OnOk result (⟦<ByFri<F, EF, H, C> as Tables<A>>⟧.beside config.now
+        air.now proof.now public_values.now (option_copied key.entry)) }
     ensures few { OnOk result (⟦<ByFri<F, EF, H, C> as Tables<A>>⟧.few config.now
         air.now proof.now public_values.now (option_copied key.entry)) }
 {
-    verify_with_preprocessed(alloc, config, air, proof, public_values, key)
+    verify_shown(alloc, config, air, proof, public_values, key)
 }

@@ -1,3 +1,4 @@
 pub mod CountSteps
+pub mod ErrorSteps
 pub mod Powers
 pub mod Saturation

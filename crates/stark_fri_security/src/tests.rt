@@ -1,5 +1,7 @@
 //! Conjectured and proved bits, worked apart from the code.
-use crate::{conjectured_security_bits, field_bits, fri_regime, proved_security_bits};
+use crate::{
+    conjectured_security_bits, field_bits, fri_regime, listed_security_bits, proved_security_bits,
+};
 use stark_fri_proof::FriParameters;
 use stark_security::StarkSecurityParams;
 use std::test::Fail;
@@ -26,19 +28,49 @@ const LINES: [Line; 7] = [
     ([1, 0, 1, 0, 0], [54, 0], [0, 0, 0, 0], 63, 0),
 ];
 
-// Worked in Python, with whole numbers of any size.
-const PROVED_LINES: [Line; 6] = [
-    // The queries: 3^85 * 2^35 is at most 4^85, and 16 bits of work.
-    ([1, 0, 85, 0, 16], [123, 128], [8, 2, 20, 1], 16, 50),
-    ([2, 0, 120, 0, 16], [123, 128], [8, 2, 32, 1], 16, 96),
-    // The draws: 123 - 16 - 3 - 5 - 1, where the queries have 83 + 16.
-    ([3, 0, 100, 0, 16], [123, 128], [8, 2, 32, 1], 16, 97),
-    // Many claims: 123 - 20 - 3 - 10 - 1.
-    ([3, 0, 120, 0, 16], [123, 128], [8, 2, 1024, 1], 20, 88),
-    // No more than 99 by queries alone.
-    ([2, 0, 2000, 0, 0], [256, 128], [8, 2, 32, 1], 16, 98),
+// Worked in Python, with whole numbers of any size; each with its bad alphas and zetas.
+const PROVED_LINES: [(Line, [usize; 2]); 9] = [
+    // The queries: 3^85 is some 4^85 / 2^35.3, with 16 bits of work.
+    (
+        ([1, 0, 85, 0, 16], [123, 128], [8, 2, 20, 1], 16, 51),
+        [7, 196608],
+    ),
+    // Blow-up 4, 120 queries: 97.4 by them, 99.5 by the draws, 97.07 by both.
+    (
+        ([2, 0, 120, 0, 16], [123, 128], [8, 2, 32, 1], 16, 97),
+        [7, 196608],
+    ),
+    (
+        ([2, 0, 120, 0, 16], [123, 128], [8, 2, 32, 1], 20, 95),
+        [7, 3145728],
+    ),
+    // Many claims.
+    (
+        ([3, 0, 120, 0, 16], [123, 128], [8, 2, 1024, 1], 20, 89),
+        [7, 3145728],
+    ),
+    // A third of the distance leaves 102 bits, half of it 101.
+    (
+        ([2, 0, 250, 0, 16], [123, 128], [8, 2, 6, 1], 16, 102),
+        [7, 196608],
+    ),
+    // By many queries: what is rounded up for each of them is all that is left.
+    (
+        ([2, 0, 2000, 0, 0], [256, 128], [8, 2, 32, 1], 16, 103),
+        [7, 196608],
+    ),
+    // A small field: 54 bits, of which the draws leave 38.
+    (
+        ([2, 0, 120, 0, 16], [54, 128], [8, 2, 32, 1], 8, 38),
+        [7, 768],
+    ),
+    // Bad zetas alone: 2^60 of 2^123.
+    (
+        ([2, 0, 200, 0, 16], [123, 128], [8, 2, 5, 1], 4, 62),
+        [0, 1152921504606846976],
+    ),
     // Nothing below zero.
-    ([1, 0, 1, 0, 0], [54, 0], [0, 0, 0, 0], 63, 0),
+    (([1, 0, 1, 0, 0], [54, 0], [0, 0, 0, 0], 63, 0), [0, 0]),
 ];
 
 /// What the numbers of a line are reckoned from.
@@ -72,9 +104,29 @@ fn worked_by_hand(rt: HostRuntime) -> Result<(), Fail> {
 
 #[test]
 fn proved_bits(rt: HostRuntime) -> Result<(), Fail> {
-    for line in &PROVED_LINES {
+    for (line, bad) in &PROVED_LINES {
         let params = params_of(line)?;
-        assert_eq!(rt; proved_security_bits(&params, line.3), line.4);
+        assert_eq!(rt;
+            proved_security_bits(&params, bad[0], bad[1], line.3),
+            line.4
+        );
+    }
+    Ok(())
+}
+
+// The field's bits, bad alphas and zetas, and the bits: by hand.
+const LISTED: [(usize, usize, usize, usize); 4] = [
+    // 2^17 + 7 is above 2^17.
+    (123, 7, 131072, 105),
+    (123, 0, 131072, 106),
+    (54, 0, 0, 54),
+    (13, 8192, 8192, 0),
+];
+
+#[test]
+fn bits_of_listed_columns(rt: HostRuntime) -> Result<(), Fail> {
+    for (field, alphas, zetas, bits) in LISTED {
+        assert_eq!(rt; listed_security_bits(field, alphas, zetas), bits);
     }
     Ok(())
 }

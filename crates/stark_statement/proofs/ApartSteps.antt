@@ -39,8 +39,9 @@ module _ (rows : List (List ℕ)) where
         let public_values = kept (codes "public_values") d refl in
         let alpha = kept (codes "alpha_bits") d refl in
         let ood = kept (codes "ood_bits") d refl in
+        let height = kept (codes "log_height") d refl in
         let air = get_same (codes "air") inner d refl in
-        rw (configurations_are d, public_values, alpha, ood, air, airs_are (missing_field (codes "air")) (get (codes "air") d)) refl
+        rw (configurations_are d, public_values, alpha, ood, height, air, airs_are (missing_field (codes "air")) (get (codes "air") d)) refl
 
 pub configuration_is : (rows : Option (List (List ℕ))) (d : Data) → configuration_reading d ≡ configuration_reading (joined statement_path rows d)
 configuration_is None d = refl

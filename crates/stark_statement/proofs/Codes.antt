@@ -62,10 +62,6 @@ module _ {A : Type 0} (words : A → List ℕ) (code : IsCode words) where
   pub counted_code : IsCode (counted words)
   counted_code = record { read = λ xs ys r s e. let h = heads _ _ _ _ e in read_each xs ys r s h.0 h.1 }
 
--- What is written and nothing else.
-pub same_written : {A : Type 0} (words : A → List ℕ) → IsCode words → (x y : A) → words x ≡ words y → x ≡ y
-same_written words code x y e = (code.read x y [] [] (ap (λ ws. ws ++ []) e)).0
-
 -- ---- bytes
 
 all_behind : (w : ℕ) (ws : List ℕ) → AreWords (w ∷ ws) → AreWords ws

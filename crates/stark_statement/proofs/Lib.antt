@@ -1,3 +1,4 @@
 pub mod Codes
 pub mod StatementCodes
 pub mod ApartSteps
+mod RepeatSteps

@@ -1,5 +1,5 @@
 -- The canonical writing of a statement can be read back.
-use Rattle.std.proofs.Common.{◌≡◌, ℕ, List, ◌++◌, drop, get_or, refl, sym, ◌∙◌}
+use Rattle.std.proofs.Common.{◌≡◌, ℕ, List, [], ◌++◌, Option, None, Some, ap, arith, drop, get_or, length, refl, sym, ◌∙◌}
 use Rattle.std.specs.Prelude.{cond, eqb}
 use Rattle.stark_air.specs.Declaration.{Trace}
 use Rattle.stark_tree_air.specs.TreeJson.{AirView, ColumnsView, ListView}
@@ -10,10 +10,10 @@ use Rattle.stark_tree_air.specs.declared.node.TreeConstraint.TheVariants.{Base, 
 use Rattle.stark_statement.specs.Configuration.{ConfigurationView, FriNumbers}
 use Rattle.stark_statement.specs.declared.configuration.FieldName.{FieldName}
 use Rattle.stark_statement.specs.declared.configuration.FieldName.TheVariants.{BabyBear, KoalaBear, F12289}
-use Rattle.stark_statement.specs.StatementBytes.{configuration_words, field_tag, fri_words, node_words, constraint_words, element_words, elements_words, trace_words, columns_words, list_words, air_words, statement_words, statement_bytes, IsBounded}
+use Rattle.stark_statement.specs.StatementBytes.{configuration_words, field_tag, fri_words, node_words, constraint_words, element_words, elements_words, trace_words, columns_words, list_words, air_words, height_words, statement_words, statement_bytes, IsBounded}
 use Rattle.stark_statement.specs.StatementView.{StatementView}
 use Rattle.stark_statement.specs.Words.{word, optional, counted}
-use Rattle.stark_statement.proofs.Codes.{IsCode, word_code, code_of_inverse, turned_code, pair_code, optional_code, counted_code, same_written, words_of_bytes}
+use Rattle.stark_statement.proofs.Codes.{IsCode, word_code, code_of_inverse, turned_code, pair_code, optional_code, counted_code, words_of_bytes}
 
 -- ---- the configuration
 
@@ -149,17 +149,36 @@ module _ {F : Type 0} (number_of : F → ℕ) (of_number : ℕ → F) (same_numb
       (λ air. refl)
       (pair_code _ _ columns_code (pair_code _ _ hint_code (pair_code _ _ hint_code list_code)))
 
-  statement_code : IsCode (statement_words number_of)
+  -- All but the height.
+  abbrev Front : Type 0
+  Front = ConfigurationView × (AirView F × (List F × (ℕ × ℕ)))
+
+  abbrev front_of : StatementView F → Front
+  front_of s = (s.config, (s.air, (s.public_values, (s.alpha_bits, s.ood_bits))))
+
+  abbrev with_height : Front → Option ℕ → StatementView F
+  with_height p log_height = record { config = p.0; air = p.1.0; public_values = p.1.1.0; alpha_bits = p.1.1.1.0; ood_bits = p.1.1.1.1; log_height = log_height }
+
+  front_code : IsCode (λ (p : Front). configuration_words p.0 ++ (air_words number_of p.1.0 ++ (elements_words number_of p.1.1.0 ++ (word p.1.1.1.0 ++ word p.1.1.1.1))))
+  front_code = pair_code _ _ configuration_code (pair_code _ _ air_code (pair_code _ _ elements_code (pair_code word word word_code word_code)))
+
+  -- The height ends the words, so that none is told from one.
+  same_height : (x y : Option ℕ) → height_words x ≡ height_words y → x ≡ y
+  same_height None None e = refl
+  same_height None (Some n) e = absurd (omega (arith, ap length e))
+  same_height (Some m) None e = absurd (omega (arith, ap length e))
+  same_height (Some m) (Some n) e = ap Some (word_code.read m n [] [] e).0
+
+  same_statement : (x y : StatementView F) → statement_words number_of x ≡ statement_words number_of y → x ≡ y
   unfolding statement_words
-  statement_code = turned_code (λ p. configuration_words p.0 ++ (air_words number_of p.1.0 ++ (elements_words number_of p.1.1.0 ++ (word p.1.1.1.0 ++ word p.1.1.1.1))))
-      (λ (s : StatementView F). (s.config, (s.air, (s.public_values, (s.alpha_bits, s.ood_bits)))))
-      (λ p. record { config = p.0; air = p.1.0; public_values = p.1.1.0; alpha_bits = p.1.1.1.0; ood_bits = p.1.1.1.1 })
-      (λ s. refl)
-      (pair_code _ _ configuration_code (pair_code _ _ air_code (pair_code _ _ elements_code (pair_code word word word_code word_code))))
+  same_statement x y e =
+      let front = front_code.read (front_of x) (front_of y) (height_words x.log_height) (height_words y.log_height) e in
+      let height = same_height x.log_height y.log_height front.1 in
+      λ i. with_height (front.0 i) (height i)
 
   -- No other statement has a statement's bytes.
   pub no_other_statement : (statement : StatementView F) (bytes : List ℕ) → IsBounded number_of statement → bytes ≡ statement_bytes number_of statement →
       (other : StatementView F) → IsBounded number_of other → bytes ≡ statement_bytes number_of other → other ≡ statement
   no_other_statement statement bytes bounded e other fits f =
-      same_written (statement_words number_of) statement_code other statement
+      same_statement other statement
       (words_of_bytes (statement_words number_of other) (statement_words number_of statement) fits bounded (sym f ∙ e))

@@ -53,7 +53,15 @@ IsWithinField c = FitsField c.field c.scheme
 -- ---- what is meant where nothing is said
 
 abbrev pub default_numbers : FriNumbers
-default_numbers = record { log_blowup = 1; log_final_poly_len = 0; num_queries = 85; commit_bits = 0; query_bits = 16 }
+default_numbers = record { log_blowup = 2; log_final_poly_len = 0; num_queries = 120; commit_bits = 0; query_bits = 16 }
 
 abbrev pub default_configuration : ConfigurationView
 default_configuration = record { field = BabyBear; fri = Some default_numbers }
+
+-- ---- sets with a name
+
+abbrev pub fast_configuration : ConfigurationView
+fast_configuration = record { field = BabyBear; fri = Some (record { log_blowup = 1; log_final_poly_len = 0; num_queries = 85; commit_bits = 0; query_bits = 16 }) }
+
+abbrev pub proved_100_configuration : ConfigurationView
+proved_100_configuration = record { field = BabyBear; fri = Some (record { log_blowup = 1; log_final_poly_len = 0; num_queries = 220; commit_bits = 0; query_bits = 16 }) }

@@ -6,11 +6,11 @@ use Rattle.serde_json.specs.Find.{get, as_null, as_str}
 use Rattle.stark_support.specs.Json.{whole_at}
 use Rattle.stark_fri_proof.specs.declared.parameters.FriParametersError.{FriParametersError}
 use Rattle.stark_fri_proof.specs.declared.parameters.FriParametersError.TheVariants.{NoBlowup, BlowupTooLarge, FinalPolynomialTooLong, NoQueries, CommitWorkTooLarge, QueryWorkTooLarge}
-use Rattle.stark_statement.specs.Configuration.{ConfigurationView, FriNumbers, default_numbers, two_adicity}
+use Rattle.stark_statement.specs.Configuration.{ConfigurationView, FriNumbers, default_configuration, default_numbers, fast_configuration, proved_100_configuration, two_adicity}
 use Rattle.stark_statement.specs.declared.configuration.FieldName.{FieldName}
 use Rattle.stark_statement.specs.declared.configuration.FieldName.TheVariants.{BabyBear, KoalaBear, F12289}
 use Rattle.stark_statement.specs.declared.configuration_error.ConfigurationError.{ConfigurationError}
-use Rattle.stark_statement.specs.declared.configuration_error.ConfigurationError.TheVariants.{WrongKind, UnknownField, UnknownScheme, NotInTheClear, Parameters, BlowupPastTwoAdicity}
+use Rattle.stark_statement.specs.declared.configuration_error.ConfigurationError.TheVariants.{WrongKind, UnknownField, UnknownScheme, NotInTheClear, Parameters, BlowupPastTwoAdicity, UnknownSet}
 use Rattle.stark_statement.specs.declared.configuration_error.ConfigurationMember.{ConfigurationMember}
 use Rattle.stark_statement.specs.declared.configuration_error.ConfigurationMember.TheVariants.{Field, Scheme, LogBlowup, LogFinalPolyLen, NumQueries, CommitProofOfWorkBits, QueryProofOfWorkBits}
 use Rattle.stark_statement.specs.declared.configuration_json.SchemeName.{SchemeName}
@@ -152,3 +152,11 @@ configuration_at d = do
   field ← field_at d
   scheme ← scheme_at d
   of_scheme field d scheme
+
+-- ---- sets with a name
+
+unfoldable pub configuration_named : List ℕ → Result ConfigurationView ConfigurationError
+configuration_named name =
+    if bytes_eq name (codes "default") then Ok default_configuration
+    else (if bytes_eq name (codes "fast") then Ok fast_configuration
+    else (if bytes_eq name (codes "proved_100") then Ok proved_100_configuration else Err UnknownSet))

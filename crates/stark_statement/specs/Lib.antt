@@ -2,6 +2,7 @@ pub mod Configuration
 pub mod ConfigurationJson
 pub mod StatementView
 pub mod StatementJson
+pub mod Repeats
 pub mod StatementApart
 pub mod Words
 pub mod StatementBytes

@@ -5,7 +5,7 @@ use Rattle.stark_json.specs.Apart.{document_data, joined}
 use Rattle.stark_json.specs.declared.document.Document.{Document}
 use Rattle.stark_tree_air.specs.TreeApart.{trace_path}
 use Rattle.stark_tree_air.specs.TreeJson.{AirView}
-use Rattle.stark_statement.specs.StatementJson.{StatementFault, air_at, bits_at, configuration_reading, public_values_at, required, with_count, ◌>>=◌}
+use Rattle.stark_statement.specs.StatementJson.{StatementFault, air_at, bits_at, configuration_reading, height_at, public_values_at, required, with_count, ◌>>=◌}
 use Rattle.stark_statement.specs.StatementView.{StatementView}
 
 -- where the rows stand in a statement
@@ -29,4 +29,5 @@ module _ {F : Type 0} (element : Data → Option F) (rows : Option (List (List �
     public_values ← required (codes "public_values") (public_values_at element) d
     alpha_bits ← bits_at (codes "alpha_bits") d
     ood_bits ← bits_at (codes "ood_bits") d
-    with_count element config air public_values alpha_bits ood_bits
+    log_height ← height_at d
+    with_count element config air public_values alpha_bits ood_bits log_height

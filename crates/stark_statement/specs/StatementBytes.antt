@@ -1,5 +1,5 @@
 -- The canonical writing of a statement.
-use Rattle.std.specs.Prelude.{◌≡◌, ℕ, List, [], ◌∷◌, ◌++◌}
+use Rattle.std.specs.Prelude.{◌≡◌, ℕ, List, [], ◌∷◌, ◌++◌, Option, None, Some}
 use Rattle.sha2.specs.Sha256.{sha256}
 use Rattle.stark_support.specs.Sponge.{observed_bytes}
 use Rattle.stark_air.specs.Declaration.{Trace}
@@ -56,6 +56,11 @@ constraint_words (Extension i) = 1 ∷ i ∷ []
 
 -- ---- words of a statement
 
+-- the height that is fixed; nothing where none is
+abbrev pub height_words : Option ℕ → List ℕ
+height_words None = []
+height_words (Some n) = word n
+
 module _ {F : Type 0} (number_of : F → ℕ) where
   abbrev pub element_words : F → List ℕ
   element_words x = word (number_of x)
@@ -82,8 +87,9 @@ module _ {F : Type 0} (number_of : F → ℕ) where
 
   unfoldable pub statement_words : StatementView F → List ℕ
   statement_words s =
-      configuration_words s.config ++
-      (air_words s.air ++ (elements_words s.public_values ++ (word s.alpha_bits ++ word s.ood_bits)))
+      (configuration_words s.config ++
+      (air_words s.air ++ (elements_words s.public_values ++ (word s.alpha_bits ++ word s.ood_bits)))) ++
+      height_words s.log_height
 
   -- Each word is one of 64 bits.
   abbrev pub IsBounded : StatementView F → Type 0

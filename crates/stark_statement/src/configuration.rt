@@ -1,6 +1,6 @@
 //! Over which field and with which scheme a statement is proved.
 ghost use Rattle.std.specs.Prelude.{◌≡◌};
-ghost use Rattle.stark_statement.specs.Configuration.{two_adicity};
+ghost use Rattle.stark_statement.specs.Configuration.{configuration_view, fast_configuration, proved_100_configuration, two_adicity};
 
 use stark_fri_proof::FriParameters;
 
@@ -53,12 +53,37 @@ impl Default for Configuration {
 
     ghost is_default = { λ c. configuration_view c ≡ default_configuration };
 
-    /// BabyBear and FRI, with columns of twice as many rows, folded to a constant, 85 queries, no
-    /// work before a fold and 16 bits before the queries: conjectured, 100 bits at 2^16 rows.
+    /// BabyBear and FRI, with columns of four times as many rows, folded to a constant, 120
+    /// queries, no work before a fold and 16 bits before the queries: with 32 opened values 97
+    /// proved bits at 2^16 rows, and 95 at 2^20.
     fn default() -> Configuration {
         Configuration {
             field: FieldName::BabyBear,
+            scheme: SchemeChoice::Fri(FriParameters::new(2, 0, 120, 0, 16).unwrap()),
+        }
+    }
+}
+
+impl Configuration {
+    /// BabyBear and FRI for trials, with columns of twice as many rows and 85 queries: 51 proved
+    /// bits.
+    pub fn fast() -> Configuration
+        ensures { configuration_view result ≡ fast_configuration }
+    {
+        Configuration {
+            field: FieldName::BabyBear,
             scheme: SchemeChoice::Fri(FriParameters::new(1, 0, 85, 0, 16).unwrap()),
+        }
+    }
+
+    /// BabyBear and FRI with columns of twice as many rows and 220 queries: 100 proved bits up to
+    /// 2^16 rows with 32 opened values.
+    pub fn proved_100() -> Configuration
+        ensures { configuration_view result ≡ proved_100_configuration }
+    {
+        Configuration {
+            field: FieldName::BabyBear,
+            scheme: SchemeChoice::Fri(FriParameters::new(1, 0, 220, 0, 16).unwrap()),
         }
     }
 }

@@ -65,4 +65,7 @@ pub enum ConfigurationError {
     /// A column of one row would already be blown up past the field's roots of unity.
     #[error("log_blowup is {got}, and the field's two-adicity {two_adicity}")]
     BlowupPastTwoAdicity { two_adicity: usize, got: usize },
+    /// It is a string, and no set has this name.
+    #[error("it is the name of no set: there are default, fast, proved_100")]
+    UnknownSet,
 }

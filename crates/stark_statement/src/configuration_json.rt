@@ -2,9 +2,9 @@
 ghost use Rattle.std.specs.Prelude.{◌≡◌, ◌≤◌, IfOk, option_map};
 ghost use Rattle.serde_json.specs.View.{view};
 ghost use Rattle.stark_statement.specs.Configuration.{IsWithinField, configuration_view, fri_numbers, two_adicity};
-ghost use Rattle.stark_statement.specs.ConfigurationJson.{Reads, configuration_at, field_at, field_named, fri_at, given_at, no_numbers, not_given, number_at, numbers_at, scheme_at, scheme_named};
+ghost use Rattle.stark_statement.specs.ConfigurationJson.{Reads, configuration_at, configuration_named, field_at, field_named, fri_at, given_at, no_numbers, not_given, number_at, numbers_at, scheme_at, scheme_named};
 ghost use Rattle.stark_statement.specs.StatementApart.{data_of};
-ghost use Rattle.stark_statement.specs.StatementJson.{Decodes, configuration_reading};
+ghost use Rattle.stark_statement.specs.StatementJson.{Decodes, configuration_reading, given_configuration};
 
 use crate::configuration::{Configuration, FieldName, SchemeChoice};
 use crate::configuration_error::{ConfigurationError, ConfigurationMember};
@@ -23,7 +23,7 @@ enum SchemeName {
 }
 
 /// What an object has under a name, unless it is null.
-fn given_at<'a>(value: &'a Value, name: &str) -> Option<&'a Value>
+pub(crate) fn given_at<'a>(value: &'a Value, name: &str) -> Option<&'a Value>
     ensures { option_map (λ v. view v.now) result ≡ given_at name.now (view value.now) }
 {
     let member = value.get(name)?;
@@ -103,9 +103,9 @@ fn number_at(
 fn parameters_at(config: &Value) -> Result<FriParameters, ConfigurationError>
     ensures { Reads fri_numbers result (numbers_at (view config.now)) }
 {
-    let log_blowup = number_at(config, ConfigurationMember::LogBlowup, 1)?;
+    let log_blowup = number_at(config, ConfigurationMember::LogBlowup, 2)?;
     let log_final_poly_len = number_at(config, ConfigurationMember::LogFinalPolyLen, 0)?;
-    let num_queries = number_at(config, ConfigurationMember::NumQueries, 85)?;
+    let num_queries = number_at(config, ConfigurationMember::NumQueries, 120)?;
     let commit_bits = number_at(config, ConfigurationMember::CommitProofOfWorkBits, 0)?;
     let query_bits = number_at(config, ConfigurationMember::QueryProofOfWorkBits, 16)?;
     match FriParameters::new(
@@ -176,17 +176,52 @@ fn configuration_at(config: &Value) -> Result<Configuration, ConfigurationError>
     }
 }
 
+/// The configuration of a set's name.
+#[tactic(auto, unfolding(crate::specs::ConfigurationJson::configuration_named))]
+fn configuration_named(name: &str) -> Result<Configuration, ConfigurationError>
+    ensures read { Reads configuration_view result (configuration_named name.now) }
+    ensures fits { IfOk result IsWithinField }
+{
+    match name {
+        "default" => Ok(Configuration::default()),
+        "fast" => Ok(Configuration::fast()),
+        "proved_100" => Ok(Configuration::proved_100()),
+        _ => Err(ConfigurationError::UnknownSet),
+    }
+}
+
+/// The configuration that a value of `config` spells which isn't null, or its first fault.
+#[tactic(auto, unfolding(crate::specs::StatementJson::given_configuration))]
+fn given_configuration(alloc: Global, config: &Value) -> Result<Configuration, StatementError>
+    ensures decoded { Decodes configuration_view result (given_configuration (view config.now)) }
+    ensures fits { IfOk result IsWithinField }
+{
+    if let Some(name) = config.as_str() {
+        return match configuration_named(name) {
+            Ok(configuration) => Ok(configuration),
+            Err(error) => Err(StatementError::Config(error)),
+        };
+    }
+    check_config_members(alloc, config)?;
+    match configuration_at(config) {
+        Ok(configuration) => Ok(configuration),
+        Err(error) => Err(StatementError::Config(error)),
+    }
+}
+
 impl Configuration {
     /// What the JSON value of a statement says of its configuration, by which a program knows over
     /// which field to read the rest: its member `config`, whose members are `field` ("baby_bear",
     /// "koala_bear" or "f12289"), `scheme` ("fri" or "clear") and, for FRI, `log_blowup`,
     /// `log_final_poly_len`, `num_queries`, `commit_proof_of_work_bits` and
     /// `query_proof_of_work_bits`. Each of them, and `config` itself, may be missing or null, and
-    /// then the default is meant. Otherwise the first fault, in this order:
+    /// then the default is meant. In place of an object `config` may be a string, the name of a
+    /// set: "default", "fast" or "proved_100". Otherwise the first fault, in this order:
     ///
     /// - `NotAnObject` and `UnknownField` of the statement, as `Statement::from_json` says.
-    /// - `Config` with `NotAnObject` where `config` isn't an object, and `UnknownConfigMember` with
-    ///   the name where it has a member of another one.
+    /// - `Config` with `UnknownSet` where `config` is a string and no set's name, and with
+    ///   `NotAnObject` where it is neither a string nor an object; `UnknownConfigMember` with the
+    ///   name where it has a member of another one.
     /// - `Config` with `WrongKind`, and `UnknownField` or `UnknownScheme`, of the field and then of
     ///   the scheme.
     /// - `Config` with `NotInTheClear` where a number is given beside "clear".
@@ -206,11 +241,7 @@ impl Configuration {
         let Some(config) = given_at(value, "config") else {
             return Ok(Configuration::default());
         };
-        check_config_members(alloc, config)?;
-        match configuration_at(config) {
-            Ok(configuration) => Ok(configuration),
-            Err(error) => Err(StatementError::Config(error)),
-        }
+        given_configuration(alloc, config)
     }
 
     /// What `from_statement` answers of a document's value: the rows that stand apart are no part

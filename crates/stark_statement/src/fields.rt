@@ -5,9 +5,10 @@ ghost use Rattle.serde_json.specs.View.{view};
 ghost use Rattle.stark_tree_air.specs.TreeJson.{air_view};
 ghost use Rattle.stark_json.specs.Apart.{rows_apart};
 ghost use Rattle.stark_statement.specs.StatementApart.{air_joined};
-ghost use Rattle.stark_statement.specs.StatementJson.{Decodes, bits_at, config_members, missing_field, public_values_at, required, statement_fault, statement_members, unknown_config_member, unknown_field};
+ghost use Rattle.stark_statement.specs.StatementJson.{Decodes, bits_at, config_members, given_bits, height_at, missing_field, public_values_at, required, statement_fault, statement_members, unknown_config_member, unknown_field};
 
 use crate::configuration_error::ConfigurationError;
+use crate::configuration_json::given_at;
 use crate::error::StatementError;
 use serde_json::Value;
 use stark_json::{ElementsFault, NumberRows, QuotedName, elements_from_json, first_unknown};
@@ -17,6 +18,9 @@ use std::alloc::Global;
 
 /// The bits of work where a statement says nothing of them.
 const NO_WORK: usize = 0;
+
+/// The most bits of work that an element can pass: a check reads the last bits of a number of 64.
+const MOST_WORK: usize = 63;
 
 /// That a statement has a field of this name, which none has.
 fn unknown_field(alloc: Global, name: &str) -> StatementError
@@ -37,7 +41,14 @@ pub(crate) fn check_members(alloc: Global, value: &Value) -> Result<(), Statemen
     };
     let unknown = first_unknown(
         members,
-        &["config", "air", "public_values", "alpha_bits", "ood_bits"],
+        &[
+            "config",
+            "air",
+            "public_values",
+            "alpha_bits",
+            "ood_bits",
+            "log_height",
+        ],
     );
     match unknown {
         Some(name) => Err(unknown_field(alloc, name)),
@@ -152,9 +163,9 @@ pub(crate) fn required_public_values<F: JsonCodec + Copy>(
     public_values_at(alloc, member)
 }
 
-/// The bits of work under a name; 0 where it is missing or null.
-pub(crate) fn bits_at(value: &Value, field: &'static str) -> Result<usize, StatementError>
-    ensures { Decodes (λ bits. bits) result (bits_at field.now (view value.now)) }
+/// The whole number that stands under a name; 0 where it is missing or null.
+fn given_bits(value: &Value, field: &'static str) -> Result<usize, StatementError>
+    ensures { Decodes (λ bits. bits) result (given_bits field.now (view value.now)) }
 {
     let Some(member) = value.get(field) else {
         return Ok(NO_WORK);
@@ -165,5 +176,31 @@ pub(crate) fn bits_at(value: &Value, field: &'static str) -> Result<usize, State
     match member.as_u64() {
         Some(bits) => Ok(bits as usize),
         None => Err(StatementError::WrongKind { field }),
+    }
+}
+
+/// The bits of work under a name, which some element may pass; 0 where it is missing or null.
+pub(crate) fn bits_at(value: &Value, field: &'static str) -> Result<usize, StatementError>
+    ensures { Decodes (λ bits. bits) result (bits_at field.now (view value.now)) }
+{
+    let bits = given_bits(value, field)?;
+    if bits > MOST_WORK {
+        return Err(StatementError::WorkTooLarge { field, got: bits });
+    }
+    Ok(bits)
+}
+
+/// The logarithm of the height that is fixed; None where it is missing or null.
+pub(crate) fn height_at(value: &Value) -> Result<Option<usize>, StatementError>
+    ensures { Decodes (λ height. height) result (height_at (view value.now)) }
+{
+    let Some(given) = given_at(value, "log_height") else {
+        return Ok(None);
+    };
+    match given.as_u64() {
+        Some(log_height) => Ok(Some(log_height as usize)),
+        None => Err(StatementError::WrongKind {
+            field: "log_height",
+        }),
     }
 }

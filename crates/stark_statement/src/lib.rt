@@ -9,6 +9,7 @@ mod configuration_json;
 mod error;
 mod fields;
 mod limits;
+mod repeats;
 mod statement;
 #[cfg(test)]
 mod tests;
@@ -20,4 +21,5 @@ pub use configuration::{Configuration, FieldName, SchemeChoice};
 pub use configuration_error::{ConfigurationError, ConfigurationMember};
 pub use error::StatementError;
 pub use limits::{AirLimits, AirTooLarge};
+pub use repeats::refuse_repeats;
 pub use statement::{Statement, statement_document};

@@ -10,7 +10,8 @@ ghost use Rattle.stark_statement.specs.StatementView.{statement_view};
 
 use crate::configuration::Configuration;
 use crate::error::StatementError;
-use crate::fields::{bits_at, required_air, required_public_values};
+use crate::fields::{bits_at, height_at, required_air, required_public_values};
+use crate::repeats::refuse_repeats;
 use serde_json::Value;
 use stark_json::{Document, NumberRows, document_from_bytes};
 use stark_support::{Field, JsonCodec, JsonFault};
@@ -30,6 +31,8 @@ pub struct Statement<F> {
     pub alpha_bits: usize,
     /// How many bits of work are asked for before the out-of-domain point is drawn, 0 for none.
     pub ood_bits: usize,
+    /// The logarithm of the trace's number of rows; None leaves it to the prover.
+    pub log_height: Option<usize>,
 }
 
 /// The JSON of a statement, with the rows of its preprocessed columns apart where they can be.
@@ -55,6 +58,7 @@ fn statement_of_parts<F: Field + JsonCodec>(
     let public_values = required_public_values(alloc, value)?;
     let alpha_bits = bits_at(value, "alpha_bits")?;
     let ood_bits = bits_at(value, "ood_bits")?;
+    let log_height = height_at(value)?;
     let expected = air.declaration.columns.num_public_values;
     let got = public_values.len();
     if got != expected {
@@ -66,6 +70,7 @@ fn statement_of_parts<F: Field + JsonCodec>(
         public_values,
         alpha_bits,
         ood_bits,
+        log_height,
     })
 }
 
@@ -84,10 +89,10 @@ fn statement_from_parts<F: Field + JsonCodec>(
 
 impl<F: Field + JsonCodec> Statement<F> {
     /// The statement that an object spells, or its first fault. The fields are `config`,
-    /// `air`, `public_values`, `alpha_bits` and `ood_bits`, read in this order; the configuration
-    /// is that of `Configuration::from_statement`, the bits are 0 where they are missing or null,
-    /// and the rest is required. Whether `F` is the field that the configuration names is for the
-    /// caller to see to.
+    /// `air`, `public_values`, `alpha_bits`, `ood_bits` and `log_height`, read in this order; the
+    /// configuration is that of `Configuration::from_statement`, the bits are 0 and no height is
+    /// fixed where they are missing or null, and the rest is required. Whether `F` is the field
+    /// that the configuration names is for the caller to see to.
     ///
     /// - `NotAnObject` where the value isn't an object.
     /// - `UnknownField` with the name where it has a member of another one, the first in the order
@@ -95,8 +100,10 @@ impl<F: Field + JsonCodec> Statement<F> {
     /// - `Config` or `UnknownConfigMember` where the configuration is refused.
     /// - `MissingField` where `air` or `public_values` isn't there.
     /// - `Air` with the fault of `TreeAir::from_json`.
-    /// - `WrongKind` where `public_values` isn't an array, or bits aren't a whole number below
-    ///   2^64.
+    /// - `WrongKind` where `public_values` isn't an array, or bits or the height aren't a whole
+    ///   number below 2^64.
+    /// - `WorkTooLarge` with the field and its bits where they are more than 63, which no element
+    ///   passes.
     /// - `PublicValue` with the index of the first public value that is refused.
     /// - `PublicValuesCount` after all fields, where the AIR declares another number of public
     ///   values.
@@ -119,13 +126,17 @@ impl<F: Field + JsonCodec> Statement<F> {
     }
 
     /// The statement that the JSON text of the bytes spells, or its first fault: `NotJson` where
-    /// they are no JSON text, or else that of `from_json`.
+    /// they are no JSON text, `RepeatedName` where an object of it has a name twice, or else that
+    /// of `from_json`.
     #[tactic(auto, unfolding(crate::specs::StatementJson::statement_in))]
     pub fn from_slice(alloc: Global, bytes: &[u8]) -> Result<Statement<F>, StatementError>
         ensures decoded { Decodes statement_view result (statement_in F.reading bytes.now) }
     {
         match statement_document(alloc, bytes) {
-            Ok(document) => Statement::from_document(alloc, &document),
+            Ok(document) => {
+                refuse_repeats(alloc, bytes)?;
+                Statement::from_document(alloc, &document)
+            }
             Err(JsonFault::Invalid) => Err(StatementError::NotJson),
             Err(JsonFault::OutOfMemory) => Err(StatementError::OutOfMemory),
         }

@@ -9,21 +9,26 @@ use std::test::Fail;
 
 // A statement's text => its configuration, or what is at fault.
 const CASES: &str = r#"
-{} => BabyBear 1 0 85 0 16
-{"config":null} => BabyBear 1 0 85 0 16
-{"config":{}} => BabyBear 1 0 85 0 16
-{"config":{"field":null,"scheme":null,"log_blowup":null,"log_final_poly_len":null,"num_queries":null,"commit_proof_of_work_bits":null,"query_proof_of_work_bits":null}} => BabyBear 1 0 85 0 16
+{} => BabyBear 2 0 120 0 16
+{"config":null} => BabyBear 2 0 120 0 16
+{"config":{}} => BabyBear 2 0 120 0 16
+{"config":{"field":null,"scheme":null,"log_blowup":null,"log_final_poly_len":null,"num_queries":null,"commit_proof_of_work_bits":null,"query_proof_of_work_bits":null}} => BabyBear 2 0 120 0 16
 {"config":{"field":"koala_bear","scheme":"fri","log_blowup":24,"log_final_poly_len":2,"num_queries":3,"commit_proof_of_work_bits":4,"query_proof_of_work_bits":5}} => KoalaBear 24 2 3 4 5
-{"air":7,"config":{"field":"baby_bear","log_blowup":27}} => BabyBear 27 0 85 0 16
-{"config":{"field":"f12289","log_blowup":12},"public_values":7,"alpha_bits":7,"ood_bits":7} => F12289 12 0 85 0 16
+{"air":7,"config":{"field":"baby_bear","log_blowup":27}} => BabyBear 27 0 120 0 16
+{"config":{"field":"f12289","log_blowup":12},"public_values":7,"alpha_bits":7,"ood_bits":7} => F12289 12 0 120 0 16
 {"config":{"field":"f12289","scheme":"clear"}} => F12289 clear
 {"config":{"scheme":"clear","num_queries":null}} => BabyBear clear
+{"config":"default"} => BabyBear 2 0 120 0 16
+{"config":"fast","air":7} => BabyBear 1 0 85 0 16
+{"config":"proved_100"} => BabyBear 1 0 220 0 16
 
 [] => the statement is no object
-{"config":7,"other":1} => the statement has a field "other", which is none of config, air, public_values, alpha_bits, ood_bits
-{"zeta":1,"aIr":{},"air":{}} => the statement has a field "aIr", which is none of config, air, public_values, alpha_bits, ood_bits
-{"a\"b\\c":1} => the statement has a field "a\"b\\c", which is none of config, air, public_values, alpha_bits, ood_bits
+{"config":7,"other":1} => the statement has a field "other", which is none of config, air, public_values, alpha_bits, ood_bits, log_height
+{"zeta":1,"aIr":{},"air":{}} => the statement has a field "aIr", which is none of config, air, public_values, alpha_bits, ood_bits, log_height
+{"a\"b\\c":1} => the statement has a field "a\"b\\c", which is none of config, air, public_values, alpha_bits, ood_bits, log_height
 {"config":7} => the field config: it is no object
+{"config":"Fast"} => the field config: it is the name of no set: there are default, fast, proved_100
+{"config":""} => the field config: it is the name of no set: there are default, fast, proved_100
 {"config":{"field":7,"blowup":1}} => the field config: it has a member "blowup", which is neither field, scheme nor a number of FRI
 {"config":{"field":7,"scheme":7}} => the field config: field is of the wrong kind
 {"config":{"field":"BabyBear"}} => the field config: field is none of baby_bear, koala_bear, f12289
@@ -50,8 +55,12 @@ const CASES: &str = r#"
 // A statement's text over 12289 => what is at fault.
 const FAULTS: &str = r#"
 {"air":[] => the statement is no JSON text
+{"alpha_bits":1,"alpha_bits":1 => the statement is no JSON text
+{"ood_bits":20,"air":7,"ood_bits":20} => line 1, column 35: the name "ood_bits" stands twice in an object
+{"config":{"num_queries":100,"num_queries":1},"other":1} => line 1, column 44: the name "num_queries" stands twice in an object
+{"air":{"constraints":[{"base":4},{"base":4,"ext":{"a":[{}]},"\u0062ase":10}]},"air":7} => line 1, column 74: the name "base" stands twice in an object
 {"air":null,"public_values":[]} => the field air: it is no object
-{"air":{"width":1},"publik_values":[]} => the statement has a field "publik_values", which is none of config, air, public_values, alpha_bits, ood_bits
+{"air":{"width":1},"publik_values":[]} => the statement has a field "publik_values", which is none of config, air, public_values, alpha_bits, ood_bits, log_height
 {"air":{"width":1,"ood_bits":20},"public_values":[]} => the field air: it has a member "ood_bits", which is none of width, publics, periodic, preprocessed, max_constraint_degree, num_constraints, constants, nodes, constraints
 {"air":{"width":1,"preprocesed":{}},"public_values":[]} => the field air: it has a member "preprocesed", which is none of width, publics, periodic, preprocessed, max_constraint_degree, num_constraints, constants, nodes, constraints
 {"air":{"width":1,"publics":0,"periodic":[],"preprocessed":{"width":1,"rows":[[1]],"row":1}},"public_values":[]} => the field air: the preprocessed trace has a member "row", which is neither width nor rows
@@ -66,6 +75,10 @@ const FAULTS: &str = r#"
 {"air":{"width":1,"publics":0,"periodic":[],"constants":[],"nodes":[["main",0]],"constraints":[{"base":0},{}]},"public_values":[]} => the field air: constraint 1 is neither base nor ext
 {"air":{"width":1,"publics":2,"periodic":[],"constants":[],"nodes":[],"constraints":[]},"public_values":[5,12289]} => public value 1 is no whole number below the field's order
 {"air":{"width":1,"publics":2,"periodic":[],"constants":[],"nodes":[],"constraints":[]},"public_values":[5]} => the field public_values has 1 values, and air declares 2
+{"air":{"width":1,"publics":0,"periodic":[],"constants":[],"nodes":[],"constraints":[]},"public_values":[],"alpha_bits":64,"ood_bits":"1"} => the field alpha_bits asks for 64 bits of work, and no element passes more than 63
+{"air":{"width":1,"publics":0,"periodic":[],"constants":[],"nodes":[],"constraints":[]},"public_values":[],"alpha_bits":63,"ood_bits":18446744073709551615} => the field ood_bits asks for 18446744073709551615 bits of work, and no element passes more than 63
+{"air":{"width":1,"publics":1,"periodic":[],"constants":[],"nodes":[],"constraints":[]},"public_values":[],"alpha_bits":63,"ood_bits":63} => the field public_values has 0 values, and air declares 1
+{"air":{"width":1,"publics":1,"periodic":[],"constants":[],"nodes":[],"constraints":[]},"public_values":[],"log_height":-1} => the field log_height is of the wrong kind
 "#;
 
 #[test]
@@ -83,7 +96,7 @@ fn faults_have_their_places(rt: HostRuntime) -> Result<(), Fail> {
             count = count.saturating_add(1);
         }
     }
-    assert_eq!(rt; count, 17);
+    assert_eq!(rt; count, 25);
     Ok(())
 }
 
@@ -122,7 +135,7 @@ fn configurations_are_read(rt: HostRuntime) -> Result<(), Fail> {
             count = count.saturating_add(1);
         }
     }
-    assert_eq!(rt; count, 35);
+    assert_eq!(rt; count, 40);
     Ok(())
 }
 
@@ -157,19 +170,45 @@ fn preprocessed_columns_are_fewer_under_a_blowup(rt: HostRuntime) -> Result<(), 
 const STATEMENT: &str =
     r#"{"config":{"field":"f12289","log_blowup":3,"num_queries":7,"commit_proof_of_work_bits":1,"query_proof_of_work_bits":5},"air":{"width":1,"publics":1,"periodic":[[6,7]],"preprocessed":{"width":1,"rows":[[8],[9]]},"max_constraint_degree":2,"constants":[5],"nodes":[["main",0],["public",0],["sub",0,1]],"constraints":[{"base":2},{"ext":2}]},"public_values":[4],"alpha_bits":3}"#;
 
-// The words that `canonical_bytes` tells of, written and hashed by Python's hashlib.
-const DIGEST: &str = "fcd12d6c03e3707deedd63cb082e5d3bcf2f9cec99f6facd165398ec16ffdfab";
+// How the statement ends, the number of its bytes and their digest: the words that
+// `canonical_bytes` tells of, written and hashed by Python's hashlib.
+const DIGESTS: [(&str, usize, &str); 4] = [
+    (
+        "}",
+        349,
+        "fcd12d6c03e3707deedd63cb082e5d3bcf2f9cec99f6facd165398ec16ffdfab",
+    ),
+    (
+        ",\"log_height\":null}",
+        349,
+        "fcd12d6c03e3707deedd63cb082e5d3bcf2f9cec99f6facd165398ec16ffdfab",
+    ),
+    (
+        ",\"log_height\":1}",
+        357,
+        "0135d812708762a433337ad146763dd63b3a6da77a99834722058e6d4eaa880c",
+    ),
+    (
+        ",\"log_height\":0}",
+        357,
+        "49ae08d68c9eb301fd8e89945cf90eb06df4e8cde25789bd441d21be9fb162d6",
+    ),
+];
 
 #[test]
-fn bytes_name_the_configuration(rt: HostRuntime) -> Result<(), Fail> {
+fn bytes_name_configuration_and_height(rt: HostRuntime) -> Result<(), Fail> {
     let alloc = rt.alloc();
-    let statement = Statement::<F12289>::from_slice(alloc, STATEMENT.as_bytes())
-        .ok()
-        .ok_or("no statement")?;
-    assert_eq!(rt; statement.config.field, FieldName::F12289);
-    let bytes = statement.canonical_bytes(alloc)?;
-    assert_eq!(rt; bytes.len(), 349);
-    let digest = hex::encode(alloc, &Sha256::digest(&bytes))?;
-    assert_eq!(rt; digest.as_str(), DIGEST);
+    let front = STATEMENT.strip_suffix('}').ok_or("no object")?;
+    for (end, length, digest) in &DIGESTS {
+        let text = format!(in alloc; "{front}{end}")?;
+        let statement = Statement::<F12289>::from_slice(alloc, text.as_bytes())
+            .ok()
+            .ok_or("no statement")?;
+        assert_eq!(rt; statement.config.field, FieldName::F12289);
+        let bytes = statement.canonical_bytes(alloc)?;
+        assert_eq!(rt; bytes.len(), *length, "{end}");
+        let actual = hex::encode(alloc, &Sha256::digest(&bytes))?;
+        assert_eq!(rt; actual.as_str(), *digest, "{end}");
+    }
     Ok(())
 }

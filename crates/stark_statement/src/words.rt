@@ -3,7 +3,7 @@ ghost use Rattle.std.specs.Prelude.{◌≡◌, ◌++◌, IfOk, OnOk, map};
 ghost use Rattle.stark_tree_air.specs.TreeJson.{air_view, columns_view, list_view};
 ghost use Rattle.stark_tree_air.specs.Traces.{declared_trace};
 ghost use Rattle.stark_statement.specs.Configuration.{configuration_view, fri_numbers};
-ghost use Rattle.stark_statement.specs.StatementBytes.{air_words, columns_words, configuration_words, constraint_words, elements_words, field_tag, fri_words, list_words, node_words, statement_words, trace_words};
+ghost use Rattle.stark_statement.specs.StatementBytes.{air_words, columns_words, configuration_words, constraint_words, elements_words, field_tag, fri_words, height_words, list_words, node_words, statement_words, trace_words};
 ghost use Rattle.stark_statement.specs.Words.{counted, optional, word};
 ghost use Rattle.stark_statement.specs.StatementView.{statement_view};
 
@@ -233,6 +233,16 @@ fn push_configuration(words: &mut Vec<u64>, config: Configuration) -> Result<(),
     }
 }
 
+/// Writes the height that is fixed; nothing where none is.
+fn push_height(words: &mut Vec<u64>, log_height: Option<usize>) -> Result<(), AllocError>
+    ensures { OnOk result (words.new.items ≡ words.old.items ++ height_words log_height) }
+{
+    match log_height {
+        Some(log_height) => push_word(words, log_height),
+        None => Ok(()),
+    }
+}
+
 /// The words of a statement, in order.
 #[tactic(auto, unfolding(crate::specs::StatementBytes::statement_words))]
 pub(crate) fn statement_words<F: PrimeField64>(
@@ -248,5 +258,6 @@ pub(crate) fn statement_words<F: PrimeField64>(
     push_elements(&mut words, &statement.public_values)?;
     push_word(&mut words, statement.alpha_bits)?;
     push_word(&mut words, statement.ood_bits)?;
+    push_height(&mut words, statement.log_height)?;
     Ok(words)
 }

@@ -14,3 +14,4 @@ mod values;
 
 pub use expected::Expected;
 pub use fault::{TextFault, first_fault_of_json};
+pub use place::{Place, place_after};

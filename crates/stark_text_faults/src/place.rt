@@ -5,9 +5,9 @@ ghost use Rattle.stark_text_faults.specs.Places.{begins_character, column_after,
 
 /// A line, and a column in it, both from 1.
 #[derive(Clone, Copy, Debug)]
-pub(crate) struct Place {
-    pub(crate) line: usize,
-    pub(crate) column: usize,
+pub struct Place {
+    pub line: usize,
+    pub column: usize,
 }
 
 /// Whether a byte of a text in UTF-8 is the first of a character.
@@ -17,8 +17,8 @@ fn begins_character(byte: u8) -> bool
     byte < 0x80 || byte >= 0xc0
 }
 
-/// The place after a front of a text.
-pub(crate) fn place_after(front: &[u8]) -> Place
+/// The place after a front of a text in UTF-8: its line, and its column in characters.
+pub fn place_after(front: &[u8]) -> Place
     ensures line { result.line ≡ line_after front.now }
     ensures column { result.column ≡ column_after front.now }
 {

@@ -1,0 +1,4 @@
+mod KeySteps
+mod PassingSteps
+mod SumSteps
+mod TupleSteps

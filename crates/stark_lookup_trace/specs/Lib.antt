@@ -1,0 +1,2 @@
+pub mod AuxiliaryColumns
+pub mod Tuples

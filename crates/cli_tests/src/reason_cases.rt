@@ -40,17 +40,20 @@ check | <two rows> | [[5],[6]] => [[5,6],[6,7]] | the rows have 2 columns, and t
 check | <two rows> | [[5],[6]] => [[],[]] | the rows have 0 columns, and the AIR 1
 check | <two rows> | [[5],[6]] => [\(8191 [5],)[5]] | the trace has 8192 rows, more than 2^12
 check | <preprocessed> | \1e[[1],[2],[3],[4]] => \1e[[1],[2]] | the trace has 2 rows, and the preprocessed columns 2^2
+check | <two rows> | "public_values" => "log_height":0,"public_values" | the trace has 2 rows, and the statement's log_height asks for 2^0
 
 # Statements and proofs that are no JSON.
 show | {"air": | the statement: line 1, column 8: expected a value, and the text ends
 show | {"air":{},} | the statement: line 1, column 11: expected a name in quotation marks
 show | {"air" {}} | the statement: line 1, column 8: expected a colon
+show | {"air":{},"air":{}} | the statement: line 1, column 17: the name "air" stands twice in an object
 show | {'air':{}} | the statement: line 1, column 2: expected a name in quotation marks or a closing brace
 verify | <two rows> | \1e[[5],[6]] => \1e{"degree_bits":1 | the proof: line 1, column 17: expected a comma or a closing brace, and the text ends
 verify | <two rows> | the proof is no object
 
 # Proofs that are refused.
 verify | <proved> | "degree_bits":1 => "degree_bits":13 | the proof is refused: a trace of 2^13 rows, more than 2^12
+verify | <proved> | "public_values" => "log_height":2,"public_values" | the proof is refused: a trace of 2^1 rows, and the statement's log_height asks for 2^2
 verify | <proved> | "trace_next":[[ => "trace_nxt":[[ | the proof is refused: the next row is missing or has the wrong width
 verify | <proved> | "public_values":[5] => "public_values":[6] | the proof is refused: invalid opening argument: round 0: a claimed value isn't the column's (a proof made for another statement ends so too)
 "#;

@@ -67,6 +67,27 @@ verify | <proved> | "constants":[1] => "constants":[1,3] | refused InvalidOpenin
 verify | <proved> | "public_values" => "alpha_bits":20,"public_values" | refused InvalidAlphaPowWitness
 verify | <proved> | "public_values" => "ood_bits":20,"public_values" | refused InvalidOodPowWitness
 
+# Work that no element passes is no work.
+prove | <two rows> | "public_values" => "alpha_bits":64,"public_values" | bad input
+verify | <proved> | "public_values" => "ood_bits":18446744073709551615,"public_values" | bad input
+
+# At a height that the statement fixes. A proof is one for this statement alone.
+prove then verify | <two rows> | "public_values" => "log_height":1,"public_values" | accepted
+check | <two rows> | "public_values" => "log_height":1,"public_values" | satisfied
+check | <two rows> | "public_values" => "log_height":0,"public_values" | bad input
+prove | <two rows> | "public_values" => "log_height":2,"public_values" | bad input
+prove --unchecked | <two rows> | "public_values" => "log_height":64,"public_values" | bad input
+verify | <proved> | "public_values" => "log_height":null,"public_values" | accepted
+verify | <proved> | "public_values" => "log_height":1,"public_values" | refused InvalidOpeningArgument
+verify | <proved> | "public_values" => "log_height":0,"public_values" | refused DegreeBitsTooLarge
+verify | <proved> | "public_values" => "log_height":2,"public_values" | refused DegreeBitsTooSmall
+verify | <proved> | "public_values" => "log_height":64,"public_values" | refused DegreeBitsTooSmall
+verify | <proved> | "public_values" => "log_height":"1","public_values" | bad input
+
+# Names that stand twice in an object of the statement.
+verify | <proved> | "public_values" => "public_values":[5],"public_values" | bad input
+check | <two rows> | {"base":4} => {"base":4,"base":4} | bad input
+
 # A proof whose AIR was chosen behind zeta.
 verify | <forged> | refused InvalidOpeningArgument
 "#;
@@ -162,12 +183,12 @@ show | <small> | <lines of small>
 
 # By FRI: bits at 2^16 rows and at the greatest height, or at the latter alone where it isn't above; and none for a degree above the blow-up
 # and one, or for too many openings.
-show | <counter> | {"field":"f12289","scheme":"clear"} => {"field":"f12289"} | <counter to> 2^11 rows: 1 alpha, 4095 zeta\0a<challenges over 12289>\0aconjectured security: 38 bits at 2^11 rows; this is not proved
-show | <counter> | {"field":"f12289","scheme":"clear"} => {"field":"koala_bear","log_blowup":8} | <counter to> 2^16 rows: 1 alpha, 131071 zeta\0a<challenges over KoalaBear>\0aconjectured security: 95 bits at 2^16 rows; this is not proved
-show | <counter> | {"field":"f12289","scheme":"clear"} => {"field":"koala_bear","log_blowup":7} | <counter to> 2^17 rows: 1 alpha, 262143 zeta\0a<challenges over KoalaBear>\0aconjectured security: 96 bits at 2^16 rows, 95 bits at 2^17 rows; this is not proved
-show | <fourth power> | <equation of fourth power>\0aquotient chunks: 4\0aerror bound at 2^26 rows: 0 alpha, 335544319 zeta\0a<challenges by default>\0aconjectured security: none is stated for a constraint's degree above 3
-show | <fourth power> | "config":{} => "config":{"log_blowup":2} | <equation of fourth power>\0aquotient chunks: 4\0aerror bound at 2^25 rows: 0 alpha, 167772159 zeta\0a<challenges by default>\0aconjectured security: 99 bits at 2^16 rows, 90 bits at 2^25 rows; this is not proved
-show | <fourth power> | "config":{} => "config":{"log_blowup":2} | "width":1 => "max_constraint_degree":18446744073709551615,"width":1 | <equation of fourth power>\0aquotient chunks: 18446744073709551616\0aerror bound at 2^25 rows: none\0a<challenges by default>\0aconjectured security: none is stated for 2^64 opened values and more
+show | <counter> | {"field":"f12289","scheme":"clear"} => {"field":"f12289"} | <counter to> 2^10 rows: 1 alpha, 2047 zeta\0a<challenges over 12289>\0aproved: 39 bits at 2^10 rows (by count; SHA-256 as a random oracle)\0aconjectured: 39 bits at 2^10 rows (ethSTARK's conjecture of 2021; ePrint 2025/2010 and 2025/2046 speak against it)\0aconfiguration: f12289, fri, log_blowup 2, log_final_poly_len 0, num_queries 120, commit_proof_of_work_bits 0, query_proof_of_work_bits 16\0awork: 0 bits before alpha, 0 before zeta\0apublic values (1): 5
+show | <counter> | {"field":"f12289","scheme":"clear"} => {"field":"koala_bear","log_blowup":8} | <counter to> 2^16 rows: 1 alpha, 131071 zeta\0a<challenges over KoalaBear>\0aproved: 95 bits at 2^16 rows (by count; SHA-256 as a random oracle)\0aconjectured: 95 bits at 2^16 rows (ethSTARK's conjecture of 2021; ePrint 2025/2010 and 2025/2046 speak against it)\0aconfiguration: koala_bear, fri, log_blowup 8, log_final_poly_len 0, num_queries 120, commit_proof_of_work_bits 0, query_proof_of_work_bits 16\0awork: 0 bits before alpha, 0 before zeta\0apublic values (1): 5
+show | <counter> | {"field":"f12289","scheme":"clear"} => {"field":"koala_bear","log_blowup":7} | <counter to> 2^17 rows: 1 alpha, 262143 zeta\0a<challenges over KoalaBear>\0aproved: 96 bits at 2^16 rows, 95 at 2^17 (by count; SHA-256 as a random oracle)\0aconjectured: 96 bits at 2^16 rows, 95 at 2^17 (ethSTARK's conjecture of 2021; ePrint 2025/2010 and 2025/2046 speak against it)\0aconfiguration: koala_bear, fri, log_blowup 7, log_final_poly_len 0, num_queries 120, commit_proof_of_work_bits 0, query_proof_of_work_bits 16\0awork: 0 bits before alpha, 0 before zeta\0apublic values (1): 5
+show | <fourth power> | "config":{} => "config":"fast" | <equation of fourth power>\0aquotient chunks: 4\0aerror bound at 2^26 rows: 0 alpha, 335544319 zeta\0a<challenges by default>\0asecurity: no bits are stated for a constraint's degree above 3\0aconfiguration: baby_bear, fri, log_blowup 1, log_final_poly_len 0, num_queries 85, commit_proof_of_work_bits 0, query_proof_of_work_bits 16\0awork: 0 bits before alpha, 0 before zeta\0apublic values (0):
+show | <fourth power> | <equation of fourth power>\0aquotient chunks: 4\0aerror bound at 2^25 rows: 0 alpha, 167772159 zeta\0a<challenges by default>\0aproved: 97 bits at 2^16 rows, 91 at 2^25 (by count; SHA-256 as a random oracle)\0aconjectured: 99 bits at 2^16 rows, 91 at 2^25 (ethSTARK's conjecture of 2021; ePrint 2025/2010 and 2025/2046 speak against it)\0aconfiguration: baby_bear, fri, log_blowup 2, log_final_poly_len 0, num_queries 120, commit_proof_of_work_bits 0, query_proof_of_work_bits 16\0awork: 0 bits before alpha, 0 before zeta\0apublic values (0):
+show | <fourth power> | "width":1 => "max_constraint_degree":18446744073709551615,"width":1 | <equation of fourth power>\0aquotient chunks: 18446744073709551616\0aerror bound at 2^25 rows: none\0a<challenges by default>\0asecurity: no bits are stated for 2^64 opened values and more\0aconfiguration: baby_bear, fri, log_blowup 2, log_final_poly_len 0, num_queries 120, commit_proof_of_work_bits 0, query_proof_of_work_bits 16\0awork: 0 bits before alpha, 0 before zeta\0apublic values (0):
 "#;
 
 // Inputs that are bad.
@@ -195,6 +216,7 @@ check | <counter> | {"base":4} => {"bas":4} | bad input
 
 # A configuration that is none: each fault, and numbers of FRI beside the scheme in the clear.
 show | <counter> | {"field":"f12289","scheme":"clear"} => [] | bad input
+show | <counter> | {"field":"f12289","scheme":"clear"} => "clear" | bad input
 show | <counter> | "f12289" => "F12289" | bad input
 show | <counter> | "f12289" => 12289 | bad input
 show | <counter> | "scheme":"clear" => "scheme":"open" | bad input
@@ -262,7 +284,7 @@ show | <fixed> | "width":1 => "width":2 | refused AirTooLarge
 show | <fixed> | "width":1 => "width":18446744073709551615 | 65535 => 18446744073709551615 | refused AirTooLarge
 
 # Public values.
-show | <public> | columns: 0 main, 65536 public, 0 periodic, 0 preprocessed\0a<of nothing>
+show | <public> | columns: 0 main, 65536 public, 0 periodic, 0 preprocessed\0aquotient chunks: 1\0aerror bound at 2^12 rows: 0 alpha, 8191 zeta\0a<challenges over 12289>\0aproved: 41 bits at 2^12 rows (by count; SHA-256 as a random oracle)\0aconjectured: nothing; in the clear the proof lists its columns\0aconfiguration: f12289, in the clear\0awork: 0 bits before alpha, 0 before zeta\0apublic values (65536, the first 20): 1 1 1 1 1 1 1 1 1 1 1 1 1 1 1 1 1 1 1 1\0ano constraints: each trace of the AIR's shape satisfies it
 show | <public> | 65536 => 65537 | 65535 => 65536 | refused AirTooLarge
 
 # Under the other verbs.

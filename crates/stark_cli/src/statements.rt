@@ -61,8 +61,9 @@ pub trait StatementFindings {
     /// Where it wrote `accepted`, a verifier was asked, and accepts;
     ghost accepted: { Verb → Exchange (List ℕ × List ℕ) → Type 0 };
 
-    /// and its columns break no constraint, unless a challenge is bad: in the clear those that the
-    /// proof lists, by FRI whatever columns take the opened values.
+    /// and in the clear the columns that the proof lists break no constraint, unless a challenge is
+    /// bad; by FRI whatever tables lead to its roots are near to columns that satisfy the AIR, or
+    /// one of few draws was made, or two texts have one digest.
     ghost sound: { Exchange (List ℕ × List ℕ) → Type 0 };
 
     /// Where it wrote what begins as a proof does, that is the front of the file of one of the

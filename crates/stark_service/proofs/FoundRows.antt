@@ -17,7 +17,7 @@ use Rattle.stark_answers.proofs.VerdictSteps.{of_some}
 use Rattle.stark_service.specs.StatementAir.{declared_of}
 use Rattle.stark_service.specs.Service.{ServiceOps}
 use Rattle.stark_service.specs.StatementFacts.{IsOfTrace, lacks_alone, stated_on_alone, stated_on_file}
-use Rattle.stark_service.specs.Statements.{HasNoRows, HasRows, IsFileOn, IsAnswerOn, IsAnswerWithRows, IsVerdictOn, IsVerdictWithRows, ReadsDeclared}
+use Rattle.stark_service.specs.Statements.{HasNoRows, HasRows, IsFileOn, IsAnswerOn, IsAnswerAtHeight, IsVerdictOn, IsVerdictWithRows, ReadsDeclared}
 
 -- The rows that were found.
 rows_found : {F : Type 0} (greatest : ℕ) (air : CheckedAir F) (obtained : Option ℕ) (log_rows : ℕ) → obtained ≡ Some log_rows → IfSome obtained (λ n. HasHeight n air.preprocessed_trace) → IfSome obtained (λ n. n ≤ greatest) → HasRows greatest air log_rows
@@ -56,7 +56,7 @@ module _ {S F E C K T P X Y : Type 0} (ops : ServiceOps S F E C K T P X Y) (sche
 
   module _ (asked : TraceTask) (read : Option (List (List F))) (f : Finding) where
     pub found_with_rows : (log_rows : ℕ) → 0 < (declared_of s.air).layout.main → HasRows most (declared_of s.air) log_rows
-        → (f ≡ finding.Verdict verdict.OutOfMemory) ⊎ IsAnswerWithRows ops scheme first_state s asked log_rows read f → (f ≡ finding.Verdict verdict.OutOfMemory) ⊎ IsAnswerOn ops scheme first_state s asked read f
+        → (f ≡ finding.Verdict verdict.OutOfMemory) ⊎ IsAnswerAtHeight ops scheme first_state s asked log_rows read f → (f ≡ finding.Verdict verdict.OutOfMemory) ⊎ IsAnswerOn ops scheme first_state s asked read f
     unfolding IsAnswerOn
     found_with_rows log_rows columns rows (inl lacks) = inl lacks
     found_with_rows log_rows columns rows (inr obtained) = inr (inl (log_rows, columns, rows, obtained))

@@ -1,5 +1,8 @@
 pub mod Configured
+pub mod DescriptionSteps
 pub mod FoundRows
+mod HeightSteps
+pub mod FriSound
 pub mod ReadSteps
 pub mod SchemeFloats
 pub mod SchemeSteps

@@ -1,7 +1,7 @@
 -- From what was read of a statement's bytes to what is said of them.
 use Rattle.std.proofs.Common.{◌≡◌, ◌⊎◌, ◌∙◌, inl, inr, ap, refl, subst, sym, ℕ, List, Option, None, Some, Result, Ok, Err}
 use Rattle.serde_json.specs.Data.{Data}
-use Rattle.stark_support.specs.Json.{json_of}
+use Rattle.stark_statement.specs.Repeats.{statement_json}
 use Rattle.stark_statement.specs.Configuration.{ConfigurationView}
 use Rattle.stark_statement.specs.StatementJson.{StatementFault, configuration_reading}
 use Rattle.stark_statement.specs.StatementView.{StatementView}
@@ -51,7 +51,7 @@ none_accepted (Ok s) v (inr none) is = let clash : verdict.Accepted ≡ _ = sym 
 
 module _ {V : Type 0} (of_verdict : Verdict → V) (IsSaid : ConfigurationView → Data → V → Type 0) (bytes : List ℕ) (v : V) where
   -- What is said of the JSON and the configuration that were read.
-  pub said_of_configured : (d : Data) (c : ConfigurationView) → json_of bytes ≡ Some d → configuration_reading d ≡ Ok c
+  pub said_of_configured : (d : Data) (c : ConfigurationView) → statement_json bytes ≡ Some d → configuration_reading d ≡ Ok c
       → (v ≡ of_verdict verdict.OutOfMemory) ⊎ IsSaid c d v → (v ≡ of_verdict verdict.OutOfMemory) ⊎ IsSaidOfBytes of_verdict IsSaid bytes v
   unfolding IsSaidOfBytes
   said_of_configured d c is names (inl lacks) = inl lacks
@@ -66,12 +66,12 @@ module _ {V : Type 0} (of_verdict : Verdict → V) (IsSaid : ConfigurationView �
   unconfigured (Some d) none is = unnamed d (configuration_reading d) none is
 
   -- The report where there is no configuration.
-  pub said_unconfigured : (w : Verdict) → v ≡ of_verdict w → (w ≡ verdict.OutOfMemory) ⊎ (IsUnconfigured (json_of bytes) × (w ≡ verdict.BadInput)) → (v ≡ of_verdict verdict.OutOfMemory) ⊎ IsSaidOfBytes of_verdict IsSaid bytes v
+  pub said_unconfigured : (w : Verdict) → v ≡ of_verdict w → (w ≡ verdict.OutOfMemory) ⊎ (IsUnconfigured (statement_json bytes) × (w ≡ verdict.BadInput)) → (v ≡ of_verdict verdict.OutOfMemory) ⊎ IsSaidOfBytes of_verdict IsSaid bytes v
   unfolding IsSaidOfBytes
   said_unconfigured w is (inl lacks) = inl (is ∙ ap of_verdict lacks)
-  said_unconfigured w is (inr none) = inr (unconfigured (json_of bytes) none.0 (is ∙ ap of_verdict none.1))
+  said_unconfigured w is (inr none) = inr (unconfigured (statement_json bytes) none.0 (is ∙ ap of_verdict none.1))
 
-pub holds_of_bytes : (Holds : ConfigurationView → Data → Type 0) (bytes : List ℕ) (d : Data) (c : ConfigurationView) → json_of bytes ≡ Some d → configuration_reading d ≡ Ok c → Holds c d → HoldsOfBytes Holds bytes
+pub holds_of_bytes : (Holds : ConfigurationView → Data → Type 0) (bytes : List ℕ) (d : Data) (c : ConfigurationView) → statement_json bytes ≡ Some d → configuration_reading d ≡ Ok c → Holds c d → HoldsOfBytes Holds bytes
 unfolding HoldsOfBytes
 holds_of_bytes Holds bytes d c is names holds = subst (HoldsOfJson Holds) (sym is) (subst (HoldsOfValue (λ k. Holds k d)) (sym names) holds)
 

@@ -1,6 +1,10 @@
 -- From what is said over a configuration to what is said by the scheme that was chosen.
 use Rattle.std.proofs.Common.{◌≡◌, ◌⊎◌, ◌∙◌, inl, inr, ap, subst, ℕ, ◌≤◌, List, Option}
+use Rattle.stark_merkle.specs.declared.root.Root.{Root}
+use Rattle.stark_fri_proof.specs.Parts.{FriProofView}
 use Rattle.stark_fri_proof.specs.declared.parameters.FriParameters.{FriParameters}
+use Rattle.stark_fri.specs.Parts.{FriOps}
+use Rattle.stark_over_fri.proofs.AcceptedSteps.{IsByFri}
 use Rattle.stark_proof.specs.ProofView.{ProofView}
 use Rattle.stark_clear.specs.ClearScheme.{clear_pcs}
 use Rattle.stark_clear.specs.Stops.{StopsAt}
@@ -17,8 +21,10 @@ use Rattle.stark_answers.specs.declared.verdict.Verdict.TheVariants as verdict
 use Rattle.stark_answers.proofs.SoundSteps.{InTheClear}
 use Rattle.stark_service.specs.Schemes.{WithNumbers}
 use Rattle.stark_service.specs.Service.{ServiceOps}
-use Rattle.stark_service.specs.Statements.{IsFileOn, IsSoundOfTakenOn, IsSoundOn, IsAnswerOn, IsVerdictOn}
+use Rattle.stark_service.specs.Statements.{IsFileOn, IsSoundOn, IsAnswerOn, IsVerdictOn}
 use Rattle.stark_service.specs.TraceChecks.{OrLacksMemory}
+use Rattle.stark_service.specs.FriSoundness.{IsSoundByFriOn}
+use Rattle.stark_service.proofs.FriSound.{sound_by_fri}
 use Rattle.stark_service.proofs.StatementsSound.{listed_soundly}
 
 -- A configuration has a scheme that was made with parameters, and a challenger that observed the statement.
@@ -32,9 +38,6 @@ module _ {S F E C K T P X Y : Type 0} (ops : ServiceOps S F E C K T P X Y) (sche
     verdict_by_numbers v (inl memory) = inl memory
     verdict_by_numbers v (inr said) = inr (with_numbers (λ pcs c. IsVerdictOn ops pcs c s read v) said)
 
-    pub sound_by_numbers : IsSoundOfTakenOn ops scheme state s read → WithNumbers parameters_of (fri_numbers parameters) (λ pcs. IsSoundOfTakenOn ops pcs after s read)
-    sound_by_numbers sound = with_numbers (λ pcs c. IsSoundOfTakenOn ops pcs c s read) sound
-
   module _ (read : Option (List (List F))) where
     pub found_by_numbers : (asked : TraceTask) (f : Finding) → OrLacksMemory (IsAnswerOn ops scheme state s asked read) f → OrLacksMemory (λ g. WithNumbers parameters_of (fri_numbers parameters) (λ pcs. IsAnswerOn ops pcs after s asked read g)) f
     found_by_numbers asked f (inl memory) = inl memory
@@ -42,6 +45,15 @@ module _ {S F E C K T P X Y : Type 0} (ops : ServiceOps S F E C K T P X Y) (sche
 
     pub file_by_numbers : (f : Finding) → WhereProof (λ form file. IsFileOn ops scheme state s form read file) f → WhereProof (λ form file. WithNumbers parameters_of (fri_numbers parameters) (λ pcs. IsFileOn ops pcs after s form read file)) f
     file_by_numbers f is = λ form proof. with_numbers (λ pcs c. IsFileOn ops pcs c s form read (finding_bytes f)) (is form proof)
+
+-- What is accepted by FRI is sound, by the verdict with the scheme and the challenger that a configuration has.
+module _ {S F E C T P X Y : Type 0} (ops : ServiceOps S F E C Root T P X Y) (scheme made : S) (parameters_of : S → FriParameters) (parameters : FriParameters) (state bound after : C) (s : StatementView F)
+    (is_made : scheme ≡ made) (made_with : parameters_of made ≡ parameters) (is_bound : state ≡ bound) (observed : bound ≡ after) (fri : FriOps C F E) (proof_of : P → FriProofView F E) (by : IsByFri ops.protocol fri parameters_of proof_of) where
+  pub sound_by_numbers : (read : Option (ProofView Root E P F)) (v : Verdict) → (v ≡ verdict.OutOfMemory) ⊎ IsVerdictOn ops scheme state s read v → v ≡ verdict.Accepted
+      → WithNumbers parameters_of (fri_numbers parameters) (λ pcs. IsSoundByFriOn ops fri parameters_of proof_of pcs after s read)
+  sound_by_numbers read v said is =
+      with_numbers ops scheme made parameters_of parameters state bound after s is_made made_with is_bound observed (λ pcs c. IsSoundByFriOn ops fri parameters_of proof_of pcs c s read)
+      (sound_by_fri ops fri parameters_of proof_of by scheme state s read v said is)
 
 -- What is accepted in the clear is sound, by the verdict with the scheme and the challenger that a configuration has.
 pub sound_in_the_clear : {S F E C T P X Y : Type 0} (ops : ServiceOps S F E C (Listed F) T P X Y) (scheme made other : S) (state bound after : C) (s : StatementView F)

@@ -1,8 +1,8 @@
 -- From an AIR's sizes to what is said of its proofs by FRI.
-use Rattle.std.proofs.Common.{◌≡◌, ◌∙◌, ℕ, ◌+◌, ◌*◌, ◌^◌, ◌<◌, ◌≤◌, ◌||◌, max, Bool, true, false, Result, Ok, Err, IfOk, unwrap_or, ap, arith, subst, sym}
+use Rattle.std.proofs.Common.{◌≡◌, ◌∙◌, ℕ, ◌+◌, ◌*◌, ◌^◌, ◌<◌, ◌≤◌, ◌||◌, ◌++◌, max, Bool, true, false, Option, Some, None, Result, Ok, Err, IfOk, unwrap_or, ap, arith, refl, subst, sym}
 use Rattle.std.proofs.Math.Nat.{le-mul_of_pos_right, mul-le-mul_left}
 use Rattle.std.specs.List.{filter_map}
-use Rattle.std.specs.Prelude.{◌↔◌, IsTrue, List, length}
+use Rattle.std.specs.Prelude.{◌↔◌, IsTrue, List, length, min}
 use Rattle.stark_air.specs.Declaration.{trace_width}
 use Rattle.stark_air.specs.declared.layout.AirLayout.{AirLayout}
 use Rattle.stark_support.specs.Logarithm.{IsCeilingOfLog}
@@ -21,11 +21,13 @@ use Rattle.stark_security.specs.Openings.{batched_of, batched_openings, points_o
 use Rattle.stark_security.specs.declared.openings.OpeningShape.TheVariants.{TwoAdic}
 use Rattle.stark_security.specs.declared.params.StarkSecurityParams.{StarkSecurityParams}
 use Rattle.stark_fri_proof.specs.declared.parameters.FriParameters.{FriParameters}
+use Rattle.stark_fri_security.specs.ConjecturedBits.{IsConjectured}
 use Rattle.stark_fri_security.specs.FieldBits.{AreFieldBits}
+use Rattle.stark_fri_security.specs.FriErrors.{IsFriErrorBound}
 use Rattle.stark_fri_security.specs.Regime.{regime_of}
 use Rattle.stark_statement.specs.Configuration.{FriNumbers, fri_numbers}
 use Rattle.stark_statement.specs.Limits.{view_of}
-use Rattle.stark_service.specs.Security.{AreChunks, AreParams, FieldNumbers, HasRoom, IsConjecturedLine, IsFlat, IsFriLine, IsRoomy, crowded_line, most_degree, most_opened, steep_line}
+use Rattle.stark_service.specs.Security.{AreBitsOf, AreChunks, AreClearLines, AreConjecturedByFri, AreFriLines, AreParams, AreProvedByFri, FieldNumbers, HasRoom, IsFlat, IsRoomy, clear_line, conjectured_line, most_degree, most_opened, proved_line}
 use Rattle.stark_service.specs.StatementAir.{declared_of}
 
 -- What holds of a value in an Ok.
@@ -96,36 +98,58 @@ two_points true b = omega arith
 two_points false true = omega arith
 two_points false false = omega arith
 
--- ---- lines
+-- ---- bits
 
-module _ {F : Type 0} (fields : FieldNumbers F) (numbers : FriNumbers) (air : AirView F) (ood_bits greatest chunks : ℕ) (are : AreChunks air chunks) (line : List ℕ) where
-  pub said_steep : (IsFlat air numbers → ⊥) → line ≡ steep_line (most_degree numbers) → IsFriLine fields numbers air ood_bits greatest line
-  said_steep steep is = record {
-    chunks = chunks;
-    sized = are;
-    steep = λ other. is;
-    crowded = λ flat. absurd (steep flat);
-    conjectured = λ flat. absurd (steep flat);
+-- What bad draws that were counted leave, or that they weren't.
+pub bits_of_some : (bad : Option (ℕ × ℕ)) (pair : ℕ × ℕ) (Leave : ℕ → ℕ → ℕ → Type 0) (bits : ℕ) → bad ≡ Some pair → Leave pair.0 pair.1 bits → AreBitsOf bad Leave bits
+bits_of_some bad pair Leave bits is leave = subst (λ o. AreBitsOf o Leave bits) (sym is) leave
+
+pub bits_of_none : (bad : Option (ℕ × ℕ)) (Leave : ℕ → ℕ → ℕ → Type 0) → bad ≡ None → AreBitsOf bad Leave 0
+bits_of_none bad Leave is = subst (λ o. AreBitsOf o Leave 0) (sym is) refl
+
+pub of_this_field : (order degree bits p d : ℕ) → order ≡ p → degree ≡ d → AreFieldBits order degree bits → AreFieldBits p d bits
+of_this_field order degree bits p d is_order is_degree are = subst (λ n. AreFieldBits n d bits) is_order (subst (λ n. AreFieldBits order n bits) is_degree are)
+
+module _ {F : Type 0} (air : AirView F) (params : StarkSecurityParams) where
+  conjectured_are : (k height conjectured proved bits : ℕ) → height ≡ k → IsConjectured params height conjectured → AreProvedByFri air params height proved → bits ≡ max conjectured proved → AreConjecturedByFri air params k bits
+  conjectured_are k height conjectured proved bits same by_conjecture by_count better = record {
+    conjectured = conjectured;
+    proved = proved;
+    by_conjecture = subst (λ h. IsConjectured params h conjectured) same by_conjecture;
+    by_count = subst (λ h. AreProvedByFri air params h proved) same by_count;
+    better = better;
   }
 
-  module _ (flat : IsFlat air numbers) where
-    pub said_crowded : (HasRoom air fields.degree chunks → ⊥) → line ≡ crowded_line → IsFriLine fields numbers air ood_bits greatest line
-    said_crowded crowded is = record {
-      chunks = chunks;
-      sized = are;
-      steep = λ steep. absurd (steep flat);
-      crowded = λ other none. is;
-      conjectured = λ other room. absurd (crowded room);
-    }
+  -- Both lines by FRI.
+  pub fri_lines_are : (greatest height usual most conjectured_usual conjectured_most better_usual better_most : ℕ) (text line other : List ℕ) → height ≡ min greatest 16
+      → AreProvedByFri air params height usual → AreProvedByFri air params greatest most → IsConjectured params height conjectured_usual → IsConjectured params greatest conjectured_most
+      → better_usual ≡ max conjectured_usual usual → better_most ≡ max conjectured_most most → line ≡ proved_line usual most greatest → other ≡ conjectured_line better_usual better_most greatest
+      → text ≡ line ++ other → AreFriLines air params greatest text
+  fri_lines_are greatest height usual most conjectured_usual conjectured_most better_usual better_most text line other same at_usual at_most conjectured_at_usual conjectured_at_most is_usual is_most says speaks all = record {
+    proved_usual = usual;
+    proved_most = most;
+    conjectured_usual = better_usual;
+    conjectured_most = better_most;
+    proved = record { at_usual = subst (λ h. AreProvedByFri air params h usual) same at_usual; at_greatest = at_most };
+    conjectured = record {
+      at_usual = conjectured_are (min greatest 16) height conjectured_usual usual better_usual same conjectured_at_usual at_usual is_usual;
+      at_greatest = conjectured_are greatest greatest conjectured_most most better_most refl conjectured_at_most at_most is_most;
+    };
+    lines = all ∙ ap (λ t. t ++ other) says ∙ ap (λ t. proved_line usual most greatest ++ t) speaks;
+  }
 
-    pub said_conjectured : HasRoom air fields.degree chunks → (params : StarkSecurityParams) → AreParams fields numbers air ood_bits params → IsConjecturedLine params greatest line → IsFriLine fields numbers air ood_bits greatest line
-    said_conjectured room params of is = record {
-      chunks = chunks;
-      sized = are;
-      steep = λ steep. absurd (steep flat);
-      crowded = λ other crowded. absurd (crowded room);
-      conjectured = λ other has. (params, of, is);
-    }
+  pub conjectured_here : (k conjectured proved bits : ℕ) → IsConjectured params k conjectured → AreProvedByFri air params k proved → bits ≡ max conjectured proved → AreConjecturedByFri air params k bits
+  conjectured_here k conjectured proved bits by_conjecture by_count better = conjectured_are k k conjectured proved bits refl by_conjecture by_count better
+
+-- The lines in the clear.
+pub clear_lines_are : (Proved : ℕ → ℕ → Type 0) (greatest height usual most : ℕ) (text line other : List ℕ) → height ≡ min greatest 16 → Proved height usual → Proved greatest most
+    → line ≡ proved_line usual most greatest → other ≡ clear_line → text ≡ line ++ other → AreClearLines Proved greatest text
+clear_lines_are Proved greatest height usual most text line other same at_usual at_most says speaks all = record {
+  usual = usual;
+  most = most;
+  proved = record { at_usual = subst (λ h. Proved h usual) same at_usual; at_greatest = at_most };
+  lines = all ∙ ap (λ t. t ++ other) says ∙ ap (λ t. proved_line usual most greatest ++ t) speaks;
+}
 
 -- ---- an AIR that is data
 
@@ -153,6 +177,11 @@ module _ {F : Type 0} (air : TreeAir F) where
 
     pub tree_crowded : (most_opened main preprocessed (2 ^ log) degree < 2 ^ 64 → ⊥) → HasRoom (view_of air) dimension (2 ^ log) → ⊥
     tree_crowded crowded room = crowded (subst (λ n. n < 2 ^ 64) (sym room_is) room)
+
+  -- The bound on bad draws that is answered for it.
+  pub tree_fri_bound : (k : ℕ) (bad : Option (ℕ × ℕ)) → IsFriErrorBound (spelled_in air.list) air.declaration.max_constraint_degree k bad → IsFriErrorBound (declared_of (view_of air)).constraints (declared_of (view_of air)).degree_hint k bad
+  unfolding declared_of
+  tree_fri_bound k bad is = is
 
   -- As they are handed to a report.
   pub tree_degree : (numbers : FriNumbers) (log_blowup : ℕ) → log_blowup ≡ numbers.log_blowup → IsFlat (view_of air) numbers → greatest_degree 0 (spelled_in air.list) ≤ 2 ^ log_blowup + 1

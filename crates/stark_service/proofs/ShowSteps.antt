@@ -15,6 +15,7 @@ use Rattle.stark_answers.specs.declared.task.ProofForm.{ProofForm}
 use Rattle.stark_answers.specs.declared.task.TraceTask.{TraceTask}
 use Rattle.stark_answers.specs.declared.verdict.Verdict.{Verdict}
 use Rattle.stark_answers.specs.declared.verdict.Verdict.TheVariants as verdict
+use Rattle.stark_service.specs.Description.{described}
 use Rattle.stark_service.specs.Schemes.{IsUnconfigured}
 use Rattle.stark_service.specs.Security.{FieldNumbers, IsWorthLine, challenges_line}
 use Rattle.stark_service.specs.Showing.{IsOfShowing, IsShownOf, IsShownOfRead, ShowsAir, greatest_height, verdict_of_showing}
@@ -27,12 +28,20 @@ use Rattle.stark_service.proofs.ReadSteps.{none_accepted, said_of_read, unconfig
 longer : {F : Type 0} (number : F → ℕ) (declaration : TreeDeclaration F) (list : TreeList F) (text more : List ℕ) → IsWhole number declaration list text → IsWhole number declaration list (text ++ more)
 longer number declaration list text more begins = record { whole = λ short. (let all = begins.whole short in (all.0 ++ more, ap (λ t. t ++ more) all.1 ∙ append_assoc _ _ more ∙ ap (λ t. columns_text declaration.columns ++ t) (append_assoc _ all.0 more))) }
 
-module _ {F : Type 0} (fields : FieldNumbers F) (scheme : Option FriNumbers) (statement : Statement F) (greatest : ℕ) (is_greatest : greatest ≡ greatest_height fields.adicity scheme) (order degree : ℕ) (is_order : order ≡ fields.order) (is_degree : degree ≡ fields.degree) (air challenges between security text : List ℕ) where
-  -- The text of the AIR, and two lines behind it.
+module _ {F : Type 0} (fields : FieldNumbers F) (scheme : Option FriNumbers) (statement : Statement F) (greatest : ℕ) (is_greatest : greatest ≡ greatest_height fields.adicity scheme) (order degree : ℕ) (is_order : order ≡ fields.order) (is_degree : degree ≡ fields.degree) (air challenges between worth_text security last text : List ℕ) where
+  abbrev rest : List ℕ
+  rest = security ++ described fields.number scheme (statement_view statement)
+
+  -- The text of the AIR, and the lines after it.
   pub shows_statement : IsShown fields.number statement.air.declaration statement.air.list greatest air → IsWhole fields.number statement.air.declaration statement.air.list air
-      → IsWorthLine fields scheme greatest (statement_view statement) security → challenges ≡ challenges_line order degree → between ≡ air ++ challenges → text ≡ between ++ security → ShowsAir fields scheme (statement_view statement) text
-  shows_statement shown whole worth is_challenges first second =
-      let all : text ≡ air ++ (challenges_line fields.order fields.degree ++ security) = second ∙ ap (λ t. t ++ security) (first ∙ ap (λ t. air ++ t) (is_challenges ∙ ap (λ n. challenges_line n degree) is_order ∙ ap (challenges_line fields.order) is_degree)) ∙ append_assoc air (challenges_line fields.order fields.degree) security in
+      → IsWorthLine fields scheme greatest (statement_view statement) security → challenges ≡ challenges_line order degree → last ≡ described fields.number scheme (statement_view statement)
+      → between ≡ air ++ challenges → worth_text ≡ between ++ security → text ≡ worth_text ++ last → ShowsAir fields scheme (statement_view statement) text
+  shows_statement shown whole worth is_challenges is_last first second third =
+      let line = challenges_line fields.order fields.degree in
+      let front : between ≡ air ++ line = first ∙ ap (λ t. air ++ t) (is_challenges ∙ ap (λ n. challenges_line n degree) is_order ∙ ap (challenges_line fields.order) is_degree) in
+      let all : text ≡ air ++ (line ++ rest) =
+      third ∙ ap (λ t. worth_text ++ t) is_last ∙ ap (λ t. t ++ described fields.number scheme (statement_view statement)) (second ∙ ap (λ t. t ++ security) front)
+      ∙ append_assoc (air ++ line) security (described fields.number scheme (statement_view statement)) ∙ append_assoc air line rest in
       record {
         declaration = statement.air.declaration;
         list = statement.air.list;
@@ -40,7 +49,7 @@ module _ {F : Type 0} (fields : FieldNumbers F) (scheme : Option FriNumbers) (st
         air = air;
         security = security;
         shown = subst (λ k. IsShown fields.number statement.air.declaration statement.air.list k air) is_greatest shown;
-        whole = subst (IsWhole fields.number statement.air.declaration statement.air.list) (sym all) (longer fields.number statement.air.declaration statement.air.list air (challenges_line fields.order fields.degree ++ security) whole);
+        whole = subst (IsWhole fields.number statement.air.declaration statement.air.list) (sym all) (longer fields.number statement.air.declaration statement.air.list air (line ++ rest) whole);
         worth = subst (λ k. IsWorthLine fields scheme k (statement_view statement) security) is_greatest worth;
         lines = all;
       }

@@ -45,6 +45,8 @@ use Rattle.stark_answers.proofs.Proved.{is_proved, written_exactly}
 use Rattle.stark_answers.proofs.VerdictSteps.{is_verdict}
 use Rattle.stark_service.specs.StatementAir.{declared_of}
 use Rattle.stark_service.specs.Service.{ServiceOps, proof_file}
+use Rattle.stark_transcript.specs.declared.error.InvalidProofShapeError.{InvalidProofShapeError}
+use Rattle.stark_service.specs.Heights.{UnlessOfOtherHeight, height_fault}
 use Rattle.stark_service.specs.Statements.{IsFoundWithRows, IsSaidOfNone, IsVerdictWithRows, PassesLimit, ReadsDeclared, too_large, verdict_without}
 
 -- ---- an AIR that is data
@@ -98,7 +100,7 @@ kept_refusal refusal.NextPointUnavailable = inr refl
 kept_refusal refusal.InvalidAlphaPowWitness = inr refl
 kept_refusal refusal.InvalidOodPowWitness = inr refl
 
--- A verdict is kept, unless memory was wanting.
+-- A verdict is kept, unless an allocation failed.
 kept_verdict : (v : Verdict) → (unjudged v ≡ verdict.OutOfMemory) ⊎ (unjudged v ≡ v)
 kept_verdict verdict.Accepted = inr refl
 kept_verdict (verdict.Refused why) = kept_refusal why
@@ -134,17 +136,27 @@ found_unjudged P f g is (inr obtained) = elim (kept_finding f) [
 
 module _ {S F E C K T P X Y : Type 0} (ops : ServiceOps S F E C K T P X Y) (scheme : S) (first_state : C) (s : StatementView F) (log_rows : ℕ) (read : Option (ProofView K E P F)) where
   -- What is said of the proof that was read is said of the file.
-  pub verdict_of_read : (air : CheckedAir F) (p : ProofView K E P F) (public_values : List F) (ood_bits alpha_bits : ℕ) (answer : Result (Unit {0}) (VerificationError X)) (v w : Verdict) → read ≡ Some p → air ≡ declared_of s.air → public_values ≡ s.public_values
+  pub verdict_of_read : (air : CheckedAir F) (p : ProofView K E P F) (public_values : List F) (ood_bits alpha_bits : ℕ) (answer : Result (Unit {0}) (VerificationError X)) (v w : Verdict) → height_fault s.log_height p.degree_bits ≡ None → read ≡ Some p → air ≡ declared_of s.air → public_values ≡ s.public_values
       → ood_bits ≡ s.ood_bits → alpha_bits ≡ s.alpha_bits → v ≡ verdict_of_answer answer → w ≡ unjudged v
       → IsAnswerWithKey ops.protocol log_rows scheme air.preprocessed_trace (λ key. instance_of air scheme first_state ood_bits alpha_bits public_values key) p answer
       → (w ≡ verdict.OutOfMemory) ⊎ IsVerdictWithRows ops scheme first_state s log_rows read w
   unfolding IsVerdictWithRows
-  verdict_of_read air p public_values ood_bits alpha_bits answer v w is declares lists asks asks_first says unless obtained =
+  verdict_of_read air p public_values ood_bits alpha_bits answer v w fixed is declares lists asks asks_first says unless obtained =
       subst (λ r. (w ≡ verdict.OutOfMemory) ⊎ IsVerdictWithRows ops scheme first_state s log_rows r w) (sym is)
+      (subst (λ fault. (w ≡ verdict.OutOfMemory)
+      ⊎ UnlessOfOtherHeight fault (λ u. IsVerdict ops.protocol log_rows scheme first_state (declared_of s.air) p s.public_values s.ood_bits s.alpha_bits u) w) (sym fixed)
       (subst (λ a. (w ≡ verdict.OutOfMemory) ⊎ IsVerdict ops.protocol log_rows scheme first_state a p s.public_values s.ood_bits s.alpha_bits w) declares
       (subst (λ ps. (w ≡ verdict.OutOfMemory) ⊎ IsVerdict ops.protocol log_rows scheme first_state air p ps s.ood_bits s.alpha_bits w) lists
       (said_unjudged (λ u. IsVerdict ops.protocol log_rows scheme first_state air p public_values s.ood_bits s.alpha_bits u) v w unless
-      (is_verdict ops.protocol log_rows air scheme scheme first_state first_state ood_bits s.ood_bits alpha_bits s.alpha_bits public_values p answer v says refl refl asks asks_first obtained))))
+      (is_verdict ops.protocol log_rows air scheme scheme first_state first_state ood_bits s.ood_bits alpha_bits s.alpha_bits public_values p answer v says refl refl asks asks_first obtained)))))
+
+  -- A proof of another height than the statement fixes is refused for it.
+  pub verdict_of_other_height : (p : ProofView K E P F) (fault : InvalidProofShapeError) (w : Verdict) → read ≡ Some p → height_fault s.log_height p.degree_bits ≡ Some fault
+      → w ≡ verdict.Refused (refusal.InvalidProofShape fault) → (w ≡ verdict.OutOfMemory) ⊎ IsVerdictWithRows ops scheme first_state s log_rows read w
+  unfolding IsVerdictWithRows
+  verdict_of_other_height p fault w is other refuses =
+      inr (subst (λ r. IsVerdictWithRows ops scheme first_state s log_rows r w) (sym is)
+      (subst (λ found. UnlessOfOtherHeight found (λ u. IsVerdict ops.protocol log_rows scheme first_state (declared_of s.air) p s.public_values s.ood_bits s.alpha_bits u) w) (sym other) refuses))
 
   -- A file that spells none is bad input.
   pub verdict_without_proof : (w : Verdict) → (w ≡ verdict.OutOfMemory) ⊎ ((read ≡ None) × (w ≡ verdict.BadInput)) → (w ≡ verdict.OutOfMemory) ⊎ IsVerdictWithRows ops scheme first_state s log_rows read w

@@ -1,5 +1,5 @@
--- From what a check and a prover find of rows to what is told under a task.
-use Rattle.std.proofs.Common.{◌≡◌, ◌⊎◌, ◌∙◌, inl, inr, ap, refl, subst, sym, ℕ, ◌*◌, ◌/◌, ◌^◌, ◌<◌, List, Option, None, Some, length, map, vec_len}
+-- From what a check and a prover find of rows to what is found under a task.
+use Rattle.std.proofs.Common.{◌≡◌, ◌⊎◌, ◌∙◌, inl, inr, ap, refl, subst, sym, Bool, true, false, ℕ, ◌*◌, ◌/◌, ◌^◌, ◌<◌, List, Option, None, Some, length, map, vec_len}
 use Rattle.std.proofs.Math.Nat.{mul-div_cancel}
 use Rattle.std.specs.List.{flat_map}
 use Rattle.std.specs.declared.vec.Vec.{Vec}
@@ -31,7 +31,8 @@ use Rattle.stark_answers.specs.declared.verdict.Verdict.TheVariants as verdict
 use Rattle.stark_answers.proofs.TraceSteps.{trace_fits}
 use Rattle.stark_service.specs.StatementAir.{declared_of}
 use Rattle.stark_service.specs.Service.{ServiceOps}
-use Rattle.stark_service.specs.Statements.{IsFoundWithRows, IsAnswerWithRows}
+use Rattle.stark_service.specs.Heights.{AtFixedHeight, has_fixed_height}
+use Rattle.stark_service.specs.Statements.{IsFoundWithRows, IsAnswerAtHeight, IsAnswerWithRows}
 use Rattle.stark_service.specs.TraceChecks.{IsCheckedTrace, IsCheckedWithRows, UnlessUnfit}
 use Rattle.stark_service.specs.Fitting.{IsUnfit}
 use Rattle.stark_service.proofs.FittingRows.{uneven_unfit}
@@ -99,7 +100,7 @@ pub rows_fit : {F : Type 0} (greatest : ℕ) (public_values : List F) (log_rows 
 rows_fit greatest public_values log_rows rows air shape height width num values same fits main wide is count =
     trace_fits shape log_rows greatest rows public_values height fits air.layout width num values main (ap (λ k. k.width) same) (ap (λ k. k.num_public_values) same) (ap (λ k. k.preprocessed_width) same) wide is count
 
--- ---- what is told
+-- ---- what is found
 
 module _ {S F E C K T P X Y : Type 0} (ops : ServiceOps S F E C K T P X Y) (scheme : S) (first_state : C) (s : StatementView F) (log_rows : ℕ) (asked : TraceTask) where
   abbrev most : ℕ
@@ -114,7 +115,7 @@ module _ {S F E C K T P X Y : Type 0} (ops : ServiceOps S F E C K T P X Y) (sche
     unfolding IsAnswerWithRows
     stated_unchecked form is obtained = subst (λ k. (f ≡ no_memory) ⊎ IsAnswerWithRows ops scheme first_state s k log_rows read f) (sym is) obtained
 
-    -- behind a check that finds the trace satisfying
+    -- after a check that finds the trace satisfying
     pub stated_satisfied : (form : ProofForm) → asked ≡ task.Prove form → (g : Finding) → g ≡ finding.Satisfied → (g ≡ no_memory) ⊎ IsCheckedWithRows ops.protocol.opening.fields ops.number most s log_rows read g → (f ≡ no_memory) ⊎ IsFoundWithRows ops scheme first_state s form log_rows read f
         → (f ≡ no_memory) ⊎ IsAnswerWithRows ops scheme first_state s asked log_rows read f
     unfolding IsAnswerWithRows
@@ -129,7 +130,7 @@ module _ {S F E C K T P X Y : Type 0} (ops : ServiceOps S F E C K T P X Y) (sche
     stated_otherwise form is other (inl memory) = inl memory
     stated_otherwise form is other (inr checked) = inr (subst (λ k. IsAnswerWithRows ops scheme first_state s k log_rows read f) (sym is) (inr (other, checked)))
 
-    -- What is told of the rows that were read is told of the file.
+    -- What is found of the rows that were read is found of the file.
     pub stated_of_read : (rows given : List (List F)) → read ≡ Some rows → given ≡ rows → (f ≡ no_memory) ⊎ IsAnswerWithRows ops scheme first_state s asked log_rows (Some given) f
         → (f ≡ no_memory) ⊎ IsAnswerWithRows ops scheme first_state s asked log_rows read f
     stated_of_read rows given is same stated =
@@ -160,7 +161,28 @@ module _ {S F E C K T P X Y : Type 0} (ops : ServiceOps S F E C K T P X Y) (sche
   spells_none None none = bad_rows asked
   spells_none (Some rows) uneven = unfit_rows rows (uneven_unfit (shape_of (declared_of s.air)) log_rows most rows s.public_values uneven) asked
 
+  -- At the height that the statement fixes the answer is this one; at another one the rows are bad input.
+  pub at_height : (read : Option (List (List F))) (f : Finding) → has_fixed_height s.log_height read ≡ true → (f ≡ no_memory) ⊎ IsAnswerWithRows ops scheme first_state s asked log_rows read f
+      → (f ≡ no_memory) ⊎ IsAnswerAtHeight ops scheme first_state s asked log_rows read f
+  unfolding IsAnswerAtHeight
+  at_height read f fixed (inl memory) = inl memory
+  at_height read f fixed (inr stated) = inr (subst (λ b. AtFixedHeight b (IsAnswerWithRows ops scheme first_state s asked log_rows read) f) (sym fixed) stated)
+
+  pub at_other_height : (read : Option (List (List F))) (f : Finding) → has_fixed_height s.log_height read ≡ false → f ≡ finding.Verdict verdict.BadInput
+      → (f ≡ no_memory) ⊎ IsAnswerAtHeight ops scheme first_state s asked log_rows read f
+  unfolding IsAnswerAtHeight
+  at_other_height read f other bad = inr (subst (λ b. AtFixedHeight b (IsAnswerWithRows ops scheme first_state s asked log_rows read) f) (sym other) bad)
+
+  bad_at_any : (read : Option (List (List F))) (f : Finding) (b : Bool) → f ≡ finding.Verdict verdict.BadInput → IsAnswerWithRows ops scheme first_state s asked log_rows read f
+      → AtFixedHeight b (IsAnswerWithRows ops scheme first_state s asked log_rows read) f
+  bad_at_any read f true bad stated = stated
+  bad_at_any read f false bad stated = bad
+
+  -- A file that spells no rows, or rows of different lengths, is bad input.
   pub stated_without_rows : (read : Option (List (List F))) (v : Verdict) (f : Finding) → f ≡ finding.Verdict v → (v ≡ verdict.OutOfMemory) ⊎ (SpellsNoTrace read × (v ≡ verdict.BadInput))
-      → (f ≡ no_memory) ⊎ IsAnswerWithRows ops scheme first_state s asked log_rows read f
+      → (f ≡ no_memory) ⊎ IsAnswerAtHeight ops scheme first_state s asked log_rows read f
+  unfolding IsAnswerAtHeight
   stated_without_rows read v f is (inl memory) = inl (is ∙ ap (λ w. finding.Verdict w) memory)
-  stated_without_rows read v f is (inr bad) = inr (subst (λ g. IsAnswerWithRows ops scheme first_state s asked log_rows read g) (sym (is ∙ ap (λ w. finding.Verdict w) bad.1)) (spells_none read bad.0))
+  stated_without_rows read v f is (inr bad) =
+      let as_bad = is ∙ ap (λ w. finding.Verdict w) bad.1 in
+      inr (bad_at_any read f (has_fixed_height s.log_height read) as_bad (subst (λ g. IsAnswerWithRows ops scheme first_state s asked log_rows read g) (sym as_bad) (spells_none read bad.0)))

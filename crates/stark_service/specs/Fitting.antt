@@ -19,7 +19,7 @@ use Rattle.stark_service.specs.TraceChecks.{IsCheckedWithRows, OrLacksMemory}
 abbrev pub AreSomeRows : {F : Type 0} → TraceRows F → Type 0
 AreSomeRows {F} table = (rows : List (List F)) × HasRows table rows
 
--- This is told of the rows that were read, or memory was wanting.
+-- This is said of the rows that were read, or an allocation failed.
 abbrev pub TellsOfRows : {F : Type 0} → TraceRows F → (Option (List (List F)) → Finding → Type 0) → Finding → Type 0
 TellsOfRows {F} table IsAnswer f = (rows : List (List F)) → HasRows table rows → OrLacksMemory (IsAnswer (Some rows)) f
 
@@ -48,13 +48,13 @@ module _ {F : Type 0} (greatest log_rows : ℕ) (s : StatementView F) where
   abbrev pub IsOfRows : RowMajorMatrix F → Type 0
   IsOfRows trace = (rows : List (List F)) × IsTraceOf rows trace
 
-  -- The trace of the rows; or they are none, and this is said of them; or memory was wanting.
+  -- The trace of the rows; or they are none, and this is said of them; or an allocation failed.
   abbrev pub FitsOrNot : Result (RowMajorMatrix F) (Report Finding) → List (List F) → Type 0
   FitsOrNot (Ok trace) rows = IsTraceOf rows trace
   FitsOrNot (Err report) rows = (report.answer ≡ finding.Verdict verdict.OutOfMemory)
       ⊎ (IsUnfit greatest log_rows (declared_of s.air) s.public_values rows × (report.answer ≡ finding.Verdict verdict.BadInput))
 
-  -- This is told of the rows whose trace it is, or memory was wanting.
+  -- This is told of the rows whose trace it is, or an allocation failed.
   abbrev pub TellsOfTrace : RowMajorMatrix F → (Option (List (List F)) → Finding → Type 0) → Finding → Type 0
   TellsOfTrace trace IsAnswer f = (rows : List (List F)) → IsTraceOf rows trace → OrLacksMemory (IsAnswer (Some rows)) f
 

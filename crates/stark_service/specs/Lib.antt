@@ -1,4 +1,7 @@
+pub mod Description
 pub mod Fitting
+pub mod FriSoundness
+pub mod Heights
 pub mod Misfits
 pub mod NoFloats
 pub mod Schemes
@@ -9,3 +12,4 @@ pub mod StatementAir
 pub mod StatementFacts
 pub mod Statements
 pub mod TraceChecks
+pub mod Worth

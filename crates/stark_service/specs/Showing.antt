@@ -14,6 +14,7 @@ use Rattle.stark_answers.specs.declared.finding.Finding.TheVariants as finding
 use Rattle.stark_answers.specs.declared.task.ProofForm.{ProofForm}
 use Rattle.stark_answers.specs.declared.verdict.Verdict.{Verdict}
 use Rattle.stark_answers.specs.declared.verdict.Verdict.TheVariants as verdict
+use Rattle.stark_service.specs.Description.{described}
 use Rattle.stark_service.specs.Security.{FieldNumbers, IsWorthLine, challenges_line}
 use Rattle.stark_service.specs.Statements.{IsSaidOfRead}
 
@@ -27,8 +28,8 @@ module _ {F : Type 0} (fields : FieldNumbers F) (scheme : Option FriNumbers) whe
   abbrev most_rows : ℕ
   most_rows = greatest_height fields.adicity scheme
 
-  -- The text shows a statement: its AIR, with the bound at the greatest height, how many values the challenges have, and what its
-  -- proofs are worth.
+  -- The text shows a statement: its AIR, with the bound at the greatest height, how many values the challenges have, what its proofs
+  -- are worth, and what it fixes beside its AIR.
   pub record ShowsAir (s : StatementView F) (text : List ℕ) : Type 0 where
     pub declaration : TreeDeclaration F
     pub list : TreeList F
@@ -38,7 +39,7 @@ module _ {F : Type 0} (fields : FieldNumbers F) (scheme : Option FriNumbers) whe
     pub shown : IsShown fields.number declaration list most_rows air
     pub whole : IsWhole fields.number declaration list text
     pub worth : IsWorthLine fields scheme most_rows s security
-    pub lines : text ≡ air ++ (challenges_line fields.order fields.degree ++ security)
+    pub lines : text ≡ air ++ (challenges_line fields.order fields.degree ++ (security ++ described fields.number scheme s))
 
   -- This text shows a statement.
   abbrev pub IsShownOf : StatementView F → Finding → Type 0
@@ -74,7 +75,7 @@ module _ {F : Type 0} (fields : FieldNumbers F) (scheme : Option FriNumbers) (s 
   -- A text begins by the letter of `columns`.
   first_letter : (text : List ℕ) → ShowsAir fields scheme s text → take 1 text ≡ codes "c"
   unfolding columns_text
-  first_letter text shows = ap (take 1) (shows.lines ∙ ap (λ air. air ++ (challenges_line fields.order fields.degree ++ shows.security)) shows.shown.lines)
+  first_letter text shows = ap (take 1) (shows.lines ∙ ap (λ air. air ++ (challenges_line fields.order fields.degree ++ (shows.security ++ described fields.number scheme s))) shows.shown.lines)
 
   pub shown_of_showing : (f : Finding) → IsShownOf fields scheme s f → IsOfShowing f
   shown_of_showing (finding.Text text) shown = record { begins = first_letter (string_bytes text) shown; accepts_none = λ is. cc; proves_none = λ form no. no; satisfies_none = λ is. cc }

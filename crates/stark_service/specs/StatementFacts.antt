@@ -1,5 +1,5 @@
 -- What is said where a statement's prover or check finds something.
-use Rattle.std.specs.Prelude.{◌≡◌, ℕ, List, Option, None, Some, take}
+use Rattle.std.specs.Prelude.{◌≡◌, ℕ, Bool, true, false, List, Option, None, Some, take}
 use Rattle.std.proofs.Common.{ap, inl, inr, refl, subst, sym}
 use Rattle.stark_support.specs.FieldPair.{FieldsOps}
 use Rattle.stark_support.specs.declared.periodic.PeriodicColumnShapeError.{PeriodicColumnShapeError}
@@ -22,7 +22,8 @@ use Rattle.stark_answers.specs.declared.verdict.Verdict.{Verdict}
 use Rattle.stark_answers.specs.declared.verdict.Verdict.TheVariants as verdict
 use Rattle.stark_service.specs.StatementAir.{declared_of}
 use Rattle.stark_service.specs.Service.{ServiceOps, proof_file}
-use Rattle.stark_service.specs.Statements.{IsFileOn, IsFileWithRows, IsFoundWithRows, IsAnswerOn, IsAnswerWithRows}
+use Rattle.stark_service.specs.Heights.{AtFixedHeight, has_fixed_height}
+use Rattle.stark_service.specs.Statements.{IsFileOn, IsFileWithRows, IsFoundWithRows, IsAnswerAtHeight, IsAnswerOn, IsAnswerWithRows}
 use Rattle.stark_service.specs.TraceChecks.{IsCheckedTrace, IsCheckedWithRows, UnlessUnfit}
 
 -- ---- what no finding of a trace is
@@ -100,7 +101,7 @@ module _ {F E : Type 0} (fields : FieldsOps F E) (number : F → ℕ) where
     rows_prove_none (Some rows) f (inl obtained) form proof = unless_no_proof (periodic_fault (declared_of s.air).periodic_columns obtained.0) (declared_of s.air) s.air.list (trace_of (declared_of s.air).layout.main rows) s.public_values f obtained.2 form proof
     rows_prove_none (Some rows) f (inr other) form proof = bad_no_proof f other.1 form proof
 
--- ---- what is told under a task
+-- ---- what is found under a task
 
 -- By a service whose files of proofs begin as their forms do.
 abbrev pub BeginsInForms : {S F E C K T P X Y : Type 0} → ServiceOps S F E C K T P X Y → Type 0
@@ -157,13 +158,32 @@ module _ {S F E C K T P X Y : Type 0} (ops : ServiceOps S F E C K T P X Y) (begi
   stated_file (task.Prove form) read f (inr stated) = λ other proof. absurd (rows_prove_none ops.protocol.opening.fields ops.number most s log_rows read f stated.1 other proof)
   stated_file (task.ProveUnchecked form) read f stated = found_file form read f stated
 
+  -- the same at the height that the statement fixes
+  height_alone : (b : Bool) (asked : TraceTask) (read : Option (List (List F))) (f : Finding) → AtFixedHeight b (IsAnswerWithRows ops scheme first_state s asked log_rows read) f → IsOfTrace asked f
+  height_alone true asked read f stated = stated_alone asked read f stated
+  height_alone false asked read f bad = subst (IsOfTrace asked) (sym bad) (bad_alone asked)
+
+  at_height_alone : (asked : TraceTask) (read : Option (List (List F))) (f : Finding) → IsAnswerAtHeight ops scheme first_state s asked log_rows read f → IsOfTrace asked f
+  unfolding IsAnswerAtHeight
+  at_height_alone asked read f stated = height_alone (has_fixed_height s.log_height read) asked read f stated
+
+  height_file : (b : Bool) (asked : TraceTask) (read : Option (List (List F))) (f : Finding) → AtFixedHeight b (IsAnswerWithRows ops scheme first_state s asked log_rows read) f
+      → WhereProof (λ form file. IsFileWithRows ops scheme first_state s form log_rows read file) f
+  height_file true asked read f stated = stated_file asked read f stated
+  height_file false asked read f bad = λ form proof. absurd (bad_no_proof f bad form proof)
+
+  at_height_file : (asked : TraceTask) (read : Option (List (List F))) (f : Finding) → IsAnswerAtHeight ops scheme first_state s asked log_rows read f
+      → WhereProof (λ form file. IsFileWithRows ops scheme first_state s form log_rows read file) f
+  unfolding IsAnswerAtHeight
+  at_height_file asked read f stated = height_file (has_fixed_height s.log_height read) asked read f stated
+
 module _ {S F E C K T P X Y : Type 0} (ops : ServiceOps S F E C K T P X Y) (begins : BeginsInForms ops) (scheme : S) (first_state : C) (s : StatementView F) (asked : TraceTask) (read : Option (List (List F))) (f : Finding) where
   pub stated_on_alone : IsAnswerOn ops scheme first_state s asked read f → IsOfTrace asked f
   unfolding IsAnswerOn
-  stated_on_alone (inl stated) = stated_alone ops begins scheme first_state s stated.0 asked read f stated.3
+  stated_on_alone (inl stated) = at_height_alone ops begins scheme first_state s stated.0 asked read f stated.3
   stated_on_alone (inr other) = subst (IsOfTrace asked) (sym other.1) (bad_alone asked)
 
   pub stated_on_file : IsAnswerOn ops scheme first_state s asked read f → WhereProof (λ form file. IsFileOn ops scheme first_state s form read file) f
   unfolding IsAnswerOn IsFileOn
-  stated_on_file (inl stated) = λ form proof. (stated.0, stated.1, stated.2, stated_file ops begins scheme first_state s stated.0 asked read f stated.3 form proof)
+  stated_on_file (inl stated) = λ form proof. (stated.0, stated.1, stated.2, at_height_file ops begins scheme first_state s stated.0 asked read f stated.3 form proof)
   stated_on_file (inr other) = λ form proof. absurd (bad_no_proof f other.1 form proof)

@@ -38,6 +38,7 @@ use Rattle.stark_answers.specs.declared.verdict.Verdict.{Verdict}
 use Rattle.stark_answers.specs.declared.verdict.Verdict.TheVariants as verdict
 use Rattle.stark_service.specs.StatementAir.{declared_of}
 use Rattle.stark_service.specs.Service.{ServiceOps, proof_file}
+use Rattle.stark_service.specs.Heights.{AtFixedHeight, UnlessOfOtherHeight, has_fixed_height, height_fault}
 use Rattle.stark_service.specs.TraceChecks.{IsCheckedWithRows, IsFirstChecked}
 
 -- ---- what files spell
@@ -50,11 +51,11 @@ proof_in_json reading bytes = json_of bytes >>= λ d. result_ok (reading d)
 unfoldable pub proof_in_bytes : {K E P F : Type 0} → ProofCodecs K E P F → List ℕ → Option (ProofView K E P F)
 proof_in_bytes codecs bytes = result_ok (proof_reading codecs bytes)
 
--- the proof that a file spells: as bytes where it begins with the text that tells them, which no JSON text does, and else as JSON
+-- the proof that a file spells: as bytes where it begins as those do, which no JSON text does, and else as JSON
 unfoldable pub proof_in : {K E P F : Type 0} → (Data → Result (ProofView K E P F) ProofFault) → ProofCodecs K E P F → List ℕ → Option (ProofView K E P F)
 proof_in reading codecs bytes = if starts_with nat_eq bytes magic then proof_in_bytes codecs bytes else proof_in_json reading bytes
 
--- what is said where nothing was read: memory was wanting, or there is a fault
+-- what is said where nothing was read: an allocation failed, or there is a fault
 abbrev pub verdict_without : {Fault : Type 0} → Option Fault → Verdict
 verdict_without None = verdict.OutOfMemory
 verdict_without (Some fault) = verdict.BadInput
@@ -73,17 +74,17 @@ verdict_of_rows (unread.NoRow row) = verdict.BadInput
 verdict_of_rows (unread.NoElement row column value) = verdict.BadInput
 verdict_of_rows (unread.Uneven row expected got) = verdict.BadInput
 
--- A part was read as this, or the report says why not: the file spells none, or memory was wanting.
+-- A part was read as this, or the report says why not: the file spells none, or an allocation failed.
 abbrev pub ReadsPart : {X Y : Type 0} → (X → Y) → Result X (Report Verdict) → Option Y → Type 0
 ReadsPart view (Ok x) reading = reading ≡ Some (view x)
 ReadsPart view (Err report) reading = (report.answer ≡ verdict.OutOfMemory) ⊎ ((reading ≡ None) × (report.answer ≡ verdict.BadInput))
 
--- Rows of one length were read, or the report says why not: the file spells none, or memory was wanting.
+-- Rows of one length were read, or the report says why not: the file spells none, or an allocation failed.
 abbrev pub ReadsRows : {F : Type 0} → Result (TraceRows F) (Report Verdict) → Option (List (List F)) → Type 0
 ReadsRows (Ok rows) reading = AreRowsIn rows reading
 ReadsRows (Err report) reading = (report.answer ≡ verdict.OutOfMemory) ⊎ (SpellsNoTrace reading × (report.answer ≡ verdict.BadInput))
 
--- This is said, or memory was wanting.
+-- This is said, or an allocation failed.
 abbrev pub OrUnjudged : (Verdict → Type 0) → Verdict → Type 0
 OrUnjudged IsSaid v = (v ≡ verdict.OutOfMemory) ⊎ IsSaid v
 
@@ -147,10 +148,12 @@ module _ {S F E C K T P X Y : Type 0} (ops : ServiceOps S F E C K T P X Y) (sche
   abbrev pub greatest : ℕ
   greatest = ops.protocol.opening.scheme.log_max_trace_height scheme
 
-  -- With the key for 2 ^ log_rows rows the verdict is the verifier's; a file that spells no proof is bad input.
+  -- With the key for 2 ^ log_rows rows the verdict is the verifier's, unless the statement fixes another height than the proof's; a file
+  -- that spells no proof is bad input.
   unfoldable pub IsVerdictWithRows : ℕ → Option (ProofView K E P F) → Verdict → Type 0
   IsVerdictWithRows log_rows None v = v ≡ verdict.BadInput
-  IsVerdictWithRows log_rows (Some p) v = IsVerdict ops.protocol log_rows scheme first_state (declared_of s.air) p s.public_values s.ood_bits s.alpha_bits v
+  IsVerdictWithRows log_rows (Some p) v =
+      UnlessOfOtherHeight (height_fault s.log_height p.degree_bits) (λ u. IsVerdict ops.protocol log_rows scheme first_state (declared_of s.air) p s.public_values s.ood_bits s.alpha_bits u) v
 
   -- The AIR reads what it declares, and the verdict is the verifier's; or its preprocessed columns have no number of rows that a key
   -- can have, and the statement is bad input.
@@ -175,17 +178,21 @@ module _ {S F E C K T P X Y : Type 0} (ops : ServiceOps S F E C K T P X Y) (sche
       × IsProved ops.protocol ops.coordinates form (proof_file ops form) log_rows scheme first_state (declared_of s.air) height (trace_of (declared_of s.air).layout.main rows) s.public_values s.ood_bits s.alpha_bits f)
       ⊎ (((height : ℕ) → FitsShape (shape_of (declared_of s.air)) log_rows greatest rows s.public_values height → ⊥) × (f ≡ finding.Verdict verdict.BadInput))
 
-  -- What is told of the rows under a task: what a check finds, what a prover finds, or what a prover finds where a check finds the trace
+  -- What is found of the rows under a task: what a check finds, what a prover finds, or what a prover finds where a check finds the trace
   -- satisfying, and else what the check finds.
   unfoldable pub IsAnswerWithRows : TraceTask → ℕ → Option (List (List F)) → Finding → Type 0
   IsAnswerWithRows task.Check log_rows read f = IsCheckedWithRows ops.protocol.opening.fields ops.number greatest s log_rows read f
   IsAnswerWithRows (task.Prove form) log_rows read f = IsFirstChecked (IsCheckedWithRows ops.protocol.opening.fields ops.number greatest s log_rows read) (IsFoundWithRows form log_rows read) f
   IsAnswerWithRows (task.ProveUnchecked form) log_rows read f = IsFoundWithRows form log_rows read f
 
-  -- The AIR has main columns, and this is told of the rows, with what is set up for those of its preprocessed columns; or it has none,
+  -- This is found of rows as many as the statement fixes; others are bad input.
+  unfoldable pub IsAnswerAtHeight : TraceTask → ℕ → Option (List (List F)) → Finding → Type 0
+  IsAnswerAtHeight asked log_rows read f = AtFixedHeight (has_fixed_height s.log_height read) (IsAnswerWithRows asked log_rows read) f
+
+  -- The AIR has main columns, and this is found of the rows, with what is set up for those of its preprocessed columns; or it has none,
   -- or they have no number of rows that a key can have, and the statement is bad input.
   unfoldable pub IsAnswerOn : TraceTask → Option (List (List F)) → Finding → Type 0
-  IsAnswerOn asked read f = ((log_rows : ℕ) × (0 < (declared_of s.air).layout.main) × HasRows greatest (declared_of s.air) log_rows × IsAnswerWithRows asked log_rows read f)
+  IsAnswerOn asked read f = ((log_rows : ℕ) × (0 < (declared_of s.air).layout.main) × HasRows greatest (declared_of s.air) log_rows × IsAnswerAtHeight asked log_rows read f)
       ⊎ ((((declared_of s.air).layout.main ≡ 0) ⊎ HasNoRows greatest (declared_of s.air)) × (f ≡ finding.Verdict verdict.BadInput))
 
   unfoldable pub IsFileWithRows : ProofForm → ℕ → Option (List (List F)) → List ℕ → Type 0

@@ -22,7 +22,7 @@ use Rattle.stark_answers.specs.declared.verdict.Refusal.TheVariants as refusal
 use Rattle.stark_answers.specs.declared.verdict.Verdict.TheVariants as verdict
 use Rattle.stark_service.specs.StatementAir.{declared_of}
 
--- This is found, or memory was wanting.
+-- This is found, or an allocation failed.
 abbrev pub OrLacksMemory : (Finding → Type 0) → Finding → Type 0
 OrLacksMemory IsFound f = (f ≡ finding.Verdict verdict.OutOfMemory) ⊎ IsFound f
 
@@ -35,7 +35,7 @@ abbrev pub broken_lines : {F : Type 0} → (F → ℕ) → ListView F → Constr
 broken_lines number list violation =
     codes "row " ++ (decimal violation.row ++ (codes ": constraint " ++ (decimal violation.constraint ++ (codes " is " ++ (decimal (number violation.value) ++ (codes "\n" ++ equation_line number list violation.constraint))))))
 
--- A row that breaks a constraint, as it is told.
+-- A row that breaks a constraint, as it is reported.
 pub record TellsBroken {F : Type 0} (number : F → ℕ) (list : ListView F) (violation : ConstraintViolation F) (row : BrokenRow) : Type 0 where
   pub row_is : row.row ≡ violation.row
   pub constraint_is : row.constraint ≡ violation.constraint
@@ -58,7 +58,7 @@ module _ {F E : Type 0} (fields : FieldsOps F E) (number : F → ℕ) where
   IsFirstBroken air trace public_values violation =
       IsFirstOfTrace fields.base fields.base_inverse fields.root fields.adicity air.constraints air.periodic_columns trace air.preprocessed_trace public_values violation
 
-  -- The trace satisfies the AIR; or the finding tells the first row that breaks a constraint and in it the first constraint.
+  -- The trace satisfies the AIR; or the finding names the first row that breaks a constraint and in it the first constraint.
   abbrev pub IsCheckedTrace : CheckedAir F → ListView F → Trace F → List F → Finding → Type 0
   IsCheckedTrace air list trace public_values finding.Satisfied = IsSatisfying air trace public_values
   IsCheckedTrace air list trace public_values (finding.Broken row) = (violation : ConstraintViolation F) × IsFirstBroken air trace public_values violation × TellsBroken number list violation row
@@ -67,7 +67,7 @@ module _ {F E : Type 0} (fields : FieldsOps F E) (number : F → ℕ) where
   IsCheckedTrace air list trace public_values (finding.ProofBytes bytes) = ⊥
   IsCheckedTrace air list trace public_values (finding.Text text) = ⊥
 
-  -- What a check finds of a matrix as a trace of an AIR that is data, by what it declares; or memory was wanting.
+  -- What a check finds of a matrix as a trace of an AIR that is data, by what it declares; or an allocation failed.
   abbrev pub ChecksMatrix : (TreeAir F → CheckedAir F) → TreeAir F → RowMajorMatrix F → List F → Finding → Type 0
   ChecksMatrix declared air matrix public_values f = OrLacksMemory (IsCheckedTrace (declared air) (list_view air.list) (view_of matrix) public_values) f
 
@@ -80,6 +80,6 @@ module _ {F E : Type 0} (fields : FieldsOps F E) (number : F → ℕ) where
       × UnlessUnfit (periodic_fault (declared_of s.air).periodic_columns height) (IsCheckedTrace (declared_of s.air) s.air.list (trace_of (declared_of s.air).layout.main rows) s.public_values) f)
       ⊎ (((height : ℕ) → FitsShape (shape_of (declared_of s.air)) log_rows greatest rows s.public_values height → ⊥) × (f ≡ finding.Verdict verdict.BadInput))
 
--- What a check finds stands, unless it finds a trace that satisfies its AIR: then this is found behind it.
+-- What a check finds stands, unless it finds a trace that satisfies its AIR: then this is found after it.
 abbrev pub IsFirstChecked : (Finding → Type 0) → (Finding → Type 0) → Finding → Type 0
 IsFirstChecked IsChecked IsFound f = (IsChecked finding.Satisfied × IsFound f) ⊎ ((f ≡ finding.Satisfied → ⊥) × IsChecked f)

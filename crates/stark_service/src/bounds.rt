@@ -62,7 +62,7 @@ where
     PcsProof<SC>: JsonCodec + BytesCodec,
 {}
 
-/// One with which proofs are judged: its scheme's faults are told in words.
+/// One with which proofs are judged: its scheme's faults have words.
 pub trait JudgingConfig: ServiceConfig
     + StarkGenericConfig<
         Pcs: Pcs<Self::Challenge, Self::Challenger, Error: SchemeWords + Display>,

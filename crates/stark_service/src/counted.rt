@@ -6,7 +6,7 @@ ghost use Rattle.stark_service.specs.Security.{FieldNumbers};
 use stark_bench::{Modulus, Residue};
 use stark_support::{ExtensionField, PrimeField64, TwoAdicField};
 
-/// A prime field that tells how many elements it has.
+/// A prime field that says how many elements it has.
 pub trait CountedField: PrimeField64 {
     /// How many elements the field has.
     fn order() -> u64

@@ -41,8 +41,9 @@ pub trait ServiceField: Sized {
     /// Of the bytes of a proof.
     ghost verdict: { Option FriNumbers → Data → List ℕ → Verdict → Type 0 };
 
-    /// Columns break no constraint of the statement's AIR, unless a challenge is bad: in the clear
-    /// those that the proof lists, by FRI whatever columns take the opened values.
+    /// In the clear the columns that the proof lists break no constraint of the statement's AIR,
+    /// unless a challenge is bad. By FRI whatever tables lead to the proof's roots are near to
+    /// columns that satisfy it, or one of few draws was made, or two texts have one digest.
     ghost sound: { Option FriNumbers → Data → List ℕ → Type 0 };
 
     /// Of the bytes of a trace, by what is asked for it.
@@ -78,7 +79,7 @@ pub trait ServiceField: Sized {
         ensures proof { WhereProof (proof_file (scheme_numbers scheme) (data_of value)
             trace.items) result.answer };
 
-    /// What is shown. The JSON is let go of once it is read, before the text is made, which may be
+    /// What is shown. The JSON is dropped once it is read, before the text is made, which may be
     /// far longer.
     fn show(alloc: Global, scheme: SchemeChoice, value: Document) -> Report<Finding>
         requires { HasRoomFor adicity scheme }

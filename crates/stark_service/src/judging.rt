@@ -7,6 +7,7 @@ ghost use Rattle.stark_answers.specs.declared.verdict.Verdict.{Verdict};
 ghost use Rattle.stark_service.specs.Statements.{OrUnjudged};
 
 use crate::bounds::JudgingConfig;
+use crate::heights::{height_fault, of_other_height};
 use crate::reading::read_proof;
 use crate::service::ServiceAnswers;
 use crate::words::reason_of;
@@ -49,6 +50,10 @@ fn verify_with_rows<SC: JudgingConfig>(
         Ok(proof) => proof,
         Err(report) => return report,
     };
+    let (fixed, got) = (statement.log_height, proof.degree_bits);
+    if let Some(fault) = height_fault(fixed, got) {
+        return of_other_height(alloc, fixed, got, fault);
+    }
     let answer = verify_with_key(
         alloc,
         config,
@@ -66,9 +71,9 @@ fn verify_with_rows<SC: JudgingConfig>(
 
 /// The verdict on a proof for a statement that was read, with a configuration whose challenger has
 /// observed the statement, which asks for the statement's work, masks nothing and sets up all
-/// columns: `accepted`; `refused` and the first fault; `bad input` where the proof can't be read,
-/// or the AIR's preprocessed columns have no power of two of rows within the scheme's heights;
-/// `out of memory`.
+/// columns: `accepted`; `refused` and the first fault, which is the height where the statement
+/// fixes another one than the proof's; `bad input` where the proof can't be read, or the AIR's
+/// preprocessed columns have no power of two of rows within the scheme's heights; `out of memory`.
 pub fn verify_with<SC: JudgingConfig>(
     alloc: Global,
     config: &SC,

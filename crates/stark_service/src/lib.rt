@@ -5,8 +5,10 @@
 mod bounds;
 mod checking;
 mod counted;
+mod description;
 mod field;
 mod fitting;
+mod heights;
 mod judging;
 mod misfit;
 mod over;
@@ -21,6 +23,9 @@ mod statement;
 #[cfg(test)]
 mod tests;
 mod words;
+mod worth;
+#[cfg(test)]
+mod worth_tests;
 
 pub use bounds::{
     JudgingConfig, ProvingConfig, ServiceConfig, StatementChallenger, StatementExtension,
@@ -34,9 +39,11 @@ pub use progress::{Progress, Silent, Stage};
 pub use proving::answer_with;
 pub use reading::read_statement;
 pub use schemes::{ClearConfig, FieldAnswers, FriConfig};
+pub use security::SecurityBits;
 pub use service::{ServiceAnswers, StarkService};
 pub use statement::{
     NamedFields, StatementAnswers, answer_trace, check_statement, prove_statement, show_statement,
     verify_statement,
 };
 pub use words::SchemeWords;
+pub use worth::{SecurityError, StatementSecurity, statement_security};

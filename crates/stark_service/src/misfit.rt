@@ -18,6 +18,8 @@ pub(crate) enum TraceMisfit {
     Width { expected: usize, got: usize },
     /// There are more or fewer rows than the preprocessed columns have, `2^log_rows`.
     PreprocessedRows { rows: usize, log_rows: usize },
+    /// There are more or fewer rows than the statement fixes, `2^log_height`.
+    FixedHeight { rows: usize, log_height: usize },
 }
 
 impl TraceMisfit {
@@ -76,6 +78,12 @@ impl fmt::Display for TraceMisfit {
                 write!(
                     f,
                     "the trace has {rows} rows, and the preprocessed columns 2^{log_rows}"
+                )
+            }
+            TraceMisfit::FixedHeight { rows, log_height } => {
+                write!(
+                    f,
+                    "the trace has {rows} rows, and the statement's log_height asks for 2^{log_height}"
                 )
             }
         }

@@ -1,4 +1,4 @@
-//! What long work is about to do, told while it goes on. No clause speaks of it.
+//! What long work is about to do, reported while it goes on. No clause speaks of it.
 
 use std::fmt;
 use std::fmt::{Display, Formatter};
@@ -12,9 +12,9 @@ pub enum Stage {
     ReadingProof,
     /// To read the trace.
     ReadingTrace,
-    /// To take the JSON of a statement and a trace apart, of so many bytes.
+    /// To take the JSON of a statement and a trace apart, of these numbers of bytes.
     Parsing { statement: usize, trace: usize },
-    /// To verify a proof for a statement, of so many bytes.
+    /// To verify a proof for a statement, of these numbers of bytes.
     Verifying { statement: usize, proof: usize },
     /// To check a trace.
     Checking { rows: usize, columns: usize },
@@ -52,7 +52,7 @@ impl Display for Stage {
     }
 }
 
-/// What is told of a run while it goes on.
+/// What is reported of a run while it goes on.
 pub trait Progress {
     /// The run is about to do this.
     fn stage(&mut self, stage: Stage);

@@ -11,6 +11,7 @@ ghost use Rattle.stark_service.specs.TraceChecks.{OrLacksMemory};
 use crate::bounds::ProvingConfig;
 use crate::checking::check_rows;
 use crate::fitting::fitting_trace;
+use crate::heights::{is_fixed_height, unfit_height};
 use crate::judging::unfit_rows;
 use crate::progress::{Progress, Stage};
 use crate::reading::read_rows;
@@ -136,7 +137,13 @@ fn answer_with_rows<SC: ProvingConfig, P: Progress>(
         (statement_view statement.now) log_rows bytes.items) result.answer }
 {
     match read_rows::<Val<SC>>(alloc, bytes) {
-        Ok(rows) => { answer_rows(alloc, config, asked, statement, log_rows, rows, progress) }
+        Ok(rows) => {
+            if !is_fixed_height(statement.log_height, rows.height) {
+                let report = unfit_height(alloc, statement.log_height, rows.height);
+                return report.as_finding();
+            }
+            answer_rows(alloc, config, asked, statement, log_rows, rows, progress)
+        }
         Err(report) => report.as_finding(),
     }
 }

@@ -13,7 +13,8 @@ ghost use Rattle.stark_answers.specs.declared.verdict.Verdict.{Verdict};
 ghost use Rattle.stark_service.specs.NoFloats.{WritesNoFloat};
 ghost use Rattle.stark_service.specs.Schemes.{ByScheme, HasRoomFor, WithNumbers};
 ghost use Rattle.stark_service.specs.StatementFacts.{IsOfTrace};
-ghost use Rattle.stark_service.specs.Statements.{IsFileOn, IsSoundOfTakenOn, IsSoundOn, IsAnswerOn, IsVerdictOn, OrUnjudged, rows_in};
+ghost use Rattle.stark_service.specs.Statements.{IsFileOn, IsSoundOn, IsAnswerOn, IsVerdictOn, OrUnjudged, rows_in};
+ghost use Rattle.stark_service.specs.FriSoundness.{IsSoundByFriOn};
 ghost use Rattle.stark_service.specs.TraceChecks.{OrLacksMemory};
 
 use crate::bounds::{StatementChallenger, StatementExtension, StatementField};
@@ -23,6 +24,7 @@ use crate::proving::answer_with;
 use crate::service::StarkService;
 use stark_answers::{Finding, Report, TraceTask, Verdict};
 use stark_clear::ClearPcs;
+use stark_fri::FriCalls;
 use stark_fri_prover::FriPcs;
 use stark_merkle::Sha256Tree;
 use stark_parts::StarkConfig;
@@ -42,8 +44,9 @@ pub trait FieldAnswers<EF, C>: Sized {
     /// Of the bytes of a proof.
     ghost verdict: { C → Option FriNumbers → StatementView Self → List ℕ → Verdict → Type 0 };
 
-    /// In the clear the columns that the proof lists break no constraint of the statement's AIR,
-    /// by FRI whatever columns take the opened values, unless a challenge is bad.
+    /// In the clear the columns that the proof lists break no constraint of the statement's AIR
+    /// unless a challenge is bad; by FRI whatever tables lead to the proof's roots are near to
+    /// columns that satisfy it, or one of few draws was made, or two texts have one digest.
     ghost sound: { C → Option FriNumbers → StatementView Self → List ℕ → Type 0 };
 
     /// Of the bytes of a trace, by what is asked for it.
@@ -72,7 +75,8 @@ where
 
     ghost sound = { λ fresh scheme s proof. ByScheme scheme
         (λ numbers. WithNumbers (λ pcs. pcs.parameters) numbers (λ pcs.
-        IsSoundOfTakenOn ⟦<FriConfig<F, EF, C> as StarkService>⟧.service pcs
+        IsSoundByFriOn ⟦<FriConfig<F, EF, C> as StarkService>⟧.service
+        ⟦<C as FriCalls<F, EF, Sha256Tree>>⟧.fri_ops (λ pcs. pcs.parameters) (λ p. p) pcs
         (after_statement ⟦<C as CanObserve<F>>⟧.after_observe F.of_number F.number_of s fresh) s
         (⟦<FriConfig<F, EF, C> as StarkService>⟧.service.reading proof)))
         (IsSoundOn ⟦<ClearConfig<F, EF, C> as StarkService>⟧.service clear_pcs
@@ -121,7 +125,7 @@ fn bound<F: PrimeField64, C: CanObserve<F> + Drop>(
 {
     let mut challenger = challenger;
     // Bound before the seed, and so before every draw: who writes a proof can't choose the AIR, the
-    // configuration or the work behind alpha or zeta.
+    // configuration or the work before alpha or zeta.
     statement.bind(alloc, &mut challenger)?;
     Ok(challenger)
 }

@@ -13,7 +13,7 @@ ghost use Rattle.stark_answers.specs.declared.task.TraceTask.{TraceTask};
 ghost use Rattle.stark_answers.specs.declared.verdict.Verdict.{Verdict};
 ghost use Rattle.stark_service.specs.Fitting.{TellsOfTrace};
 ghost use Rattle.stark_service.specs.Service.{CanProve, CanProveFor, HasColumnsAt, IsReady, ServiceOps};
-ghost use Rattle.stark_service.specs.Statements.{IsFileOn, IsFoundWithRows, IsSoundOfTakenOn, IsAnswerOn, IsAnswerWithRows, IsVerdictOn, IsVerdictWithRows, proof_in, rows_in};
+ghost use Rattle.stark_service.specs.Statements.{IsFileOn, IsFoundWithRows, IsSoundOfTakenOn, IsAnswerAtHeight, IsAnswerOn, IsAnswerWithRows, IsVerdictOn, IsVerdictWithRows, proof_in, rows_in};
 ghost use Rattle.stark_service.specs.TraceChecks.{IsCheckedWithRows};
 
 use crate::bounds::ServiceConfig;
@@ -146,7 +146,7 @@ impl<SC: ServiceConfig> ServiceAnswers for SC {
     ghost tells = { λ config asked s. IsAnswerWithRows ⟦<SC as StarkService>⟧.service
         (SC.config.scheme config) (SC.config.first_state config) s asked };
 
-    ghost tells_of_bytes = { λ config asked s log_rows trace. IsAnswerWithRows
+    ghost tells_of_bytes = { λ config asked s log_rows trace. IsAnswerAtHeight
         ⟦<SC as StarkService>⟧.service (SC.config.scheme config) (SC.config.first_state config) s
         asked log_rows (rows_in ⟦<SC as StarkService>⟧.service.element trace) };
 

@@ -10,6 +10,7 @@ ghost use Rattle.stark_service.specs.Showing.{IsOfShowing, IsShownOf, IsShownOfR
 ghost use Rattle.stark_service.specs.TraceChecks.{OrLacksMemory};
 
 use crate::counted::{CountedField, Numbered};
+use crate::description::described;
 use crate::reading::read_statement;
 use crate::security::{challenges_line, security_line};
 use stark_answers::{Finding, Report};
@@ -20,7 +21,7 @@ use stark_support::{ExtensionField, JsonCodec, TwoAdicField};
 use std::alloc::{AllocError, Global};
 
 /// The logarithm of the greatest height of a trace under a scheme over a field.
-fn greatest_height<F: TwoAdicField>(scheme: SchemeChoice) -> usize
+pub(crate) fn greatest_height<F: TwoAdicField>(scheme: SchemeChoice) -> usize
     requires { HasRoomFor F.TWO_ADICITY scheme }
     ensures { result ≡ greatest_height F.TWO_ADICITY (scheme_numbers scheme) }
 {
@@ -31,7 +32,7 @@ fn greatest_height<F: TwoAdicField>(scheme: SchemeChoice) -> usize
 }
 
 /// A statement as text: its AIR, with the error bound at the greatest height; how many values the
-/// challenges have; and what its proofs are worth.
+/// challenges have; what its proofs are worth; and what it fixes beside its AIR.
 fn text_of<F: CountedField + TwoAdicField, EF: ExtensionField<F>>(
     alloc: Global,
     scheme: SchemeChoice,
@@ -44,9 +45,11 @@ fn text_of<F: CountedField + TwoAdicField, EF: ExtensionField<F>>(
     let greatest = greatest_height::<F>(scheme);
     let challenges = challenges_line(alloc, F::order(), EF::DIMENSION)?;
     let security = security_line::<F, EF>(alloc, scheme, statement, greatest)?;
+    let described = described(alloc, scheme, statement)?;
     let mut text = shown::<F, EF>(alloc, &statement.air, greatest)?;
     text.push_str(&challenges)?;
     text.push_str(&security)?;
+    text.push_str(&described)?;
     Ok(text)
 }
 

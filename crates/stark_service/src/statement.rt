@@ -3,7 +3,7 @@
 //!
 //! A statement is what a verifier's owner fixes, the configuration with it; the proof or the trace
 //! is another file. Before anything else the challenger, which hashes, observes the whole
-//! statement, so that no part of it can be chosen behind a draw.
+//! statement, so that no part of it can be chosen after a draw.
 
 ghost use Rattle.std.specs.Prelude.{◌≡◌, ℕ, List, IfOk};
 ghost use Rattle.serde_json.specs.Data.{Data};
@@ -26,7 +26,7 @@ use crate::reading::{unread_statement, unread_text};
 use stark_answers::{Finding, ProofForm, Report, TraceTask, Verdict};
 use stark_bench::{BabyBearField, F12289, KoalaBearField};
 use stark_json::Document;
-use stark_statement::{Configuration, FieldName, statement_document};
+use stark_statement::{Configuration, FieldName, refuse_repeats, statement_document};
 use std::alloc::{AllocError, Global};
 
 /// What a verifier and a prover that are given a statement say, over the bytes of the statement and
@@ -35,8 +35,9 @@ pub trait StatementAnswers: Sized {
     /// This is the verdict on a statement and a proof.
     ghost verdict: { List ℕ → List ℕ → Verdict → Type 0 };
 
-    /// Columns break no constraint of the statement's AIR, unless a challenge is bad: in the clear
-    /// those that the proof lists, by FRI whatever columns take the opened values.
+    /// In the clear the columns that the proof lists break no constraint of the statement's AIR,
+    /// unless a challenge is bad. By FRI whatever tables lead to the proof's roots are near to
+    /// columns that satisfy it, or one of few draws was made, or two texts have one digest.
     ghost sound: { List ℕ → List ℕ → Type 0 };
 
     /// This is found of a statement and a trace, by what is asked for the trace.
@@ -48,14 +49,14 @@ pub trait StatementAnswers: Sized {
     /// This is found of a statement that is to be shown.
     ghost showing: { List ℕ → Finding → Type 0 };
 
-    /// The verdict on a proof, as `verify_statement` says it. The statement's bytes are let go of
+    /// The verdict on a proof, as `verify_statement` says it. The statement's bytes are dropped
     /// once they are read.
     fn verify(alloc: Global, statement: Vec<u8>, proof: &[u8]) -> Report<Verdict>
         ensures verdict { OrUnjudged (verdict statement.items proof.now) result.answer }
         ensures sound { result.answer ≡ Verdict.Accepted → sound statement.items proof.now };
 
-    /// What is found of a trace, as `answer_trace` says it; its check and its proof are told before
-    /// they begin. The bytes of both are let go of once they are read.
+    /// What is found of a trace, as `answer_trace` says it; its check and its proof are reported
+    /// before they begin. The bytes of both are dropped once they are read.
     fn answer<P: Progress>(
         alloc: Global,
         asked: TraceTask,
@@ -166,7 +167,7 @@ impl StatementAnswers for NamedFields {
 
 /// A statement's JSON and its configuration; or what is said where there is none. The bytes are let
 /// go of once they are read, before the statement is made of the JSON.
-fn read_configured(
+pub(crate) fn read_configured(
     alloc: Global,
     bytes: Vec<u8>,
 ) -> Result<(Document, Configuration), Report<Verdict>>
@@ -176,6 +177,10 @@ fn read_configured(
         Ok(value) => value,
         Err(error) => return Err(unread_text(alloc, "the statement", &bytes, &error)),
     };
+    // Of two members of one name the value has the last alone.
+    if let Err(error) = refuse_repeats(alloc, &bytes) {
+        return Err(unread_statement(alloc, &error));
+    }
     match Configuration::from_document(alloc, &value) {
         Ok(configuration) => Ok((value, configuration)),
         Err(error) => Err(unread_statement(alloc, &error)),
@@ -246,7 +251,7 @@ fn show_value(alloc: Global, configuration: Configuration, value: Document) -> R
 }
 
 /// A list of its own of the bytes.
-fn copied(alloc: Global, bytes: &[u8]) -> Result<Vec<u8>, AllocError>
+pub(crate) fn copied(alloc: Global, bytes: &[u8]) -> Result<Vec<u8>, AllocError>
     ensures { IfOk result (λ copy. copy.items ≡ bytes.now) }
 {
     let mut copy = Vec::new(alloc);
@@ -265,8 +270,10 @@ fn copied(alloc: Global, bytes: &[u8]) -> Result<Vec<u8>, AllocError>
 ///
 /// What it accepts is accepted by the verifier of the configuration that the statement names, whose
 /// challenger observed the statement first (`verdict`). In the clear the columns that the proof
-/// lists break no constraint of the AIR, by FRI whatever columns take the opened values, unless
-/// alpha or zeta is bad for them (`sound`). So a service needs this one call.
+/// lists break no constraint of the AIR, unless alpha or zeta is bad for them. By FRI take any
+/// tables of the trace, the chunks and the folds that lead to the proof's roots beside the
+/// statement's own preprocessed rows: they are near to columns that satisfy the AIR on H, or one of
+/// few draws was made, or two texts have one digest (`sound`). So a service needs this one call.
 pub fn verify_statement(alloc: Global, statement: &[u8], proof: &[u8]) -> Report<Verdict>
     ensures verdict { OrUnjudged (⟦<NamedFields as StatementAnswers>⟧.verdict
         statement.now proof.now) result.answer }
@@ -285,7 +292,7 @@ pub fn verify_statement(alloc: Global, statement: &[u8], proof: &[u8]) -> Report
 /// the statement was read and its AIR passes a limit, whatever the trace is.
 ///
 /// - `Check`: `Satisfied`, or `Broken` with the first row that breaks a constraint and in it the
-///   first constraint. Selectors are those of the trace's domain, and behind the last row comes the
+///   first constraint. Selectors are those of the trace's domain, and after the last row comes the
 ///   first. Where there is no memory for the constraint's equation the answer is `out of memory`.
 /// - `Prove`: `Broken` as by a check, before anything is committed; else a proof, or `refused` and
 ///   the first cause why there is none.
@@ -296,7 +303,7 @@ pub fn verify_statement(alloc: Global, statement: &[u8], proof: &[u8]) -> Report
 /// is written of it is its file in that form, of a proof of the trace that was read (`proof`): a
 /// line of JSON, or the bytes that `stark_proof_bytes` gives. A proof of any size has both.
 ///
-/// It works on copies of the bytes, which it lets go of once they are read.
+/// It works on copies of the bytes, which it drops once they are read.
 pub fn answer_trace(
     alloc: Global,
     asked: TraceTask,
@@ -344,7 +351,7 @@ pub fn prove_statement(alloc: Global, statement: &[u8], trace: &[u8]) -> Report<
 /// are conjectured to be worth; `bad input` where they spell none, and `refused AirTooLarge` where
 /// the AIR passes a limit.
 ///
-/// The bytes are let go of once they are read, before the text is made.
+/// The bytes are dropped once they are read, before the text is made.
 pub fn show_statement(alloc: Global, bytes: Vec<u8>) -> Report<Finding>
     ensures shown { OrLacksMemory (⟦<NamedFields as StatementAnswers>⟧.showing bytes.items)
         result.answer }

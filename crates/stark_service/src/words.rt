@@ -10,7 +10,7 @@ use stark_transcript::{InvalidProofShapeError, VerificationError};
 use std::alloc::{AllocError, Global};
 use std::fmt::Display;
 
-/// How many bytes of a value's text are told.
+/// How many bytes of a value's text are printed.
 const VALUE_LENGTH: usize = 40;
 
 /// A text, where there is memory for it.
@@ -28,7 +28,7 @@ pub(crate) fn bad_input<E: Display>(alloc: Global, sentence: &E) -> Report<Verdi
     }
 }
 
-/// The front of a text, at most so many bytes of it and no part of a character; all of it where it
+/// The front of a text, of at most `most` bytes and no part of a character; all of it where it
 /// isn't longer.
 fn front_of(text: &str, most: usize) -> &str {
     if text.len() <= most {
@@ -42,7 +42,7 @@ fn front_of(text: &str, most: usize) -> &str {
     ""
 }
 
-/// What is told of a value's text.
+/// What is printed of a value's text.
 pub(crate) fn value_front(text: &str) -> &str {
     front_of(text, VALUE_LENGTH)
 }

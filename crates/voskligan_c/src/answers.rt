@@ -20,8 +20,9 @@ pub trait ProgramAnswers {
     /// This is the verdict on a statement and a proof.
     ghost verdict: { List ℕ → List ℕ → Verdict → Type 0 };
 
-    /// Columns break no constraint of the statement's AIR, unless a challenge is bad: in the clear
-    /// those that the proof lists, by FRI whatever columns take the opened values.
+    /// In the clear the columns that the proof lists break no constraint of the statement's AIR,
+    /// unless a challenge is bad. By FRI whatever tables lead to the proof's roots are near to
+    /// columns that satisfy it, or one of few draws was made, or two texts have one digest.
     ghost sound: { List ℕ → List ℕ → Type 0 };
 
     /// This is found of a statement and a trace, by what is asked for the trace.

@@ -24,7 +24,7 @@ const PROOF_BYTES: &[u8] =
 
 #[test]
 fn a_proof_is_made_and_accepted(rt: HostRuntime) -> Result<(), AllocError> {
-    let mut proof = Vec::from_elem(rt.alloc(), 0u8, 131072)?;
+    let mut proof = Vec::from_elem(rt.alloc(), 0u8, 262144)?;
     let mut message = [7u8; 32];
     let mut needed = 0;
     let made = voskligan_prove(

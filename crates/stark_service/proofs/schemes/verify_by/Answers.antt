@@ -1,4 +1,7 @@
 use Rattle.std.proofs.Common.{refl}
+use Rattle.sha2.specs.Sha256.{sha256}
+use Rattle.stark_merkle.specs.Sha.{digests_are_32}
+use Rattle.stark_fri.proofs.BoundSteps.{names_by}
 use Rattle.stark_clear.specs.ClearScheme.{clear_pcs}
 use Rattle.stark_statement.specs.StatementView.{statement_view}
 use Rattle.stark_service.proofs.SchemeSteps.{sound_by_numbers, sound_in_the_clear, verdict_by_numbers}
@@ -14,7 +17,24 @@ pub returns-in-Fri-clause-sound : goal.returns-in-Fri-clause-sound
 returns-in-Fri-clause-sound g c = rw c.in-Fri.is (
     λ accepted.
     sound_by_numbers _ c.configured-config.result.pcs c.new-pcs.result (λ pcs. pcs.parameters) c.in-Fri.parameters c.configured-config.result.challenger c.in-Ok.bound _ (statement_view c.args.statement.now)
-    c.configured-config.ensures.pcs c.new-pcs.ensures c.configured-config.ensures.challenger c.in-Ok.ensures _ (c.verify_with.ensures.sound accepted)
+    c.configured-config.ensures.pcs c.new-pcs.ensures c.configured-config.ensures.challenger c.in-Ok.ensures _ _ (record {
+      plain = refl;
+      ring = refl;
+      embed = refl;
+      accepts = λ s asked proof state index accepts. accepts;
+      fields = record {
+        base = g.met.F.Field.field_laws;
+        extension = g.met.EF.Field.field_laws;
+        embeds = g.met.EF.ExtensionField.embeds;
+        two_adic = g.met.F.TwoAdicField.two_adic;
+      };
+      bytes = names_by g.F.TwoAdicField g.F.Field g.F.PrimeField64 g.EF.Field g.EF.ExtensionField g.met.F.PrimeField64.below g.met.F.PrimeField64.fits g.met.F.PrimeField64.same_number
+          g.met.EF.ExtensionField.is_basis sha256 digests_are_32;
+      laws = g.met.EF.Field.field_laws;
+      embeds = g.met.EF.ExtensionField.embeds;
+      two_adic = g.met.F.TwoAdicField.two_adic;
+    })
+    _ _ c.verify_with.ensures.verdict accepted
     )
 
 pub returns-in-Clear-clause-sound : goal.returns-in-Clear-clause-sound

@@ -194,9 +194,8 @@ def long_texts(config, honest, proof, trace):
     digits, deep, bad = b"7" * 10_000_000, b"[" * 100_000 + b"]" * 100_000, b"bad input"
     named = lambda text: b'{"' + b"a" * 10_000_000 + b'":0,' + text[1:]
     more = lambda text: honest.replace(b'"air":{', b'"air":{' + text)
-    searched = [("the greatest alpha_bits", "prove", honest[:-1] + b',"alpha_bits":18446744073709551615}', trace, b"refused GrindExhausted")]
     return [
-        *(searched if config["field"] == "f12289" else []),
+        ("the greatest alpha_bits", "prove", honest[:-1] + b',"alpha_bits":18446744073709551615}', trace, bad),
         ("10 MB of digits", "show", digits, None, bad),
         ("10 MB of digits", "verify", honest, digits, bad),
         ("10 MB of digits", "prove", honest, digits, bad),
@@ -208,7 +207,10 @@ def long_texts(config, honest, proof, trace):
         ("a trace of a million rows", "prove", honest, b"[" + b"[5]," * 1_000_000 + b"[5]]", bad),
         ("a row of a million", "prove", honest, b"[[" + b"5," * 1_000_000 + b"5]]", bad),
         ("the greatest degree_bits", "verify", honest, proof.replace(b'_bits":1', b'_bits":18446744073709551615'), b"refused DegreeBitsTooLarge"),
-        ("the greatest ood_bits", "verify", honest[:-1] + b',"ood_bits":18446744073709551615}', proof, b"refused InvalidOodPowWitness"),
+        ("the greatest ood_bits", "verify", honest[:-1] + b',"ood_bits":18446744073709551615}', proof, bad),
+        ("ood_bits of a day", "verify", honest[:-1] + b',"ood_bits":63}', proof, b"refused InvalidOodPowWitness"),
+        ("the greatest log_height", "verify", honest[:-1] + b',"log_height":18446744073709551615}', proof, b"refused DegreeBitsTooSmall"),
+        ("a statement with 100,000 names in an object", "show", more(b'"deep":{' + b",".join(b'"%d":0' % i for i in range(100_000)) + b"},"), None, bad),
         ("nothing", "show", b"", None, bad),
     ]
 

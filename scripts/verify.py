@@ -10,7 +10,8 @@ import hashlib, json, sys
 
 FIELDS = {"baby_bear": (2013265921, 31, 11, 27, 440564289), "koala_bear": (2130706433, 3, 3, 24, 1791270792), "f12289": (12289, 11, 11, 12, 1331)}
 NODES = "constant main next preprocessed preprocessed_next public periodic first last transition add sub mul neg".split()
-NUMBERS = {"log_blowup": 1, "log_final_poly_len": 0, "num_queries": 85, "commit_proof_of_work_bits": 0, "query_proof_of_work_bits": 16}
+NUMBERS = {"log_blowup": 2, "log_final_poly_len": 0, "num_queries": 120, "commit_proof_of_work_bits": 0, "query_proof_of_work_bits": 16}
+SETS = {"default": {}, "fast": {"log_blowup": 1, "num_queries": 85}, "proved_100": {"log_blowup": 1, "num_queries": 220}}
 
 
 class Refused(Exception):
@@ -125,12 +126,14 @@ class Challenger:
 class Statement:
     def __init__(self, value):
         config = value.get("config") or {}
+        config = SETS[config] if isinstance(config, str) else config
         self.field_name = config.get("field") or "baby_bear"
         if (config.get("scheme") or "fri") != "fri":
             raise SystemExit("this verifier is for FRI alone")
         self.numbers = {name: config[name] if config.get(name) is not None else number for name, number in NUMBERS.items()}
         self.air, self.public = value["air"], value["public_values"]
         self.alpha_bits, self.ood_bits = value.get("alpha_bits") or 0, value.get("ood_bits") or 0
+        self.log_height = value.get("log_height")
         self.preprocessed = self.air.get("preprocessed") or {"width": 0, "rows": []}
         nodes = self.air["nodes"]
         self.reads_next = self.air["width"] > 0 and any(node[0] == "next" for node in nodes)
@@ -156,6 +159,7 @@ class Statement:
         for kind, node in self.constraints:
             words += [kind, node]
         words += [len(self.public), *self.public, self.alpha_bits, self.ood_bits]
+        words += [] if self.log_height is None else [self.log_height]
         body = b"voskligan statement 2" + b"".join(map(num, words))
         return num(len(body)) + body
 
@@ -210,6 +214,9 @@ def key_of(field, statement):
 
 def check_shape(field, statement, proof, key):
     n, opened, width = proof["degree_bits"], proof["opened_values"], statement.air["width"]
+    if statement.log_height is not None:
+        need(n >= statement.log_height, "DegreeBitsTooSmall")
+        need(n <= statement.log_height, "DegreeBitsTooLarge")
     need(n + statement.numbers["log_blowup"] <= field.adicity, "DegreeBitsTooLarge")
     local, after, preprocessed = opened.get("preprocessed_local"), opened.get("preprocessed_next"), statement.preprocessed["width"]
     if preprocessed == 0:

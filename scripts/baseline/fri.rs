@@ -13,8 +13,8 @@ pub struct Parameters {
 }
 
 pub const PARAMETERS: Parameters = Parameters {
-    log_blowup: 1,
-    num_queries: 85,
+    log_blowup: 2,
+    num_queries: 120,
     query_bits: 16,
 };
 

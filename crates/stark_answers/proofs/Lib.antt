@@ -8,3 +8,5 @@ pub mod TakenColumns
 pub mod TraceShapes
 pub mod TraceSteps
 pub mod VerdictSteps
+pub mod Newline
+pub mod ReadBackSteps

@@ -41,7 +41,7 @@ module _ {S F E C K T P X Y : Type 0} (ops : ProtocolOps S F E C K T P X Y) (coo
   memory_stated (Ok proof) f tells memory = absurd (cc)
   memory_stated (Err error) f tells memory = tells ∙ ap (λ e. finding.Verdict (verdict.Refused (prover_refusal_of e))) (let same : error ≡ ProvingError.OutOfMemory = cc in same)
 
-  -- With a configuration's parts, what tells of an answer tells of the trace.
+  -- With a configuration's parts, what is said of an answer is said of the trace.
   pub is_proved : (log_rows : ℕ) (air : CheckedAir F) (given_scheme scheme : S) (start first_state : C) (bits ood_bits first_bits alpha_bits : ℕ) (public_values : List F) (height : ℕ) (trace : Trace F)
       (answer : Result (Proof K E P F) (ProvingError Y)) (f : Finding) → given_scheme ≡ scheme → start ≡ first_state → bits ≡ ood_bits → first_bits ≡ alpha_bits
       → OrNoMemory (TellsAnswer IsFound answer) f

@@ -7,3 +7,4 @@ pub mod SoundRun
 pub mod TraceShape
 pub mod Verdict
 pub mod Verify
+pub mod ReadBack

@@ -37,6 +37,7 @@ begins_as_found form (finding.Verdict v) is begins = absurd is
 begins_as_found form (finding.Text text) is begins = absurd is
 begins_as_found form finding.Satisfied is begins = absurd is
 begins_as_found form (finding.Broken row) is begins = absurd is
+begins_as_found form (finding.TooFewBits line) is begins = absurd is
 
 -- It is one in one form.
 one_form : (form other : ProofForm) (f : Finding) → IsProof form f → IsProof other f → form ≡ other
@@ -46,6 +47,7 @@ one_form form other (finding.Verdict v) is also = absurd is
 one_form form other (finding.Text text) is also = absurd is
 one_form form other finding.Satisfied is also = absurd is
 one_form form other (finding.Broken row) is also = absurd is
+one_form form other (finding.TooFewBits line) is also = absurd is
 
 text_is_none : (form : ProofForm) (f : Finding) → IsProof form f → IsText f → ⊥
 text_is_none form (finding.Proof line) is text = text
@@ -54,6 +56,7 @@ text_is_none form (finding.Verdict v) is text = text
 text_is_none form (finding.Text other) is text = is
 text_is_none form finding.Satisfied is text = text
 text_is_none form (finding.Broken row) is text = text
+text_is_none form (finding.TooFewBits line) is text = text
 
 -- ---- a verdict that is found
 

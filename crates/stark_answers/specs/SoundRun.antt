@@ -60,7 +60,7 @@ module _ {S F E C T P X Y : Type 0} (ops : ProtocolOps S F E C (Listed F) T P X 
   -- With alpha and zeta as the replay draws them: the trace's columns, beside the interpolation of the declared preprocessed
   -- ones, break no constraint on H, or alpha is bad for these columns and the public values, or zeta is bad for these, alpha and
   -- the chunks. The key lists such an interpolation, the trace's commitment is to one matrix, all degrees are below the committed
-  -- height; and so many draws at most are bad for any columns and chunks of these degrees: one alpha less than there are
+  -- height; and at most these draws are bad for any columns and chunks of these degrees: one alpha less than there are
   -- constraints, and as many zetas as the equation's polynomial can have roots.
   pub record ColumnsAreSound (log_height : ℕ) (declared : Option (Trace F)) : Type 0 where
     pub alpha : E

@@ -44,6 +44,7 @@ abbrev pub status_of : RunEnd → ℕ
 status_of ends.Accepted = 0
 status_of ends.Refused = 1
 status_of ends.NotJudged = 2
+status_of ends.BelowFloor = 4
 status_of ends.InputFailed = 2
 status_of ends.OutputFailed = 2
 

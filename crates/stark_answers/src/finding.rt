@@ -33,6 +33,8 @@ pub enum Finding {
     Satisfied,
     /// A row of a trace breaks a constraint.
     Broken(BrokenRow),
+    /// The line of how many bits are proved, fewer than are asked for, with its newline.
+    TooFewBits(String),
 }
 
 impl Finding {
@@ -42,7 +44,8 @@ impl Finding {
     {
         match self {
             Finding::Verdict(verdict) => verdict.line().as_bytes(),
-            Finding::Proof(line) | Finding::Text(line) => line.as_bytes(),
+            Finding::Proof(line) | Finding::Text(line) | Finding::TooFewBits(line) =>
+                line.as_bytes(),
             Finding::ProofBytes(bytes) => bytes.as_slice(),
             Finding::Satisfied => "satisfied\n".as_bytes(),
             Finding::Broken(row) => row.lines.as_bytes(),
@@ -58,6 +61,7 @@ impl Finding {
             Finding::Proof(_) | Finding::ProofBytes(_) | Finding::Text(_) | Finding::Satisfied =>
                 RunEnd::Accepted,
             Finding::Broken(_) => RunEnd::Refused,
+            Finding::TooFewBits(_) => RunEnd::BelowFloor,
         }
     }
 }

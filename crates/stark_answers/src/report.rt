@@ -20,7 +20,7 @@ pub struct Report<T> {
     pub reason: Option<String>,
 }
 
-/// The words of an error, behind what they speak of.
+/// The words of an error, after what they speak of.
 pub(crate) fn words<E: Display>(alloc: Global, subject: &str, error: &E) -> Option<String> {
     match format!(in alloc; "{subject}: {error}") {
         Ok(text) => Some(text),
@@ -49,7 +49,7 @@ impl Report<Verdict> {
         Report::bad_input(alloc, "the trace doesn't fit the AIR", &wanted)
     }
 
-    /// A statement's AIR passes a limit, which the error tells.
+    /// A statement's AIR passes a limit, which the error names.
     pub fn air_too_large<E: Display>(alloc: Global, passed: &E) -> Report<Verdict>
         ensures { result.answer ≡ Verdict.Refused Refusal.AirTooLarge }
     {
@@ -59,7 +59,7 @@ impl Report<Verdict> {
         }
     }
 
-    /// A growth of memory was refused in the middle of a command that refuses by name.
+    /// An allocation failed in the middle of a command that refuses by name.
     pub fn no_memory() -> Report<Verdict>
         ensures { result.answer ≡ Verdict.Refused Refusal.OutOfMemory }
     {
@@ -69,7 +69,7 @@ impl Report<Verdict> {
         }
     }
 
-    /// A growth of memory was refused, and nothing was judged: there is no memory to say more.
+    /// An allocation failed, and nothing was judged: there is no memory to say more.
     pub fn out_of_memory() -> Report<Verdict>
         ensures { result.answer ≡ Verdict.OutOfMemory }
     {

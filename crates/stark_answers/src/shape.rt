@@ -34,7 +34,7 @@ impl CheckShape {
     }
 }
 
-/// Whether each list has so many members.
+/// Whether each list is of this length.
 pub fn have_length<T>(lists: &[Vec<T>], count: usize) -> bool
     ensures { result ≡ list_all (λ list.
         length list == count) (map (λ list. list.items) lists.now) }

@@ -14,6 +14,8 @@ pub enum RunEnd {
     Refused,
     /// The line `bad input` or `out of memory` is written: nothing was judged.
     NotJudged,
+    /// The line that begins with `not judged` is written: a proof is worth less than is asked for.
+    BelowFloor,
     /// A read failed.
     InputFailed,
     /// A write failed.
@@ -29,6 +31,7 @@ impl RunEnd {
             RunEnd::Accepted => 0,
             RunEnd::Refused => 1,
             RunEnd::NotJudged | RunEnd::InputFailed | RunEnd::OutputFailed => 2,
+            RunEnd::BelowFloor => 4,
         }
     }
 }
@@ -50,7 +53,7 @@ pub enum Refusal {
     GrindExhausted,
     /// A statement's AIR passes a limit.
     AirTooLarge,
-    /// A growth of memory was refused.
+    /// An allocation failed.
     OutOfMemory,
     /// A proof's shape doesn't fit.
     InvalidProofShape(InvalidProofShapeError),
@@ -99,7 +102,7 @@ pub enum Verdict {
     Refused(Refusal),
     /// The words name no command, or the input isn't one for it.
     BadInput,
-    /// A growth of memory was refused before the input was judged.
+    /// An allocation failed before the input was judged.
     OutOfMemory,
 }
 

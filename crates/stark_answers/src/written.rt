@@ -1,10 +1,11 @@
 //! A proof as it is written.
 
-ghost use Rattle.std.specs.Prelude.{IfOk};
-ghost use Rattle.stark_proof.specs.ProofJson.{proof_writing};
+ghost use Rattle.std.specs.Prelude.{ℕ, List, IfOk, string_bytes};
+ghost use Rattle.stark_proof.specs.ProofJson.{proof_reading, proof_writing};
 ghost use Rattle.stark_proof.specs.ProofView.{proof_view};
 ghost use Rattle.stark_proof_bytes.specs.ProofBytes.{codecs};
 ghost use Rattle.stark_answers.specs.Prove.{IsWritten, IsWrittenLine, OrNoMemory, TellsAnswer};
+ghost use Rattle.stark_answers.specs.ReadBack.{ReadsBack, SpellsProof};
 ghost use Rattle.stark_answers.specs.declared.finding.Finding.{Finding};
 ghost use Rattle.stark_answers.specs.declared.task.ProofForm.{ProofForm};
 
@@ -23,6 +24,12 @@ pub trait WrittenProof: Sized {
     /// The finding is this proof in a form: the bytes that `stark_proof_bytes` gives, or its JSON
     /// without spaces and a newline, unless that had a float.
     ghost finds: { ProofForm → Self → Finding → Type 0 };
+
+    /// The JSON text spells this proof, where that can be read.
+    ghost spelled_by: { Self → List ℕ → Type 0 };
+
+    /// What is written of this proof in a form spells it.
+    ghost reads_back: { ProofForm → Self → Finding → Type 0 };
 }
 
 impl<Com, Challenge, PcsProof, Val> WrittenProof for Proof<Com, Challenge, PcsProof, Val>
@@ -35,17 +42,32 @@ where
     ghost finds = { λ form proof. IsWritten (proof_writing Com.writing Challenge.writing
         PcsProof.writing Val.writing Val.eq Val.ring.zero)
         (codecs Com.bytes Challenge.bytes PcsProof.bytes Val.bytes) form (proof_view proof) };
+
+    ghost spelled_by = { λ proof. SpellsProof (proof_writing Com.writing Challenge.writing
+        PcsProof.writing Val.writing Val.eq Val.ring.zero) (proof_reading Com.reading
+        Challenge.reading PcsProof.reading Val.reading Val.ring.zero) (proof_view proof) };
+
+    ghost reads_back = { λ form proof. ReadsBack (proof_writing Com.writing Challenge.writing
+        PcsProof.writing Val.writing Val.eq Val.ring.zero) (proof_reading Com.reading
+        Challenge.reading PcsProof.reading Val.reading Val.ring.zero)
+        (codecs Com.bytes Challenge.bytes PcsProof.bytes Val.bytes) form (proof_view proof) };
 }
 
 /// The line of a proof, with its newline.
-fn line_of_proof<
-    Com: NeverNull + Drop,
-    Challenge: JsonCodec + Drop,
-    PcsProof: JsonCodec + Drop,
-    Val: Field + NeverNull,
->(alloc: Global, proof: &Proof<Com, Challenge, PcsProof, Val>) -> Result<String, AllocError>
-    ensures { IfOk result (IsWrittenLine (proof_writing Com.writing Challenge.writing
+fn line_of_proof<Com, Challenge, PcsProof, Val>(
+    alloc: Global,
+    proof: &Proof<Com, Challenge, PcsProof, Val>,
+) -> Result<String, AllocError>
+where
+    Com: NeverNull + BytesCodec + Drop,
+    Challenge: JsonCodec + BytesCodec + Drop,
+    PcsProof: JsonCodec + BytesCodec + Drop,
+    Val: Field + NeverNull + BytesCodec,
+    ensures written { IfOk result (IsWrittenLine (proof_writing Com.writing Challenge.writing
         PcsProof.writing Val.writing Val.eq Val.ring.zero) proof.now) }
+    ensures read_back { IfOk result (λ line.
+        ⟦<Proof<Com, Challenge, PcsProof, Val> as WrittenProof>⟧.spelled_by proof.now
+        (string_bytes line)) }
 {
     let value = proof.to_json(alloc)?;
     let mut line = value.to_string(alloc)?;
@@ -64,8 +86,10 @@ where
     Challenge: JsonCodec + BytesCodec + Drop,
     PcsProof: JsonCodec + BytesCodec + Drop,
     Val: Field + NeverNull + BytesCodec,
-    ensures { IfOk result
+    ensures finds { IfOk result
         (⟦<Proof<Com, Challenge, PcsProof, Val> as WrittenProof>⟧.finds form proof.now) }
+    ensures read_back { IfOk result
+        (⟦<Proof<Com, Challenge, PcsProof, Val> as WrittenProof>⟧.reads_back form proof.now) }
 {
     match form {
         ProofForm::Json => Ok(Finding::Proof(line_of_proof(alloc, proof)?)),
@@ -74,7 +98,9 @@ where
 }
 
 /// What is written of a prover's answer: the proof in a form, or the name of the error; the error
-/// is `OutOfMemory` also where there is no memory for what is written.
+/// is `OutOfMemory` also where there is no memory for what is written. What is written of a proof
+/// spells it (`read_back`): as bytes always, as JSON where the opened values keep the rule of the
+/// preprocessed rows and the JSON nests no deeper than its reader goes.
 pub fn finding_of_proof<Com, Challenge, PcsProof, Val, PcsErr>(
     alloc: Global,
     form: ProofForm,
@@ -85,8 +111,10 @@ where
     Challenge: JsonCodec + BytesCodec + Drop,
     PcsProof: JsonCodec + BytesCodec + Drop,
     Val: Field + NeverNull + BytesCodec,
-    ensures { OrNoMemory (TellsAnswer
+    ensures finds { OrNoMemory (TellsAnswer
         (⟦<Proof<Com, Challenge, PcsProof, Val> as WrittenProof>⟧.finds form) answer.now) result }
+    ensures read_back { IfOk answer.now (λ proof.
+        ⟦<Proof<Com, Challenge, PcsProof, Val> as WrittenProof>⟧.reads_back form proof result) }
 {
     match answer {
         Ok(proof) => match written_proof(alloc, form, proof) {

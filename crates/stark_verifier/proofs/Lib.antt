@@ -9,3 +9,4 @@ pub mod Excluded
 pub mod EquationSteps
 pub mod TakenValueSteps
 pub mod SoundAcceptanceSteps
+pub mod KeySizeSteps

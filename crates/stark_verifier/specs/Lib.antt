@@ -6,3 +6,4 @@ pub mod Rounds
 pub mod Constraints
 pub mod TakenValues
 pub mod SoundAcceptance
+pub mod KeySizes

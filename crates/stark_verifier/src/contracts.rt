@@ -10,7 +10,9 @@ ghost use Rattle.stark_protocol.specs.Acceptance.{IsBalanced, RunHolds, challeng
 ghost use Rattle.stark_protocol.specs.FirstFault.{RunFault};
 ghost use Rattle.stark_verifier.specs.Checks.{AreDomains, IsOpened, IsOpeningsVerdict, IsPointFault, IsQuotient, IsSampled, IsShaped, expected_openings, log_chunks};
 ghost use Rattle.stark_verifier.specs.Given.{of_given};
+ghost use Rattle.stark_verifier.specs.KeySizes.{fault_beside, rows_fault, sizes_fault};
 ghost use Rattle.stark_verifier.specs.declared.instance.VerifierInstance.{VerifierInstance};
+ghost use Rattle.stark_verifier.specs.declared.key_size.KeySize.{KeySize};
 ghost use Rattle.stark_verifier.specs.declared.opened.ExpectedOpenings.{ExpectedOpenings};
 ghost use Rattle.stark_verifier.specs.declared.shape.ProofDomains.{ProofDomains};
 
@@ -33,7 +35,14 @@ pub(crate) trait StarkChecks<A>: StarkGenericConfig {
 
     ghost values_fault: { Given → Option InvalidProofShapeError };
 
+    ghost sizes_fault: { Given → Option (VerificationError Self.Pcs.Error) };
+
     ghost shape_fault: { Given → Option (VerificationError Self.Pcs.Error) };
+
+    // The same beside a key of which the size alone is known.
+    ghost rows_fault: { Given → Option KeySize → Option InvalidProofShapeError };
+
+    ghost fault_beside: { Given → Option KeySize → Option (VerificationError Self.Pcs.Error) };
 
     // The domains and numbers that are found on the way, and what a proof without a fault has.
     ghost are_domains: { Given → Self.Pcs.Domain → Self.Pcs.Domain → Type 0 };
@@ -90,7 +99,16 @@ where
     ghost values_fault = { of_given (values_fault ⟦<SC as StarkOperations>⟧.operations)
         ⟦<SC as StarkInstance<A>>⟧.instance };
 
+    ghost sizes_fault = { of_given (sizes_fault ⟦<SC as StarkOperations>⟧.operations)
+        ⟦<SC as StarkInstance<A>>⟧.instance };
+
     ghost shape_fault = { of_given (shape_fault ⟦<SC as StarkOperations>⟧.operations)
+        ⟦<SC as StarkInstance<A>>⟧.instance };
+
+    ghost rows_fault = { of_given (rows_fault ⟦<SC as StarkOperations>⟧.operations)
+        ⟦<SC as StarkInstance<A>>⟧.instance };
+
+    ghost fault_beside = { of_given (fault_beside ⟦<SC as StarkOperations>⟧.operations)
         ⟦<SC as StarkInstance<A>>⟧.instance };
 
     ghost are_domains = { of_given

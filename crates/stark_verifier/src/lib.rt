@@ -6,6 +6,7 @@ mod constraints;
 mod contracts;
 mod equation;
 mod instance;
+mod key_size;
 mod opened;
 mod openings;
 mod point;
@@ -15,5 +16,6 @@ mod transcript;
 mod verdict;
 
 pub use constraints::verify_constraints;
-pub use shape::validate_degree_bits;
+pub use key_size::{KeySize, StarkShapes};
+pub use shape::{check_proof_shape, validate_degree_bits};
 pub use verdict::{StarkVerdict, verify, verify_with_preprocessed};

@@ -8,6 +8,7 @@ ghost use Rattle.stark_verifier.specs.Shape.{row_view, rows_view};
 
 use crate::contracts::StarkChecks;
 use crate::instance::InstanceOf;
+use crate::key_size::{KeySize, key_of_size};
 use stark_air::{Air, BaseAir};
 use stark_parts::{PcsError, StarkGenericConfig, Val};
 use stark_proof::PreprocessedOpenedValues;
@@ -183,5 +184,33 @@ where
     let reads_next = opens_next_row(&columns);
     let rows = &on.proof.opened_values.preprocessed;
     check_rows_and_key(key, air.preprocessed_width(), reads_next, degree_bits, rows)?;
+    Ok(())
+}
+
+/// The preprocessed rows beside any key of a size, and beside what the AIR declares. The instance's
+/// own key isn't read.
+pub(crate) fn check_preprocessed_beside<SC: StarkGenericConfig, A: Air<Val<SC>>>(
+    alloc: Global,
+    on: &InstanceOf<'_, SC, A>,
+    size: Option<KeySize>,
+) -> Result<(), VerificationError<PcsError<SC>>>
+where
+    SC::Challenger: GrindingChallenger<Witness = Val<SC>>,
+    ensures clear { IfOk result (λ _. ⟦<SC as StarkChecks<A>>⟧.rows_fault on.now size ≡ None) }
+    ensures fault { IfErrMemoryAside result (λ error.
+        of_shape (⟦<SC as StarkChecks<A>>⟧.rows_fault on.now size) ≡ Some error) }
+{
+    let (air, degree_bits) = (on.air, on.proof.degree_bits);
+    let columns = air.preprocessed_next_row_columns(alloc)?;
+    let reads_next = opens_next_row(&columns);
+    let rows = &on.proof.opened_values.preprocessed;
+    let key = size.map(key_of_size);
+    check_rows_and_key(
+        key.as_ref(),
+        air.preprocessed_width(),
+        reads_next,
+        degree_bits,
+        rows,
+    )?;
     Ok(())
 }

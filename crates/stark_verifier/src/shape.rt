@@ -1,17 +1,20 @@
 //! The tests of a proof's shape, in their order.
-ghost use Rattle.std.specs.Prelude.{◌≡◌, ◌+◌, ◌-◌, ◌^◌, ◌<◌, ◌≤◌, IfErr, IfOk, None, Some};
+ghost use Rattle.std.specs.Prelude.{◌≡◌, ◌+◌, ◌-◌, ◌^◌, ◌<◌, ◌≤◌, IfErr, IfOk, None, OnOk, Some};
 ghost use Rattle.stark_support.specs.Scheme.{zk_bits};
 ghost use Rattle.stark_protocol.specs.Acceptance.{of_shape};
 ghost use Rattle.stark_protocol.specs.ShapeFaults.{degree_fault};
 ghost use Rattle.stark_verifier.specs.MemoryAside.{IfErrMemoryAside};
 
 use crate::contracts::StarkChecks;
-use crate::instance::InstanceOf;
+use crate::instance::{InstanceOf, VerifierInstance};
+use crate::key_size::{KeySize, StarkShapes};
 use crate::opened::{check_opened, check_randomization};
-use crate::preprocessed::check_preprocessed;
+use crate::preprocessed::{check_preprocessed, check_preprocessed_beside};
 use stark_air::Air;
-use stark_parts::{Domain, PcsError, StarkGenericConfig, Val};
-use stark_protocol::{log_parts_of, natural_domain, quotient_domain_of};
+use stark_parts::{Com, Domain, PcsError, StarkGenericConfig, Val};
+use stark_protocol::{
+    PreprocessedVerifierKey, StarkProof, log_parts_of, natural_domain, quotient_domain_of,
+};
 use stark_support::{GrindingChallenger, Pcs, PolynomialSpace, UnivariateStarkPcs, checked_pow2};
 use stark_transcript::{InvalidProofShapeError, VerificationError};
 use std::alloc::Global;
@@ -139,6 +142,35 @@ where
     Ok((quotient, log_parts + zk_bits))
 }
 
+/// The tests of the shape that read neither the height nor the key, in their order; the answer is
+/// the quotient's domain, and the logarithm of the number of chunks.
+fn check_sizes<SC: StarkGenericConfig, A: Air<Val<SC>>>(
+    alloc: Global,
+    on: &InstanceOf<'_, SC, A>,
+    trace: &Domain<SC>,
+    committed: &Domain<SC>,
+) -> Result<(Domain<SC>, usize), VerificationError<PcsError<SC>>>
+where
+    SC::Challenger: GrindingChallenger<Witness = Val<SC>>,
+    requires domains { ⟦<SC as StarkChecks<A>>⟧.are_domains on.now trace.now committed.now }
+    requires fits { on.now.proof.now.degree_bits < 64 }
+    ensures clear { IfOk result (λ _. ⟦<SC as StarkChecks<A>>⟧.sizes_fault on.now ≡ None) }
+    ensures opened { IfOk result (λ _. ⟦<SC as StarkChecks<A>>⟧.values_fault on.now ≡ None) }
+    ensures quotient { IfOk result (λ quotient.
+        ⟦<SC as StarkChecks<A>>⟧.is_quotient on.now quotient.0 quotient.1) }
+    ensures fault { IfErrMemoryAside result (λ error.
+        ⟦<SC as StarkChecks<A>>⟧.sizes_fault on.now ≡ Some error) }
+{
+    // The number of chunks, against which they are counted below, comes with the quotient's domain.
+    let (quotient, log_chunks) = check_quotient(alloc, on, trace, committed)?;
+    // A random commitment that isn't opened, or values of none, would be bound by nothing.
+    let (commitments, opened) = (&on.proof.commitments, &on.proof.opened_values);
+    check_randomization(SC::Pcs::ZK, &commitments.random, &opened.random)?;
+    // Past this each list is as long as the steps that read it take it to be.
+    check_opened(alloc, on, log_chunks)?;
+    Ok((quotient, log_chunks))
+}
+
 /// The tests of the proof's shape, in their order; the answer is the proof's domains.
 pub(crate) fn check_shape<SC: StarkGenericConfig, A: Air<Val<SC>>>(
     alloc: Global,
@@ -156,17 +188,63 @@ where
     // The key is the caller's word for the preprocessed columns. It and the rows that are opened of
     // it have to be of this AIR's width, and of this height.
     check_preprocessed(alloc, on)?;
-    // The number of chunks, against which they are counted below, comes with the quotient's domain.
-    let (quotient, log_chunks) = check_quotient(alloc, on, &trace, &committed)?;
-    // A random commitment that isn't opened, or values of none, would be bound by nothing.
-    let (commitments, opened) = (&on.proof.commitments, &on.proof.opened_values);
-    check_randomization(SC::Pcs::ZK, &commitments.random, &opened.random)?;
-    // Past this each list is as long as the steps that read it take it to be.
-    check_opened(alloc, on, log_chunks)?;
+    let (quotient, log_chunks) = check_sizes(alloc, on, &trace, &committed)?;
     Ok(ProofDomains {
         trace,
         committed,
         quotient,
         log_chunks,
     })
+}
+
+/// The tests of the proof's shape, in their order, where of the key its size alone is known.
+fn check_shape_beside<SC: StarkGenericConfig, A: Air<Val<SC>>>(
+    alloc: Global,
+    on: &InstanceOf<'_, SC, A>,
+    size: Option<KeySize>,
+) -> Result<(), VerificationError<PcsError<SC>>>
+where
+    SC::Challenger: GrindingChallenger<Witness = Val<SC>>,
+    ensures clear { IfOk result (λ _. ⟦<SC as StarkChecks<A>>⟧.fault_beside on.now size ≡ None) }
+    ensures fault { IfErrMemoryAside result (λ error.
+        ⟦<SC as StarkChecks<A>>⟧.fault_beside on.now size ≡ Some error) }
+{
+    let domains = check_height(on)?;
+    check_preprocessed_beside(alloc, on, size)?;
+    check_sizes(alloc, on, &domains.0, &domains.1)?;
+    Ok(())
+}
+
+/// The tests of a proof's shape, which are the first that `verify_with_preprocessed` makes, in the
+/// same order, before the key of the preprocessed columns is there: they read no more of it than
+/// its size, None where the AIR has no such columns. Ok exactly where no key of this size makes
+/// them fail, and else the error of the first fault, whatever the key of this size is;
+/// `OutOfMemory` only where memory was refused.
+///
+/// To set a key up is the dearest part of refusing a proof that a stranger made up. So a service
+/// that sets keys up asks this first.
+pub fn check_proof_shape<'p, SC: StarkGenericConfig, A: Air<Val<SC>>>(
+    alloc: Global,
+    config: &'p SC,
+    air: &'p A,
+    proof: &'p StarkProof<SC>,
+    public_values: &'p [Val<SC>],
+    size: Option<KeySize>,
+) -> Result<(), VerificationError<PcsError<SC>>>
+where
+    SC::Challenger: GrindingChallenger<Witness = Val<SC>>,
+    ensures fitting { OnOk result (⟦<SC as StarkShapes<A>>⟧.fitting config.now air.now proof.now
+        public_values.now size) }
+    ensures refused { IfErrMemoryAside result (⟦<SC as StarkShapes<A>>⟧.misshapen config.now
+        air.now proof.now public_values.now size) }
+{
+    let key: Option<&'p PreprocessedVerifierKey<Com<SC>>> = None;
+    let on = VerifierInstance {
+        config,
+        air,
+        proof,
+        public_values,
+        key,
+    };
+    check_shape_beside(alloc, &on, size)
 }

@@ -1,6 +1,12 @@
 use Rattle.std.proofs.Common.{None, Some, ap, is_some, sym, ◌∙◌}
-use Rattle.stark_answers.proofs.VerdictSteps.{answer_with_key, of_some}
+use Rattle.stark_protocol.proofs.Carried.{carried}
+use Rattle.stark_answers.proofs.VerdictSteps.{answer_of_shape, answer_with_key, of_some}
 use Rattle.stark_answers.proofs.keyed.verify_with_key.Goals as goal
+
+pub returns-in_err-check_proof_shape : goal.returns-in_err-check_proof_shape
+returns-in_err-check_proof_shape g c =
+    answer_of_shape _ c.args.log_rows (g.SC.StarkGenericConfig.config.scheme c.args.config.now) (g.A.BaseAir.preprocessed_trace c.args.air.now) _ _ c.key_size-size.result _ c.key_size-size.ensures
+    (g.met.A.BaseAir.as_declared c.args.air.now).preprocessed_width _ (carried _ _ _ c.from_residual.ensures c.in_err-check_proof_shape.ensures.refused) c.from_residual.ensures.0
 
 pub returns-in-Ok-None : goal.returns-in-Ok-None
 returns-in-Ok-None g c =

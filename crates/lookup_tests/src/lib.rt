@@ -5,4 +5,6 @@
 #[cfg(test)]
 mod columns;
 #[cfg(test)]
+mod extension;
+#[cfg(test)]
 mod parts;

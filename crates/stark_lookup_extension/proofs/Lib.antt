@@ -1,0 +1,11 @@
+pub mod Steps
+pub mod Loops
+pub mod Folding
+pub mod Constants
+pub mod ListSteps
+pub mod EquationSteps
+pub mod LeafSteps
+pub mod GroupSteps
+pub mod ExtendedSteps
+pub mod FaultSteps
+pub mod StageSteps

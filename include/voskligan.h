@@ -7,8 +7,8 @@
  *   - each pointer is valid for as many bytes as the length after it says, for reads where it is `const` and for
  *     reads and writes otherwise, from the call to its return; and a length is at most PTRDIFF_MAX. Where a length is
  *     0 the pointer may be NULL. `needed` is never NULL, and points at an aligned `size_t`.
- *   - what a call writes (`message`, `proof` of voskligan_prove, `needed`, `text`) overlaps nothing else that the call
- *     is given, and meanwhile nobody else reads or writes it, or writes what the call reads.
+ *   - what a call writes (`message`, `proof` of voskligan_prove, `key` of voskligan_key, `needed`, `text`) overlaps
+ *     nothing else that the call is given, and meanwhile nobody else reads or writes it, or writes what the call reads.
  *
  * Nothing tests this: a call that breaks it is undefined, as in C.
  *
@@ -30,14 +30,16 @@ extern "C" {
 
 /* What a call answers. */
 enum {
-    /* The proof is accepted, the trace satisfies the AIR, or the proof is made and stands in the buffer. */
+    /* The proof is accepted, the trace satisfies the AIR, or the proof or the key is made and stands in the buffer. */
     VOSKLIGAN_ACCEPTED = 0,
     /* The proof is refused, a row of the trace breaks a constraint, the prover refuses, or the AIR passes a limit. */
     VOSKLIGAN_REFUSED = 1,
     /* Nothing was judged: the statement, the proof or the trace can't be read, or memory was refused. */
     VOSKLIGAN_NOT_JUDGED = 2,
-    /* voskligan_prove alone: there is a proof, and no room for it. */
-    VOSKLIGAN_NO_ROOM = 3
+    /* voskligan_prove and voskligan_key alone: there is a proof or a key, and no room for it. */
+    VOSKLIGAN_NO_ROOM = 3,
+    /* voskligan_verify_at_least alone: fewer bits are proved than are asked for, and the proof was not judged. */
+    VOSKLIGAN_BELOW_FLOOR = 4
 };
 
 /*
@@ -61,6 +63,37 @@ enum {
  */
 int voskligan_verify(const uint8_t *statement, size_t statement_length, const uint8_t *proof, size_t proof_length,
                      uint8_t *message, size_t room);
+
+/*
+ * Makes the key of a statement (docs/FORMATS.md), once for all proofs: the digest of the statement and what a verifier
+ * keeps of the preprocessed columns that its AIR declares.
+ *
+ * `*needed` becomes the length of the key, or 0 where there is none. Under VOSKLIGAN_ACCEPTED the first `*needed` bytes
+ * of `key` are the key; else `key` stays as it was, and under VOSKLIGAN_NO_ROOM the key has `*needed` bytes: call again
+ * with as much room. The message is "made", "no room", or that of voskligan_verify of a statement without a key.
+ */
+int voskligan_key(const uint8_t *statement, size_t statement_length, uint8_t *key, size_t key_room, size_t *needed,
+                  uint8_t *message, size_t room);
+
+/*
+ * The verdict on a proof for a statement, with a key, from the bytes of all three: as voskligan_verify, but that
+ * nothing is set up. Bytes that are no key, or one of another statement, are VOSKLIGAN_NOT_JUDGED.
+ *
+ * Where the key is the one that voskligan_key makes of the statement, the answer is one of voskligan_verify, and means
+ * the same. Nothing tells it from another key that claims to be of the statement, of which nothing is said of the
+ * preprocessed columns: the key has to be its owner's, as the statement is.
+ */
+int voskligan_verify_with_key(const uint8_t *statement, size_t statement_length, const uint8_t *key, size_t key_length,
+                              const uint8_t *proof, size_t proof_length, uint8_t *message, size_t room);
+
+/*
+ * What voskligan_verify answers, where no fewer bits than `floor` are proved of the statement's proofs over traces as
+ * high as this proof's; where fewer are, VOSKLIGAN_BELOW_FLOOR, and the message is "not judged: worth 38 proved bits at
+ * this height", with that number. Nothing else is said of the proof then. For who takes statements as they come: what a
+ * proof is worth depends on the numbers of the statement and on the height, which whoever proves chooses.
+ */
+int voskligan_verify_at_least(size_t floor, const uint8_t *statement, size_t statement_length, const uint8_t *proof,
+                              size_t proof_length, uint8_t *message, size_t room);
 
 /*
  * Whether a trace satisfies a statement's AIR. VOSKLIGAN_REFUSED tells the first row that breaks a constraint, and in

@@ -52,6 +52,10 @@ fn prover_of(flags: &[String]) -> Option<TraceTask> {
 pub(crate) fn verb_of(words: &[String]) -> Option<Verb> {
     match words {
         [verb] if verb.as_str() == "verify" => Some(Verb::Verify),
+        [verb, flag, bits] if verb.as_str() == "verify" && flag.as_str() == "--at-least" => {
+            let floor = bits.parse::<usize>().ok()?;
+            Some(Verb::VerifyAtLeast(floor))
+        }
         [verb] if verb.as_str() == "check" => Some(Verb::Trace(TraceTask::Check)),
         [verb] if verb.as_str() == "show" => Some(Verb::Show),
         [verb, flags @ ..] if verb.as_str() == "prove" => {

@@ -113,6 +113,8 @@ pub(crate) fn end_of(lines: &str) -> RunEnd {
         RunEnd::Accepted
     } else if lines.starts_with("refused ") || lines.starts_with("row ") {
         RunEnd::Refused
+    } else if lines.starts_with("not judged: ") {
+        RunEnd::BelowFloor
     } else {
         RunEnd::NotJudged
     }

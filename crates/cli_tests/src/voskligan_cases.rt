@@ -84,6 +84,14 @@ verify | <proved> | "public_values" => "log_height":2,"public_values" | refused 
 verify | <proved> | "public_values" => "log_height":64,"public_values" | refused DegreeBitsTooSmall
 verify | <proved> | "public_values" => "log_height":"1","public_values" | bad input
 
+# Where its worth has a floor. At 2^1 rows an alpha and at most four zetas of 12289^4, some 2^54, are bad.
+verify --at-least 51 | <proved> | accepted
+verify --at-least 52 | <proved> | not judged: worth 51 proved bits at this height
+verify --at-least 51 | <proved> | "public_values":[5] => "public_values":[6] | refused InvalidOpeningArgument
+verify --at-least 1 | <proved> | "degree_bits":1 => "degree_bits":13 | not judged: worth 0 proved bits at this height
+verify --at-least 52 | <proved> | "public_values" => "log_height":"1","public_values" | bad input
+verify --at-least 52 | <proved> | "degree_bits":1 => "degree_bits":"1" | bad input
+
 # Names that stand twice in an object of the statement.
 verify | <proved> | "public_values" => "public_values":[5],"public_values" | bad input
 check | <two rows> | {"base":4} => {"base":4,"base":4} | bad input
@@ -183,12 +191,13 @@ show | <small> | <lines of small>
 
 # By FRI: bits at 2^16 rows and at the greatest height, or at the latter alone where it isn't above; and none for a degree above the blow-up
 # and one, or for too many openings.
-show | <counter> | {"field":"f12289","scheme":"clear"} => {"field":"f12289"} | <counter to> 2^10 rows: 1 alpha, 2047 zeta\0a<challenges over 12289>\0aproved: 39 bits at 2^10 rows (by count; SHA-256 as a random oracle)\0aconjectured: 39 bits at 2^10 rows (ethSTARK's conjecture of 2021; ePrint 2025/2010 and 2025/2046 speak against it)\0aconfiguration: f12289, fri, log_blowup 2, log_final_poly_len 0, num_queries 120, commit_proof_of_work_bits 0, query_proof_of_work_bits 16\0awork: 0 bits before alpha, 0 before zeta\0apublic values (1): 5
-show | <counter> | {"field":"f12289","scheme":"clear"} => {"field":"koala_bear","log_blowup":8} | <counter to> 2^16 rows: 1 alpha, 131071 zeta\0a<challenges over KoalaBear>\0aproved: 95 bits at 2^16 rows (by count; SHA-256 as a random oracle)\0aconjectured: 95 bits at 2^16 rows (ethSTARK's conjecture of 2021; ePrint 2025/2010 and 2025/2046 speak against it)\0aconfiguration: koala_bear, fri, log_blowup 8, log_final_poly_len 0, num_queries 120, commit_proof_of_work_bits 0, query_proof_of_work_bits 16\0awork: 0 bits before alpha, 0 before zeta\0apublic values (1): 5
-show | <counter> | {"field":"f12289","scheme":"clear"} => {"field":"koala_bear","log_blowup":7} | <counter to> 2^17 rows: 1 alpha, 262143 zeta\0a<challenges over KoalaBear>\0aproved: 96 bits at 2^16 rows, 95 at 2^17 (by count; SHA-256 as a random oracle)\0aconjectured: 96 bits at 2^16 rows, 95 at 2^17 (ethSTARK's conjecture of 2021; ePrint 2025/2010 and 2025/2046 speak against it)\0aconfiguration: koala_bear, fri, log_blowup 7, log_final_poly_len 0, num_queries 120, commit_proof_of_work_bits 0, query_proof_of_work_bits 16\0awork: 0 bits before alpha, 0 before zeta\0apublic values (1): 5
-show | <fourth power> | "config":{} => "config":"fast" | <equation of fourth power>\0aquotient chunks: 4\0aerror bound at 2^26 rows: 0 alpha, 335544319 zeta\0a<challenges by default>\0asecurity: no bits are stated for a constraint's degree above 3\0aconfiguration: baby_bear, fri, log_blowup 1, log_final_poly_len 0, num_queries 85, commit_proof_of_work_bits 0, query_proof_of_work_bits 16\0awork: 0 bits before alpha, 0 before zeta\0apublic values (0):
-show | <fourth power> | <equation of fourth power>\0aquotient chunks: 4\0aerror bound at 2^25 rows: 0 alpha, 167772159 zeta\0a<challenges by default>\0aproved: 97 bits at 2^16 rows, 91 at 2^25 (by count; SHA-256 as a random oracle)\0aconjectured: 99 bits at 2^16 rows, 91 at 2^25 (ethSTARK's conjecture of 2021; ePrint 2025/2010 and 2025/2046 speak against it)\0aconfiguration: baby_bear, fri, log_blowup 2, log_final_poly_len 0, num_queries 120, commit_proof_of_work_bits 0, query_proof_of_work_bits 16\0awork: 0 bits before alpha, 0 before zeta\0apublic values (0):
-show | <fourth power> | "width":1 => "max_constraint_degree":18446744073709551615,"width":1 | <equation of fourth power>\0aquotient chunks: 18446744073709551616\0aerror bound at 2^25 rows: none\0a<challenges by default>\0asecurity: no bits are stated for 2^64 opened values and more\0aconfiguration: baby_bear, fri, log_blowup 2, log_final_poly_len 0, num_queries 120, commit_proof_of_work_bits 0, query_proof_of_work_bits 16\0awork: 0 bits before alpha, 0 before zeta\0apublic values (0):
+show | <counter> | "public_values" => "log_height":3,"public_values" | columns: 1 main, 1 public, 0 periodic, 0 preprocessed\0aconstraint 0 (base, degree 2): first_row * (main[0] - public[0]) = 0\0aconstraint 1 (base, degree 1): transition * (next[0] - main[0] - 1) = 0\0aquotient chunks: 1\0aerror bound at 2^12 rows: 1 alpha, 8191 zeta\0a<challenges over 12289>\0aproved: 40 bits at 2^12 rows (by count; SHA-256 as a random oracle)\0aconjectured: nothing; in the clear the proof lists its columns\0aconfiguration: f12289, in the clear\0aheight: 2^3 rows, fixed\0awork: 0 bits before alpha, 0 before zeta\0apublic values (1): 5
+show | <counter> | {"field":"f12289","scheme":"clear"} => {"field":"f12289"} | <counter to> 2^10 rows: 1 alpha, 2047 zeta\0a<challenges over 12289>\0aproved: 39 bits at 2^10 rows (by count; SHA-256 as a random oracle)\0aconjectured: 39 bits at 2^10 rows (ethSTARK's conjecture of 2021; ePrint 2025/2010 and 2025/2046 speak against it)\0aconfiguration: f12289, fri, log_blowup 2, log_final_poly_len 0, num_queries 120, commit_proof_of_work_bits 0, query_proof_of_work_bits 16\0aheight: the prover's choice\0awork: 0 bits before alpha, 0 before zeta\0apublic values (1): 5
+show | <counter> | {"field":"f12289","scheme":"clear"} => {"field":"koala_bear","log_blowup":8} | <counter to> 2^16 rows: 1 alpha, 131071 zeta\0a<challenges over KoalaBear>\0aproved: 95 bits at 2^16 rows (by count; SHA-256 as a random oracle)\0aconjectured: 95 bits at 2^16 rows (ethSTARK's conjecture of 2021; ePrint 2025/2010 and 2025/2046 speak against it)\0aconfiguration: koala_bear, fri, log_blowup 8, log_final_poly_len 0, num_queries 120, commit_proof_of_work_bits 0, query_proof_of_work_bits 16\0aheight: the prover's choice\0awork: 0 bits before alpha, 0 before zeta\0apublic values (1): 5
+show | <counter> | {"field":"f12289","scheme":"clear"} => {"field":"koala_bear","log_blowup":7} | <counter to> 2^17 rows: 1 alpha, 262143 zeta\0a<challenges over KoalaBear>\0aproved: 96 bits at 2^16 rows, 95 at 2^17 (by count; SHA-256 as a random oracle)\0aconjectured: 96 bits at 2^16 rows, 95 at 2^17 (ethSTARK's conjecture of 2021; ePrint 2025/2010 and 2025/2046 speak against it)\0aconfiguration: koala_bear, fri, log_blowup 7, log_final_poly_len 0, num_queries 120, commit_proof_of_work_bits 0, query_proof_of_work_bits 16\0aheight: the prover's choice\0awork: 0 bits before alpha, 0 before zeta\0apublic values (1): 5
+show | <fourth power> | "config":{} => "config":"fast" | <equation of fourth power>\0aquotient chunks: 4\0aerror bound at 2^26 rows: 0 alpha, 335544319 zeta\0a<challenges by default>\0asecurity: no bits are stated for a constraint's degree above 3\0aconfiguration: baby_bear, fri, log_blowup 1, log_final_poly_len 0, num_queries 85, commit_proof_of_work_bits 0, query_proof_of_work_bits 16\0aheight: the prover's choice\0awork: 0 bits before alpha, 0 before zeta\0apublic values (0):
+show | <fourth power> | <equation of fourth power>\0aquotient chunks: 4\0aerror bound at 2^25 rows: 0 alpha, 167772159 zeta\0a<challenges by default>\0aproved: 97 bits at 2^16 rows, 91 at 2^25 (by count; SHA-256 as a random oracle)\0aconjectured: 99 bits at 2^16 rows, 91 at 2^25 (ethSTARK's conjecture of 2021; ePrint 2025/2010 and 2025/2046 speak against it)\0aconfiguration: baby_bear, fri, log_blowup 2, log_final_poly_len 0, num_queries 120, commit_proof_of_work_bits 0, query_proof_of_work_bits 16\0aheight: the prover's choice\0awork: 0 bits before alpha, 0 before zeta\0apublic values (0):
+show | <fourth power> | "width":1 => "max_constraint_degree":18446744073709551615,"width":1 | <equation of fourth power>\0aquotient chunks: 18446744073709551616\0aerror bound at 2^25 rows: none\0a<challenges by default>\0asecurity: no bits are stated for 2^64 opened values and more\0aconfiguration: baby_bear, fri, log_blowup 2, log_final_poly_len 0, num_queries 120, commit_proof_of_work_bits 0, query_proof_of_work_bits 16\0aheight: the prover's choice\0awork: 0 bits before alpha, 0 before zeta\0apublic values (0):
 "#;
 
 // Inputs that are bad.
@@ -284,7 +293,7 @@ show | <fixed> | "width":1 => "width":2 | refused AirTooLarge
 show | <fixed> | "width":1 => "width":18446744073709551615 | 65535 => 18446744073709551615 | refused AirTooLarge
 
 # Public values.
-show | <public> | columns: 0 main, 65536 public, 0 periodic, 0 preprocessed\0aquotient chunks: 1\0aerror bound at 2^12 rows: 0 alpha, 8191 zeta\0a<challenges over 12289>\0aproved: 41 bits at 2^12 rows (by count; SHA-256 as a random oracle)\0aconjectured: nothing; in the clear the proof lists its columns\0aconfiguration: f12289, in the clear\0awork: 0 bits before alpha, 0 before zeta\0apublic values (65536, the first 20): 1 1 1 1 1 1 1 1 1 1 1 1 1 1 1 1 1 1 1 1\0ano constraints: each trace of the AIR's shape satisfies it
+show | <public> | columns: 0 main, 65536 public, 0 periodic, 0 preprocessed\0aquotient chunks: 1\0aerror bound at 2^12 rows: 0 alpha, 8191 zeta\0a<challenges over 12289>\0aproved: 41 bits at 2^12 rows (by count; SHA-256 as a random oracle)\0aconjectured: nothing; in the clear the proof lists its columns\0aconfiguration: f12289, in the clear\0aheight: the prover's choice\0awork: 0 bits before alpha, 0 before zeta\0apublic values (65536, the first 20): 1 1 1 1 1 1 1 1 1 1 1 1 1 1 1 1 1 1 1 1\0ano constraints: each trace of the AIR's shape satisfies it
 show | <public> | 65536 => 65537 | 65535 => 65536 | refused AirTooLarge
 
 # Under the other verbs.
@@ -390,6 +399,9 @@ prove --unchecked - trace.json = prove unchecked, standard, file trace.json
 verify --quiet statement.json proof.json = verify, file statement.json, file proof.json, quiet
 verify --quiet statement.json = verify, file statement.json, standard, quiet
 verify --quiet - proof.json = verify, standard, file proof.json, quiet
+verify --at-least 100 statement.json proof.json = verify at least 100, file statement.json, file proof.json
+verify --quiet --at-least 0 - proof.json = verify at least 0, standard, file proof.json, quiet
+verify --at-least 18446744073709551615 --quiet in = verify at least 18446744073709551615, file in, standard, quiet
 check --quiet statement.json trace.json = check, file statement.json, file trace.json, quiet
 check --quiet statement.json - = check, file statement.json, standard, quiet
 prove --quiet statement.json trace.json = prove, file statement.json, file trace.json, quiet
@@ -468,6 +480,17 @@ prove --output = no path stands after --output
 prove --output out = prove wants a statement
 prove --output - statement.json = no path stands after --output
 prove --output -- statement.json = no path stands after --output
+verify --at-least = no number of bits stands after --at-least
+verify --at-least statement.json = no number of bits stands after --at-least
+verify --at-least -1 statement.json = no number of bits stands after --at-least
+verify --at-least 18446744073709551616 statement.json = no number of bits stands after --at-least
+verify --at-least 100 --at-least 100 statement.json = --at-least is there twice
+prove --at-least 100 statement.json = prove takes no --at-least
+check --at-least x statement.json = check takes no --at-least
+show --at-least = show takes no --at-least
+verify --at-least 100 = verify wants a statement
+verify --at-least 100 - = both inputs would be standard input
+verify statement.json --at-least 100 = --at-least stands after an input
 prove --output --quiet statement.json trace.json = no path stands after --output
 prove --output --quiet out statement.json = no path stands after --output
 prove --quiet --output = no path stands after --output

@@ -19,7 +19,7 @@ const PROGRAM: Program = Program::Voskligan;
 
 #[test]
 fn examples(rt: HostRuntime) -> Result<(), Fail> {
-    all_cases(&rt, rt.alloc(), PROGRAM, EXAMPLES, 63)
+    all_cases(&rt, rt.alloc(), PROGRAM, EXAMPLES, 69)
 }
 
 #[test]
@@ -29,7 +29,7 @@ fn checked_traces(rt: HostRuntime) -> Result<(), Fail> {
 
 #[test]
 fn shown_airs(rt: HostRuntime) -> Result<(), Fail> {
-    all_cases(&rt, rt.alloc(), PROGRAM, SHOWN, 17)
+    all_cases(&rt, rt.alloc(), PROGRAM, SHOWN, 18)
 }
 
 #[test]
@@ -84,13 +84,13 @@ fn failing_writes(rt: HostRuntime) -> Result<(), Fail> {
         PROGRAM,
         Spoiled::Write,
         WHOLE,
-        11 + 605 + 12,
+        11 + 633 + 12,
     )
 }
 
 #[test]
 fn proofs_to_an_output(rt: HostRuntime) -> Result<(), Fail> {
-    all_runs(&rt, rt.alloc(), Asserted::Delivery, DELIVERED, 1455)
+    all_runs(&rt, rt.alloc(), Asserted::Delivery, DELIVERED, 1483)
 }
 
 #[test]
@@ -107,10 +107,11 @@ fn input_text(alloc: Global, input: InputWord<'_>) -> Result<String, AllocError>
     }
 }
 
-/// What a task is, in words.
-fn task_text(alloc: Global, task: Task<'_>) -> Result<String, AllocError> {
-    let verb = match task.verb {
+/// What a verb is, in words.
+fn verb_text(alloc: Global, verb: Verb) -> Result<String, AllocError> {
+    let text = match verb {
         Verb::Verify => "verify",
+        Verb::VerifyAtLeast(floor) => return format!(in alloc; "verify at least {floor}"),
         Verb::Trace(TraceTask::Check) => "check",
         Verb::Trace(TraceTask::Prove(ProofForm::Json)) => "prove",
         Verb::Trace(TraceTask::Prove(ProofForm::Bytes)) => "prove binary",
@@ -118,6 +119,12 @@ fn task_text(alloc: Global, task: Task<'_>) -> Result<String, AllocError> {
         Verb::Trace(TraceTask::ProveUnchecked(ProofForm::Bytes)) => "prove unchecked binary",
         Verb::Show => "show",
     };
+    String::from_str(alloc, text)
+}
+
+/// What a task is, in words.
+fn task_text(alloc: Global, task: Task<'_>) -> Result<String, AllocError> {
+    let verb = verb_text(alloc, task.verb)?;
     let statement = input_text(alloc, task.statement)?;
     let second = input_text(alloc, task.second)?;
     let mut text = format!(in alloc; "{verb}, {statement}, {second}")?;
@@ -152,7 +159,7 @@ fn words_are_compared_whole(rt: HostRuntime) -> Result<(), Fail> {
         assert_eq!(rt; actual.as_str(), asked, "{line}");
         lines = lines.saturating_add(1);
     }
-    assert_eq!(rt; lines, 124);
+    assert_eq!(rt; lines, 138);
     Ok(())
 }
 
@@ -165,6 +172,7 @@ challenges: alpha and zeta, each of 12289^4 values; the error bound is proved, t
 proved: 41 bits at 2^12 rows (by count; SHA-256 as a random oracle)
 conjectured: nothing; in the clear the proof lists its columns
 configuration: f12289, in the clear
+height: the prover's choice
 work: 0 bits before alpha, 0 before zeta
 public values (0):
 no constraints: each trace of the AIR's shape satisfies it

@@ -2,7 +2,7 @@
 use Rattle.std.proofs.Common.{◌≡◌, ◌⊎◌, ◌∙◌, ℕ, List, Bool, true, false, Option, None, Some, IfOk, IfSome, Result, Ok, Err, is_err, refl, sym, subst, ap, inl, inr, arith}
 use Rattle.std.proofs.lemmas.Bool.{false≢true}
 use Rattle.std.specs.Io.KnownBytes.{Appends, Keeps}
-use Rattle.stark_answers.specs.Finding.{IsProof, finding_end, finding_bytes}
+use Rattle.stark_answers.specs.Finding.{BeginsAsItsKind, IsProof, finding_end, finding_bytes}
 use Rattle.stark_answers.specs.Verdict.{line_of, end_of}
 use Rattle.stark_answers.specs.declared.finding.Finding.{Finding}
 use Rattle.stark_answers.specs.declared.finding.Finding.TheVariants as finding
@@ -13,7 +13,7 @@ use Rattle.stark_answers.specs.declared.verdict.Verdict.{Verdict}
 use Rattle.stark_answers.specs.declared.verdict.Verdict.TheVariants as verdict
 use Rattle.stark_answers.specs.declared.verdict.Refusal.TheVariants as refusal
 use Rattle.stark_answers.specs.declared.verdict.RunEnd.{RunEnd}
-use Rattle.stark_answers.specs.declared.verdict.RunEnd.TheVariants.{Accepted, Refused, NotJudged, InputFailed, OutputFailed}
+use Rattle.stark_answers.specs.declared.verdict.RunEnd.TheVariants.{Accepted, BelowFloor, Refused, NotJudged, InputFailed, OutputFailed}
 use Rattle.stark_cli.specs.Running.{AcceptsOrTells, FindsSome, Found, IsFoundOrLacksMemory, IsInput, IsFindingEnd, IsNoAnswer, IsSomeProof, SaidAnswer, SaidProof, Says, SaysAnswer, SaysFound, SaysOf, SaysProof, both, first_letter}
 
 -- an input that is the readers'
@@ -78,12 +78,50 @@ pub said_known : (r : Result Finding RunEnd) (f : Finding) (end : RunEnd) (old n
 said_known r f end old new is says = subst (λ s. IfOk s (λ x. Says end x old new)) is says
 
 -- Where nothing failed, the end is that of a finding.
-pub finding_ends : (end : RunEnd) → (end ≡ InputFailed → ⊥) → (end ≡ OutputFailed → ⊥) → IsFindingEnd end
-finding_ends InputFailed read wrote = absurd (read refl)
-finding_ends OutputFailed read wrote = absurd (wrote refl)
-finding_ends Accepted read wrote = inl refl
-finding_ends Refused read wrote = inr (inl refl)
-finding_ends NotJudged read wrote = inr (inr refl)
+pub some_end : (end : RunEnd) → (end ≡ InputFailed → ⊥) → (end ≡ OutputFailed → ⊥) → IsFindingEnd end ⊎ (end ≡ BelowFloor)
+some_end InputFailed read wrote = absurd (read refl)
+some_end OutputFailed read wrote = absurd (wrote refl)
+some_end Accepted read wrote = inl (inl refl)
+some_end Refused read wrote = inl (inr (inl refl))
+some_end NotJudged read wrote = inl (inr (inr refl))
+some_end BelowFloor read wrote = inr refl
+
+verdict_below : (v : Verdict) → end_of v ≡ BelowFloor → ⊥
+verdict_below verdict.Accepted e = let h : Accepted ≡ BelowFloor = e in cc
+verdict_below (verdict.Refused why) e = let h : Refused ≡ BelowFloor = e in cc
+verdict_below verdict.BadInput e = let h : NotJudged ≡ BelowFloor = e in cc
+verdict_below verdict.OutOfMemory e = let h : NotJudged ≡ BelowFloor = e in cc
+
+-- What begins as its kind does is said of no floor.
+kind_below : (f : Finding) → BeginsAsItsKind f → finding_end f ≡ BelowFloor → ⊥
+kind_below (finding.Verdict v) begins e = verdict_below v e
+kind_below (finding.Proof line) begins e = let h : Accepted ≡ BelowFloor = e in cc
+kind_below (finding.ProofBytes bytes) begins e = let h : Accepted ≡ BelowFloor = e in cc
+kind_below (finding.Text text) begins e = let h : Accepted ≡ BelowFloor = e in cc
+kind_below finding.Satisfied begins e = let h : Accepted ≡ BelowFloor = e in cc
+kind_below (finding.Broken row) begins e = let h : Refused ≡ BelowFloor = e in cc
+kind_below (finding.TooFewBits line) begins e = begins
+
+module _ {I : Type 0} (memory : Finding) (memory_begins : BeginsAsItsKind memory) (IsFound : I → Finding → Type 0) (kinds : (input : I) (f : Finding) → IsFound input f → BeginsAsItsKind f) where
+  found_begins : (input : I) (f : Finding) → IsFoundOrLacksMemory memory IsFound input f → BeginsAsItsKind f
+  found_begins input f (inl here) = kinds input f here
+  found_begins input f (inr lacks) = subst BeginsAsItsKind (sym lacks) memory_begins
+
+  said_below : (known : Option I) (end : RunEnd) (old new : Option (List ℕ)) → (end ≡ InputFailed) ⊎ SaysFound memory IsFound known end old new → end ≡ BelowFloor → ⊥
+  said_below known BelowFloor old new (inl failed) e = let h : BelowFloor ≡ InputFailed = failed in cc
+  said_below known BelowFloor old new (inr said) e = kind_below said.0 (found_begins said.1.0 said.0 said.1.2) said.2.0
+  said_below known InputFailed old new said e = let h : InputFailed ≡ BelowFloor = e in cc
+  said_below known OutputFailed old new said e = let h : OutputFailed ≡ BelowFloor = e in cc
+  said_below known Accepted old new said e = let h : Accepted ≡ BelowFloor = e in cc
+  said_below known Refused old new said e = let h : Refused ≡ BelowFloor = e in cc
+  said_below known NotJudged old new said e = let h : NotJudged ≡ BelowFloor = e in cc
+
+  -- Where nothing failed, and each finding begins as its kind does, the end is that of one that isn't of a floor.
+  pub finding_ends : (known : Option I) (end : RunEnd) (old new : Option (List ℕ)) → (end ≡ InputFailed → ⊥) → (end ≡ OutputFailed → ⊥) → (end ≡ InputFailed) ⊎ SaysFound memory IsFound known end old new → IsFindingEnd end
+  finding_ends known end old new read wrote said = elim (some_end end read wrote) [
+    | inl one ↦ one
+    | inr below ↦ absurd (said_below known end old new said below)
+  ]
 
 pub none_failed : (first second : Bool) → first ≡ false → second ≡ false → (first ≡ true) ⊎ (second ≡ true) → ⊥
 none_failed first second is also (inl failed) = false≢true (sym is ∙ failed)
@@ -96,6 +134,7 @@ says_nothing OutputFailed f old new e k = absurd (cc)
 says_nothing Accepted f old new e k = absurd (cc)
 says_nothing Refused f old new e k = absurd (cc)
 says_nothing NotJudged f old new e k = absurd (cc)
+says_nothing BelowFloor f old new e k = absurd (cc)
 
 module _ {I : Type 0} (memory : Finding) (IsFound : I → Finding → Type 0) where
   -- What is said is found of the readers' bytes, where they tell them.
@@ -136,6 +175,7 @@ module _ {I : Type 0} (memory : Finding) (no_answer : IsNoAnswer memory) (IsFoun
   said_so known (finding.Text text) old new e obtained wrote = inr (finding.Text text, inr (inl tt), finds known (finding.Text text) refl obtained, wrote)
   said_so known finding.Satisfied old new e obtained wrote = inr (finding.Satisfied, inr (inr refl), finds known finding.Satisfied refl obtained, wrote)
   said_so known (finding.Broken row) old new e obtained wrote = absurd (let h : Refused ≡ Accepted = e in cc)
+  said_so known (finding.TooFewBits line) old new e obtained wrote = absurd (let h : BelowFloor ≡ Accepted = e in cc)
 
   -- A run that ends by `Accepted` found an input accepted, or a proof or a text of it, or that it satisfies, and said so.
   pub accepts_or_tells : (known : Option I) (end : RunEnd) (old new : Option (List ℕ))
@@ -144,6 +184,7 @@ module _ {I : Type 0} (memory : Finding) (no_answer : IsNoAnswer memory) (IsFoun
   accepts_or_tells known OutputFailed old new obtained e = absurd (cc)
   accepts_or_tells known Refused old new obtained e = absurd (cc)
   accepts_or_tells known NotJudged old new obtained e = absurd (cc)
+  accepts_or_tells known BelowFloor old new obtained e = absurd (cc)
   accepts_or_tells known Accepted old new (inl failed) e = absurd (cc)
   accepts_or_tells known Accepted old new (inr obtained) e = said_so known obtained.0 old new obtained.2.0 obtained.1 obtained.2.1
 
@@ -177,3 +218,4 @@ form_of (finding.Verdict v) is = absurd is
 form_of (finding.Text text) is = absurd is
 form_of finding.Satisfied is = absurd is
 form_of (finding.Broken row) is = absurd is
+form_of (finding.TooFewBits line) is = absurd is

@@ -1,5 +1,6 @@
--- By its first letter a line is told from others.
-use Rattle.std.proofs.Common.{◌≡◌, ◌≢◌, ℕ, zero, suc, List, [], ◌∷◌, Option, None, Some, IfSome, take, length, codes, refl, sym, subst, ap, ◌∙◌, inl, inr, arith, append-nil}
+-- By its first letter a line differs from others.
+use Rattle.std.proofs.Common.{◌≡◌, ◌≢◌, ℕ, zero, suc, List, [], ◌∷◌, Option, None, Some, IfSome, take, length, codes, string_bytes, refl, sym, subst, ap, ◌∙◌, inl, inr, arith, append-nil}
+use Rattle.std.specs.Prelude.{⊤}
 use Rattle.std.proofs.Math.Seq.{take-length}
 use Rattle.std.proofs.lemmas.List.{append_cancel_left}
 use Rattle.std.specs.Io.KnownBytes.{Appends, Keeps}
@@ -12,7 +13,7 @@ use Rattle.stark_answers.specs.declared.task.ProofForm.TheVariants.{Bytes, Json}
 use Rattle.stark_proof_bytes.specs.ProofBytes.{magic}
 use Rattle.stark_answers.specs.declared.verdict.Verdict.TheVariants as verdict
 use Rattle.stark_answers.specs.declared.verdict.RunEnd.{RunEnd}
-use Rattle.stark_answers.specs.declared.verdict.RunEnd.TheVariants.{Accepted, Refused, NotJudged, InputFailed, OutputFailed}
+use Rattle.stark_answers.specs.declared.verdict.RunEnd.TheVariants.{Accepted, BelowFloor, Refused, NotJudged, InputFailed, OutputFailed}
 
 pub first_of_accepted : (bytes : List ℕ) → take 8 bytes ≡ codes "accepted" → first_of bytes ≡ 97
 first_of_accepted [] e = absurd (cc)
@@ -37,6 +38,29 @@ first_of_row : (bytes : List ℕ) → take 1 bytes ≡ codes "r" → first_of by
 first_of_row [] e = absurd (cc)
 first_of_row (x ∷ xs) e = let h : x ∷ take 0 xs ≡ 114 ∷ [] = e in cc
 
+first_of_few : (bytes : List ℕ) → take 1 bytes ≡ codes "n" → first_of bytes ≡ 110
+first_of_few [] e = absurd (cc)
+first_of_few (x ∷ xs) e = let h : x ∷ take 0 xs ≡ 110 ∷ [] = e in cc
+
+-- That bits are too few begins by the letter of `not`, and what isn't said of a floor as its kind does.
+abbrev pub BeginsAsSaid : Finding → Type 0
+BeginsAsSaid (finding.Verdict v) = ⊤
+BeginsAsSaid (finding.Proof line) = BeginsAsItsKind (finding.Proof line)
+BeginsAsSaid (finding.ProofBytes bytes) = BeginsAsItsKind (finding.ProofBytes bytes)
+BeginsAsSaid (finding.Text text) = BeginsAsItsKind (finding.Text text)
+BeginsAsSaid finding.Satisfied = ⊤
+BeginsAsSaid (finding.Broken row) = BeginsAsItsKind (finding.Broken row)
+BeginsAsSaid (finding.TooFewBits line) = take 1 (string_bytes line) ≡ codes "n"
+
+pub kind_said : (f : Finding) → BeginsAsItsKind f → BeginsAsSaid f
+kind_said (finding.Verdict v) begins = tt
+kind_said (finding.Proof line) begins = begins
+kind_said (finding.ProofBytes bytes) begins = begins
+kind_said (finding.Text text) begins = begins
+kind_said finding.Satisfied begins = tt
+kind_said (finding.Broken row) begins = begins
+kind_said (finding.TooFewBits line) begins = absurd begins
+
 -- a front of a line begins as the line does
 pub first_of_front : (count : ℕ) (line : List ℕ) (c : ℕ) → c ≢ 0 → first_of (take count line) ≡ c → first_of line ≡ c
 first_of_front zero [] c some e = e
@@ -44,7 +68,7 @@ first_of_front zero (x ∷ xs) c some e = absurd (some (sym e))
 first_of_front (suc count) [] c some e = e
 first_of_front (suc count) (x ∷ xs) c some e = e
 
-accepted_finding : (f : Finding) → BeginsAsItsKind f → first_of (finding_bytes f) ≡ 97 → f ≡ finding.Verdict verdict.Accepted
+accepted_finding : (f : Finding) → BeginsAsSaid f → first_of (finding_bytes f) ≡ 97 → f ≡ finding.Verdict verdict.Accepted
 accepted_finding (finding.Verdict verdict.Accepted) begins e = refl
 accepted_finding (finding.Verdict (verdict.Refused why)) begins e = absurd (let h : 114 ≡ 97 = e in omega arith)
 accepted_finding (finding.Verdict verdict.BadInput) begins e = absurd (let h : 98 ≡ 97 = e in omega arith)
@@ -54,8 +78,9 @@ accepted_finding (finding.ProofBytes bytes) begins e = absurd (let h : 118 ≡ 9
 accepted_finding (finding.Text text) begins e = absurd (let h : 99 ≡ 97 = sym (first_of_text _ begins) ∙ e in omega arith)
 accepted_finding finding.Satisfied begins e = absurd (let h : 115 ≡ 97 = e in omega arith)
 accepted_finding (finding.Broken row) begins e = absurd (let h : 114 ≡ 97 = sym (first_of_row _ begins) ∙ e in omega arith)
+accepted_finding (finding.TooFewBits line) begins e = absurd (let h : 110 ≡ 97 = sym (first_of_few _ begins) ∙ e in omega arith)
 
-proof_finding : (form : ProofForm) (f : Finding) → BeginsAsItsKind f → first_of (finding_bytes f) ≡ first_letter form → IsProof form f
+proof_finding : (form : ProofForm) (f : Finding) → BeginsAsSaid f → first_of (finding_bytes f) ≡ first_letter form → IsProof form f
 proof_finding Json (finding.Verdict verdict.Accepted) begins e = absurd (let h : 97 ≡ 123 = e in omega arith)
 proof_finding Json (finding.Verdict (verdict.Refused why)) begins e = absurd (let h : 114 ≡ 123 = e in omega arith)
 proof_finding Json (finding.Verdict verdict.BadInput) begins e = absurd (let h : 98 ≡ 123 = e in omega arith)
@@ -63,6 +88,7 @@ proof_finding Json (finding.Verdict verdict.OutOfMemory) begins e = absurd (let 
 proof_finding Json (finding.Text text) begins e = absurd (let h : 99 ≡ 123 = sym (first_of_text _ begins) ∙ e in omega arith)
 proof_finding Json finding.Satisfied begins e = absurd (let h : 115 ≡ 123 = e in omega arith)
 proof_finding Json (finding.Broken row) begins e = absurd (let h : 114 ≡ 123 = sym (first_of_row _ begins) ∙ e in omega arith)
+proof_finding Json (finding.TooFewBits line) begins e = absurd (let h : 110 ≡ 123 = sym (first_of_few _ begins) ∙ e in omega arith)
 proof_finding Bytes (finding.Verdict verdict.Accepted) begins e = absurd (let h : 97 ≡ 118 = e in omega arith)
 proof_finding Bytes (finding.Verdict (verdict.Refused why)) begins e = absurd (let h : 114 ≡ 118 = e in omega arith)
 proof_finding Bytes (finding.Verdict verdict.BadInput) begins e = absurd (let h : 98 ≡ 118 = e in omega arith)
@@ -70,6 +96,7 @@ proof_finding Bytes (finding.Verdict verdict.OutOfMemory) begins e = absurd (let
 proof_finding Bytes (finding.Text text) begins e = absurd (let h : 99 ≡ 118 = sym (first_of_text _ begins) ∙ e in omega arith)
 proof_finding Bytes finding.Satisfied begins e = absurd (let h : 115 ≡ 118 = e in omega arith)
 proof_finding Bytes (finding.Broken row) begins e = absurd (let h : 114 ≡ 118 = sym (first_of_row _ begins) ∙ e in omega arith)
+proof_finding Bytes (finding.TooFewBits line) begins e = absurd (let h : 110 ≡ 118 = sym (first_of_few _ begins) ∙ e in omega arith)
 proof_finding Json (finding.Proof line) begins e = refl
 proof_finding Json (finding.ProofBytes bytes) begins e = absurd (let h : 118 ≡ 123 = sym (first_of_bytes _ begins) ∙ e in omega arith)
 proof_finding Bytes (finding.Proof line) begins e = absurd (let h : 123 ≡ 118 = sym (first_of_object _ begins) ∙ e in omega arith)
@@ -99,6 +126,7 @@ front InputFailed f old new bytes s w = (0, wrote_nothing old new bytes w s)
 front OutputFailed f old new bytes s w = (s.0, wrote old new bytes _ w s.1)
 front Accepted f old new bytes s w = (length (finding_bytes f), whole bytes (finding_bytes f) (wrote old new bytes _ w s.1))
 front Refused f old new bytes s w = (length (finding_bytes f), whole bytes (finding_bytes f) (wrote old new bytes _ w s.1))
+front BelowFloor f old new bytes s w = (length (finding_bytes f), whole bytes (finding_bytes f) (wrote old new bytes _ w s.1))
 front NotJudged f old new bytes s w = (length (finding_bytes f), whole bytes (finding_bytes f) (wrote old new bytes _ w s.1))
 
 begins : (end : RunEnd) (f : Finding) (old new : Option (List ℕ)) (bytes : List ℕ) (c : ℕ) → c ≢ 0 → Says end f old new → Wrote old new bytes → first_of bytes ≡ c → first_of (finding_bytes f) ≡ c
@@ -106,7 +134,7 @@ begins end f old new bytes c some s w e =
     let part = front end f old new bytes s w in
     first_of_front part.0 (finding_bytes f) c some (ap first_of (sym part.1) ∙ e)
 
-module _ {I : Type 0} (memory : Finding) (no_answer : IsNoAnswer memory) (IsFound : I → Finding → Type 0) (kinds : (input : I) (f : Finding) → IsFound input f → BeginsAsItsKind f) where
+module _ {I : Type 0} (memory : Finding) (no_answer : IsNoAnswer memory) (IsFound : I → Finding → Type 0) (kinds : (input : I) (f : Finding) → IsFound input f → BeginsAsSaid f) where
   -- In every run, what begins with `accepted` is written only where that is found.
   accepted_only : (input : I) (end : RunEnd) (old new : Option (List ℕ)) (bytes : List ℕ)
       → SaysOf memory IsFound input end old new → Wrote old new bytes → take 8 bytes ≡ codes "accepted" → IsFound input (finding.Verdict verdict.Accepted)

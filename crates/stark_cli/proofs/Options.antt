@@ -11,18 +11,16 @@ differs false P decides other = refl
 other_word : (a b : List ℕ) → (a ≡ b → ⊥) → bytes_eq a b ≡ false
 other_word a b other = differs _ _ (bytes_eq-Decides a b) other
 
-last_of_four : {A : Type 0} (a b c d : Bool) (w x y z last : A) → a ≡ false → b ≡ false → c ≡ false → d ≡ false → (if a then w else if b then x else if c then y else if d then z else last) ≡ last
-last_of_four true b c d w x y z last e f g h = absurd (let clash : true ≡ false = e in cc)
-last_of_four false true c d w x y z last e f g h = absurd (let clash : true ≡ false = f in cc)
-last_of_four false false true d w x y z last e f g h = absurd (let clash : true ≡ false = g in cc)
-last_of_four false false false true w x y z last e f g h = absurd (let clash : true ≡ false = h in cc)
-last_of_four false false false false w x y z last e f g h = refl
+-- A choice that isn't taken.
+otherwise : {A : Type 0} (b : Bool) (x last : A) → b ≡ false → (if b then x else last) ≡ last
+otherwise true x last other = absurd (let clash : true ≡ false = other in cc)
+otherwise false x last other = refl
 
 -- It is the first of those that name inputs.
 pub begins_inputs : {A : Type 0} (bytes : A → List ℕ) (asked : AskedVerb) (words : List A) (first : A) (word : List ℕ) → 1 ≤ length words → first ≡ get_or words 0 first → word ≡ bytes first
-    → (word ≡ codes "--quiet" → ⊥) → (word ≡ codes "--unchecked" → ⊥) → (word ≡ codes "--binary" → ⊥) → (word ≡ codes "--output" → ⊥) → task_of asked (map bytes words) ≡ with_inputs asked (map bytes words)
-begins_inputs bytes asked [] first word some is same quiet unchecked binary output = absurd (omega arith)
-begins_inputs bytes asked (x ∷ rest) first word some is same quiet unchecked binary output =
+    → (word ≡ codes "--quiet" → ⊥) → (word ≡ codes "--at-least" → ⊥) → (word ≡ codes "--unchecked" → ⊥) → (word ≡ codes "--binary" → ⊥) → (word ≡ codes "--output" → ⊥) → task_of asked (map bytes words) ≡ with_inputs asked (map bytes words)
+begins_inputs bytes asked [] first word some is same quiet floor unchecked binary output = absurd (omega arith)
+begins_inputs bytes asked (x ∷ rest) first word some is same quiet floor unchecked binary output =
     let here : word ≡ bytes x = same ∙ ap bytes is in
-    last_of_four _ _ _ _ _ _ _ _ _ (other_word (bytes x) _ (λ e. quiet (here ∙ e))) (other_word (bytes x) _ (λ e. unchecked (here ∙ e))) (other_word (bytes x) _ (λ e. binary (here ∙ e)))
-    (other_word (bytes x) _ (λ e. output (here ∙ e)))
+    otherwise _ _ _ (other_word (bytes x) _ (λ e. quiet (here ∙ e))) ∙ otherwise _ _ _ (other_word (bytes x) _ (λ e. floor (here ∙ e))) ∙ otherwise _ _ _ (other_word (bytes x) _ (λ e. unchecked (here ∙ e)))
+    ∙ otherwise _ _ _ (other_word (bytes x) _ (λ e. binary (here ∙ e))) ∙ otherwise _ _ _ (other_word (bytes x) _ (λ e. output (here ∙ e)))

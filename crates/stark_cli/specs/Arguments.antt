@@ -1,7 +1,9 @@
 -- What the words after the name of `voskligan` ask for.
-use Rattle.std.specs.Prelude.{ℕ, Bool, true, false, ◌&&◌, ◌||◌, List, [], ◌∷◌, if◌then◌else◌, Option, None, Some, is_none, nat_eq, option_map, option_copied, option_and_then, codes}
-use Rattle.std.specs.List.{starts_with}
+use Rattle.std.specs.Prelude.{ℕ, ◌^◌, Bool, true, false, ◌&&◌, ◌||◌, List, [], ◌∷◌, length, if◌then◌else◌, Option, None, Some, is_none, nat_eq, nat_lt, option_map, option_copied, option_and_then, codes}
+use Rattle.std.specs.Char.{digit_value}
+use Rattle.std.specs.List.{list_all, starts_with}
 use Rattle.std.specs.Str.{bytes_eq}
+use Rattle.std.specs.Str.Parse.{digits_value, without_leading_plus}
 use Rattle.stark_cli.specs.declared.arguments.InputWord.{InputWord}
 use Rattle.stark_cli.specs.declared.arguments.InputWord.TheVariants as word
 use Rattle.stark_cli.specs.declared.arguments.Inputs.{Inputs}
@@ -10,7 +12,7 @@ use Rattle.stark_cli.specs.declared.arguments.Request.{Request}
 use Rattle.stark_cli.specs.declared.arguments.Request.TheVariants as request
 use Rattle.stark_cli.specs.declared.arguments.Task.{Task}
 use Rattle.stark_cli.specs.declared.statements.Verb.{Verb}
-use Rattle.stark_cli.specs.declared.statements.Verb.TheVariants.{Show, Trace, Verify}
+use Rattle.stark_cli.specs.declared.statements.Verb.TheVariants.{Show, Trace, Verify, VerifyAtLeast}
 use Rattle.stark_answers.specs.declared.task.ProofForm.TheVariants.{Bytes, Json}
 use Rattle.stark_answers.specs.declared.task.TraceTask.TheVariants.{Check, Prove, ProveUnchecked}
 
@@ -25,7 +27,7 @@ pub record InputNames : Type 0 where
   pub statement : InputName
   pub second : InputName
 
--- a verb with its options, of which `--unchecked` and `--binary` make it another verb
+-- a verb with its options, of which `--at-least`, `--unchecked` and `--binary` make it another verb
 pub record AskedVerb : Type 0 where
   pub verb : Verb
   pub output : Option (List ℕ)
@@ -91,11 +93,13 @@ unless_twice statement second = Some (record { statement = statement; second = s
 abbrev pub with_one : Verb → InputName → Option InputNames
 with_one Show statement = Some (record { statement = statement; second = nothing })
 with_one Verify statement = unless_twice statement standard
+with_one (VerifyAtLeast floor) statement = unless_twice statement standard
 with_one (Trace asked) statement = unless_twice statement standard
 
 abbrev pub with_two : Verb → InputName → InputName → Option InputNames
 with_two Show statement second = None
 with_two Verify statement second = unless_twice statement second
+with_two (VerifyAtLeast floor) statement second = unless_twice statement second
 with_two (Trace asked) statement second = unless_twice statement second
 
 -- the words that name a verb's inputs
@@ -112,17 +116,39 @@ without_options verb = record { verb = verb; output = None; quiet = false }
 abbrev pub is_show : Verb → Bool
 is_show Show = true
 is_show Verify = false
+is_show (VerifyAtLeast floor) = false
 is_show (Trace asked) = false
 
 -- one more option, if the verb takes it and hasn't got it
 unfoldable pub with_quiet : AskedVerb → Option AskedVerb
 with_quiet asked = if is_show asked.verb || asked.quiet then None else Some (record { verb = asked.verb; output = asked.output; quiet = true })
 
+-- one digit or more, and nothing else
+abbrev pub is_numeral : List ℕ → Bool
+is_numeral digits = nat_lt 0 (length digits) && list_all (λ d. nat_lt (digit_value d) 10) digits
+
+-- the number of bits that a word is, in decimal digits, before which a plus may stand; none where it is no such number, or 2 ^ 64 and more
+unfoldable pub bits_of : List ℕ → Option ℕ
+bits_of w =
+    let digits = without_leading_plus w in
+    if is_numeral digits && nat_lt (digits_value 10 digits) (2 ^ 64) then Some (digits_value 10 digits) else None
+
+abbrev pub floor_verb : ℕ → Verb → Option Verb
+floor_verb floor Verify = Some (VerifyAtLeast floor)
+floor_verb floor (VerifyAtLeast other) = None
+floor_verb floor (Trace asked) = None
+floor_verb floor Show = None
+
+unfoldable pub with_floor : List ℕ → AskedVerb → Option AskedVerb
+with_floor word asked =
+    option_and_then (λ floor. option_map (λ verb. record { verb = verb; output = asked.output; quiet = asked.quiet }) (floor_verb floor asked.verb)) (bits_of word)
+
 abbrev pub unchecked_verb : Verb → Option Verb
 unchecked_verb (Trace (Prove form)) = Some (Trace (ProveUnchecked form))
 unchecked_verb (Trace (ProveUnchecked form)) = None
 unchecked_verb (Trace Check) = None
 unchecked_verb Verify = None
+unchecked_verb (VerifyAtLeast floor) = None
 unchecked_verb Show = None
 
 unfoldable pub with_unchecked : AskedVerb → Option AskedVerb
@@ -135,6 +161,7 @@ binary_verb (Trace (ProveUnchecked Json)) = Some (Trace (ProveUnchecked Bytes))
 binary_verb (Trace (ProveUnchecked Bytes)) = None
 binary_verb (Trace Check) = None
 binary_verb Verify = None
+binary_verb (VerifyAtLeast floor) = None
 binary_verb Show = None
 
 unfoldable pub with_binary : AskedVerb → Option AskedVerb
@@ -145,6 +172,7 @@ is_prover (Trace (Prove form)) = true
 is_prover (Trace (ProveUnchecked form)) = true
 is_prover (Trace Check) = false
 is_prover Verify = false
+is_prover (VerifyAtLeast floor) = false
 is_prover Show = false
 
 unfoldable pub with_output : List ℕ → AskedVerb → Option AskedVerb
@@ -156,16 +184,22 @@ with_output word asked =
 unfoldable pub with_inputs : AskedVerb → List (List ℕ) → Option AskedTask
 with_inputs asked words = option_map (λ inputs. record { asked = asked; inputs = inputs }) (inputs_of asked.verb words)
 
--- the words behind a verb: its options, one by one, and then its inputs
+-- the words after a verb: its options, one by one, and then its inputs
 abbrev mutual
   pub task_of : AskedVerb → List (List ℕ) → Option AskedTask
   task_of asked [] = None
   task_of asked (w ∷ rest) =
       if bytes_eq w (codes "--quiet") then option_and_then (λ more. task_of more rest) (with_quiet asked)
+      else if bytes_eq w (codes "--at-least") then floored_of asked rest
       else if bytes_eq w (codes "--unchecked") then option_and_then (λ more. task_of more rest) (with_unchecked asked)
       else if bytes_eq w (codes "--binary") then option_and_then (λ more. task_of more rest) (with_binary asked)
       else if bytes_eq w (codes "--output") then output_of asked rest
       else with_inputs asked (w ∷ rest)
+
+  -- the same where the first word is the floor that `--at-least` sets
+  pub floored_of : AskedVerb → List (List ℕ) → Option AskedTask
+  floored_of asked [] = None
+  floored_of asked (w ∷ rest) = option_and_then (λ more. task_of more rest) (with_floor w asked)
 
   -- the same where the first word is what `--output` names
   pub output_of : AskedVerb → List (List ℕ) → Option AskedTask

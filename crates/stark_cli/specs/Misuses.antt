@@ -2,7 +2,7 @@
 use Rattle.std.specs.Prelude.{◌≡◌, ℕ, List, [], ◌∷◌, IsSome, None}
 use Rattle.stark_cli.specs.Arguments.{verb_of}
 use Rattle.stark_cli.specs.declared.misuse.Misuse.{Misuse}
-use Rattle.stark_cli.specs.declared.misuse.Misuse.TheVariants.{NoVerb, UnknownVerb, UnknownOption, OptionAfterInput, OptionTwice, OptionOfAnotherVerb, NoPath, NoStatement, OneWordMore, StandardInputTwice}
+use Rattle.stark_cli.specs.declared.misuse.Misuse.TheVariants.{NoVerb, UnknownVerb, UnknownOption, OptionAfterInput, OptionTwice, OptionOfAnotherVerb, NoPath, NoBits, NoStatement, OneWordMore, StandardInputTwice}
 
 -- It is said of words of which the first is a verb.
 abbrev pub IsOfVerb : Misuse → Type 0
@@ -13,6 +13,7 @@ IsOfVerb (OptionAfterInput word) = Unit {0}
 IsOfVerb (OptionTwice word) = Unit {0}
 IsOfVerb (OptionOfAnotherVerb verb word) = Unit {0}
 IsOfVerb NoPath = Unit {0}
+IsOfVerb NoBits = Unit {0}
 IsOfVerb (NoStatement verb) = Unit {0}
 IsOfVerb (OneWordMore word) = Unit {0}
 IsOfVerb StandardInputTwice = Unit {0}
@@ -30,6 +31,7 @@ IsMisuseOf words (OptionAfterInput word) = HasVerb words
 IsMisuseOf words (OptionTwice word) = HasVerb words
 IsMisuseOf words (OptionOfAnotherVerb verb word) = HasVerb words
 IsMisuseOf words NoPath = HasVerb words
+IsMisuseOf words NoBits = HasVerb words
 IsMisuseOf words (NoStatement verb) = HasVerb words
 IsMisuseOf words (OneWordMore word) = HasVerb words
 IsMisuseOf words StandardInputTwice = HasVerb words

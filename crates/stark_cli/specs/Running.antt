@@ -9,7 +9,7 @@ use Rattle.stark_answers.specs.declared.task.ProofForm.{ProofForm}
 use Rattle.stark_answers.specs.declared.task.ProofForm.TheVariants.{Bytes, Json}
 use Rattle.stark_answers.specs.declared.verdict.Verdict.TheVariants as verdict
 use Rattle.stark_answers.specs.declared.verdict.RunEnd.{RunEnd}
-use Rattle.stark_answers.specs.declared.verdict.RunEnd.TheVariants.{Accepted, Refused, NotJudged, InputFailed, OutputFailed}
+use Rattle.stark_answers.specs.declared.verdict.RunEnd.TheVariants.{Accepted, BelowFloor, Refused, NotJudged, InputFailed, OutputFailed}
 
 -- This is the readers' input, where they tell their bytes.
 abbrev pub IsInput : {I : Type 0} → Option I → I → Type 0
@@ -21,7 +21,7 @@ both None second = None
 both (Some bytes) None = None
 both (Some bytes) (Some others) = Some (bytes, others)
 
--- What a run reads, where that is known, and what its writer holds before it and behind it.
+-- What a run reads, where that is known, and what its writer holds before it and after it.
 pub record Exchange (I : Type 0) : Type 0 where
   pub input : Option I
   pub old : Option (List ℕ)
@@ -35,6 +35,7 @@ IsSomeProof (finding.Verdict v) = ⊥
 IsSomeProof (finding.Text text) = ⊥
 IsSomeProof finding.Satisfied = ⊥
 IsSomeProof (finding.Broken row) = ⊥
+IsSomeProof (finding.TooFewBits line) = ⊥
 
 -- A run ended so that found f, and wrote from old to new.
 abbrev pub Says : RunEnd → Finding → Option (List ℕ) → Option (List ℕ) → Type 0
@@ -43,6 +44,7 @@ Says OutputFailed f old new = (count : ℕ) × Appends old new (take count (find
 Says Accepted f old new = (finding_end f ≡ Accepted) × Appends old new (finding_bytes f)
 Says Refused f old new = (finding_end f ≡ Refused) × Appends old new (finding_bytes f)
 Says NotJudged f old new = (finding_end f ≡ NotJudged) × Appends old new (finding_bytes f)
+Says BelowFloor f old new = (finding_end f ≡ BelowFloor) × Appends old new (finding_bytes f)
 
 -- A run found a proof and said so, or what is no proof.
 pub record SaidProof (end : RunEnd) (f : Finding) (old new : Option (List ℕ)) : Type 0 where
@@ -67,7 +69,7 @@ Wrote (Some xs) (Some ys) bytes = ys ≡ xs ++ bytes
 abbrev pub WhereAccepted : {I : Type 0} → Option I → Option (List ℕ) → Option (List ℕ) → (I → Type 0) → Type 0
 WhereAccepted known old new holds = IfSome known (λ input. (bytes : List ℕ) → Wrote old new bytes → take 8 bytes ≡ codes "accepted" → holds input)
 
--- the letter by which a proof in a form begins: an object's brace, or that of the text which tells its bytes
+-- the letter by which a proof in a form begins: an object's brace, or that of the text with which its bytes begin
 abbrev pub first_letter : ProofForm → ℕ
 first_letter Json = 123
 first_letter Bytes = 118
@@ -80,7 +82,7 @@ WhereForm form known old new holds = IfSome known (λ input. (bytes : List ℕ) 
 abbrev pub WhereObject : {I : Type 0} → Option I → Option (List ℕ) → Option (List ℕ) → (I → List ℕ → Type 0) → Type 0
 WhereObject known old new holds = WhereForm Json known old new holds
 
--- The run ended as a finding asks.
+-- The run ended as a finding asks that isn't of a floor.
 abbrev pub IsFindingEnd : RunEnd → Type 0
 IsFindingEnd end = (end ≡ Accepted) ⊎ ((end ≡ Refused) ⊎ (end ≡ NotJudged))
 

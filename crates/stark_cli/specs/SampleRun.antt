@@ -57,7 +57,7 @@ module _ (verified : SampleAir → List ℕ → Verdict → Type 0) (sound : Sam
   abbrev pub SaysFinding : Option Command → List ℕ → RunEnd → Option (List ℕ) → Option (List ℕ) → Type 0
   SaysFinding command input end old new = SaysOf lacks_memory (IsFinding command) input end old new
 
-  -- An input that is the reader's, where the reader tells its bytes, is accepted.
+  -- An input that is the reader's, where the reader's bytes are known, is accepted.
   abbrev pub AcceptsInput : Option Command → Option (List ℕ) → Type 0
   AcceptsInput command known = FindsSome (IsFinding command) known (finding.Verdict verdict.Accepted)
 
@@ -67,8 +67,8 @@ module _ (proof_line : SampleAir → List ℕ → List ℕ → Type 0) where
   abbrev pub ProvesTrace : Option Command → List ℕ → List ℕ → Type 0
   ProvesTrace command input bytes = (air : SampleAir) × (command ≡ Some (Prove air)) × (line : List ℕ) × proof_line air input line × (count : ℕ) × (bytes ≡ take count line)
 
-  -- A prover is named, and this is the line of a proof of the trace that an input spells, which is the reader's, where the reader
-  -- tells its bytes.
+  -- A prover is named, and this is the line of a proof of the trace that an input spells, which is the reader's, where the
+  -- reader's bytes are known.
   abbrev pub ProvesInput : Option Command → Option (List ℕ) → List ℕ → Type 0
   ProvesInput command known line = (air : SampleAir) × (command ≡ Some (Prove air)) × (input : List ℕ) × IsInput known input × proof_line air input line
 

@@ -1,24 +1,26 @@
 //! The words after the name of `voskligan`.
 
 ghost use Rattle.std.specs.Prelude.{◌≡◌, map, option_copied, option_map, string_bytes};
-ghost use Rattle.stark_cli.specs.Arguments.{alone, input_of, input_view, inputs_of, inputs_view, options_view, path_of, request_of, request_view, task_of, task_view, unless_twice, verb_of, with_inputs, with_binary, with_one, with_output, with_quiet, with_two, with_unchecked, without_options};
+ghost use Rattle.stark_cli.specs.Arguments.{alone, bits_of, input_of, input_view, inputs_of, inputs_view, options_view, path_of, request_of, request_view, task_of, task_view, unless_twice, verb_of, with_inputs, with_binary, with_floor, with_one, with_output, with_quiet, with_two, with_unchecked, without_options};
 
 use crate::statements::Verb;
 use stark_answers::{ProofForm, TraceTask};
 
 /// How the program is used.
-pub const USAGE: &str = "usage: voskligan verify [--quiet] STATEMENT [PROOF]
+pub const USAGE: &str = "usage: voskligan verify [--at-least BITS] [--quiet] STATEMENT [PROOF]
        voskligan prove [--unchecked] [--binary] [--quiet] [--output FILE] STATEMENT [TRACE]
        voskligan check [--quiet] STATEMENT [TRACE]
        voskligan show STATEMENT
        voskligan --help | --version
 Each word is a file's path, or - for standard input, which a last word that is left out stands for.
 A path that begins with -- is written ./--NAME.
-  --unchecked    proves a trace whether or not it satisfies the AIR
-  --binary       writes the proof as bytes, which verify takes as well, in place of JSON
-  --output FILE  writes the proof to FILE, whole or not at all, in place of standard output
-  --quiet        tells no stages, which are else told on standard error where that is a terminal
+  --at-least BITS  judges a proof only where no fewer bits are proved of such proofs at its height
+  --unchecked      proves a trace whether or not it satisfies the AIR
+  --binary         writes the proof as bytes, which verify takes as well, in place of JSON
+  --output FILE    writes the proof to FILE, whole or not at all, in place of standard output
+  --quiet          tells no stages, which are else told on standard error where that is a terminal
 Status 0: accepted, proved, satisfied, shown. 1: refused, a constraint broken. 2: not judged.
+Status 4: not judged, since fewer bits are proved.
 ";
 
 /// What a word names.
@@ -94,6 +96,14 @@ pub(crate) fn path_of(word: &str) -> Option<&str>
     } else {
         Some(word)
     }
+}
+
+/// The number of bits that a word is, in decimal digits; none where it is no such number, or 2^64
+/// and more.
+pub(crate) fn bits_of(word: &str) -> Option<usize>
+    ensures { result ≡ bits_of word.now }
+{
+    word.parse::<usize>().ok()
 }
 
 /// The input that a word names: standard input or a file.
@@ -176,10 +186,29 @@ impl<'w> Options<'w> {
         ensures { option_map options_view result ≡ with_quiet (options_view self.entry) }
     {
         match self.verb {
-            Verb::Verify | Verb::Trace(_) if !self.quiet => Some(Options {
+            Verb::Show => None,
+            _ if self.quiet => None,
+            _ => Some(Options {
                 quiet: true,
                 ..self
             }),
+        }
+    }
+
+    /// With `--at-least` and the word after it; none where it is there, the verb isn't to verify or
+    /// the word no number of bits.
+    #[tactic(auto, unfolding(crate::specs::Arguments::with_floor))]
+    pub(crate) fn with_floor(self, word: &str) -> Option<Options<'w>>
+        ensures { option_map options_view result ≡ with_floor word.now (options_view self.entry) }
+    {
+        match self.verb {
+            Verb::Verify => {
+                let floor = bits_of(word)?;
+                Some(Options {
+                    verb: Verb::VerifyAtLeast(floor),
+                    ..self
+                })
+            }
             _ => None,
         }
     }
@@ -216,7 +245,7 @@ impl<'w> Options<'w> {
         })
     }
 
-    /// With `--output` and the word behind it; none where it is there, the verb is no prover's or
+    /// With `--output` and the word after it; none where it is there, the verb is no prover's or
     /// the word no path.
     #[tactic(auto, unfolding(crate::specs::Arguments::with_output))]
     pub(crate) fn with_output(self, word: &'w str) -> Option<Options<'w>>
@@ -252,7 +281,7 @@ fn with_inputs<'w>(options: Options<'w>, words: &'w [String]) -> Option<Task<'w>
     })
 }
 
-/// What a verb is asked for, under options, with the words behind these: more options, one by one,
+/// What a verb is asked for, under options, with the words after these: more options, one by one,
 /// and then its inputs.
 fn task_of<'w>(options: Options<'w>, words: &'w [String]) -> Option<Task<'w>>
     ensures { option_map task_view result ≡ task_of (options_view options.entry)
@@ -262,6 +291,10 @@ fn task_of<'w>(options: Options<'w>, words: &'w [String]) -> Option<Task<'w>>
         [] => None,
         [word, rest @ ..] => match word.as_str() {
             "--quiet" => task_of(options.with_quiet()?, rest),
+            "--at-least" => match rest {
+                [] => None,
+                [bits, rest @ ..] => task_of(options.with_floor(bits.as_str())?, rest),
+            },
             "--unchecked" => task_of(options.with_unchecked()?, rest),
             "--binary" => task_of(options.with_binary()?, rest),
             "--output" => match rest {

@@ -11,8 +11,8 @@ use std::env::Args;
 use std::process::ExitCode;
 use std::{env, io};
 
-/// The words after the first, each put behind the others: a growth that is refused is told, also
-/// one that could be asked for again.
+/// The words after the first, each put after the others: an allocation that fails is answered, also
+/// one that could be tried again.
 fn words_behind(alloc: Global, mut all: Args) -> Result<Vec<String>, AllocError>
     ensures { IfOk result (λ words. words.items ≡ drop 1 (into_iter_items all)) }
 {
@@ -44,8 +44,8 @@ pub fn words_of(rt: &HostRuntime) -> Result<Vec<String>, Verdict>
     }
 }
 
-/// The status of a process whose run ended so. A failed read or write is told on the standard
-/// error, and it doesn't matter whether that fails too.
+/// The status of a process whose run ended so. A failed read or write is reported on the
+/// standard error, and it doesn't matter whether that fails too.
 pub fn exit_code(rt: &HostRuntime, end: RunEnd) -> ExitCode
     ensures { exit_status result ≡ status_of end }
 {
@@ -56,7 +56,7 @@ pub fn exit_code(rt: &HostRuntime, end: RunEnd) -> ExitCode
         RunEnd::OutputFailed => {
             let _ = eprintln!(rt; "output failed");
         }
-        RunEnd::Accepted | RunEnd::Refused | RunEnd::NotJudged => {}
+        RunEnd::Accepted | RunEnd::Refused | RunEnd::NotJudged | RunEnd::BelowFloor => {}
     }
     ExitCode::from(end.status())
 }

@@ -4,6 +4,7 @@
 
 mod arguments;
 mod files;
+mod floors;
 mod host;
 mod misuse;
 mod outcome;

@@ -3,11 +3,11 @@
 ghost use Rattle.std.specs.Prelude.{map, string_bytes};
 ghost use Rattle.stark_cli.specs.Misuses.{IsMisuseOf, IsOfVerb};
 
-use crate::arguments::{Options, path_of, verb_of};
+use crate::arguments::{Options, bits_of, path_of, verb_of};
 use crate::statements::Verb;
 use std::fmt;
 
-/// What is wrong with words, of which the first fault is told.
+/// What is wrong with words, of which the first fault is named.
 #[derive(Clone, Copy, Debug)]
 pub enum Misuse<'w> {
     /// There are none.
@@ -24,6 +24,8 @@ pub enum Misuse<'w> {
     OptionOfAnotherVerb { verb: &'w str, word: &'w str },
     /// No path stands after `--output`.
     NoPath,
+    /// No number of bits stands after `--at-least`.
+    NoBits,
     /// No statement is named.
     NoStatement { verb: &'w str },
     /// There is a word more than the verb takes.
@@ -43,6 +45,7 @@ impl fmt::Display for Misuse<'_> {
             Misuse::OptionTwice { word } => write!(f, "{word} is there twice"),
             Misuse::OptionOfAnotherVerb { verb, word } => write!(f, "{verb} takes no {word}"),
             Misuse::NoPath => f.write_str("no path stands after --output"),
+            Misuse::NoBits => f.write_str("no number of bits stands after --at-least"),
             Misuse::NoStatement { verb } => write!(f, "{verb} wants a statement"),
             Misuse::OneWordMore { word } => write!(f, "one word more than wanted: {word}"),
             Misuse::StandardInputTwice => f.write_str("both inputs would be standard input"),
@@ -52,14 +55,27 @@ impl fmt::Display for Misuse<'_> {
 
 /// Whether a word is an option of a verb.
 fn is_option(word: &str) -> bool {
-    matches!(word, "--quiet" | "--unchecked" | "--binary" | "--output")
+    matches!(
+        word,
+        "--quiet" | "--at-least" | "--unchecked" | "--binary" | "--output"
+    )
+}
+
+/// Whether a verb takes an option.
+fn takes(verb: &str, word: &str) -> bool {
+    match verb {
+        "verify" => word == "--quiet" || word == "--at-least",
+        "prove" => word != "--at-least",
+        "check" => word == "--quiet",
+        _ => false,
+    }
 }
 
 /// Why a verb doesn't take an option once more.
 fn not_taken<'w>(verb: &'w str, word: &'w str) -> Misuse<'w>
     ensures { IsOfVerb result }
 {
-    if verb == "prove" || (verb != "show" && word == "--quiet") {
+    if takes(verb, word) {
         Misuse::OptionTwice { word }
     } else {
         Misuse::OptionOfAnotherVerb { verb, word }
@@ -95,6 +111,17 @@ fn misuse_of_output<'w>(verb: &'w str, word: &'w str, path: &str) -> Misuse<'w>
     }
 }
 
+/// What is wrong with the word after `--at-least`, which isn't taken.
+fn misuse_of_floor<'w>(verb: &'w str, word: &'w str, bits: &str) -> Misuse<'w>
+    ensures { IsOfVerb result }
+{
+    if takes(verb, word) && bits_of(bits).is_none() {
+        Misuse::NoBits
+    } else {
+        not_taken(verb, word)
+    }
+}
+
 /// What is wrong with the words after a verb and options of it.
 fn misuse_of_verb<'w>(name: &'w str, options: Options<'w>, words: &'w [String]) -> Misuse<'w>
     ensures { IsOfVerb result }
@@ -105,6 +132,13 @@ fn misuse_of_verb<'w>(name: &'w str, options: Options<'w>, words: &'w [String]) 
     let word = word.as_str();
     let (taken, rest) = match word {
         "--quiet" => (options.with_quiet(), rest),
+        "--at-least" => match rest {
+            [] => return misuse_of_floor(name, word, ""),
+            [bits, rest @ ..] => match options.with_floor(bits.as_str()) {
+                Some(taken) => (Some(taken), rest),
+                None => return misuse_of_floor(name, word, bits.as_str()),
+            },
+        },
         "--unchecked" => (options.with_unchecked(), rest),
         "--binary" => (options.with_binary(), rest),
         "--output" => match rest {

@@ -33,7 +33,7 @@ pub fn tell<W: Sink>(finding: &Finding, writer: &mut W) -> RunEnd
     }
 }
 
-/// How what is found was told, and whether it is a proof.
+/// How what is found was written, and whether it is a proof.
 #[derive(Clone, Copy, Debug, PartialEq, Eq)]
 pub(crate) struct Outcome {
     pub(crate) end: RunEnd,
@@ -65,10 +65,13 @@ pub(crate) fn tell_apart<O: Sink, W: Sink>(
             end: tell(finding, output),
             is_proof: true,
         },
-        Finding::Verdict(_) | Finding::Text(_) | Finding::Satisfied | Finding::Broken(_) =>
-            Outcome {
-                end: tell(finding, writer),
-                is_proof: false,
-            },
+        Finding::Verdict(_)
+        | Finding::Text(_)
+        | Finding::Satisfied
+        | Finding::Broken(_)
+        | Finding::TooFewBits(_) => Outcome {
+            end: tell(finding, writer),
+            is_proof: false,
+        },
     }
 }

@@ -13,7 +13,7 @@ use std::{fmt, fs, io};
 pub enum OutputFault<'p> {
     /// What has the path is no regular file.
     NotRegular { path: &'p str },
-    /// A growth of memory was refused.
+    /// An allocation failed.
     OutOfMemory,
     /// The file beside it can't be made. One of that name may be there already.
     NotMade { path: &'p str, error: io::Error },
@@ -47,7 +47,7 @@ impl Display for OutputFault<'_> {
 }
 
 /// A file that isn't complete yet: it stands beside the path that it is for, under that path with
-/// `.partial` behind it.
+/// `.partial` after it.
 #[derive(Drop)]
 pub struct PartialFile<'p> {
     path: &'p str,
@@ -106,8 +106,8 @@ impl<'p> PartialFile<'p> {
         kept
     }
 
-    /// Removes the file, and leaves the path as it is. It is told on standard error where it can't
-    /// be removed.
+    /// Removes the file, and leaves the path as it is. Standard error says where it can't be
+    /// removed.
     pub fn discard(self, rt: &HostRuntime) {
         if let Err(error) = fs::remove_file(rt, self.partial.as_str()) {
             let fault = OutputFault::NotRemoved {

@@ -1,4 +1,4 @@
-//! The stages of a run, told in lines. No clause speaks of them.
+//! The stages of a run, a line for each. No clause speaks of them.
 
 use crate::statements::Verb;
 use stark_answers::Finding;
@@ -8,16 +8,16 @@ use std::io::Write;
 /// The reading of a verb's second input; none where it has none.
 fn reading_of_second(verb: Verb) -> Option<Stage> {
     match verb {
-        Verb::Verify => Some(Stage::ReadingProof),
+        Verb::Verify | Verb::VerifyAtLeast(_) => Some(Stage::ReadingProof),
         Verb::Trace(_) => Some(Stage::ReadingTrace),
         Verb::Show => None,
     }
 }
 
-/// What a verb asks for first, of inputs of so many bytes.
+/// What a verb asks for first, of inputs of these lengths.
 pub(crate) fn stage_of_inputs(verb: Verb, statement: usize, second: usize) -> Stage {
     match verb {
-        Verb::Verify => Stage::Verifying {
+        Verb::Verify | Verb::VerifyAtLeast(_) => Stage::Verifying {
             statement,
             proof: second,
         },

@@ -171,7 +171,7 @@ pub fn run<R: Source, W: Sink>(
     ensures proved { ⟦<SampleAir as SampleFindings>⟧.proved (map string_bytes words.now)
         (⟦<W as RunWith<R>>⟧.run reader.old writer.old writer.new) }
     // A run ends so only where they hold of an input, and wrote `accepted`, or it wrote the line of
-    // a proof of the trace that an input spells, whether or not the reader tells its bytes.
+    // a proof of the trace that an input spells, whether or not the reader's bytes are known.
     ensures accepted_end { ⟦<SampleAir as SampleFindings>⟧.ends (map string_bytes words.now)
         (⟦<W as RunWith<R>>⟧.run reader.old writer.old writer.new) result }
 {

@@ -2,8 +2,8 @@
 
 ghost use Rattle.std.specs.Prelude.{◌≡◌, ◌↔◌, ◌⊎◌, ℕ, List, Option, true, false, IfErr, IfOk, IfSome, is_err};
 ghost use Rattle.std.specs.Io.KnownBytes.{Appends};
-ghost use Rattle.stark_cli.specs.Running.{Exchange, Found, IsFindingEnd, IsFoundOrLacksMemory, SaidAnswer, SaidProof, Says, SaysOf, WhereAccepted, WhereForm, both};
-ghost use Rattle.stark_cli.specs.StatementRun.{Accepts, AcceptsInput, DeliversProof, IsFinding, ProvesTrace, SaysSatisfied, WritesProof, WritesText, no_memory};
+ghost use Rattle.stark_cli.specs.Running.{Exchange, Found, IsFoundOrLacksMemory, SaidAnswer, SaidProof, Says, SaysOf, WhereAccepted, WhereForm, both};
+ghost use Rattle.stark_cli.specs.StatementRun.{Accepts, AcceptsInput, DeliversProof, IsEndUnder, IsFinding, ProvesTrace, SaysSatisfied, WritesProof, WritesText, no_memory};
 ghost use Rattle.stark_cli.specs.declared.statements.Delivered.{Delivered};
 ghost use Rattle.stark_cli.specs.declared.statements.Verb.{Verb};
 ghost use Rattle.stark_answers.specs.Verdict.{line_of};
@@ -12,11 +12,12 @@ ghost use Rattle.stark_answers.specs.declared.finding.Finding.{Finding};
 ghost use Rattle.stark_answers.specs.declared.verdict.RunEnd.{RunEnd};
 ghost use Rattle.stark_answers.specs.declared.verdict.Verdict.{Verdict};
 
+use crate::floors::floor_finding;
 use crate::outcome::{tell, tell_apart, unread_input};
 use crate::progress::{stage_of_inputs, tell_proof, tell_second};
 use crate::streams::{InputFault, RunWithBoth, Sink, Source, read_to_end};
 use stark_answers::{Finding, Report, RunEnd, TraceTask, Verdict};
-use stark_service::{Progress, Stage, StatementAnswers};
+use stark_service::{FloorAnswers, Progress, Stage};
 use std::alloc::Global;
 
 /// What is asked for a statement.
@@ -24,6 +25,8 @@ use std::alloc::Global;
 pub enum Verb {
     /// To verify a proof.
     Verify,
+    /// To verify a proof of which no fewer bits are proved.
+    VerifyAtLeast(usize),
     /// To check or prove a trace.
     Trace(TraceTask),
     /// To show its AIR.
@@ -75,9 +78,10 @@ pub trait StatementFindings {
     ghost ends: { Verb → Exchange (List ℕ × List ℕ) → RunEnd → Type 0 };
 }
 
-impl<A: StatementAnswers> StatementFindings for A {
+impl<A: FloorAnswers> StatementFindings for A {
     ghost finding = { IsFinding A.verdict
         A.sound
+        A.floored
         A.finds
         A.proof_file
         A.showing };
@@ -87,6 +91,7 @@ impl<A: StatementAnswers> StatementFindings for A {
     ghost finds = { λ verb. Found no_memory
         (IsFinding A.verdict
         A.sound
+        A.floored
         A.finds
         A.proof_file
         A.showing verb) };
@@ -94,12 +99,13 @@ impl<A: StatementAnswers> StatementFindings for A {
     ghost says = { λ verb run end. IfSome run.input (λ input. SaysOf no_memory
         (IsFinding A.verdict
         A.sound
+        A.floored
         A.finds
         A.proof_file
         A.showing verb) input end run.old run.new) };
 
     ghost accepted = { λ verb run. WhereAccepted run.input run.old run.new
-        (Accepts A.verdict verb) };
+        (Accepts A.verdict A.floored verb) };
 
     ghost sound = { λ run. WhereAccepted run.input run.old run.new (λ input.
         A.sound input.0 input.1) };
@@ -108,7 +114,7 @@ impl<A: StatementAnswers> StatementFindings for A {
         (ProvesTrace A.proof_file form verb) };
 
     ghost ends = { λ verb run end. end ≡ RunEnd.Accepted →
-        (AcceptsInput A.verdict verb run.input
+        (AcceptsInput A.verdict A.floored verb run.input
         × Appends run.old run.new (line_of Verdict.Accepted))
         ⊎ (WritesProof A.proof_file verb run.input
         run.old run.new
@@ -133,7 +139,7 @@ pub trait DeliveryFindings {
     ghost ends: { Verb → Exchange (List ℕ × List ℕ) → Delivered → Type 0 };
 }
 
-impl<A: StatementAnswers> DeliveryFindings for A {
+impl<A: FloorAnswers> DeliveryFindings for A {
     ghost delivered = { λ verb run of. of.is_proof ≡ true
         → DeliversProof A.proof_file verb run.input of.ended.end run.old run.new };
 
@@ -141,7 +147,7 @@ impl<A: StatementAnswers> DeliveryFindings for A {
         → ⟦<A as StatementFindings>⟧.says verb run of.ended.end };
 
     ghost ends = { λ verb run of. of.is_proof ≡ false → of.ended.end ≡ RunEnd.Accepted
-        → (AcceptsInput A.verdict verb run.input
+        → (AcceptsInput A.verdict A.floored verb run.input
         × Appends run.old run.new (line_of Verdict.Accepted))
         ⊎ (WritesText A.showing verb run.input run.old run.new
         ⊎ SaysSatisfied A.finds verb run.input run.old run.new) };
@@ -149,7 +155,7 @@ impl<A: StatementAnswers> DeliveryFindings for A {
 
 /// What is found of the bytes of both.
 #[tactic(auto, unfolding(crate::specs::StatementRun::IsFinding))]
-fn answer<A: StatementAnswers, P: Progress>(
+fn answer<A: FloorAnswers, P: Progress>(
     alloc: Global,
     verb: Verb,
     statement: Vec<u8>,
@@ -162,6 +168,9 @@ fn answer<A: StatementAnswers, P: Progress>(
 {
     match verb {
         Verb::Verify => A::verify(alloc, statement, &second).as_finding(),
+        Verb::VerifyAtLeast(floor) => {
+            floor_finding(alloc, A::verify_at_least(alloc, floor, &statement, &second))
+        }
         Verb::Trace(asked) => A::answer(alloc, asked, statement, second, progress),
         Verb::Show => A::show(alloc, statement),
     }
@@ -183,8 +192,8 @@ fn unread(fault: InputFault) -> Result<Report<Finding>, RunEnd>
 }
 
 /// Finds something of what the readers have, or fails by one of them alone. The second is read
-/// behind the first.
-fn find<A: StatementAnswers, S: Source, R: Source, P: Progress>(
+/// after the first.
+fn find<A: FloorAnswers, S: Source, R: Source, P: Progress>(
     alloc: Global,
     verb: Verb,
     statement: &mut S,
@@ -244,8 +253,8 @@ fn tell_finding<W: Sink, P: Progress>(
 ///
 /// Both are read to their ends, and one line is written, or the text that shows, or the two lines
 /// of a row that breaks a constraint. The reason, in words, is for standard error, and each stage
-/// is told before it begins; no clause speaks of either.
-pub fn run<A: StatementAnswers, S: Source, R: Source, W: Sink, P: Progress>(
+/// is reported before it begins; no clause speaks of either.
+pub fn run<A: FloorAnswers, S: Source, R: Source, W: Sink, P: Progress>(
     alloc: Global,
     verb: Verb,
     statement: &mut S,
@@ -264,9 +273,9 @@ pub fn run<A: StatementAnswers, S: Source, R: Source, W: Sink, P: Progress>(
     ensures input_failed { (result.end ≡ RunEnd.InputFailed)
         ↔ ((S.has_failed statement.new ≡ true) ⊎ (R.has_failed second.new ≡ true)) }
     ensures output_failed { (result.end ≡ RunEnd.OutputFailed) ↔ (W.has_failed writer.new ≡ true) }
-    // Where none failed, the end is that of what is found.
+    // Where none failed, the end is that of what is found under the verb.
     ensures ends { S.has_failed statement.new ≡ false → R.has_failed second.new ≡ false
-        → W.has_failed writer.new ≡ false → IsFindingEnd result.end }
+        → W.has_failed writer.new ≡ false → IsEndUnder verb result.end }
     // After a failed read nothing is written.
     ensures silent { result.end ≡ RunEnd.InputFailed → writer.new ≡ writer.old }
     // In every run `accepted` is written only where a verifier is asked that accepts the proof for
@@ -338,7 +347,7 @@ fn deliver_finding<O: Sink, W: Sink, P: Progress>(
 
 /// Runs the program as `run` does, but for a proof, which goes to an output of its own: what isn't
 /// one, a refusal, a broken row, a bad input or want of memory, is written as `run` writes it.
-pub fn run_to<A: StatementAnswers, S: Source, R: Source, O: Sink, W: Sink, P: Progress>(
+pub fn run_to<A: FloorAnswers, S: Source, R: Source, O: Sink, W: Sink, P: Progress>(
     alloc: Global,
     verb: Verb,
     statement: &mut S,

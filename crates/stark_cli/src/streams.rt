@@ -12,7 +12,7 @@ use std::alloc::Global;
 pub enum InputFault {
     /// A read failed.
     Failed,
-    /// A growth of memory was refused.
+    /// An allocation failed.
     OutOfMemory,
 }
 
@@ -57,7 +57,7 @@ pub trait Sink {
         ensures ok { IsOk result → has_failed self.new ≡ has_failed self.old };
 }
 
-/// What a run exchanges with a reader and this writer, of their states before and behind it. It has
+/// What a run exchanges with a reader and this writer, of their states before and after it. It has
 /// no code.
 pub trait RunWith<R>: Sink {
     ghost run: { R → Self → Self → Exchange (List ℕ) };

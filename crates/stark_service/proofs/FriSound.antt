@@ -20,6 +20,7 @@ use Rattle.stark_verifier.proofs.SoundAcceptanceSteps.{accepted_is_sound}
 use Rattle.stark_statement.specs.StatementView.{StatementView}
 use Rattle.stark_answers.specs.SoundRun.{InterpolateDeclared}
 use Rattle.stark_answers.specs.Verify.{IsKey, IsVerdict}
+use Rattle.stark_answers.proofs.Soundly.{accepts_none}
 use Rattle.stark_answers.specs.declared.verdict.Verdict.{Verdict}
 use Rattle.stark_answers.specs.declared.verdict.Verdict.TheVariants as verdict
 use Rattle.stark_service.specs.FriSoundness.{IsSoundByFri, IsSoundByFriOn, IsSoundByFriWithRows, TakeDeclared, judged_with}
@@ -89,7 +90,8 @@ module _ {S F E C T P X Y : Type 0} (ops : ServiceOps S F E C Root T P X Y) (fri
 
     sound_with_key : IsVerdict ops.protocol log_rows scheme first_state (declared_of s.air) p s.public_values s.ood_bits s.alpha_bits verdict.Accepted → IsSoundByFri ops fri parameters_of proof_of scheme first_state s log_rows p
     unfolding IsVerdict
-    sound_with_key said =
+    sound_with_key (inr misshapen) = absurd (accepts_none misshapen.2)
+    sound_with_key (inl said) =
         let judged = judged_with ops fri parameters_of proof_of scheme first_state s said.0 in
         let breaking = accepted_is_sound ops.protocol judged p by.laws reads.within (declared_of s.air).preprocessed_trace reads.counted said.2 in
         let shown = accepted_are_shown ops.protocol fri parameters_of proof_of judged p by said.2 breaking in

@@ -12,6 +12,6 @@ never_so_high rows k below high is =
     let above : k ≡ 64 + (k - 64) = omega arith in
     omega (arith, below, is, ap (λ n. 2 ^ n) above, at_least (k - 64))
 
--- No trace has so many rows.
+-- No trace is so high.
 pub too_high : (rows k : ℕ) → rows < 2 ^ 64 → (k < 64 → ⊥) → false ≡ nat_eq rows (2 ^ k)
 too_high rows k below high = sym (ne_eqb rows (2 ^ k) (never_so_high rows k below high))

@@ -11,6 +11,7 @@ pub mod ShowSteps
 pub mod StatementSteps
 pub mod StatementsSound
 mod FittingRows
+pub mod FloorSteps
 pub mod TraceTasks
 pub mod UnreadFindings
 pub mod UnreadRows

@@ -59,7 +59,7 @@ module _ {F : Type 0} (air : AirView F) where
   pub are_chunks : (log : ℕ) → IsCeilingOfLog log multiple → AreChunks air (2 ^ log)
   are_chunks log sized = record { log = log; sized = sized; number = ap (λ k. 2 ^ k) (let same : log ≡ log + 0 = omega arith in same) }
 
-  -- There are only so many.
+  -- There are no more than these.
   pub same_chunks : (n m : ℕ) → AreChunks air n → AreChunks air m → n ≡ m
   same_chunks n m first second = first.number ∙ ap (λ k. 2 ^ (k + 0)) (same_log first.log second.log multiple first.sized second.sized) ∙ sym second.number
 

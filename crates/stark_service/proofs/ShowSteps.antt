@@ -24,7 +24,7 @@ use Rattle.stark_service.specs.Statements.{IsSaidOfNone, IsWithinLimits}
 use Rattle.stark_service.specs.TraceChecks.{OrLacksMemory}
 use Rattle.stark_service.proofs.ReadSteps.{none_accepted, said_of_read, unconfigured_accepts_none}
 
--- With lines behind it a text begins as before.
+-- With lines after it a text begins as before.
 longer : {F : Type 0} (number : F → ℕ) (declaration : TreeDeclaration F) (list : TreeList F) (text more : List ℕ) → IsWhole number declaration list text → IsWhole number declaration list (text ++ more)
 longer number declaration list text more begins = record { whole = λ short. (let all = begins.whole short in (all.0 ++ more, ap (λ t. t ++ more) all.1 ∙ append_assoc _ _ more ∙ ap (λ t. columns_text declaration.columns ++ t) (append_assoc _ all.0 more))) }
 

@@ -107,7 +107,7 @@ kept_verdict (verdict.Refused why) = kept_refusal why
 kept_verdict verdict.BadInput = inr refl
 kept_verdict verdict.OutOfMemory = inr refl
 
-said_unjudged : (P : Verdict → Type 0) (v w : Verdict) → w ≡ unjudged v → (v ≡ verdict.Refused refusal.OutOfMemory) ⊎ P v → (w ≡ verdict.OutOfMemory) ⊎ P w
+pub said_unjudged : (P : Verdict → Type 0) (v w : Verdict) → w ≡ unjudged v → (v ≡ verdict.Refused refusal.OutOfMemory) ⊎ P v → (w ≡ verdict.OutOfMemory) ⊎ P w
 said_unjudged P v w is (inl memory) = inl (is ∙ ap unjudged memory)
 said_unjudged P v w is (inr said) = elim (kept_verdict v) [
   | inl memory ↦ inl (is ∙ memory)
@@ -124,6 +124,7 @@ kept_finding (finding.ProofBytes bytes) = inr refl
 kept_finding (finding.Text text) = inr refl
 kept_finding finding.Satisfied = inr refl
 kept_finding (finding.Broken row) = inr refl
+kept_finding (finding.TooFewBits line) = inr refl
 
 found_unjudged : (P : Finding → Type 0) (f g : Finding) → g ≡ unjudged_finding f → (f ≡ finding.Verdict (verdict.Refused refusal.OutOfMemory)) ⊎ P f → (g ≡ finding.Verdict verdict.OutOfMemory) ⊎ P g
 found_unjudged P f g is (inl memory) = inl (is ∙ ap unjudged_finding memory)

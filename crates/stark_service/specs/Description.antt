@@ -22,6 +22,11 @@ abbrev pub scheme_text : Option FriNumbers → List ℕ
 scheme_text (Some n) = fri_text n
 scheme_text None = codes "in the clear"
 
+-- the height that is fixed, or that the prover chooses one
+abbrev pub height_line : Option ℕ → List ℕ
+height_line (Some log_height) = codes "height: 2^" ++ (decimal log_height ++ codes " rows, fixed\n")
+height_line None = codes "height: the prover's choice\n"
+
 abbrev pub work_line : (alpha_bits ood_bits : ℕ) → List ℕ
 work_line alpha_bits ood_bits = codes "work: " ++ (decimal alpha_bits ++ (codes " bits before alpha, " ++ (decimal ood_bits ++ codes " before zeta\n")))
 
@@ -42,5 +47,5 @@ constraints_line (suc n) = []
 
 abbrev pub described : {F : Type 0} → (F → ℕ) → Option FriNumbers → StatementView F → List ℕ
 described number scheme s =
-    codes "configuration: " ++ (field_name s.config.field ++ (codes ", " ++ (scheme_text scheme ++ (codes "\n" ++ (work_line s.alpha_bits s.ood_bits
-    ++ (values_line number s.public_values ++ constraints_line (length s.air.list.constraints)))))))
+    codes "configuration: " ++ (field_name s.config.field ++ (codes ", " ++ (scheme_text scheme ++ (codes "\n" ++ (height_line s.log_height
+    ++ (work_line s.alpha_bits s.ood_bits ++ (values_line number s.public_values ++ constraints_line (length s.air.list.constraints))))))))

@@ -54,7 +54,7 @@ module _ {F : Type 0} (greatest log_rows : ℕ) (s : StatementView F) where
   FitsOrNot (Err report) rows = (report.answer ≡ finding.Verdict verdict.OutOfMemory)
       ⊎ (IsUnfit greatest log_rows (declared_of s.air) s.public_values rows × (report.answer ≡ finding.Verdict verdict.BadInput))
 
-  -- This is told of the rows whose trace it is, or an allocation failed.
+  -- This is answered of the rows whose trace it is, or an allocation failed.
   abbrev pub TellsOfTrace : RowMajorMatrix F → (Option (List (List F)) → Finding → Type 0) → Finding → Type 0
   TellsOfTrace trace IsAnswer f = (rows : List (List F)) → IsTraceOf rows trace → OrLacksMemory (IsAnswer (Some rows)) f
 

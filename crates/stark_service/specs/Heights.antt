@@ -27,7 +27,7 @@ abbrev pub is_fixed_height : Option ℕ → ℕ → Bool
 is_fixed_height None rows = true
 is_fixed_height (Some fixed) rows = rows == 2 ^ fixed
 
--- whether the rows that a file spells are so many, where it spells any
+-- whether the rows that a file spells are of this number, where it spells any
 abbrev pub has_fixed_height : {R : Type 0} → Option ℕ → Option (List R) → Bool
 has_fixed_height fixed None = true
 has_fixed_height fixed (Some rows) = is_fixed_height fixed (length rows)

@@ -1,5 +1,6 @@
 pub mod Description
 pub mod Fitting
+pub mod Floor
 pub mod FriSoundness
 pub mod Heights
 pub mod Misfits

@@ -72,7 +72,7 @@ module _ {F : Type 0} (air : AirView F) where
   abbrev declared : CheckedAir F
   declared = declared_of air
 
-  -- The quotient is cut into so many chunks; nothing is masked.
+  -- The quotient is cut into as many chunks; nothing is masked.
   abbrev pub AreChunks : ℕ → Type 0
   AreChunks chunks = IsChunkCount 0 declared.constraints declared.degree_hint 0 chunks
 
@@ -80,7 +80,7 @@ module _ {F : Type 0} (air : AirView F) where
   abbrev pub IsFlat : FriNumbers → Type 0
   IsFlat numbers = greatest_degree 0 declared.constraints ≤ most_degree numbers
 
-  -- There aren't too many openings of so many chunks, over an extension of this degree.
+  -- There aren't too many openings of as many chunks, over an extension of this degree.
   abbrev pub HasRoom : ℕ → ℕ → Type 0
   HasRoom degree chunks = most_opened declared.layout.main declared.layout.preprocessed chunks degree < 2 ^ 64
 

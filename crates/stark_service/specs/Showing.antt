@@ -49,12 +49,13 @@ module _ {F : Type 0} (fields : FieldNumbers F) (scheme : Option FriNumbers) whe
   IsShownOf s (finding.Verdict v) = ⊥
   IsShownOf s finding.Satisfied = ⊥
   IsShownOf s (finding.Broken row) = ⊥
+  IsShownOf s (finding.TooFewBits line) = ⊥
 
   -- It shows the statement that was read, or is what is said where none was.
   abbrev pub IsShownOfRead : Result (StatementView F) StatementFault → Finding → Type 0
   IsShownOfRead = IsSaidOfRead (λ v. finding.Verdict v) IsShownOf
 
--- The facts about what is found where a statement is to be shown: it begins as its kind does, accepts and proves nothing, and tells
+-- The facts about what is found where a statement is to be shown: it begins as its kind does, accepts and proves nothing, and says
 -- of no trace that it satisfies its AIR.
 pub record IsOfShowing (f : Finding) : Type 0 where
   pub begins : BeginsAsItsKind f
@@ -84,3 +85,4 @@ module _ {F : Type 0} (fields : FieldNumbers F) (scheme : Option FriNumbers) (s 
   shown_of_showing (finding.Verdict v) shown = absurd shown
   shown_of_showing finding.Satisfied shown = absurd shown
   shown_of_showing (finding.Broken row) shown = absurd shown
+  shown_of_showing (finding.TooFewBits line) shown = absurd shown

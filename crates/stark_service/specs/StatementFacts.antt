@@ -69,6 +69,7 @@ module _ {F E : Type 0} (fields : FieldsOps F E) (number : F → ℕ) where
   checked_alone asked air list trace public_values (finding.Proof line) checked satisfied = absurd checked
   checked_alone asked air list trace public_values (finding.ProofBytes bytes) checked satisfied = absurd checked
   checked_alone asked air list trace public_values (finding.Text text) checked satisfied = absurd checked
+  checked_alone asked air list trace public_values (finding.TooFewBits line) checked satisfied = absurd checked
 
   checked_no_proof : (air : CheckedAir F) (list : ListView F) (trace : Trace F) (public_values : List F) (f : Finding) → IsCheckedTrace fields number air list trace public_values f → (form : ProofForm) → IsProof form f → ⊥
   checked_no_proof air list trace public_values finding.Satisfied checked form is = is
@@ -77,6 +78,7 @@ module _ {F E : Type 0} (fields : FieldsOps F E) (number : F → ℕ) where
   checked_no_proof air list trace public_values (finding.Proof line) checked form is = checked
   checked_no_proof air list trace public_values (finding.ProofBytes bytes) checked form is = checked
   checked_no_proof air list trace public_values (finding.Text text) checked form is = is
+  checked_no_proof air list trace public_values (finding.TooFewBits line) checked form is = is
 
   unless_alone : (asked : TraceTask) (fault : Option PeriodicColumnShapeError) (air : CheckedAir F) (list : ListView F) (trace : Trace F) (public_values : List F) (f : Finding)
       → UnlessUnfit fault (IsCheckedTrace fields number air list trace public_values) f → (f ≡ finding.Satisfied → asked ≡ task.Check) → IsOfTrace asked f

@@ -66,6 +66,7 @@ module _ {F E : Type 0} (fields : FieldsOps F E) (number : F → ℕ) where
   IsCheckedTrace air list trace public_values (finding.Proof line) = ⊥
   IsCheckedTrace air list trace public_values (finding.ProofBytes bytes) = ⊥
   IsCheckedTrace air list trace public_values (finding.Text text) = ⊥
+  IsCheckedTrace air list trace public_values (finding.TooFewBits line) = ⊥
 
   -- What a check finds of a matrix as a trace of an AIR that is data, by what it declares; or an allocation failed.
   abbrev pub ChecksMatrix : (TreeAir F → CheckedAir F) → TreeAir F → RowMajorMatrix F → List F → Finding → Type 0

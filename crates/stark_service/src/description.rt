@@ -1,10 +1,10 @@
-//! What a statement fixes beside its AIR, in lines for a person: the configuration, the work before
-//! the challenges, the public values.
+//! What a statement fixes beside its AIR, in lines for a person: the configuration, the height, the
+//! work before the challenges, the public values.
 
 ghost use Rattle.std.specs.Prelude.{◌≡◌, ◌++◌, IfOk, flat_map, string_bytes};
 ghost use Rattle.stark_statement.specs.Configuration.{fri_numbers, scheme_numbers};
 ghost use Rattle.stark_statement.specs.StatementView.{statement_view};
-ghost use Rattle.stark_service.specs.Description.{constraints_line, described, field_name, fri_text, scheme_text, value_text, values_line, work_line};
+ghost use Rattle.stark_service.specs.Description.{constraints_line, described, field_name, fri_text, height_line, scheme_text, value_text, values_line, work_line};
 
 use stark_fri_proof::FriParameters;
 use stark_statement::{FieldName, SchemeChoice, Statement};
@@ -46,6 +46,16 @@ fn scheme_text(alloc: Global, scheme: SchemeChoice) -> Result<String, AllocError
     match scheme {
         SchemeChoice::Fri(parameters) => fri_text(alloc, &parameters),
         SchemeChoice::Clear => format!(in alloc; "in the clear"),
+    }
+}
+
+/// The line of the height: the one that is fixed, or that the prover chooses one.
+fn height_line(alloc: Global, fixed: Option<usize>) -> Result<String, AllocError>
+    ensures { IfOk result (λ line. string_bytes line ≡ height_line fixed) }
+{
+    match fixed {
+        Some(log_height) => format!(in alloc; "height: 2^{log_height} rows, fixed\n"),
+        None => format!(in alloc; "height: the prover's choice\n"),
     }
 }
 
@@ -106,9 +116,10 @@ pub(crate) fn described<F: PrimeField64>(
 {
     let field = field_name(statement.config.field);
     let scheme = scheme_text(alloc, scheme)?;
+    let height = height_line(alloc, statement.log_height)?;
     let work = work_line(alloc, statement.alpha_bits, statement.ood_bits)?;
     let values = values_line(alloc, &statement.public_values)?;
     let constraints: &[TreeConstraint] = &statement.air.list.constraints;
     let none = constraints_line(constraints.len());
-    format!(in alloc; "configuration: {field}, {scheme}\n{work}{values}{none}")
+    format!(in alloc; "configuration: {field}, {scheme}\n{height}{work}{values}{none}")
 }

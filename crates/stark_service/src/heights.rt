@@ -13,7 +13,7 @@ use std::alloc::Global;
 
 /// The fault of a proof of `2^got` rows, where another height is fixed: that is the least and the
 /// greatest.
-pub(crate) fn height_fault(fixed: Option<usize>, got: usize) -> Option<InvalidProofShapeError>
+pub fn height_fault(fixed: Option<usize>, got: usize) -> Option<InvalidProofShapeError>
     ensures { result ≡ height_fault fixed got }
 {
     let fixed = fixed?;
@@ -34,8 +34,9 @@ pub(crate) fn height_fault(fixed: Option<usize>, got: usize) -> Option<InvalidPr
     None
 }
 
-/// What is said of a proof that has this fault.
-pub(crate) fn of_other_height(
+/// What is said of a proof of `2^got` rows that has this fault: it is refused for it, and the
+/// reason has both heights.
+pub fn of_other_height(
     alloc: Global,
     fixed: Option<usize>,
     got: usize,
@@ -53,7 +54,7 @@ pub(crate) fn of_other_height(
     }
 }
 
-/// Whether a trace of so many rows has the height that is fixed, if one is.
+/// Whether a trace of this number of rows has the height that is fixed, if one is.
 pub(crate) fn is_fixed_height(fixed: Option<usize>, rows: usize) -> bool
     ensures { result ≡ is_fixed_height fixed rows }
 {

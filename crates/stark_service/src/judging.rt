@@ -20,8 +20,9 @@ use stark_support::UnivariateStarkPcs;
 use stark_tree_air::TreeAir;
 use std::alloc::{AllocError, Global};
 
-/// The preprocessed columns have no number of rows that a key can have.
-pub(crate) fn unfit_rows(alloc: Global) -> Report<Verdict>
+/// What is said of a statement whose preprocessed columns have no number of rows that a key can
+/// have: `bad input`.
+pub fn unfit_rows(alloc: Global) -> Report<Verdict>
     ensures { result.answer ≡ Verdict.BadInput }
 {
     let wanted =

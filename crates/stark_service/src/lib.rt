@@ -8,11 +8,13 @@ mod counted;
 mod description;
 mod field;
 mod fitting;
+mod floor;
 mod heights;
 mod judging;
 mod misfit;
 mod over;
 mod progress;
+mod proof_heights;
 mod proving;
 mod reading;
 mod schemes;
@@ -33,17 +35,20 @@ pub use bounds::{
 };
 pub use counted::{CountedField, Numbered};
 pub use field::ServiceField;
-pub use judging::verify_with;
+pub use floor::{FloorAnswers, FloorVerdict, verify_at_least};
+pub use heights::{height_fault, of_other_height};
+pub use judging::{unfit_rows, verify_with};
 pub use over::ValueAnswers;
 pub use progress::{Progress, Silent, Stage};
+pub use proof_heights::{FieldHeights, ProofHeights};
 pub use proving::answer_with;
-pub use reading::read_statement;
-pub use schemes::{ClearConfig, FieldAnswers, FriConfig};
+pub use reading::{ReadProof, read_proof, read_statement};
+pub use schemes::{ClearConfig, FieldAnswers, FriConfig, config_for};
 pub use security::SecurityBits;
 pub use service::{ServiceAnswers, StarkService};
 pub use statement::{
-    NamedFields, StatementAnswers, answer_trace, check_statement, prove_statement, show_statement,
-    verify_statement,
+    ConfiguredAnswers, NamedFields, StatementAnswers, answer_trace, check_statement, copied,
+    prove_statement, read_configured, show_statement, verify_statement,
 };
-pub use words::SchemeWords;
+pub use words::{SchemeWords, reason_of};
 pub use worth::{SecurityError, StatementSecurity, statement_security};

@@ -151,9 +151,9 @@ fn answer_with_rows<SC: ProvingConfig, P: Progress>(
 /// What is found of a trace for a statement that was read, with a configuration whose challenger
 /// has observed the statement, which asks for the statement's work, masks nothing, sets up all
 /// columns, proves traces of any height and refuses no true opening; by what is asked for the
-/// trace; its check and its proof are told before they begin, and its bytes are let go of once they
-/// are read. It is `bad input` where the trace can't be read, the AIR has no main columns, or the
-/// trace isn't one of its widths and counts; or `out of memory`.
+/// trace; its check and its proof are reported before they begin, and its bytes are dropped once
+/// they are read. It is `bad input` where the trace can't be read, the AIR has no main columns, or
+/// the trace isn't one of its widths and counts; or `out of memory`.
 pub fn answer_with<SC: ProvingConfig, P: Progress>(
     alloc: Global,
     config: &SC,

@@ -59,7 +59,7 @@ pub(crate) fn unread_statement(alloc: Global, error: &StatementError) -> Report<
 }
 
 /// What the bytes of a file are read as. It has no code.
-pub(crate) trait ReadProof: Sized {
+pub trait ReadProof: Sized {
     /// The proof that they spell was read, or the report says why not.
     ghost read: { List ℕ → Result Self (Report Verdict) → Type 0 };
 }
@@ -77,9 +77,9 @@ where
 }
 
 /// The proof that the bytes of a file spell, in either form: as bytes where they begin so, and else
-/// as JSON.
+/// as JSON; or `bad input` with its first fault in that form, or `out of memory`.
 #[tactic(auto, unfolding(crate::specs::Statements::proof_in, crate::specs::Statements::proof_in_json, crate::specs::Statements::proof_in_bytes))]
-pub(crate) fn read_proof<Com, Challenge, PcsProof, Val>(
+pub fn read_proof<Com, Challenge, PcsProof, Val>(
     alloc: Global,
     bytes: &[u8],
 ) -> Result<Proof<Com, Challenge, PcsProof, Val>, Report<Verdict>>

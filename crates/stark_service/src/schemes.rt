@@ -103,7 +103,11 @@ where
 }
 
 /// A scheme and a challenger in its first state, with the work that a statement asks for.
-fn configured<F, P, EF, C>(pcs: P, challenger: C, statement: &Statement<F>) -> StarkConfig<P, EF, C>
+pub fn config_for<F, P, EF, C>(
+    pcs: P,
+    challenger: C,
+    statement: &Statement<F>,
+) -> StarkConfig<P, EF, C>
     ensures pcs { result.pcs ≡ pcs }
     ensures challenger { result.challenger ≡ challenger }
     ensures ood_bits { result.ood_proof_of_work_bits ≡ statement.now.ood_bits }
@@ -154,12 +158,12 @@ where
     match scheme {
         SchemeChoice::Fri(parameters) => {
             let pcs: FriPcs<F, Sha256Tree> = FriPcs::new(parameters);
-            let config: FriConfig<F, EF, C> = configured(pcs, bound, statement);
+            let config: FriConfig<F, EF, C> = config_for(pcs, bound, statement);
             verify_with(alloc, &config, statement, proof)
         }
         SchemeChoice::Clear => {
             let pcs: ClearPcs<F> = ClearPcs::new();
-            let config: ClearConfig<F, EF, C> = configured(pcs, bound, statement);
+            let config: ClearConfig<F, EF, C> = config_for(pcs, bound, statement);
             verify_with(alloc, &config, statement, proof)
         }
     }
@@ -195,12 +199,12 @@ pub(crate) fn answer_by<
     match scheme {
         SchemeChoice::Fri(parameters) => {
             let pcs: FriPcs<F, Sha256Tree> = FriPcs::new(parameters);
-            let config: FriConfig<F, EF, C> = configured(pcs, bound, statement);
+            let config: FriConfig<F, EF, C> = config_for(pcs, bound, statement);
             answer_with(alloc, &config, asked, statement, trace, progress)
         }
         SchemeChoice::Clear => {
             let pcs: ClearPcs<F> = ClearPcs::new();
-            let config: ClearConfig<F, EF, C> = configured(pcs, bound, statement);
+            let config: ClearConfig<F, EF, C> = config_for(pcs, bound, statement);
             answer_with(alloc, &config, asked, statement, trace, progress)
         }
     }

@@ -53,7 +53,7 @@ const POINTS: usize = 2;
 /// The logarithm of a usual height.
 const USUAL_HEIGHT: usize = 16;
 
-/// How many values alpha and zeta each have, and what of them is proved, over a field of so many
+/// How many values alpha and zeta each have, and what of them is proved, over a field of `order`
 /// elements with an extension of this degree.
 pub(crate) fn challenges_line(
     alloc: Global,

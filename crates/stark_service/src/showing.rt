@@ -73,7 +73,7 @@ fn showing_of<F: CountedField + TwoAdicField, EF: ExtensionField<F>>(
     }
 }
 
-/// What is shown of a statement over a field. Its JSON is let go of once it is read, before the
+/// What is shown of a statement over a field. Its JSON is dropped once it is read, before the
 /// text is made, which may be far longer.
 pub(crate) fn show_over<F, EF>(
     alloc: Global,

@@ -80,7 +80,7 @@ pub struct NamedFields;
 
 /// What is said of a JSON value as a statement with a configuration, over the field that this
 /// names. It has no code.
-trait ConfiguredAnswers {
+pub trait ConfiguredAnswers {
     ghost verdict: { ConfigurationView → Data → List ℕ → Verdict → Type 0 };
 
     ghost sound: { ConfigurationView → Data → List ℕ → Type 0 };
@@ -165,9 +165,10 @@ impl StatementAnswers for NamedFields {
     }
 }
 
-/// A statement's JSON and its configuration; or what is said where there is none. The bytes are let
-/// go of once they are read, before the statement is made of the JSON.
-pub(crate) fn read_configured(
+/// A statement's JSON and its configuration, which fits its field; or `bad input` where the bytes
+/// spell none, or `out of memory`. The bytes are dropped once they are read, before the statement
+/// is made of the JSON.
+pub fn read_configured(
     alloc: Global,
     bytes: Vec<u8>,
 ) -> Result<(Document, Configuration), Report<Verdict>>
@@ -250,8 +251,8 @@ fn show_value(alloc: Global, configuration: Configuration, value: Document) -> R
     }
 }
 
-/// A list of its own of the bytes.
-pub(crate) fn copied(alloc: Global, bytes: &[u8]) -> Result<Vec<u8>, AllocError>
+/// A list of its own of the bytes. Err only where memory was refused.
+pub fn copied(alloc: Global, bytes: &[u8]) -> Result<Vec<u8>, AllocError>
     ensures { IfOk result (λ copy. copy.items ≡ bytes.now) }
 {
     let mut copy = Vec::new(alloc);

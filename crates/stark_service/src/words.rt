@@ -129,8 +129,9 @@ fn words_of_error<E: SchemeWords>(
     }
 }
 
-/// In words, what a proof is refused for.
-pub(crate) fn reason_of<E: SchemeWords + Display>(
+/// In words, what a proof is refused for; None where it is accepted, or there is no memory for the
+/// words.
+pub fn reason_of<E: SchemeWords + Display>(
     alloc: Global,
     answer: &Result<(), VerificationError<E>>,
 ) -> Option<String> {

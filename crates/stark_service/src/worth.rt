@@ -29,7 +29,7 @@ pub enum SecurityError {
     /// The statement can't be read, its AIR passes a limit, or memory was refused: the verdict that
     /// each proof for it gets.
     Statement(Verdict),
-    /// By the statement's scheme no trace has so many rows.
+    /// By the statement's scheme no trace is so high.
     TooHigh,
     /// A constraint has a greater degree than FRI's parameters are taken for, or 2^64 values and
     /// more are opened.

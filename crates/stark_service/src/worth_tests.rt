@@ -1,5 +1,5 @@
-//! What proofs are worth, by a model in Python.
-use crate::{SecurityBits, SecurityError, statement_security};
+//! What proofs are worth, by a model in Python; and a floor.
+use crate::{FloorVerdict, SecurityBits, SecurityError, statement_security, verify_at_least};
 use stark_answers::Verdict;
 use std::test::Fail;
 
@@ -53,5 +53,29 @@ fn bits_of_statements(rt: HostRuntime) -> Result<(), Fail> {
         let answer = statement_security(alloc, statement.as_bytes(), *log_height);
         assert_eq!(rt; answer, *bits);
     }
+    Ok(())
+}
+
+#[test]
+fn verdicts_over_a_floor(rt: HostRuntime) -> Result<(), Fail> {
+    let alloc = rt.alloc();
+    let below = FloorVerdict::NotJudged { proved: 51 };
+    let cases = [
+        (CLEAR, PROOF, 51, FloorVerdict::Judged(Verdict::Accepted)),
+        (CLEAR, PROOF, 52, below),
+        (CLEAR, "{}", 52, FloorVerdict::Judged(Verdict::BadInput)),
+        ("{}", PROOF, 52, FloorVerdict::Judged(Verdict::BadInput)),
+    ];
+    for (statement, proof, floor, wanted) in &cases {
+        let report = verify_at_least(alloc, *floor, statement.as_bytes(), proof.as_bytes());
+        assert_eq!(rt; report.answer, *wanted);
+    }
+    let line = below.line(alloc)?;
+    let said = "not judged: worth 51 proved bits at this height\n";
+    assert_eq!(rt; line.as_str(), said);
+    assert_eq!(rt; below.end().status(), 4);
+    let accepted = FloorVerdict::Judged(Verdict::Accepted);
+    assert_eq!(rt; accepted.line(alloc)?.as_str(), "accepted\n");
+    assert_eq!(rt; accepted.end().status(), 0);
     Ok(())
 }

@@ -16,8 +16,8 @@ use std::process::ExitCode;
 /// The program's name and version.
 const VERSION: &str = "voskligan 0.1.0\n";
 
-/// The lines that tell the stages of a task, where there is a terminal for them and they are
-/// wanted. To show takes no option that silences them, and is told no stages.
+/// The lines that name the stages of a task, where there is a terminal for them and they are
+/// wanted. To show takes no option that silences them, and has no stages.
 fn stages_of(rt: &HostRuntime, task: Task<'_>) -> Option<StageLines<Stderr>> {
     let errors = rt.stderr();
     if task.quiet || task.verb == Verb::Show || !errors.is_terminal() {
@@ -27,12 +27,12 @@ fn stages_of(rt: &HostRuntime, task: Task<'_>) -> Option<StageLines<Stderr>> {
     }
 }
 
-/// Tells something on standard error. It doesn't matter whether that fails.
+/// Writes something on standard error. It doesn't matter whether that fails.
 fn tell_error<E: Display>(rt: &HostRuntime, what: &E) {
     let _ = eprintln!(rt; "{what}");
 }
 
-/// The status of a process whose run ended so, after the reason is told.
+/// The status of a process whose run ended so, after the reason is written.
 fn ended_code(rt: &HostRuntime, ended: &Ended) -> ExitCode {
     if let Some(reason) = &ended.reason {
         tell_error(rt, reason);
@@ -118,7 +118,7 @@ fn perform_to(
     ended_code(rt, &delivered.ended)
 }
 
-/// Opens what a word names. Where that can't be opened, it is told which and why.
+/// Opens what a word names. Where that can't be opened, standard error says which and why.
 fn open(rt: &HostRuntime, word: InputWord<'_>) -> Option<InputFile> {
     match InputFile::open(rt, word) {
         Ok(file) => Some(file),

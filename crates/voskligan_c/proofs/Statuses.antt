@@ -3,8 +3,11 @@ use Rattle.std.proofs.Common.{◌≡◌, ℕ, ℤ, pos, Bool, true, false, List,
 use Rattle.std.specs.Prelude.{nat_le, if◌then◌else◌}
 use Rattle.std.proofs.Math.Seq.{take-append_seam}
 use Rattle.stark_answers.specs.Finding.{IsProof, finding_bytes, finding_end}
+use Rattle.stark_service.specs.Floor.{floor_end}
 use Rattle.stark_service.specs.StatementFacts.{IsOfTrace}
 use Rattle.stark_service.specs.TraceChecks.{OrLacksMemory}
+use Rattle.stark_service.specs.declared.floor.FloorVerdict.{FloorVerdict}
+use Rattle.stark_service.specs.declared.floor.FloorVerdict.TheVariants.{Judged, NotJudged}
 use Rattle.stark_answers.specs.Verdict.{end_of, status_of}
 use Rattle.stark_answers.specs.declared.finding.Finding.{Finding}
 use Rattle.stark_answers.specs.declared.finding.Finding.TheVariants as finding
@@ -13,7 +16,7 @@ use Rattle.stark_answers.specs.declared.task.TraceTask.{TraceTask}
 use Rattle.stark_answers.specs.declared.task.TraceTask.TheVariants as task
 use Rattle.stark_answers.specs.declared.verdict.Verdict.{Verdict}
 use Rattle.stark_answers.specs.declared.verdict.Verdict.TheVariants as verdict
-use Rattle.voskligan_c.specs.Calls.{handed_of, placed, proof_of, status_of_call}
+use Rattle.voskligan_c.specs.Calls.{handed_of, key_status, placed, proof_of, status_of_call}
 use Rattle.voskligan_c.specs.declared.proof.Handed.TheVariants.{NoRoom, Placed}
 
 -- a status that is 0
@@ -26,6 +29,11 @@ accepted_from verdict.Accepted s = refl
 accepted_from (verdict.Refused why) s = absurd (omega arith)
 accepted_from verdict.BadInput s = absurd (omega arith)
 accepted_from verdict.OutOfMemory s = absurd (omega arith)
+
+-- one over a floor whose status is 0
+pub accepted_over_floor : (a : FloorVerdict) → status_of (floor_end a) ≡ 0 → a ≡ Judged verdict.Accepted
+accepted_over_floor (Judged v) s = ap (λ w. Judged w) (accepted_from v s)
+accepted_over_floor (NotJudged bits) s = absurd (omega arith)
 
 -- to prove is not to check
 not_check : task.Prove Json ≡ task.Check → ⊥
@@ -48,6 +56,7 @@ satisfied_from IsFound (finding.ProofBytes bytes) (inr obtained) kind s = absurd
 satisfied_from IsFound (finding.Text text) (inr obtained) kind s = absurd (kind.shows_none tt)
 satisfied_from IsFound finding.Satisfied (inr obtained) kind s = obtained
 satisfied_from IsFound (finding.Broken row) (inr obtained) kind s = absurd (omega arith)
+satisfied_from IsFound (finding.TooFewBits line) (inr obtained) kind s = absurd kind.begins
 
 -- a prover that ends so has placed a proof
 module _ (IsLine : List ℕ → Type 0) where
@@ -63,3 +72,24 @@ module _ (IsLine : List ℕ → Type 0) where
   line_placed (finding.Text text) old kind line s = absurd (kind.shows_none tt)
   line_placed finding.Satisfied old kind line s = absurd (not_check (kind.satisfied_checks refl))
   line_placed (finding.Broken row) old kind line s = absurd (omega arith)
+  line_placed (finding.TooFewBits text) old kind line s = absurd kind.begins
+
+-- a key whose status is 0 is placed, and under another status the buffer stays
+module _ (IsFile : List ℕ → Type 0) where
+  file_in : (bytes old : List ℕ) (b : Bool) → IsFile bytes → key_status b ≡ 0 → IsFile (take (length bytes) (if b then bytes ++ drop (length bytes) old else old))
+  file_in bytes old true is s = rw (take-append_seam bytes (drop (length bytes) old)) is
+  file_in bytes old false is s = absurd (omega arith)
+
+  pub key_placed : (bytes old : List ℕ) → IsFile bytes → key_status (nat_le (length bytes) (length old)) ≡ 0 → IsFile (take (length bytes) (placed bytes old))
+  key_placed bytes old is s = file_in bytes old (nat_le (length bytes) (length old)) is s
+
+  -- so this is said of as many bytes of the buffer as the key has
+  pub file_handed : (bytes old new : List ℕ) (count : ℕ) → count ≡ length bytes → new ≡ placed bytes old → IsFile bytes → key_status (nat_le (length bytes) (length old)) ≡ 0 → IsFile (take count new)
+  file_handed bytes old new count counted kept is s = rw (counted, kept) (key_placed bytes old is s)
+
+kept_by : (bytes old : List ℕ) (b : Bool) (z : ℤ) → z ≡ pos (key_status b) → (z ≡ pos 0 → ⊥) → (if b then bytes ++ drop (length bytes) old else old) ≡ old
+kept_by bytes old true z e other = absurd (other e)
+kept_by bytes old false z e other = refl
+
+pub key_kept : (bytes old : List ℕ) (z : ℤ) → z ≡ pos (key_status (nat_le (length bytes) (length old))) → (z ≡ pos 0 → ⊥) → placed bytes old ≡ old
+key_kept bytes old z e other = kept_by bytes old (nat_le (length bytes) (length old)) z e other

@@ -1,4 +1,4 @@
--- Texts told one behind another.
+-- Texts written one after another.
 use Rattle.std.proofs.Common.{◌≡◌, ℕ, ◌<◌, ◌≤◌, List, [], ◌∷◌, ◌++◌, ◌+◌, length, take, drop, ap, refl, arith}
 use Rattle.std.proofs.lemmas.List.{drop_all, length-append, take-append-le}
 use Rattle.voskligan_c.specs.Message.{written}

@@ -1,7 +1,7 @@
--- What a buffer that a caller gave is told.
+-- What is written to a buffer that a caller gave.
 use Rattle.std.specs.Prelude.{ℕ, List, [], ◌∷◌, ◌++◌, length, take, drop, Option, None, Some, String, codes, string_bytes}
 
--- As much of the text as leaves a byte, a 0 byte, and behind it what was there.
+-- As much of the text as leaves a byte, a 0 byte, and after it what was there.
 abbrev pub written : List ℕ → List ℕ → List ℕ
 written text [] = []
 written text (b ∷ bs) = take (length bs) text ++ (0 ∷ drop (length text) bs)

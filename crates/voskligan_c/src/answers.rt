@@ -1,12 +1,14 @@
 //! What the calls say, over the bytes that they are given.
 
-ghost use Rattle.std.specs.Prelude.{◌≡◌, ℕ, List};
+ghost use Rattle.std.specs.Prelude.{◌≡◌, ℕ, List, Result};
 ghost use Rattle.stark_answers.specs.declared.finding.Finding.{Finding};
 ghost use Rattle.stark_answers.specs.declared.task.ProofForm.{ProofForm};
 ghost use Rattle.stark_answers.specs.declared.task.TraceTask.{TraceTask};
 ghost use Rattle.stark_answers.specs.declared.verdict.Verdict.{Verdict};
+ghost use Rattle.stark_service.specs.declared.floor.FloorVerdict.{FloorVerdict};
 
-use stark_service::{NamedFields, StatementAnswers as Answers};
+use stark_keys::StatementKeys as Keys;
+use stark_service::{FloorAnswers, NamedFields, StatementAnswers as Answers};
 
 // Which statements are judged, and above by whose answers: nothing else in this crate names them.
 type Judged = NamedFields;
@@ -25,6 +27,9 @@ pub trait ProgramAnswers {
     /// columns that satisfy it, or one of few draws was made, or two texts have one digest.
     ghost sound: { List ℕ → List ℕ → Type 0 };
 
+    /// This is said of a statement and a proof, where a floor in proved bits is set.
+    ghost floored: { ℕ → List ℕ → List ℕ → FloorVerdict → Type 0 };
+
     /// This is found of a statement and a trace, by what is asked for the trace.
     ghost finds: { TraceTask → List ℕ → List ℕ → Finding → Type 0 };
 
@@ -36,12 +41,23 @@ pub trait ProgramAnswers {
 
     /// This is the line of a proof, for the statement, of the trace.
     ghost proof_line: { List ℕ → List ℕ → List ℕ → Type 0 };
+
+    /// The bytes of the key's file of a statement are made, or the verdict says why there is none.
+    ghost makes: { List ℕ → Result (List ℕ) Verdict → Type 0 };
+
+    /// These are the bytes of the key's file of a statement.
+    ghost key_file: { List ℕ → List ℕ → Type 0 };
+
+    /// This is the verdict on a statement, the bytes of a key, whatever they are, and a proof.
+    ghost judges: { List ℕ → List ℕ → List ℕ → Verdict → Type 0 };
 }
 
 impl ProgramAnswers for Program {
     ghost verdict = { ⟦<Judged as Answers>⟧.verdict };
 
     ghost sound = { ⟦<Judged as Answers>⟧.sound };
+
+    ghost floored = { ⟦<Judged as FloorAnswers>⟧.floored };
 
     ghost finds = { ⟦<Judged as Answers>⟧.finds };
 
@@ -51,4 +67,10 @@ impl ProgramAnswers for Program {
 
     ghost proof_line = { λ statement trace. ⟦<Judged as Answers>⟧.proof_file statement trace
         ProofForm.Json };
+
+    ghost makes = { ⟦<Judged as Keys>⟧.makes };
+
+    ghost key_file = { ⟦<Judged as Keys>⟧.key_file };
+
+    ghost judges = { ⟦<Judged as Keys>⟧.judges };
 }

@@ -1,9 +1,9 @@
-//! Texts told to a buffer that a caller gave.
+//! Texts written to a buffer that a caller gave.
 
 ghost use Rattle.std.specs.Prelude.{◌≡◌, ◌++◌};
 ghost use Rattle.voskligan_c.specs.Message.{line_behind, written, words_of};
 
-/// Tells a text: as much of it as leaves a byte, a 0 byte, and behind it what was there.
+/// Writes a text: as much of it as leaves a byte, a 0 byte, and after it what was there.
 pub(crate) fn tell(text: &[u8], message: &mut [u8])
     ensures { message.new ≡ written text.now message.old }
 {

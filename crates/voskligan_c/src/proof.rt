@@ -1,7 +1,7 @@
 //! A proof handed over in a buffer that a caller gave.
 
-ghost use Rattle.std.specs.Prelude.{◌≡◌, length, pos};
-ghost use Rattle.voskligan_c.specs.Calls.{handed_of, handed_where, lines_written, placed, proof_of, status_of_call};
+ghost use Rattle.std.specs.Prelude.{◌≡◌, length, nat_le, pos};
+ghost use Rattle.voskligan_c.specs.Calls.{handed_of, handed_where, key_status, key_words, lines_written, placed, proof_of, status_of_call};
 ghost use Rattle.voskligan_c.specs.Message.{written, words_of};
 
 use crate::message::{tell, tell_report};
@@ -59,7 +59,7 @@ fn place(bytes: &[u8], buffer: &mut [u8]) -> Handed
     Handed::Placed
 }
 
-/// Hands the bytes of a proof over, if that is what was found, and tells how many they are.
+/// Hands the bytes of a proof over, if that is what was found, and says how many they are.
 pub(crate) fn hand_over(finding: &Finding, proof: &mut [u8], needed: &mut usize) -> Handed
     ensures handed { result ≡ handed_of finding.now (length proof.old) }
     ensures needed { needed.new ≡ length (proof_of finding.now) }
@@ -74,6 +74,25 @@ pub(crate) fn hand_over(finding: &Finding, proof: &mut [u8], needed: &mut usize)
         _ => {
             *needed = 0;
             Handed::NoProof
+        }
+    }
+}
+
+/// Places the bytes of a key, and tells whether there was room for them.
+pub(crate) fn hand_over_key(bytes: &[u8], key: &mut [u8], message: &mut [u8]) -> i32
+    ensures status { result ≡ pos (key_status (nat_le (length bytes.now) (length key.old))) }
+    ensures placed { key.new ≡ placed bytes.now key.old }
+    ensures words { message.new
+        ≡ written (key_words (nat_le (length bytes.now) (length key.old))) message.old }
+{
+    match place(bytes, key) {
+        Handed::Placed => {
+            tell(b"made\n", message);
+            0
+        }
+        Handed::NoRoom | Handed::NoProof => {
+            tell(b"no room\n", message);
+            3
         }
     }
 }

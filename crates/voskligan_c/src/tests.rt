@@ -1,6 +1,9 @@
 //! Each call on a statement written by hand: a column that begins at 5 and goes up by one.
 
-use crate::{voskligan_check, voskligan_prove, voskligan_verify, voskligan_version};
+use crate::{
+    voskligan_check, voskligan_key, voskligan_prove, voskligan_verify, voskligan_verify_at_least,
+    voskligan_verify_with_key, voskligan_version,
+};
 use stark_answers::{ProofForm, TraceTask};
 use stark_service::answer_trace;
 use std::alloc::AllocError;
@@ -113,4 +116,70 @@ fn a_proof_as_bytes_is_whole(rt: HostRuntime) -> Result<(), Fail> {
     assert_eq!(rt; unread, 2);
     assert!(rt; message.starts_with(b"bad input\nthe proof: "));
     Ok(())
+}
+
+#[test]
+fn a_key_is_made_and_taken(rt: HostRuntime) {
+    let mut key = [7u8; 64];
+    let mut message = [7u8; 64];
+    let mut needed = 0;
+    let made = voskligan_key(
+        rt.alloc(),
+        IN_THE_CLEAR,
+        &mut key,
+        &mut needed,
+        &mut message,
+    );
+    assert_eq!(rt; made, 0);
+    // The text, the digest, and that there are no columns.
+    assert_eq!(rt; needed, 48);
+    assert!(rt; key.starts_with(b"voskligan key 1"));
+    assert!(rt; message.starts_with(b"made\n\0"));
+    let (key, _) = key.split_at(48);
+    let judged = voskligan_verify_with_key(
+        rt.alloc(),
+        IN_THE_CLEAR,
+        key,
+        PROOF_BYTES,
+        &mut message,
+    );
+    assert_eq!(rt; judged, 0);
+    assert!(rt; message.starts_with(b"accepted\n\0"));
+    let judged = voskligan_verify_with_key(rt.alloc(), STATEMENT, key, PROOF_BYTES, &mut message);
+    assert_eq!(rt; judged, 2);
+    assert!(rt; message.starts_with(b"bad input\nthe key: it was made for another statement\n\0"));
+}
+
+#[test]
+fn a_key_without_room_is_not_placed(rt: HostRuntime) {
+    let mut key = [7u8; 47];
+    let mut message = [7u8; 16];
+    let mut needed = 0;
+    let made = voskligan_key(
+        rt.alloc(),
+        IN_THE_CLEAR,
+        &mut key,
+        &mut needed,
+        &mut message,
+    );
+    assert_eq!(rt; made, 3);
+    assert_eq!(rt; needed, 48);
+    assert_eq!(rt; key, [7u8; 47]);
+    assert!(rt; message.starts_with(b"no room\n\0"));
+    let made = voskligan_key(rt.alloc(), b"{", &mut key, &mut needed, &mut message);
+    assert_eq!(rt; made, 2);
+    assert_eq!(rt; needed, 0);
+}
+
+// The proof's height is 2^1, where at most one alpha and four zetas of some 2^54 are bad.
+#[test]
+fn a_floor_lets_nothing_below_it_be_judged(rt: HostRuntime) {
+    let mut message = [7u8; 64];
+    let enough = voskligan_verify_at_least(rt.alloc(), 51, IN_THE_CLEAR, PROOF_BYTES, &mut message);
+    assert_eq!(rt; enough, 0);
+    assert!(rt; message.starts_with(b"accepted\n\0"));
+    let below = voskligan_verify_at_least(rt.alloc(), 52, IN_THE_CLEAR, PROOF_BYTES, &mut message);
+    assert_eq!(rt; below, 4);
+    let said = b"not judged: worth 51 proved bits at this height\n\0";
+    assert!(rt; message.starts_with(said));
 }

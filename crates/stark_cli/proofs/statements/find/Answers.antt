@@ -7,7 +7,7 @@ use Rattle.stark_cli.proofs.statements.find.Goals as goal
 
 pub returns-clause-finds : goal.returns-clause-finds
 returns-clause-finds g c =
-    pair_found _ _ _ _ _ c.args.verb _ (c.in-Ok.bytes.items, c.in-Ok-read_to_end.bytes.items) (c.in-Ok.bytes.items, c.in-Ok-read_to_end.bytes.items) _
+    pair_found _ _ _ _ _ _ c.args.verb _ (c.in-Ok.bytes.items, c.in-Ok-read_to_end.bytes.items) (c.in-Ok.bytes.items, c.in-Ok-read_to_end.bytes.items) _
     (both_inputs _ _ _ _ c.in-Ok.ensures.bytes c.in-Ok-read_to_end.ensures.bytes) refl c.answer.ensures
 
 pub returns-in-Err-clause-finds : goal.returns-in-Err-clause-finds

@@ -12,7 +12,7 @@ returns-clause-input_failed g c =
 
 pub returns-clause-delivered : goal.returns-clause-delivered
 returns-clause-delivered g c = λ is.
-    delivers _ _ _ _ _ _ _ _ _ _ (c.deliver_finding.ensures.read is)
+    delivers _ _ _ _ _ _ _ _ _ _ _ (c.deliver_finding.ensures.read is)
     (proof_said no_memory _ (λ report. report.answer) _ c.find-finding.result _ _ _ _ c.find-finding.ensures.finds c.deliver_finding.ensures.proof c.deliver_finding.ensures.input_failed.1 c.deliver_finding.ensures.read is)
 
 pub returns-clause-says : goal.returns-clause-says
@@ -24,6 +24,6 @@ returns-clause-says g c = λ other.
 
 pub returns-clause-ends : goal.returns-clause-ends
 returns-clause-ends g c = λ other end.
-    ends_answered _ _ _ _ _ _ _ _ _ _
+    ends_answered _ _ _ _ _ _ _ _ _ _ _
     (answer_said no_memory _ (λ report. report.answer) _ c.find-finding.result _ _ _ _ c.find-finding.ensures.finds c.deliver_finding.ensures.answer c.deliver_finding.ensures.input_failed.1 other)
     end

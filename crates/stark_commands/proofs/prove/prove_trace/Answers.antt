@@ -14,4 +14,4 @@ pub returns : goal.returns
 returns g c = λ height rows.
     let made = c.clear_config-config.ensures in
     is_proved _ _ Json (json_line program_writing) _ (λ proof f line. (line.0, line.1 (no_float (proof_view proof)))) _ (checked_air (g.A.BaseAir.layout c.args.air.now) (g.A.BaseAir.main_next_row_columns c.args.air.now) (g.A.BaseAir.periodic_columns c.args.air.now) (g.A.BaseAir.degree_hint c.args.air.now) (g.A.Air.constraints c.args.air.now) (g.A.BaseAir.preprocessed_trace c.args.air.now) (g.A.BaseAir.preprocessed_next_row_columns c.args.air.now)) _ _ _ _ _ _ _ _ _ height _ _ _ made.pcs made.challenger made.ood_bits made.alpha_bits
-    c.finding_of_proof.ensures (c.prove_in_the_clear-answer.ensures height rows)
+    c.finding_of_proof.ensures.finds (c.prove_in_the_clear-answer.ensures height rows)

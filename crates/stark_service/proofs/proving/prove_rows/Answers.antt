@@ -53,4 +53,4 @@ returns g c = λ list given.
     let whole = trace_rows (shape_of air) c.args.log_rows most list public_values f.log_height fits c.args.trace.width c.args.trace.values.items f.width f.values in
     found_shaped _ c.requires.able.able.no_float c.args.form _ _ (statement_view c.args.statement.now) c.args.log_rows list air (shape_of air) f.log_height _ public_values _ _ _ _ _
     refl (same_declared d l) fits (same_trace c.args.trace.width _ c.args.trace.values.items _ f.width f.values)
-    c.as_slice-public_values.ensures.value c.requires.able.ready.ood_work c.requires.able.ready.alpha_work c.finding_of_proof.ensures c.unless_unjudged.ensures (c.prove_with_own_columns-answer.ensures f.log_height whole)
+    c.as_slice-public_values.ensures.value c.requires.able.ready.ood_work c.requires.able.ready.alpha_work c.finding_of_proof.ensures.finds c.unless_unjudged.ensures (c.prove_with_own_columns-answer.ensures f.log_height whole)

@@ -9,15 +9,15 @@ use Rattle.stark_service.proofs.schemes.verify_by.Goals as goal
 
 pub returns-in-Fri-clause-verdict : goal.returns-in-Fri-clause-verdict
 returns-in-Fri-clause-verdict g c = rw c.in-Fri.is (
-    verdict_by_numbers _ c.configured-config.result.pcs c.new-pcs.result (λ pcs. pcs.parameters) c.in-Fri.parameters c.configured-config.result.challenger c.in-Ok.bound _ (statement_view c.args.statement.now)
-    c.configured-config.ensures.pcs c.new-pcs.ensures c.configured-config.ensures.challenger c.in-Ok.ensures _ _ c.verify_with.ensures.verdict
+    verdict_by_numbers _ c.config_for-config.result.pcs c.new-pcs.result (λ pcs. pcs.parameters) c.in-Fri.parameters c.config_for-config.result.challenger c.in-Ok.bound _ (statement_view c.args.statement.now)
+    c.config_for-config.ensures.pcs c.new-pcs.ensures c.config_for-config.ensures.challenger c.in-Ok.ensures _ _ c.verify_with.ensures.verdict
     )
 
 pub returns-in-Fri-clause-sound : goal.returns-in-Fri-clause-sound
 returns-in-Fri-clause-sound g c = rw c.in-Fri.is (
     λ accepted.
-    sound_by_numbers _ c.configured-config.result.pcs c.new-pcs.result (λ pcs. pcs.parameters) c.in-Fri.parameters c.configured-config.result.challenger c.in-Ok.bound _ (statement_view c.args.statement.now)
-    c.configured-config.ensures.pcs c.new-pcs.ensures c.configured-config.ensures.challenger c.in-Ok.ensures _ _ (record {
+    sound_by_numbers _ c.config_for-config.result.pcs c.new-pcs.result (λ pcs. pcs.parameters) c.in-Fri.parameters c.config_for-config.result.challenger c.in-Ok.bound _ (statement_view c.args.statement.now)
+    c.config_for-config.ensures.pcs c.new-pcs.ensures c.config_for-config.ensures.challenger c.in-Ok.ensures _ _ (record {
       plain = refl;
       ring = refl;
       embed = refl;
@@ -40,8 +40,8 @@ returns-in-Fri-clause-sound g c = rw c.in-Fri.is (
 pub returns-in-Clear-clause-sound : goal.returns-in-Clear-clause-sound
 returns-in-Clear-clause-sound g c = rw c.in-Clear.is (
     λ accepted.
-    sound_in_the_clear _ c.configured-config-in-Clear.result.pcs c.new-pcs-in-Clear.result clear_pcs c.configured-config-in-Clear.result.challenger c.in-Ok.bound _ (statement_view c.args.statement.now)
-    c.configured-config-in-Clear.ensures.pcs c.new-pcs-in-Clear.ensures c.configured-config-in-Clear.ensures.challenger c.in-Ok.ensures
+    sound_in_the_clear _ c.config_for-config-in-Clear.result.pcs c.new-pcs-in-Clear.result clear_pcs c.config_for-config-in-Clear.result.challenger c.in-Ok.bound _ (statement_view c.args.statement.now)
+    c.config_for-config-in-Clear.ensures.pcs c.new-pcs-in-Clear.ensures c.config_for-config-in-Clear.ensures.challenger c.in-Ok.ensures
     (λ log_rows within. record {
       plain = refl;
       base_laws = g.met.F.Field.field_laws;

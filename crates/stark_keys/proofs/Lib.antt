@@ -1,0 +1,5 @@
+pub mod MakingSteps
+pub mod JudgingSteps
+pub mod OwnedSteps
+pub mod NumbersSteps
+pub mod ReadSteps

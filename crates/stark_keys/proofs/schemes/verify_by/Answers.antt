@@ -1,0 +1,81 @@
+use Rattle.std.proofs.Common.{refl}
+use Rattle.sha2.specs.Sha256.{sha256}
+use Rattle.stark_merkle.specs.Sha.{digests_are_32}
+use Rattle.stark_fri.proofs.BoundSteps.{names_by}
+use Rattle.stark_clear.specs.ClearScheme.{clear_pcs}
+use Rattle.stark_statement.specs.StatementView.{statement_view}
+use Rattle.stark_service.proofs.SchemeSteps.{sound_by_numbers, sound_in_the_clear, verdict_by_numbers}
+use Rattle.stark_keys.proofs.NumbersSteps.{file_by_numbers, file_in_the_clear, keyed_by_numbers, keyed_in_the_clear, verdict_in_the_clear}
+use Rattle.stark_keys.proofs.schemes.verify_by.Goals as goal
+
+pub returns-in-Fri-clause-verdict : goal.returns-in-Fri-clause-verdict
+returns-in-Fri-clause-verdict g c = rw c.in-Fri.is (
+    keyed_by_numbers _ c.config_for-config.result.pcs c.new-pcs.result (λ pcs. pcs.parameters) c.in-Fri.parameters (statement_view c.args.statement.now) c.config_for-config.ensures.pcs c.new-pcs.ensures
+    c.config_for-config.result.challenger c.bound-challenger.result _ c.config_for-config.ensures.challenger c.bound-challenger.ensures _ _ _ c.verify_with_key_bytes.ensures.verdict
+    )
+
+pub returns-in-Fri-clause-owned : goal.returns-in-Fri-clause-owned
+returns-in-Fri-clause-owned g c = rw c.in-Fri.is (
+    λ of_key.
+    verdict_by_numbers _ c.config_for-config.result.pcs c.new-pcs.result (λ pcs. pcs.parameters) c.in-Fri.parameters c.config_for-config.result.challenger c.bound-challenger.result _ (statement_view c.args.statement.now)
+    c.config_for-config.ensures.pcs c.new-pcs.ensures c.config_for-config.ensures.challenger c.bound-challenger.ensures _ _
+    (c.verify_with_key_bytes.ensures.owned (file_by_numbers _ c.config_for-config.result.pcs c.new-pcs.result (λ pcs. pcs.parameters) c.in-Fri.parameters (statement_view c.args.statement.now) c.config_for-config.ensures.pcs c.new-pcs.ensures c.only_one.ensures _ of_key))
+    )
+
+pub returns-in-Fri-clause-sound : goal.returns-in-Fri-clause-sound
+returns-in-Fri-clause-sound g c = rw c.in-Fri.is (
+    λ accepted of_key.
+    sound_by_numbers _ c.config_for-config.result.pcs c.new-pcs.result (λ pcs. pcs.parameters) c.in-Fri.parameters c.config_for-config.result.challenger c.bound-challenger.result _ (statement_view c.args.statement.now)
+    c.config_for-config.ensures.pcs c.new-pcs.ensures c.config_for-config.ensures.challenger c.bound-challenger.ensures _ _ (record {
+      plain = refl;
+      ring = refl;
+      embed = refl;
+      accepts = λ s asked proof state index accepts. accepts;
+      fields = record {
+        base = g.met.F.Field.field_laws;
+        extension = g.met.EF.Field.field_laws;
+        embeds = g.met.EF.ExtensionField.embeds;
+        two_adic = g.met.F.TwoAdicField.two_adic;
+      };
+      bytes = names_by g.F.TwoAdicField g.F.Field g.F.PrimeField64 g.EF.Field g.EF.ExtensionField g.met.F.PrimeField64.below g.met.F.PrimeField64.fits g.met.F.PrimeField64.same_number
+          g.met.EF.ExtensionField.is_basis sha256 digests_are_32;
+      laws = g.met.EF.Field.field_laws;
+      embeds = g.met.EF.ExtensionField.embeds;
+      two_adic = g.met.F.TwoAdicField.two_adic;
+    })
+    _ _
+    (c.verify_with_key_bytes.ensures.owned (file_by_numbers _ c.config_for-config.result.pcs c.new-pcs.result (λ pcs. pcs.parameters) c.in-Fri.parameters (statement_view c.args.statement.now) c.config_for-config.ensures.pcs c.new-pcs.ensures c.only_one.ensures _ of_key)) accepted
+    )
+
+pub returns-in-Clear-clause-verdict : goal.returns-in-Clear-clause-verdict
+returns-in-Clear-clause-verdict g c = rw c.in-Clear.is (
+    keyed_in_the_clear _ c.config_for-config-in-Clear.result.pcs c.new-pcs-in-Clear.result clear_pcs (statement_view c.args.statement.now) c.config_for-config-in-Clear.ensures.pcs c.new-pcs-in-Clear.ensures
+    c.config_for-config-in-Clear.result.challenger c.bound-challenger.result _ c.config_for-config-in-Clear.ensures.challenger c.bound-challenger.ensures _ _ _ c.verify_with_key_bytes-in-Clear.ensures.verdict
+    )
+
+pub returns-in-Clear-clause-owned : goal.returns-in-Clear-clause-owned
+returns-in-Clear-clause-owned g c = rw c.in-Clear.is (
+    λ of_key.
+    verdict_in_the_clear _ c.config_for-config-in-Clear.result.pcs c.new-pcs-in-Clear.result clear_pcs (statement_view c.args.statement.now) c.config_for-config-in-Clear.ensures.pcs c.new-pcs-in-Clear.ensures
+    c.config_for-config-in-Clear.result.challenger c.bound-challenger.result _ c.config_for-config-in-Clear.ensures.challenger c.bound-challenger.ensures c.args.key.now _ _
+    (c.verify_with_key_bytes-in-Clear.ensures.owned (file_in_the_clear _ c.config_for-config-in-Clear.result.pcs c.new-pcs-in-Clear.result clear_pcs (statement_view c.args.statement.now) c.config_for-config-in-Clear.ensures.pcs c.new-pcs-in-Clear.ensures _ of_key))
+    )
+
+pub returns-in-Clear-clause-sound : goal.returns-in-Clear-clause-sound
+returns-in-Clear-clause-sound g c = rw c.in-Clear.is (
+    λ accepted of_key.
+    sound_in_the_clear _ c.config_for-config-in-Clear.result.pcs c.new-pcs-in-Clear.result clear_pcs c.config_for-config-in-Clear.result.challenger c.bound-challenger.result _ (statement_view c.args.statement.now)
+    c.config_for-config-in-Clear.ensures.pcs c.new-pcs-in-Clear.ensures c.config_for-config-in-Clear.ensures.challenger c.bound-challenger.ensures
+    (λ log_rows within. record {
+      plain = refl;
+      base_laws = g.met.F.Field.field_laws;
+      laws = g.met.EF.Field.field_laws;
+      embeds = g.met.EF.ExtensionField.embeds;
+      two_adic = g.met.F.TwoAdicField.two_adic;
+      has_group = within;
+      accepts = λ s claims proof state index h. h.0;
+      stands = λ s commitment prover_data matrices h. (h.0, h.2);
+    })
+    _ _
+    (c.verify_with_key_bytes-in-Clear.ensures.owned (file_in_the_clear _ c.config_for-config-in-Clear.result.pcs c.new-pcs-in-Clear.result clear_pcs (statement_view c.args.statement.now) c.config_for-config-in-Clear.ensures.pcs c.new-pcs-in-Clear.ensures _ of_key)) accepted
+    )

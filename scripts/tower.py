@@ -38,7 +38,6 @@ def with_those_below(names):
 def copy(to, names, words=None):
     """Copies these crates into a folder, without what rt made and without wrong bodies; what rt made in that folder stays. `words` are put before
     a crate's colon."""
-    listed, words = crates(), words or {}
     os.makedirs(f"{to}/crates", exist_ok=True)
     shutil.copy2(f"{TOP}/HANDLES", to)
     for name in os.listdir(f"{to}/crates"):
@@ -53,6 +52,12 @@ def copy(to, names, words=None):
         for part in os.listdir(f"{TOP}/crates/{name}"):
             if part not in ("out", "must-fail", "wrong-bodies"):
                 copy_part(f"{TOP}/crates/{name}/{part}", f"{folder}/{part}")
+    list_crates(to, names, words)
+
+
+def list_crates(to, names, words=None):
+    """Writes a folder's crates.txt, of these crates alone."""
+    listed, words = crates(), words or {}
     with open(f"{to}/crates.txt", "w", encoding="utf-8") as file:
         for name in names:
             before = " ".join(filter(None, [name, listed[name][0], words.get(name, "")]))

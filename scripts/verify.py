@@ -2,9 +2,11 @@
 """A verifier written from docs/PROTOCOL.md and docs/FORMATS.md, apart from the crates: a check of these pages.
 
 usage: scripts/verify.py STATEMENT PROOF
+       scripts/verify.py --key STATEMENT
 
-Takes statements by FRI over any of the three fields and proofs as JSON, and prints `accepted`, or `refused` and the name of the first fault. It
-tests no limits and reads as Python's `json` does, so it is no program for the texts of strangers. It shares nothing with `fri_vectors.py`.
+Takes statements by FRI over any of the three fields and proofs as JSON, and prints `accepted`, or `refused` and the name of the first fault. With
+--key it writes the bytes of the statement's key. It tests no limits and reads as Python's `json` does, so it is no program for the texts of
+strangers. It shares nothing with `fri_vectors.py`.
 """
 import hashlib, json, sys
 
@@ -210,6 +212,15 @@ def key_of(field, statement):
     while len(layer) > 1:
         layer = [sha(b"\1", layer[i], layer[i + 1]) for i in range(0, len(layer), 2)]
     return k, layer[0]
+
+
+def key_file(statement):
+    """The bytes of the statement's key."""
+    begun = b"voskligan key 1" + sha(statement.canonical())
+    if not statement.preprocessed["width"]:
+        return begun + b"\0"
+    k, root = key_of(Field(statement.field_name), statement)
+    return begun + b"\1" + num(statement.preprocessed["width"]) + num(k) + root
 
 
 def check_shape(field, statement, proof, key):
@@ -423,8 +434,12 @@ def verify(statement, proof):
 
 def main(words):
     if len(words) != 2:
-        print("usage: scripts/verify.py STATEMENT PROOF", file=sys.stderr)
+        print("usage: scripts/verify.py STATEMENT PROOF | scripts/verify.py --key STATEMENT", file=sys.stderr)
         return 2
+    if words[0] == "--key":
+        with open(words[1], encoding="utf-8") as text:
+            sys.stdout.buffer.write(key_file(Statement(json.load(text))))
+        return 0
     with open(words[0], encoding="utf-8") as first, open(words[1], encoding="utf-8") as second:
         statement, proof = Statement(json.load(first)), json.load(second)
     try:

@@ -2,6 +2,10 @@
 
 use crate::dft::Rows;
 use crate::field::{Algebra, BabyBear};
+#[cfg(wide)]
+use crate::wide::{Packed, LANES};
+#[cfg(wide)]
+use std::array::from_fn;
 
 /// The selectors of the first row, of the last one, and of all but the last.
 #[derive(Clone, Copy)]
@@ -44,33 +48,91 @@ pub trait Air<const W: usize, const P: usize> {
     );
 }
 
-/// The first row, with the constraint, that the trace breaks.
-pub fn first_broken<A: Air<W, P>, const W: usize, const P: usize>(
-    rows: &Rows<W>,
-    preprocessed: Option<&Rows<P>>,
-    publics: &[BabyBear],
-) -> Option<(usize, usize)> {
-    let one_if = |holds| if holds { BabyBear::ONE } else { BabyBear::ZERO };
-    let none = [BabyBear::ZERO; P];
-    (0..rows.len()).find_map(|i| {
-        let is_last = i + 1 == rows.len();
+/// The rows of a trace, those beside them, and the public values.
+struct Checked<'a, const W: usize, const P: usize> {
+    rows: &'a Rows<W>,
+    preprocessed: Option<&'a Rows<P>>,
+    publics: &'a [BabyBear],
+}
+
+impl<const W: usize, const P: usize> Checked<'_, W, P> {
+    /// Row `i`, where that after the last is the first.
+    fn row(&self, i: usize) -> &[BabyBear; W] {
+        &self.rows[if i < self.rows.len() { i } else { 0 }]
+    }
+
+    fn beside(&self, i: usize) -> &[BabyBear; P] {
+        self.preprocessed
+            .map_or(&[BabyBear::ZERO; P], |rows| &rows[i])
+    }
+
+    fn selectors(&self, i: usize) -> Selectors<BabyBear> {
+        let one_if = |holds| if holds { BabyBear::ONE } else { BabyBear::ZERO };
+        let is_last = i + 1 == self.rows.len();
+        Selectors {
+            first: one_if(i == 0),
+            last: one_if(is_last),
+            transition: one_if(!is_last),
+        }
+    }
+
+    /// The first constraint that row `i` breaks.
+    fn broken_in<A: Air<W, P>>(&self, i: usize) -> Option<(usize, usize)> {
         let window = Window {
-            local: &rows[i],
-            next: &rows[if is_last { 0 } else { i + 1 }],
-            preprocessed: preprocessed.map_or(&none, |rows| &rows[i]),
-            selectors: Selectors {
-                first: one_if(i == 0),
-                last: one_if(is_last),
-                transition: one_if(!is_last),
-            },
+            local: self.row(i),
+            next: self.row(i + 1),
+            preprocessed: self.beside(i),
+            selectors: self.selectors(i),
         };
         let (mut count, mut broken) = (0, None);
-        A::constraints(window, publics, &mut |value| {
+        A::constraints(window, self.publics, &mut |value| {
             if value != BabyBear::ZERO && broken.is_none() {
                 broken = Some((i, count));
             }
             count += 1;
         });
         broken
-    })
+    }
+
+    /// Whether none of the eight rows from `i` on breaks a constraint.
+    #[cfg(wide)]
+    fn eight_hold<A: Air<W, P>>(&self, i: usize) -> bool {
+        let selectors: [_; LANES] = from_fn(|lane| self.selectors(i + lane));
+        let window = Window {
+            local: &from_fn(|c| Packed::of(|lane| self.rows[i + lane][c])),
+            next: &from_fn(|c| Packed::of(|lane| self.row(i + lane + 1)[c])),
+            preprocessed: &from_fn(|c| Packed::of(|lane| self.beside(i + lane)[c])),
+            selectors: Selectors {
+                first: Packed::of(|lane| selectors[lane].first),
+                last: Packed::of(|lane| selectors[lane].last),
+                transition: Packed::of(|lane| selectors[lane].transition),
+            },
+        };
+        let mut hold = true;
+        A::constraints(window, self.publics, &mut |value: Packed| {
+            hold &= value.is_zero()
+        });
+        hold
+    }
+}
+
+/// The first row, with the constraint, that the trace breaks.
+pub fn first_broken<A: Air<W, P>, const W: usize, const P: usize>(
+    rows: &Rows<W>,
+    preprocessed: Option<&Rows<P>>,
+    publics: &[BabyBear],
+) -> Option<(usize, usize)> {
+    let checked = Checked {
+        rows,
+        preprocessed,
+        publics,
+    };
+    #[cfg(wide)]
+    let first = (0..rows.len() / LANES)
+        .find(|k| !checked.eight_hold::<A>(k * LANES))
+        .unwrap_or(rows.len() / LANES)
+        * LANES;
+    #[cfg(not(wide))]
+    let first = 0;
+    (first..rows.len()).find_map(|i| checked.broken_in::<A>(i))
 }

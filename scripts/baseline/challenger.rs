@@ -3,6 +3,10 @@
 use crate::extension::Extension;
 use crate::field::{BabyBear, P};
 use crate::sha256::{digest, Digest};
+#[cfg(wide)]
+use crate::wide::{digests, LANES};
+#[cfg(wide)]
+use std::array::from_fn;
 
 #[derive(Clone)]
 pub struct Challenger {
@@ -74,7 +78,35 @@ impl Challenger {
         self.draw_bits(bits) == 0
     }
 
-    /// The first element that has done the work, and the state behind its check.
+    /// The first element that has done the work, and the state after its check: eight are tried
+    /// at once.
+    #[cfg(wide)]
+    pub fn grind(&mut self, bits: usize) -> BabyBear {
+        for first in (0..P).step_by(LANES) {
+            let witnesses: [_; LANES] = from_fn(|lane| BabyBear::new(first + lane as u32));
+            let observed = witnesses.map(|witness| {
+                let mut text = [0; 41];
+                text[..32].copy_from_slice(&self.state);
+                text[33..].copy_from_slice(&(witness.number() as u64).to_be_bytes());
+                text
+            });
+            let drawn = digests(observed.each_ref().map(|text| &text[..])).map(|state| {
+                let mut text = [2; 33];
+                text[..32].copy_from_slice(&state);
+                text
+            });
+            let states = digests(drawn.each_ref().map(|text| &text[..]));
+            let passes = |state| Challenger { state }.leading() % (1 << bits) == 0;
+            if let Some(lane) = states.into_iter().position(passes) {
+                self.check_witness(bits, witnesses[lane]);
+                return witnesses[lane];
+            }
+        }
+        unreachable!("no element of two billion does {bits} bits of work")
+    }
+
+    /// The first element that has done the work, and the state after its check.
+    #[cfg(not(wide))]
     pub fn grind(&mut self, bits: usize) -> BabyBear {
         for number in 0..P {
             let (witness, mut trial) = (BabyBear::new(number), self.clone());

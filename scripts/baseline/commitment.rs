@@ -7,6 +7,8 @@ use crate::fri::PARAMETERS;
 use crate::merkle::{leaves, write_rows, Tree};
 use crate::proof::RowsOpening;
 use crate::sha256::Digest;
+#[cfg(wide)]
+use crate::wide::{apart, beside, by_two, Packed};
 
 /// Columns, and their values on the coset of the generator.
 pub struct Matrix<const W: usize> {
@@ -25,6 +27,22 @@ impl<const W: usize> Matrix<W> {
     }
 
     /// The columns' values at a point.
+    #[cfg(wide)]
+    pub fn values_at(&self, point: Extension) -> Vec<Extension> {
+        let mut pairs = vec![Packed::from(BabyBear::ZERO); W.div_ceil(2)];
+        let mut power = Extension::ONE;
+        for row in &self.coefficients {
+            let both = beside(power, power);
+            for (pair, coefficients) in pairs.iter_mut().zip(by_two(row)) {
+                *pair = *pair + both * coefficients;
+            }
+            power = power * point;
+        }
+        pairs.into_iter().flat_map(apart).take(W).collect()
+    }
+
+    /// The columns' values at a point.
+    #[cfg(not(wide))]
     pub fn values_at(&self, point: Extension) -> Vec<Extension> {
         let (mut values, mut power) = ([Extension::ZERO; W], Extension::ONE);
         for row in &self.coefficients {

@@ -11,7 +11,7 @@ const ELEVEN: BabyBear = BabyBear::new(11);
 
 /// The element whose coordinates of 1, X, X^2 and X^3 these are.
 #[derive(Clone, Copy, Debug, Default, PartialEq, Eq)]
-pub struct Extension(pub [BabyBear; DEGREE]);
+pub struct Extension<T = BabyBear>(pub [T; DEGREE]);
 
 impl Extension {
     pub const ZERO: Extension = Extension([BabyBear::ZERO; DEGREE]);
@@ -21,12 +21,6 @@ impl Extension {
         BabyBear::ZERO,
         BabyBear::ZERO,
     ]);
-
-    /// The element times one of the base field.
-    #[inline(always)]
-    pub fn scaled(self, factor: BabyBear) -> Extension {
-        Extension(self.0.map(|coordinate| coordinate * factor))
-    }
 
     /// The power with the exponent `2^times`.
     pub fn squared(self, times: usize) -> Extension {
@@ -63,40 +57,49 @@ impl From<BabyBear> for Extension {
     }
 }
 
-impl Add for Extension {
-    type Output = Extension;
+impl<T: Algebra> Extension<T> {
+    /// The element times one of the base field.
     #[inline(always)]
-    fn add(self, other: Extension) -> Extension {
+    pub fn scaled(self, factor: T) -> Extension<T> {
+        Extension(self.0.map(|coordinate| coordinate * factor))
+    }
+}
+
+impl<T: Algebra> Add for Extension<T> {
+    type Output = Extension<T>;
+    #[inline(always)]
+    fn add(self, other: Extension<T>) -> Extension<T> {
         let ([a, b, c, d], [e, f, g, h]) = (self.0, other.0);
         Extension([a + e, b + f, c + g, d + h])
     }
 }
 
-impl AddAssign for Extension {
+impl<T: Algebra> AddAssign for Extension<T> {
     #[inline(always)]
-    fn add_assign(&mut self, other: Extension) {
+    fn add_assign(&mut self, other: Extension<T>) {
         *self = *self + other;
     }
 }
 
-impl Sub for Extension {
-    type Output = Extension;
+impl<T: Algebra> Sub for Extension<T> {
+    type Output = Extension<T>;
     #[inline(always)]
-    fn sub(self, other: Extension) -> Extension {
+    fn sub(self, other: Extension<T>) -> Extension<T> {
         let ([a, b, c, d], [e, f, g, h]) = (self.0, other.0);
         Extension([a - e, b - f, c - g, d - h])
     }
 }
 
-impl Mul for Extension {
-    type Output = Extension;
+impl<T: Algebra> Mul for Extension<T> {
+    type Output = Extension<T>;
     #[inline(always)]
-    fn mul(self, other: Extension) -> Extension {
+    fn mul(self, other: Extension<T>) -> Extension<T> {
         let ([a, b, c, d], [e, f, g, h]) = (self.0, other.0);
+        let eleven = T::from(ELEVEN);
         Extension([
-            a * e + ELEVEN * (b * h + c * g + d * f),
-            a * f + b * e + ELEVEN * (c * h + d * g),
-            a * g + b * f + c * e + ELEVEN * (d * h),
+            a * e + eleven * (b * h + c * g + d * f),
+            a * f + b * e + eleven * (c * h + d * g),
+            a * g + b * f + c * e + eleven * (d * h),
             a * h + b * g + c * f + d * e,
         ])
     }

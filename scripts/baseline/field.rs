@@ -9,7 +9,7 @@ pub const P: u32 = 0x7800_0001;
 pub const TWO_ADICITY: usize = 27;
 
 /// The inverse of p modulo 2^32.
-const P_INVERSE: u32 = 0x8800_0001;
+pub const P_INVERSE: u32 = 0x8800_0001;
 
 /// 2^64 modulo p.
 const R_SQUARED: u32 = 1_172_168_163;
@@ -25,6 +25,7 @@ pub trait Algebra:
 
 /// An element `a`, as `a * 2^32` modulo p.
 #[derive(Clone, Copy, Debug, Default, PartialEq, Eq)]
+#[repr(transparent)]
 pub struct BabyBear(u32);
 
 /// `x / 2^32` modulo p, of an `x` below `p * 2^32`.
@@ -54,6 +55,12 @@ impl BabyBear {
     /// The element of a number, if that is below p.
     pub fn checked(number: u64) -> Option<BabyBear> {
         (number < P as u64).then(|| BabyBear::new(number as u32))
+    }
+
+    /// The element as it is kept.
+    #[cfg(wide)]
+    pub const fn word(self) -> u32 {
+        self.0
     }
 
     /// The number of the element, below p.
@@ -139,7 +146,11 @@ impl MulAssign for BabyBear {
     }
 }
 
+#[cfg(wide)]
+pub use crate::wide::inverses;
+
 /// The inverses of elements that aren't zero, by one inversion and three products each.
+#[cfg(not(wide))]
 pub fn inverses(elements: &[BabyBear]) -> Vec<BabyBear> {
     let mut product = BabyBear::ONE;
     let mut inverses = Vec::with_capacity(elements.len());

@@ -2,7 +2,7 @@
 
 use crate::challenger::Challenger;
 use crate::extension::Extension;
-use crate::field::BabyBear;
+use crate::field::{Algebra, BabyBear};
 use crate::sha256::Digest;
 
 /// The configuration that is meant where a statement names none.
@@ -63,13 +63,13 @@ fn observe_points(challenger: &mut Challenger, points: &Points) {
 
 /// The value at `x^2` of the folded word, from those at `x` and at `-x`, by `1 / (2 x)`.
 #[inline(always)]
-pub fn fold_pair(
-    beta: Extension,
-    half: BabyBear,
-    inverse: BabyBear,
-    low: Extension,
-    high: Extension,
-) -> Extension {
+pub fn fold_pair<T: Algebra>(
+    beta: Extension<T>,
+    half: T,
+    inverse: T,
+    low: Extension<T>,
+    high: Extension<T>,
+) -> Extension<T> {
     (low + high).scaled(half) + beta * (low - high).scaled(inverse)
 }
 

@@ -8,6 +8,8 @@ use crate::field::BabyBear;
 use crate::fri::{fold_pair, half_and_inverse, observe_claims, Claim, PARAMETERS};
 use crate::merkle::{leaves, write_pair, Tree};
 use crate::proof::{FriProof, LayerOpening, Query, RowsOpening};
+#[cfg(wide)]
+use crate::wide::{apart, beside, by_two, gathered, in_each, scattered, Packed, LANES};
 
 /// The sum of the claims' quotients `(p(X) - p(z)) / (X - z)`, each times a power of alpha.
 pub struct Batch {
@@ -24,15 +26,45 @@ impl Batch {
             *factor = self.factor;
             self.factor = self.factor * self.alpha;
         }
+        let combine = combination(&factors);
         let mut carry = Extension::ZERO;
         for (sum, row) in self.sum.iter_mut().zip(&coefficients[1..]).rev() {
-            let mut combined = Extension::ZERO;
-            for (factor, coefficient) in factors.iter().zip(row) {
-                combined += factor.scaled(*coefficient);
-            }
-            carry = carry * point + combined;
+            carry = carry * point + combine(row);
             *sum += carry;
         }
+    }
+}
+
+/// The sum of a row's elements, each times its factor.
+#[cfg(wide)]
+fn combination<const W: usize>(
+    factors: &[Extension; W],
+) -> impl Fn(&[BabyBear; W]) -> Extension + use<W> {
+    let pairs = factors.chunks(2);
+    let pairs = pairs.map(|pair| beside(pair[0], *pair.get(1).unwrap_or(&Extension::ZERO)));
+    let pairs: Vec<_> = pairs.collect();
+    move |row| {
+        let products = pairs.iter().zip(by_two(row));
+        let [first, second] = apart(
+            products.fold(Packed::from(BabyBear::ZERO), |sum, (factors, elements)| {
+                sum + *factors * elements
+            }),
+        );
+        first + second
+    }
+}
+
+/// The sum of a row's elements, each times its factor.
+#[cfg(not(wide))]
+fn combination<const W: usize>(
+    factors: &[Extension; W],
+) -> impl Fn(&[BabyBear; W]) -> Extension + '_ {
+    |row| {
+        let mut combined = Extension::ZERO;
+        for (factor, coefficient) in factors.iter().zip(row) {
+            combined += factor.scaled(*coefficient);
+        }
+        combined
     }
 }
 
@@ -89,6 +121,23 @@ fn fold(values: &[Extension], shift: BabyBear, beta: Extension) -> Vec<Extension
     let ratio = BabyBear::root_of_unity(log_size).inverse();
     let (half, first) = half_and_inverse(shift);
     let (low, high) = values.split_at(values.len() / 2);
+    #[cfg(wide)]
+    if low.len() >= LANES {
+        let (beta, half) = (in_each(beta), Packed::from(half));
+        let pairs = low.as_chunks().0.iter().zip(high.as_chunks().0);
+        let folded = pairs.zip(Packed::powers_from(ratio, first));
+        return folded
+            .flat_map(|((low, high), inverse)| {
+                scattered(fold_pair(
+                    beta,
+                    half,
+                    inverse,
+                    gathered(low),
+                    gathered(high),
+                ))
+            })
+            .collect();
+    }
     let pairs = low.iter().zip(high).zip(ratio.powers_from(first));
     pairs
         .map(|((low, high), inverse)| fold_pair(beta, half, inverse, *low, *high))

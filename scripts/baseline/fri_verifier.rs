@@ -4,7 +4,7 @@ use crate::challenger::Challenger;
 use crate::extension::Extension;
 use crate::field::BabyBear;
 use crate::fri::{fold_pair, half_and_inverse, observe_claims, Claim, PARAMETERS};
-use crate::merkle::{leads_to, leaf, write_pair, write_rows};
+use crate::merkle::{all_lead, leaf_text, write_pair, write_rows, Way};
 use crate::proof::{FriProof, LayerOpening, RowsOpening};
 use crate::sha256::Digest;
 
@@ -73,12 +73,13 @@ fn batched(claims: &[Claim], inputs: &[RowsOpening], alpha: Extension, x: BabyBe
     sum
 }
 
-/// Tests that the opened rows are as many and as wide as claimed, and lead to the root.
-fn check_input(
-    claim: &Claim,
-    input: &RowsOpening,
+/// Tests that the opened rows are as many and as wide as claimed, and adds their way to the root.
+fn check_input<'a>(
+    claim: &'a Claim,
+    input: &'a RowsOpening,
     bits: usize,
     place: usize,
+    ways: &mut Vec<Way<'a>>,
 ) -> Result<(), Refusal> {
     let count = claim.matrices.len();
     ensure(input.rows.len() == count, "the number of matrices")?;
@@ -86,31 +87,38 @@ fn check_input(
         let is_wide = points.iter().all(|(_, values)| values.len() == row.len());
         ensure(is_wide, "the width of a row")?;
     }
-    let leaf = leaf(|bytes| write_rows(bytes, input.rows.iter().map(Vec::as_slice)));
-    let leads = leads_to(&claim.root, bits, place, leaf, &input.path);
-    ensure(leads, "the path of rows")
+    ways.push(Way {
+        root: &claim.root,
+        depth: bits,
+        place,
+        leaf: leaf_text(|bytes| write_rows(bytes, input.rows.iter().map(Vec::as_slice))),
+        path: &input.path,
+    });
+    Ok(())
 }
 
-fn check_inputs(
-    claims: &[Claim],
-    inputs: &[RowsOpening],
+fn check_inputs<'a>(
+    claims: &'a [Claim],
+    inputs: &'a [RowsOpening],
     bits: usize,
     place: usize,
+    ways: &mut Vec<Way<'a>>,
 ) -> Result<(), Refusal> {
     let count = claims.len();
     ensure(inputs.len() == count, "the number of rows of a query")?;
     let mut pairs = claims.iter().zip(inputs);
-    pairs.try_for_each(|(claim, input)| check_input(claim, input, bits, place))
+    pairs.try_for_each(|(claim, input)| check_input(claim, input, bits, place, ways))
 }
 
-/// Where a query's value leads, by the folds.
-fn walk(
-    proof: &FriProof,
+/// Where a query's value leads, by the folds. The ways of the layers' pairs are added.
+fn walk<'a>(
+    proof: &'a FriProof,
     betas: &[Extension],
-    layers: &[LayerOpening],
+    layers: &'a [LayerOpening],
     bits: usize,
     start: usize,
     mut value: Extension,
+    ways: &mut Vec<Way<'a>>,
 ) -> Result<Extension, Refusal> {
     let count = proof.roots.len();
     ensure(layers.len() == count, "the number of layers of a query")?;
@@ -124,9 +132,13 @@ fn walk(
             (layer.sibling, value)
         };
         place %= half;
-        let leaf = leaf(|bytes| write_pair(bytes, &low.0, &high.0));
-        let leads = leads_to(&proof.roots[i], log_size - 1, place, leaf, &layer.path);
-        ensure(leads, "the path of a pair")?;
+        ways.push(Way {
+            root: &proof.roots[i],
+            depth: log_size - 1,
+            place,
+            leaf: leaf_text(|bytes| write_pair(bytes, &low.0, &high.0)),
+            path: &layer.path,
+        });
         let x = shift * BabyBear::root_of_unity(log_size).power(place as u64);
         let (half, inverse) = half_and_inverse(x);
         value = fold_pair(betas[i], half, inverse, low, high);
@@ -161,12 +173,21 @@ pub fn verify(
     let bits = log_height + PARAMETERS.log_blowup;
     check_shape(log_height, claims, proof)?;
     let drawn = replay(log_height, claims, proof, challenger)?;
+    let mut ways = Vec::new();
     for (query, place) in proof.queries.iter().zip(drawn.places) {
-        check_inputs(claims, &query.inputs, bits, place)?;
+        check_inputs(claims, &query.inputs, bits, place, &mut ways)?;
         let x = BabyBear::GENERATOR * BabyBear::root_of_unity(bits).power(place as u64);
         let value = batched(claims, &query.inputs, drawn.alpha, x);
-        let reached = walk(proof, &drawn.betas, &query.layers, bits, place, value)?;
+        let reached = walk(
+            proof,
+            &drawn.betas,
+            &query.layers,
+            bits,
+            place,
+            value,
+            &mut ways,
+        )?;
         ensure(reached == proof.last[0], "the final value")?;
     }
-    Ok(())
+    ensure(all_lead(&ways), "a path")
 }

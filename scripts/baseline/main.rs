@@ -7,6 +7,10 @@
 //! proved, want of memory isn't answered, and a broken invariant panics. It does less besides: it
 //! has one field and one set of parameters. It takes one block of SHA-256 at a time, where
 //! `voskligan` takes four in vectors, for which Rust wants `unsafe` code.
+//!
+//! Built with `--cfg wide` for x86-64-v3 it has that code too (`wide.rs`): eight lanes of AVX2 for
+//! elements and for SHA-256, in transforms, quotient, openings, trees, paths and the search for a
+//! witness, as provers that are used write it. It makes the same bytes.
 
 mod air;
 mod challenger;
@@ -28,6 +32,8 @@ mod quotient;
 mod sha256;
 mod statement;
 mod verifier;
+#[cfg(wide)]
+mod wide;
 
 use air::{first_broken, Air};
 use fibonacci::Fibonacci;

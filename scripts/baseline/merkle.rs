@@ -1,13 +1,18 @@
 //! Binary trees of digests.
 
 use crate::field::BabyBear;
-use crate::sha256::{digest, Digest};
+#[cfg(not(wide))]
+use crate::sha256::digest;
+use crate::sha256::Digest;
+#[cfg(wide)]
+use crate::wide::{self, LANES};
 
 /// What the texts of leaves and of nodes begin with.
 const LEAF: u8 = 0;
 const NODE: u8 = 1;
 
 /// The digest of the text that is written behind a byte.
+#[cfg(not(wide))]
 fn digest_of(tag: u8, text: &mut Vec<u8>, write: impl FnOnce(&mut Vec<u8>)) -> Digest {
     text.clear();
     text.push(tag);
@@ -15,7 +20,30 @@ fn digest_of(tag: u8, text: &mut Vec<u8>, write: impl FnOnce(&mut Vec<u8>)) -> D
     digest(text)
 }
 
-/// The digests of so many texts, each written behind the byte.
+/// The digests of texts of one length, each written after the byte.
+#[cfg(wide)]
+fn digests(tag: u8, count: usize, write: impl Fn(usize, &mut Vec<u8>)) -> Vec<Digest> {
+    let mut texts: [Vec<u8>; LANES] = Default::default();
+    let mut found = Vec::with_capacity(count);
+    for first in (0..count).step_by(LANES) {
+        for (i, text) in (first..count).zip(&mut texts) {
+            text.clear();
+            text.push(tag);
+            write(i, text);
+        }
+        // Where fewer are left, the texts before stand in the other lanes.
+        let all = wide::digests(
+            texts
+                .each_ref()
+                .map(|text| if text.is_empty() { &texts[0] } else { text }.as_slice()),
+        );
+        found.extend(&all[..LANES.min(count - first)]);
+    }
+    found
+}
+
+/// The digests of N texts, each written after the byte.
+#[cfg(not(wide))]
 fn digests(tag: u8, count: usize, write: impl Fn(usize, &mut Vec<u8>)) -> Vec<Digest> {
     let mut text = Vec::new();
     (0..count)
@@ -28,17 +56,19 @@ pub fn leaves(count: usize, write: impl Fn(usize, &mut Vec<u8>)) -> Vec<Digest> 
     digests(LEAF, count, write)
 }
 
-/// The digest of a leaf, whose bytes are written.
-pub fn leaf(write: impl FnOnce(&mut Vec<u8>)) -> Digest {
-    digest_of(LEAF, &mut Vec::new(), write)
+/// The text of a leaf, whose bytes are written.
+pub fn leaf_text(write: impl FnOnce(&mut Vec<u8>)) -> Vec<u8> {
+    let mut text = vec![LEAF];
+    write(&mut text);
+    text
 }
 
-/// The digest of two digests.
-fn node(left: &Digest, right: &Digest) -> Digest {
+/// The text of two digests' node.
+fn node_text(left: &Digest, right: &Digest) -> [u8; 65] {
     let mut text = [NODE; 65];
     text[1..33].copy_from_slice(left);
     text[33..].copy_from_slice(right);
-    digest(&text)
+    text
 }
 
 /// The nodes above a layer.
@@ -80,16 +110,68 @@ impl Tree {
     }
 }
 
-/// Whether a path of `depth` digests leads from a leaf at a place to the root.
-pub fn leads_to(root: &Digest, depth: usize, place: usize, leaf: Digest, path: &[Digest]) -> bool {
-    let above = |below: Digest, (level, beside): (usize, &Digest)| {
-        if (place >> level) & 1 == 0 {
-            node(&below, beside)
+/// A way to the root of a tree that is `depth` digests deep, from a leaf's text at a place.
+pub struct Way<'a> {
+    pub root: &'a Digest,
+    pub depth: usize,
+    pub place: usize,
+    pub leaf: Vec<u8>,
+    pub path: &'a [Digest],
+}
+
+impl Way<'_> {
+    /// The text of the node over a digest that many levels above the leaf.
+    fn node_text(&self, level: usize, below: &Digest) -> [u8; 65] {
+        let beside = &self.path[level];
+        if (self.place >> level) & 1 == 0 {
+            node_text(below, beside)
         } else {
-            node(beside, &below)
+            node_text(beside, below)
         }
-    };
-    path.len() == depth && path.iter().enumerate().fold(leaf, above) == *root
+    }
+
+    #[cfg(not(wide))]
+    fn leads(&self) -> bool {
+        let above = |below, level| digest(&self.node_text(level, &below));
+        self.path.len() == self.depth
+            && (0..self.depth).fold(digest(&self.leaf), above) == *self.root
+    }
+}
+
+/// Whether all of them lead there.
+#[cfg(not(wide))]
+pub fn all_lead(ways: &[Way]) -> bool {
+    ways.iter().all(Way::leads)
+}
+
+/// Whether all of them lead there: those of one depth and length of the leaf, eight at once.
+#[cfg(wide)]
+pub fn all_lead(ways: &[Way]) -> bool {
+    let key = |way: &&Way| (way.depth, way.leaf.len());
+    let mut sorted: Vec<_> = ways.iter().collect();
+    sorted.sort_by_key(key);
+    let mut groups = sorted.chunk_by(|one, other| key(one) == key(other));
+    groups.all(|group| group.chunks(LANES).all(eight_lead))
+}
+
+/// Whether at most eight ways of one depth lead there; the first stands in lanes without one.
+#[cfg(wide)]
+fn eight_lead(ways: &[&Way]) -> bool {
+    let depth = ways[0].depth;
+    if ways.iter().any(|way| way.path.len() != depth) {
+        return false;
+    }
+    let lanes: [&Way; LANES] = std::array::from_fn(|lane| *ways.get(lane).unwrap_or(&ways[0]));
+    let mut states = wide::digests(lanes.map(|way| way.leaf.as_slice()));
+    for level in 0..depth {
+        let texts: [_; LANES] =
+            std::array::from_fn(|lane| lanes[lane].node_text(level, &states[lane]));
+        states = wide::digests(texts.each_ref().map(|text| &text[..]));
+    }
+    lanes
+        .iter()
+        .zip(&states)
+        .all(|(way, state)| way.root == state)
 }
 
 /// A number as 8 bytes, the high one first.

@@ -7,6 +7,10 @@ use crate::extension::{Extension, DEGREE};
 use crate::field::{inverses, BabyBear};
 use crate::fri::PARAMETERS;
 use crate::protocol::chunk_shifts;
+#[cfg(wide)]
+use crate::wide::{in_each, scattered, Packed, PackedExtension, LANES};
+#[cfg(wide)]
+use std::array::from_fn;
 
 /// The points of the coset of a shift that is as large as the trace's group.
 struct Coset {
@@ -104,6 +108,68 @@ impl<const W: usize, const P: usize> Chunk<'_, W, P> {
     }
 }
 
+#[cfg(wide)]
+impl<const W: usize, const P: usize> Chunk<'_, W, P> {
+    /// The quotient's values at eight points, from the point `i` on.
+    #[inline(always)]
+    fn eight_values<A: Air<W, P>>(
+        &self,
+        i: usize,
+        selectors: &[Selectors<BabyBear>; LANES],
+        powers: &[PackedExtension],
+    ) -> [Extension; LANES] {
+        let rows: [_; LANES + 1] = from_fn(|lane| self.rows.row(i + lane));
+        let preprocessed = self.preprocessed.as_ref();
+        let beside: [&[BabyBear; P]; LANES] =
+            from_fn(|lane| preprocessed.map_or(&[BabyBear::ZERO; P], |rows| rows.row(i + lane)));
+        let window = Window {
+            local: &from_fn(|c| Packed::of(|lane| rows[lane][c])),
+            next: &from_fn(|c| Packed::of(|lane| rows[lane + 1][c])),
+            preprocessed: &from_fn(|c| Packed::of(|lane| beside[lane][c])),
+            selectors: Selectors {
+                first: Packed::of(|lane| selectors[lane].first),
+                last: Packed::of(|lane| selectors[lane].last),
+                transition: Packed::of(|lane| selectors[lane].transition),
+            },
+        };
+        let (mut sum, mut powers) = (in_each(Extension::ZERO), powers.iter());
+        A::constraints(window, self.publics, &mut |value| {
+            if let Some(power) = powers.next() {
+                sum += power.scaled(value);
+            }
+        });
+        scattered(sum)
+    }
+
+    /// The quotient's values at all points.
+    fn values<A: Air<W, P>>(&self, selectors: Vec<Selectors<BabyBear>>) -> Rows<DEGREE> {
+        let powers: Vec<_> = self.powers.iter().copied().map(in_each).collect();
+        let (eights, rest) = selectors.as_chunks::<LANES>();
+        let mut values = Vec::with_capacity(selectors.len());
+        for (k, eight) in eights.iter().enumerate() {
+            let found = self.eight_values::<A>(LANES * k, eight, &powers);
+            values.extend(found.map(|value| value.0));
+        }
+        for (i, selectors) in (values.len()..).zip(rest) {
+            values.push(self.value::<A>(i, *selectors));
+        }
+        values
+    }
+}
+
+#[cfg(not(wide))]
+impl<const W: usize, const P: usize> Chunk<'_, W, P> {
+    /// The quotient's values at all points.
+    fn values<A: Air<W, P>>(
+        &self,
+        selectors: impl Iterator<Item = Selectors<BabyBear>>,
+    ) -> Rows<DEGREE> {
+        let each = selectors.enumerate();
+        each.map(|(i, selectors)| self.value::<A>(i, selectors))
+            .collect()
+    }
+}
+
 /// The columns of the quotient's chunks, by their coefficients. The powers of alpha are those by
 /// which the constraints are folded.
 pub fn quotient_chunks<A: Air<W, P>, const W: usize, const P: usize>(
@@ -122,9 +188,11 @@ pub fn quotient_chunks<A: Air<W, P>, const W: usize, const P: usize>(
             publics,
             powers: powers.iter().map(|power| power.scaled(inverse)).collect(),
         };
-        let selectors = coset.selectors().enumerate();
-        let values = selectors.map(|(i, selectors)| chunk.value::<A>(i, selectors));
-        interpolate(values.collect(), shift)
+        #[cfg(wide)]
+        let values = chunk.values::<A>(coset.selectors().collect());
+        #[cfg(not(wide))]
+        let values = chunk.values::<A>(coset.selectors());
+        interpolate(values, shift)
     };
     let shifts = chunk_shifts(log_height, A::LOG_CHUNKS);
     shifts.into_iter().enumerate().map(chunk).collect()

@@ -4,7 +4,7 @@
 pub type Digest = [u8; 32];
 
 /// The word that is added in each round.
-const CONSTANTS: [u32; 64] = [
+pub const CONSTANTS: [u32; 64] = [
     0x428a2f98, 0x71374491, 0xb5c0fbcf, 0xe9b5dba5, 0x3956c25b, 0x59f111f1, 0x923f82a4, 0xab1c5ed5,
     0xd807aa98, 0x12835b01, 0x243185be, 0x550c7dc3, 0x72be5d74, 0x80deb1fe, 0x9bdc06a7, 0xc19bf174,
     0xe49b69c1, 0xefbe4786, 0x0fc19dc6, 0x240ca1cc, 0x2de92c6f, 0x4a7484aa, 0x5cb0a9dc, 0x76f988da,
@@ -16,7 +16,7 @@ const CONSTANTS: [u32; 64] = [
 ];
 
 /// The state before the first block.
-const INITIAL: [u32; 8] = [
+pub const INITIAL: [u32; 8] = [
     0x6a09e667, 0xbb67ae85, 0x3c6ef372, 0xa54ff53a, 0x510e527f, 0x9b05688c, 0x1f83d9ab, 0x5be0cd19,
 ];
 
@@ -78,14 +78,14 @@ fn compress(state: &mut [u32; 8], block: &[u8; 64]) {
 }
 
 /// The blocks of a text: those that are whole, and the last one or two, which are filled up.
-struct Blocks<'a> {
+pub struct Blocks<'a> {
     whole: &'a [u8],
     last: [u8; 128],
     last_length: usize,
 }
 
 impl Blocks<'_> {
-    fn new(text: &[u8]) -> Blocks<'_> {
+    pub fn new(text: &[u8]) -> Blocks<'_> {
         let (whole, rest) = text.split_at(text.len() - text.len() % 64);
         let last_length = if rest.len() < 56 { 64 } else { 128 };
         let mut last = [0; 128];
@@ -100,12 +100,15 @@ impl Blocks<'_> {
         }
     }
 
-    fn iter(&self) -> impl Iterator<Item = &[u8; 64]> {
-        let last = self.last[..self.last_length].chunks_exact(64);
-        self.whole
-            .chunks_exact(64)
-            .chain(last)
-            .map(|block| block.try_into().unwrap())
+    pub fn count(&self) -> usize {
+        (self.whole.len() + self.last_length) / 64
+    }
+
+    pub fn get(&self, i: usize) -> &[u8; 64] {
+        let whole = self.whole.as_chunks().0;
+        whole
+            .get(i)
+            .unwrap_or_else(|| &self.last.as_chunks().0[i - whole.len()])
     }
 }
 
@@ -121,8 +124,9 @@ fn bytes_of(state: [u32; 8]) -> Digest {
 /// The digest of a text.
 pub fn digest(text: &[u8]) -> Digest {
     let mut state = INITIAL;
-    for block in Blocks::new(text).iter() {
-        compress(&mut state, block);
+    let blocks = Blocks::new(text);
+    for i in 0..blocks.count() {
+        compress(&mut state, blocks.get(i));
     }
     bytes_of(state)
 }

@@ -121,6 +121,18 @@ static void try_lengths(void)
     HAS(voskligan_verify(statement, statement_length, proof, proof_length, NULL, 0) == VOSKLIGAN_ACCEPTED);
 }
 
+/* A floor that the proof is worth, and one that no proof is. */
+static void try_floors(void)
+{
+    uint8_t message[ROOM];
+    HAS(voskligan_verify_at_least(1, statement, statement_length, proof, proof_length, message, ROOM)
+        == VOSKLIGAN_ACCEPTED);
+    HAS(strcmp((char *)message, "accepted\n") == 0);
+    HAS(voskligan_verify_at_least(1000, statement, statement_length, proof, proof_length, message, ROOM)
+        == VOSKLIGAN_BELOW_FLOOR);
+    HAS(strncmp((char *)message, "not judged: worth ", 18) == 0);
+}
+
 /* A message of each room: what fits, a 0 byte, and behind it what was there. */
 static void try_rooms(void)
 {
@@ -204,6 +216,7 @@ static void try_long_chain(void)
 static void *try_buffers(void *argument)
 {
     try_lengths();
+    try_floors();
     try_rooms();
     try_proofs();
     try_depths();

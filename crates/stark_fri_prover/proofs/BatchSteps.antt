@@ -123,7 +123,7 @@ get_or_past [] k d past = refl
 get_or_past (x ∷ xs) zero d past = absurd (omega arith)
 get_or_past (x ∷ xs) (suc k) d past = get_or_past xs k d (omega arith)
 
--- A column's coefficients, with zeros behind.
+-- A column's coefficients, with zeros after them.
 module _ {F E : Type 0} (ring : RingOps E) (embed : F → E) (nothing_here : F) (none : embed nothing_here ≡ ring.zero) where
   padding : (column : List F) (size : ℕ) → List E
   padding column size = map (λ _. ring.zero) (range_with_len 0 (size - length column))

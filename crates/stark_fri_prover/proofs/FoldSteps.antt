@@ -76,7 +76,7 @@ module _ {F E : Type 0} (number_of : F → ℕ) (coordinates : E → List F) (ze
   abbrev Are : ℕ → List (Phase F) → List (Layer E) → Type 0
   Are log_size phases layers = AreLayersOf number_of coordinates zero hash log_size phases layers
 
-  -- The layers so far, and the size of the coset behind them.
+  -- The layers so far, and the size of the coset after them.
   abbrev pub LayersSoFar : ℕ → ℕ → List (Phase F) → List (Layer E) → Type 0
   LayersSoFar log_size left phases layers = Are log_size phases layers × (left ≡ log_size - length layers)
 
@@ -107,7 +107,7 @@ module _ {F E : Type 0} (number_of : F → ℕ) (coordinates : E → List F) (ze
 -- ---- words
 
 module _ {E : Type 0} (ring : RingOps E) (root : ℕ → E) (start : TwoAdicCoset E) (polynomial : List E) where
-  -- From here on whatever has the words of what is left, behind the layers so far has those of the polynomial.
+  -- From here on whatever has the words of what is left, after the layers so far has those of the polynomial.
   abbrev pub WordsTo : List E → List (Layer E) → TwoAdicCoset E → List E → List E → Type 0
   WordsTo betas layers here last word =
       IsWordOf ring root here last word

@@ -72,7 +72,7 @@ module _ {C F E T X : Type 0} (ops : FriOps C F E) (number_of : F → ℕ) (coor
               (subst (λ k. Stops k count after_alpha batch) (is_bits ∙ ap (λ k. k + s.log_blowup) height) stops));
         }
 
-    -- The folds, the work and the places behind it.
+    -- The folds, the work and the places after it.
     module _ (proof : FriProofView F E) (bits count : ℕ) (is_bits : bits ≡ log_height + s.log_blowup) (is_count : count ≡ fold_count s log_height) (batch : List E) (layers : List (Layer E))
         (after_folds after_final after_work : C)
         (is_final : after_final ≡ observed_all (observed_extension ops.sponge.observing) proof.final_polynomial after_folds) (places : List ℕ)

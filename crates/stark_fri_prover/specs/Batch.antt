@@ -27,7 +27,7 @@ RoundsFit size rounds = AllByRecursion (λ round. MatricesFit size round.0.matri
 abbrev pub AreZeros : {E : Type 0} → RingOps E → ℕ → List E → Type 0
 AreZeros ring count list = (length list ≡ count) × IsZeroPolynomial ring list
 
--- The columns' coefficients at a place, zero behind a column's last one.
+-- The columns' coefficients at a place, zero after a column's last one.
 abbrev pub coefficients_at : {F : Type 0} → F → ℕ → List (List F) → List F
 coefficients_at nothing place columns = map (λ column. get_or column place nothing) columns
 
@@ -35,12 +35,12 @@ coefficients_at nothing place columns = map (λ column. get_or column place noth
 abbrev pub weighted_at : {F : Type 0} → RingOps F → List (List F) → ℕ → List F → F
 weighted_at base columns place weights = basis_sum base (λ c. c) weights (coefficients_at base.zero place columns)
 
--- A weight, and so many products of it and the next power of alpha.
+-- A weight, and a number of products of it and the next power of alpha.
 unfoldable pub weights_from : {E : Type 0} → RingOps E → E → E → ℕ → List E
 weights_from ring alpha first zero = []
 weights_from ring alpha first (suc n) = first ∷ weights_from ring alpha (ring.mul first alpha) n
 
--- The sum of the columns, each times its weight, in so many coefficients.
+-- The sum of the columns, each times its weight, in a number of coefficients.
 abbrev pub combined_at : {F E : Type 0} → RingOps E → (F → E) → F → List E → List (List F) → ℕ → E
 combined_at ring embed nothing weights columns place = basis_sum ring (λ c. c) weights (map embed (coefficients_at nothing place columns))
 
@@ -48,7 +48,7 @@ abbrev pub combination : {F E : Type 0} → RingOps E → (F → E) → F → Li
 combination ring embed nothing weights columns size = map (combined_at ring embed nothing weights columns) (range_with_len 0 size)
 
 -- The quotients of all that is opened are added to a polynomial, each times the next power of alpha, from a factor on; the next
--- factor is behind them.
+-- factor is the one after them.
 pub record AddsOpened {E : Type 0} (ring : RingOps E) (alpha : E) (opened : List (Opened E)) (before after : List E) (first next : E) : Type 0 where
   pub number : length after ≡ length before
   pub values : (x : E) → value ring after x ≡ ring.add (value ring before x) (ring.mul first (value ring (reduced ring alpha opened) x))
@@ -77,7 +77,7 @@ abbrev pub AddsRound : {F E A B G : Type 0} → RingOps E → (F → E) → E �
 AddsRound ring embed alpha matrices points before after first next =
     AddsMatrices ring alpha (map columns_list matrices) (flat_map (opened_in_matrix embed) (zip (map columns_list matrices) (map column_list points))) before after first next
 
--- Where all columns fit, so many coefficients are the batch of what is opened.
+-- Where all columns fit, these coefficients are the batch of what is opened.
 abbrev pub Batches : {F E T A B : Type 0} → RingOps E → (F → E) → E → ℕ → (T → FriDataView F) → List (Bor T × Vec (Vec E A) B) → List E → Type 0
 Batches ring embed alpha size seen rounds batch =
     RoundsFit size (map (λ r. (seen r.0, r.1)) (map round_view rounds)) → IsBatch ring embed alpha size (map (λ r. (seen r.0, r.1)) (map round_view rounds)) batch

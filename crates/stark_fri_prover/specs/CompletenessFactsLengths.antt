@@ -15,7 +15,7 @@ double : (k n : ℕ) → 2 ^ suc k * n ≡ 2 * (2 ^ k * n)
 double k n = ap (λ t. t * n) (pow-suc 2 k) ∙ omega arith
 
 module _ {K : Type 0} (ring : RingOps K) where
-  -- A fold of twice as many coefficients has so many.
+  -- A fold of twice as many coefficients has this number.
   pub folded_halves : (beta : K) (p : List K) (n : ℕ) → length p ≡ 2 * n → length (folded ring beta p) ≡ n
   unfolding folded
   folded_halves beta [] n is = omega arith

@@ -14,13 +14,13 @@ use Rattle.stark_fri_prover.specs.Words.{IsWordIn}
 use Rattle.stark_fri_prover.specs.declared.phases.Folds.{Folds}
 use Rattle.stark_fri_prover.specs.declared.phases.Halved.{Halved}
 
--- The witness passes from this state, and is zero where no work is asked for; the state behind is that after its check.
+-- The witness passes from this state, and is zero where no work is asked for; the state after it is that after its check.
 pub record IsWitness {C F : Type 0} (zero : F) (passes : C → ℕ → F → Bool) (after_check : C → ℕ → F → C) (bits : ℕ) (before after : C) (witness : F) : Type 0 where
   pub none_asked : bits ≡ 0 → witness ≡ zero
   pub passing : passes before bits witness ≡ true
   pub state : after ≡ after_check before bits witness
 
--- One fold: its witness passes, and by the challenge that is drawn behind it the polynomial is folded.
+-- One fold: its witness passes, and by the challenge that is drawn after it the polynomial is folded.
 pub record IsFold {C F E : Type 0} (sponge : SpongeCalls C F E) (ring : RingOps E) (bits : ℕ) (before after : C) (polynomial : List E) (phase : Phase F) (half : List E) : Type 0 where
   pub passing : Passes sponge bits (asked sponge before phase, phase.witness)
   pub by_beta : half ≡ folded ring (sponge.draw (worked sponge bits before phase)) polynomial

@@ -62,7 +62,7 @@ module _ {F E : Type 0} (number_of : F → ℕ) (coordinates : E → List F) (ze
   AreLayersOf log_size (phase ∷ phases) [] = ⊥
   AreLayersOf log_size (phase ∷ phases) (layer ∷ layers) = IsLayerOf log_size phase.root layer × AreLayersOf (log_size - 1) phases layers
 
--- Where a place of a word of so many pairs leads: the pair's place.
+-- Where a place of a word of `half` pairs leads: the pair's place.
 abbrev pub pair_place : ℕ → ℕ → ℕ
 pair_place half place = cond (ltb place half) place (place - half)
 

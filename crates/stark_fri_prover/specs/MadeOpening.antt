@@ -89,7 +89,7 @@ module _ {C F E : Type 0} (ops : FriOps C F E) (number_of : F → ℕ) (coordina
   bits = own_bits ops s rounds start proof
 
   -- The polynomial is folded to the final one, its words and those that it is folded to are the layers, their trees have the phases'
-  -- roots, and the queries' witness passes behind all of it.
+  -- roots, and the queries' witness passes after all of it.
   pub record IsFolding (polynomial : List E) : Type 0 where
     pub after_folds : C
     pub folds : AreFolds ops.sponge ops.fields.ring s.commit_proof_of_work_bits (fold_count s (own_height ops s rounds start proof)) (after_alpha ops.sponge own) after_folds polynomial
@@ -102,7 +102,7 @@ module _ {C F E : Type 0} (ops : FriOps C F E) (number_of : F → ℕ) (coordina
         (observed_all (observed_extension ops.sponge.observing) proof.final_polynomial after_folds) after_work proof.query_witness
 
   -- The proof is an honest prover's: it batches the claims, folds the batch, and opens layers and rounds at the places that are drawn
-  -- behind the work.
+  -- after the work.
   pub record IsOpening : Type 0 where
     pub claims : ClaimsFit ops.fields s (own_rounds ops rounds)
     pub extended : AllByRecursion (IsExtendedRound ops.fields bits) rounds

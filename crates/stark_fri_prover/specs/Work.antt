@@ -13,7 +13,7 @@ use Rattle.stark_fri_prover.specs.Layers.{AreLayersOf, IsLayerOf}
 use Rattle.stark_fri_prover.specs.Words.{IsWordIn}
 use Rattle.stark_fri_prover.specs.declared.layers.Layer.{Layer}
 
--- No element passes as a witness of so many bits of work in this state.
+-- No element passes as a witness of this number of bits of work in this state.
 abbrev pub NonePasses : {C F : Type 0} → (C → ℕ → F → Bool) → ℕ → C → Type 0
 NonePasses {C} {F} passes bits state = (witness : F) → passes state bits witness ≡ false
 

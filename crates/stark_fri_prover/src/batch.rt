@@ -21,7 +21,7 @@ fn zeros<E: Field>(alloc: Global, count: usize) -> Result<Vec<E>, AllocError>
     Ok(list)
 }
 
-/// A column's coefficient at a place; zero behind its last one.
+/// A column's coefficient at a place; zero after its last one.
 fn coefficient_at<F: Field>(column: &[F], place: usize) -> F
     ensures { result ≡ get_or column.now place F.ring.zero }
 {
@@ -98,7 +98,7 @@ fn add_quotient<E: Field>(sum: &mut [E], polynomial: &[E], point: E)
 }
 
 /// Adds a point's claims: the columns are combined by powers of alpha first, so that there is one
-/// division a point. It answers the power behind the last one.
+/// division a point. It answers the power after the last one.
 fn add_claims<F: TwoAdicField, EF: ExtensionField<F>>(
     alloc: Global,
     sum: &mut [EF],

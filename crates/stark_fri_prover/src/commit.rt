@@ -191,7 +191,7 @@ fn room_of_rows<F>(extended: &[RowMajorMatrix<F>]) -> usize {
 }
 
 /// The bytes of row `place` of each matrix, which its leaf commits to; `room` as `room_of_rows`
-/// tells it, so that memory is asked for once.
+/// answers it, so that memory is asked for once.
 fn bytes_at<F: PrimeField64>(
     alloc: Global,
     extended: &[RowMajorMatrix<F>],

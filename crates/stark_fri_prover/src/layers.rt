@@ -214,7 +214,7 @@ fn open_layer<EF: Copy>(
     }))
 }
 
-/// The place of a place's pair, in a word of so many pairs.
+/// The place of a place's pair, in a word of `half` pairs.
 fn pair_place(half: usize, place: usize) -> usize
     ensures { result ≡ pair_place half place }
 {

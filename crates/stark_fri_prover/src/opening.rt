@@ -128,7 +128,7 @@ where
         return Ok(None);
     };
     observe_values::<C, F, EF>(&mut *challenger, &folds.last);
-    // The work comes behind all that the proof commits to: other places cost it again.
+    // The work comes after all that the proof commits to: other places cost it again.
     let query_bits = parameters.query_proof_of_work_bits();
     let Some(query_witness) = find_witness::<C, F>(&mut *challenger, query_bits) else {
         return Ok(None);

@@ -33,7 +33,7 @@ pub(crate) struct Folds<F, EF> {
     pub(crate) last: Vec<EF>,
 }
 
-/// A witness of so many bits of work; zero where none is asked for. None if no element passes.
+/// A witness of work of `bits` bits; zero where none is asked for. None if no element passes.
 pub(crate) fn find_witness<C, F>(challenger: &mut C, bits: usize) -> Option<F>
 where
     F: PrimeField64,
@@ -57,7 +57,7 @@ fn squares<F: TwoAdicField>(coset: &Coset<F>) -> Coset<F>
 }
 
 /// A fold: the layer of a polynomial's word is committed to, and the polynomial and the word are
-/// folded by the challenge that is drawn behind the work on its root. None where no witness passes.
+/// folded by the challenge that is drawn after the work on its root. None where no witness passes.
 fn fold<C, F, EF, H>(
     alloc: Global,
     bits: usize,

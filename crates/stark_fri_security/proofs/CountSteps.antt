@@ -221,7 +221,7 @@ module _ (p : StarkSecurityParams) (bad some all bits : ℕ) (are : AreBitsWithi
         with_work whole (a ^ p.fri_num_queries) parts (n ^ p.fri_num_queries) queries (2 ^ work) (2 ^ p.fri_query_proof_of_work_bits) all_queries (covers parts (2 ^ work) (pow_pos work))
         (two_power_at_most work p.fri_query_proof_of_work_bits (least_of p.fri_query_proof_of_work_bits 127))
 
-    -- Within a radius of which so many places pass, the bits are what the counts leave.
+    -- Within a radius of which this number of places passes, the bits are what the counts leave.
     pub bits_hold : 2 ^ bits * (bad * lists + elements * a ^ p.fri_num_queries) ≤ elements * lists
     bits_hold =
         bits_of_parts (2 ^ bits) (2 ^ are.log) whole (bad * lists + elements * a ^ p.fri_num_queries) (elements * lists) (draws + queries) split (pow_pos (whole_bits p)) are.parts.covers

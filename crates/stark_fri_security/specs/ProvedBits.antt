@@ -40,7 +40,7 @@ module _ (p : StarkSecurityParams) where
   abbrev pub whole_bits : ℕ
   whole_bits = min p.num_modulus_bits 110
 
-  -- The parts of bad draws, where so many elements are bad.
+  -- The parts of bad draws, by how many elements are bad.
   abbrev pub draw_parts : ℕ → ℕ
   draw_parts bad = rounded_up (min bad (2 ^ field_bits_of)) (2 ^ (field_bits_of - whole_bits))
 
@@ -48,7 +48,7 @@ module _ (p : StarkSecurityParams) where
   abbrev pub query_parts : (some all : ℕ) → ℕ
   query_parts some all = rounded_up (passing_parts (2 ^ whole_bits) some all (min p.fri_num_queries 4096)) (2 ^ min p.fri_query_proof_of_work_bits 127)
 
-  -- So many bits, where so many elements are bad for alphas, zeta and betas, and `some` of `all` places pass.
+  -- The bits, by how many elements are bad for alphas, zeta and betas, where `some` of `all` places pass.
   pub record AreBitsWithin (bad some all bits : ℕ) : Type 0 where
     pub log : ℕ
     pub parts : IsCeilingOfLog log (draw_parts bad + query_parts some all)
@@ -73,7 +73,7 @@ module _ (p : StarkSecurityParams) where
 
 -- ---- what they are worth
 
--- Within half of the distance or a third so many of FRI's own draws are bad.
+-- Within half of the distance or a third at most these of FRI's own draws are bad.
 abbrev pub AreDrawsWithin : (c k b e draws : ℕ) → Type 0
 AreDrawsWithin c k b e draws = ((2 * e + 2 ^ k < 2 ^ (k + b)) × (draws ≡ c * (2 ^ (k + b) + e))) ⊎ ((3 * e + 2 ^ k ≤ 2 ^ (k + b)) × (draws ≡ (c - 1) * (2 ^ (k + b) + e) + (e + k)))
 

@@ -19,7 +19,7 @@ use stark_support::log2_ceil_usize;
 ///
 /// logarithms rounded up, and nothing below zero. This is the conjecture of ethSTARK (StarkWare,
 /// "ethSTARK Documentation", ePrint 2021/582, section 5.10) with the counts of challenges beside
-/// it. **No theorem here stands behind it**: what it says of far words is unproved in general, and
+/// it. **No theorem here says it**: what it says of far words is unproved in general, and
 /// works of 2025 (ePrint 2025/2010, 2025/2046) show it too hopeful where words are about as far as
 /// words can be. Leave a margin.
 pub fn conjectured_security_bits(params: &StarkSecurityParams, log_height: usize) -> usize

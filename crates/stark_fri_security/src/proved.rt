@@ -70,7 +70,7 @@ fn passing_parts(whole: u128, passing: u128, places: u128, num_queries: usize) -
     parts
 }
 
-/// The bits that are left where so many elements are bad for a draw, and `passing` of `places`
+/// The bits that are left where `bad` elements are bad for a draw, and `passing` of `places`
 /// places pass by chance.
 fn bits_within(params: &StarkSecurityParams, bad: u128, passing: u128, places: u128) -> usize
     requires some { 1 ≤ passing }
@@ -89,8 +89,8 @@ fn bits_within(params: &StarkSecurityParams, bad: u128, passing: u128, places: u
     whole_bits.saturating_sub(log_parts)
 }
 
-/// How many of FRI's own draws are bad within half of the distance, with so many claims; as many as
-/// a word holds, where they are more.
+/// How many of FRI's own draws are bad within half of the distance, with `claims` claims; as many
+/// as a word holds, where they are more.
 fn draws_in_half(claims: u128, rows: u128, places: u128) -> u128
     requires within { rows ≤ places }
     requires few { places ≤ 2 ^ 126 }

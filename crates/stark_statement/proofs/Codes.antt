@@ -19,7 +19,7 @@ differ a b xs ys e n = n (heads a b xs ys e).0
 pub word_code : IsCode word
 word_code = record { read = λ x y r s e. heads x y r s e }
 
--- What can be told from the words is what is written.
+-- What can be read off the words is what is written.
 pub code_of_inverse : {A : Type 0} (words : A → List ℕ) (parse : List ℕ → A × List ℕ) → ((x : A) (r : List ℕ) → parse (words x ++ r) ≡ (x, r)) → IsCode words
 code_of_inverse words parse back = record {
   read = λ x y r s e. let same = sym (back x r) ∙ ap parse e ∙ back y s in ((λ i. (same i).0), (λ i. (same i).1));

@@ -45,7 +45,7 @@ or_else_assoc : {A : Type 0} (a b c : Option A) → or_else (or_else a b) c ≡ 
 or_else_assoc None b c = refl
 or_else_assoc (Some x) b c = refl
 
--- What is found is found in what was read, or else behind it.
+-- What is found is found in what was read, or else after it.
 abbrev FoundIn : List Members → Option (List ℕ) → Option (Json × List Token) → Type 0
 FoundIn objects start None = ⊤
 FoundIn objects start (Some p) = start ≡ or_else (repeat_in p.0) (scan objects p.1)

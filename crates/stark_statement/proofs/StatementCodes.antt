@@ -47,7 +47,7 @@ configuration_code = turned_code (λ p. word (field_tag p.0) ++ optional fri_wor
 
 -- ---- nodes and constraints
 
--- The node of a tag and what follows it, and what is left behind the node.
+-- The node of a tag and what follows it, and what is left after the node.
 node_by : ℕ → List ℕ → TreeNode × List ℕ
 node_by tag rest =
     let i = get_or rest 0 0 in
@@ -103,7 +103,7 @@ constraint_back (Extension i) r = refl
 constraint_code : IsCode constraint_words
 constraint_code = code_of_inverse constraint_words constraint_parsed constraint_back
 
--- ---- a statement over a field whose elements are told by their numbers
+-- ---- a statement over a field whose elements differ in their numbers
 
 module _ {F : Type 0} (number_of : F → ℕ) (of_number : ℕ → F) (same_number : (x : F) → of_number (number_of x) ≡ x) where
   elements_code : IsCode (elements_words number_of)
@@ -162,7 +162,7 @@ module _ {F : Type 0} (number_of : F → ℕ) (of_number : ℕ → F) (same_numb
   front_code : IsCode (λ (p : Front). configuration_words p.0 ++ (air_words number_of p.1.0 ++ (elements_words number_of p.1.1.0 ++ (word p.1.1.1.0 ++ word p.1.1.1.1))))
   front_code = pair_code _ _ configuration_code (pair_code _ _ air_code (pair_code _ _ elements_code (pair_code word word word_code word_code)))
 
-  -- The height ends the words, so that none is told from one.
+  -- The height ends the words, so that none differs from one.
   same_height : (x y : Option ℕ) → height_words x ≡ height_words y → x ≡ y
   same_height None None e = refl
   same_height None (Some n) e = absurd (omega (arith, ap length e))

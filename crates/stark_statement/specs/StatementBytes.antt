@@ -16,7 +16,7 @@ use Rattle.stark_statement.specs.declared.configuration.FieldName.TheVariants.{B
 
 -- ---- words of a configuration
 
--- the number by which a field is told
+-- the number that stands for a field
 abbrev pub field_tag : FieldName → ℕ
 field_tag BabyBear = 0
 field_tag KoalaBear = 1

@@ -18,7 +18,7 @@ optional words (Some x) = 1 ∷ words x
 abbrev pub counted : {A : Type 0} → (A → List ℕ) → List A → List ℕ
 counted words xs = length xs ∷ flat_map words xs
 
--- What tells the bytes of a statement from those of other kinds, with the version of the writing.
+-- What the bytes of a statement begin with, unlike those of other kinds, with the version of the writing.
 abbrev pub label : List ℕ
 label = codes "voskligan statement 2"
 

@@ -86,7 +86,7 @@ fn left_behind<F>(lists: &[Vec<F>], limit: usize) -> Option<usize>
     Some(left)
 }
 
-/// Whether the values of all columns that an AIR fixes are more than so many.
+/// Whether the values of all columns that an AIR fixes are more than `limit`.
 fn has_more_cells<F>(columns: &TreeColumns<F>, limit: usize) -> bool
     ensures { result ≡ nat_lt limit (cells_of (columns_view columns.now)) }
 {

@@ -63,7 +63,7 @@ fn repeated_name(text: &[u8], repeat: Repeat) -> StatementError
 }
 
 /// Refuses the JSON text of a statement in which an object has a name twice: `RepeatedName` with
-/// the first of them, in the order of the text, and the place behind it. Of bytes that are no JSON
+/// the first of them, in the order of the text, and the place after it. Of bytes that are no JSON
 /// text nothing is said. `OutOfMemory` where an allocation was refused.
 pub fn refuse_repeats(alloc: Global, bytes: &[u8]) -> Result<(), StatementError>
     ensures { IsSome (json_of bytes.now) → Decodes (λ nothing. nothing) result

@@ -171,7 +171,7 @@ const STATEMENT: &str =
     r#"{"config":{"field":"f12289","log_blowup":3,"num_queries":7,"commit_proof_of_work_bits":1,"query_proof_of_work_bits":5},"air":{"width":1,"publics":1,"periodic":[[6,7]],"preprocessed":{"width":1,"rows":[[8],[9]]},"max_constraint_degree":2,"constants":[5],"nodes":[["main",0],["public",0],["sub",0,1]],"constraints":[{"base":2},{"ext":2}]},"public_values":[4],"alpha_bits":3}"#;
 
 // How the statement ends, the number of its bytes and their digest: the words that
-// `canonical_bytes` tells of, written and hashed by Python's hashlib.
+// `canonical_bytes` describes, written and hashed by Python's hashlib.
 const DIGESTS: [(&str, usize, &str); 4] = [
     (
         "}",

@@ -78,7 +78,7 @@ fn push_trace<F: PrimeField64>(
     }
 }
 
-/// Writes a tag, and the one place behind it.
+/// Writes a tag, and the one place after it.
 fn push_place(words: &mut Vec<u64>, tag: usize, place: usize) -> Result<(), AllocError>
     ensures { OnOk result (words.new.items ≡ words.old.items ++ (word tag ++ word place)) }
 {
@@ -86,7 +86,7 @@ fn push_place(words: &mut Vec<u64>, tag: usize, place: usize) -> Result<(), Allo
     push_word(words, place)
 }
 
-/// Writes a tag, and the two places behind it.
+/// Writes a tag, and the two places after it.
 fn push_places(
     words: &mut Vec<u64>,
     tag: usize,
@@ -193,7 +193,7 @@ fn push_air<F: PrimeField64>(words: &mut Vec<u64>, air: &TreeAir<F>) -> Result<(
     push_list(words, &air.list)
 }
 
-/// The number by which a field is told.
+/// The number that stands for a field.
 fn field_tag(field: FieldName) -> usize
     ensures { result ≡ field_tag field }
 {

@@ -16,7 +16,7 @@ extern "C" {
 /// said of it.
 pub fn verify(statement: &[u8], proof: &[u8]) -> (c_int, String) {
     let mut message = [0; 512];
-    // SAFETY: each pointer and the length behind it are those of one slice, and the message, which
+    // SAFETY: each pointer and the length after it are those of one slice, and the message, which
     // is written, overlaps neither of the others.
     let answer = unsafe {
         voskligan_verify(

@@ -4,7 +4,7 @@ use Rattle.stark_merkle.specs.Bytes.{row_bytes_of, rows_bytes}
 use Rattle.stark_fri_prover.specs.Commit.{HasRow, row_of}
 use Rattle.stark_fri_prover.proofs.commit.bytes_at.Given as goal
 
--- The bytes of the rows that are left go behind those that are there, and the matrices that are left have the row.
+-- The bytes of the rows that are left go after those that are there, and the matrices that are left have the row.
 abbrev pub invariant-loop-matrix : goal.invariant-loop-matrix
 invariant-loop-matrix g l =
     AllByRecursion (HasRow l.place) (drop l.matrix-index l.extended)

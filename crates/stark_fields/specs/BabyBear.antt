@@ -1,8 +1,8 @@
 -- The modulus 2013265921 = 15 * 2 ^ 27 + 1.
 use Rattle.std.specs.Prelude.{ℕ, List, [], ◌∷◌, refl}
-use Rattle.std.proofs.Common.{lit<, arith}
+use Rattle.std.proofs.Common.{lit<, lit≤, arith}
 use Rattle.stark_fields.specs.Factors.{is_prime, list_product, each_passes, passes_below}
-use Rattle.stark_fields.specs.Moduli.{power_mod, squared_mod, keeps_apart, IsPrimeModulus, IsNonSquare, IsTwoAdic}
+use Rattle.stark_fields.specs.Moduli.{power_mod, squared_mod, keeps_apart, IsPrimeModulus, IsNonSquare, IsTwoAdic, IsWrittenIn}
 
 abbrev prime_factors : List ℕ
 prime_factors =
@@ -11,6 +11,9 @@ prime_factors =
 pub is_prime_modulus : IsPrimeModulus 2013265921 31
 unfolding power_mod list_product each_passes passes_below is_prime keeps_apart
 is_prime_modulus = record { above = lit< tt; below = lit< tt; generator_some = lit< tt; generator_below = lit< tt; factors = prime_factors; product = refl; reaches = refl; apart = refl }
+
+pub is_written : IsWrittenIn 4 2013265921
+is_written = record { few = lit≤ tt; fits = lit≤ tt }
 
 pub eleven_is_non_square : IsNonSquare 2013265921 11
 unfolding power_mod

@@ -1,5 +1,5 @@
 -- What shows that the numbers below p, modulo p, are a field, with the roots and constants that a proof system wants: each a fact that the checker computes.
-use Rattle.std.specs.Prelude.{◌≡◌, ◌≢◌, ℕ, suc, zero, ◌-◌, ◌*◌, ◌/◌, ◌%◌, ◌^◌, ◌<◌, Bool, true, ◌&&◌, not, List, ◌==◌, if◌then◌else◌}
+use Rattle.std.specs.Prelude.{◌≡◌, ◌≢◌, ℕ, suc, zero, ◌-◌, ◌*◌, ◌/◌, ◌%◌, ◌^◌, ◌<◌, ◌≤◌, Bool, true, ◌&&◌, not, List, ◌==◌, if◌then◌else◌}
 use Rattle.stark_fields.specs.Factors.{is_prime, list_product, each_passes}
 
 abbrev pub power_step : ℕ → ℕ → ℕ → ℕ → ℕ
@@ -32,6 +32,11 @@ pub record IsPrimeModulus (p g : ℕ) : Type 0 where
   pub product : suc (list_product factors) ≡ p
   pub reaches : power_mod p g 32 (p - 1) ≡ 1
   pub apart : each_passes (keeps_apart p g) factors ≡ true
+
+-- Each number below p has room in so many bytes.
+pub record IsWrittenIn (bytes p : ℕ) : Type 0 where
+  pub few : bytes ≤ 8
+  pub fits : p ≤ 256 ^ bytes
 
 -- Neither c nor its opposite is a square.
 pub record IsNonSquare (p c : ℕ) : Type 0 where

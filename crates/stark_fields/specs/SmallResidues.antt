@@ -1,6 +1,6 @@
 -- The residues modulo 12289.
 use Rattle.std.specs.Prelude.{ℕ, false}
-use Rattle.stark_fields.specs.Small.{is_prime_modulus, eleven_is_non_square, is_two_adic}
+use Rattle.stark_fields.specs.Small.{is_prime_modulus, is_written, eleven_is_non_square, is_two_adic}
 use Rattle.stark_support.specs.Ring.{FieldLaws, IsQuarticConstant}
 use Rattle.stark_support.specs.TwoAdic.{TwoAdicLaws}
 use Rattle.stark_fields.specs.Residues.{residue, residue_ring, residue_inverse}
@@ -13,12 +13,14 @@ use Rattle.stark_fields.specs.declared.residue.Residue.{Residue}
 abbrev pub small_ghosts : Ghosts M12289
 small_ghosts = record {
   MODULUS = 12289;
+  BYTES = 2;
   GENERATOR = 11;
   QUARTIC_CONSTANT = 11;
   TWO_ADICITY = 12;
   ROOT = 1331;
   BENEFITS_FROM_LOCKSTEP = false;
   prime = is_prime_modulus;
+  bytes = is_written;
   non_square = eleven_is_non_square;
   two_adic = is_two_adic;
 }

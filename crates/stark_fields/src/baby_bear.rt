@@ -1,6 +1,6 @@
 //! The field of 2013265921 elements, which Plonky3 and others call BabyBear.
 ghost use Rattle.std.specs.Prelude.{true};
-ghost use Rattle.stark_fields.specs.BabyBear.{eleven_is_non_square, is_prime_modulus, is_two_adic};
+ghost use Rattle.stark_fields.specs.BabyBear.{eleven_is_non_square, is_prime_modulus, is_two_adic, is_written};
 
 use crate::modulus::Modulus;
 use crate::residue::{Residue, Scalar};
@@ -14,6 +14,8 @@ pub struct BabyBear;
 impl Modulus for BabyBear {
     ghost MODULUS = { 2013265921 };
 
+    ghost BYTES = { 4 };
+
     ghost GENERATOR = { 31 };
 
     ghost QUARTIC_CONSTANT = { 11 };
@@ -26,6 +28,8 @@ impl Modulus for BabyBear {
 
     const MODULUS: u32 = 2013265921;
 
+    const BYTES: usize = 4;
+
     const GENERATOR: u32 = 31;
 
     const QUARTIC_CONSTANT: u32 = 11;
@@ -37,6 +41,8 @@ impl Modulus for BabyBear {
     const BENEFITS_FROM_LOCKSTEP: bool = true;
 
     ghost prime = { is_prime_modulus };
+
+    ghost bytes = { is_written };
 
     ghost non_square = { eleven_is_non_square };
 

@@ -1,6 +1,6 @@
 //! The field of 2130706433 elements, which Plonky3 and others call KoalaBear.
 ghost use Rattle.std.specs.Prelude.{true};
-ghost use Rattle.stark_fields.specs.KoalaBear.{is_prime_modulus, is_two_adic, three_is_non_square};
+ghost use Rattle.stark_fields.specs.KoalaBear.{is_prime_modulus, is_two_adic, is_written, three_is_non_square};
 
 use crate::modulus::Modulus;
 use crate::residue::{Residue, Scalar};
@@ -14,6 +14,8 @@ pub struct KoalaBear;
 impl Modulus for KoalaBear {
     ghost MODULUS = { 2130706433 };
 
+    ghost BYTES = { 4 };
+
     ghost GENERATOR = { 3 };
 
     ghost QUARTIC_CONSTANT = { 3 };
@@ -26,6 +28,8 @@ impl Modulus for KoalaBear {
 
     const MODULUS: u32 = 2130706433;
 
+    const BYTES: usize = 4;
+
     const GENERATOR: u32 = 3;
 
     const QUARTIC_CONSTANT: u32 = 3;
@@ -37,6 +41,8 @@ impl Modulus for KoalaBear {
     const BENEFITS_FROM_LOCKSTEP: bool = true;
 
     ghost prime = { is_prime_modulus };
+
+    ghost bytes = { is_written };
 
     ghost non_square = { three_is_non_square };
 

@@ -1,12 +1,14 @@
 //! Prime moduli.
 ghost use Rattle.std.specs.Prelude.{ℕ, Bool};
-ghost use Rattle.stark_fields.specs.Moduli.{IsNonSquare, IsPrimeModulus, IsTwoAdic};
+ghost use Rattle.stark_fields.specs.Moduli.{IsNonSquare, IsPrimeModulus, IsTwoAdic, IsWrittenIn};
 
 /// A prime above 255 and below 2^31, with a generator, a constant for the extension of degree four
 /// and an element whose order is a power of two. The checker computes that they are from the
 /// evidence in `prime`, `non_square` and `two_adic`.
 pub trait Modulus {
     ghost MODULUS: { ℕ };
+
+    ghost BYTES: { ℕ };
 
     ghost GENERATOR: { ℕ };
 
@@ -20,6 +22,9 @@ pub trait Modulus {
 
     /// The prime.
     const MODULUS: u32;
+
+    /// In how many bytes a number below the modulus is written.
+    const BYTES: usize;
 
     /// An element whose powers are all elements but zero. It is below the modulus.
     const GENERATOR: u32;
@@ -40,6 +45,8 @@ pub trait Modulus {
     const BENEFITS_FROM_LOCKSTEP: bool;
 
     ghost prime: { IsPrimeModulus MODULUS GENERATOR };
+
+    ghost bytes: { IsWrittenIn BYTES MODULUS };
 
     ghost non_square: { IsNonSquare MODULUS QUARTIC_CONSTANT };
 

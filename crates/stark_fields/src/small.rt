@@ -1,6 +1,6 @@
 //! The field of 12289 elements.
 ghost use Rattle.std.specs.Prelude.{false};
-ghost use Rattle.stark_fields.specs.Small.{eleven_is_non_square, is_prime_modulus, is_two_adic};
+ghost use Rattle.stark_fields.specs.Small.{eleven_is_non_square, is_prime_modulus, is_two_adic, is_written};
 
 use crate::modulus::Modulus;
 use crate::residue::{Lockstep, Packed, Residue, Scalar};
@@ -12,6 +12,8 @@ pub struct M12289;
 
 impl Modulus for M12289 {
     ghost MODULUS = { 12289 };
+
+    ghost BYTES = { 2 };
 
     ghost GENERATOR = { 11 };
 
@@ -25,6 +27,8 @@ impl Modulus for M12289 {
 
     const MODULUS: u32 = 12289;
 
+    const BYTES: usize = 2;
+
     const GENERATOR: u32 = 11;
 
     const QUARTIC_CONSTANT: u32 = 11;
@@ -36,6 +40,8 @@ impl Modulus for M12289 {
     const BENEFITS_FROM_LOCKSTEP: bool = false;
 
     ghost prime = { is_prime_modulus };
+
+    ghost bytes = { is_written };
 
     ghost non_square = { eleven_is_non_square };
 

@@ -1,5 +1,5 @@
 -- What leads to a root that binds a word is the word's, or it is something else and there is a collision.
-use Rattle.std.specs.Prelude.{◌≡◌, ◌≢◌, ◌⊎◌, ℕ, suc, ◌+◌, ◌-◌, ◌*◌, ◌^◌, ◌%◌, ◌<◌, ◌≤◌, cond, List, [], ◌∷◌, ◌++◌, length, map, refl}
+use Rattle.std.specs.Prelude.{◌≡◌, ◌≢◌, ◌⊎◌, ℕ, zero, suc, ◌+◌, ◌-◌, ◌*◌, ◌^◌, ◌%◌, ◌<◌, ◌≤◌, cond, List, [], ◌∷◌, ◌++◌, length, map, refl}
 use Rattle.std.specs.List.{AllByRecursion, zip}
 use Rattle.std.proofs.Common.{sym, ap, ◌∙◌, inl, inr, arith, length-append, subst}
 use Rattle.std.proofs.lemmas.Bool.Decides.{eqb_tells, leb_tells}
@@ -12,9 +12,9 @@ use Rattle.stark_support.specs.declared.field.ExtensionField.{Ghosts as Extensio
 use Rattle.stark_support.specs.declared.field.Field.{Ghosts as Members}
 use Rattle.stark_support.specs.declared.field.PrimeField64.{Ghosts as Prime}
 use Rattle.stark_support.specs.declared.field.TwoAdicField.{Ghosts as TwoAdic}
-use Rattle.stark_merkle.proofs.BytesRead.{pairs_stated, rows_stated}
-use Rattle.stark_merkle.specs.Bytes.{IsCounted, RowBytesTell, elements_bytes, row_bytes_of, rows_bytes}
-use Rattle.stark_merkle.specs.Tree.{HashCollision, IsDigest, LeadsTo}
+use Rattle.stark_merkle.proofs.BytesRead.{length-element_bytes, pairs_stated, rows_stated}
+use Rattle.stark_merkle.specs.Bytes.{IsCounted, RowBytesTell, element_bytes, elements_bytes, row_bytes_of, rows_bytes}
+use Rattle.stark_merkle.specs.Tree.{AreDigests, HashCollision, IsDigest, LeadsTo, TreeDigests}
 use Rattle.stark_merkle.specs.TreeFacts.{rows_collide}
 use Rattle.stark_merkle.specs.declared.root.Root.{Root}
 use Rattle.stark_folding.specs.Fold.{squared_coset}
@@ -33,24 +33,23 @@ use Rattle.stark_fri.proofs.Members.{fields_by}
 
 -- ---- rows of few bytes
 
-module _ {F : Type 0} (number_of : F → ℕ) where
-  elements_length : (row : List F) → length (elements_bytes number_of row) ≡ 8 * length row
+module _ {F : Type 0} (bytes_of : F → List ℕ) (some : (x : F) → 1 ≤ length (bytes_of x)) where
+  elements_length : (row : List F) → length row ≤ length (elements_bytes bytes_of row)
   unfolding elements_bytes
-  elements_length [] = refl
-  elements_length (x ∷ row) =
-      length-append (number (number_of x)) (elements_bytes number_of row) ∙ omega (arith, length-number (number_of x), elements_length row)
+  elements_length [] = omega arith
+  elements_length (x ∷ row) = omega (arith, some x, elements_length row, length-append (bytes_of x) (elements_bytes bytes_of row))
 
   all_below : (few many : ℕ) → few ≤ many → (rows : List (List F)) → AllByRecursion (λ row. length row < few) rows → AllByRecursion (λ row. length row < many) rows
   all_below few many less [] all = tt
   all_below few many less (row ∷ rows) all = let own : length row < few = all.0 in (omega arith, all_below few many less rows all.1)
 
   -- There are no more rows than they have bytes, and each row has no more elements.
-  rows_short : (rows : List (List F)) (bound : ℕ) → length (rows_bytes number_of rows) < bound → (length rows < bound) × AllByRecursion (λ row. length row < bound) rows
+  rows_short : (rows : List (List F)) (bound : ℕ) → length (rows_bytes bytes_of rows) < bound → (length rows < bound) × AllByRecursion (λ row. length row < bound) rows
   unfolding rows_bytes
   rows_short [] bound few = (few, tt)
   rows_short (row ∷ rows) bound few =
-      let rest = rows_bytes number_of rows in
-      let own = elements_bytes number_of row in
+      let rest = rows_bytes bytes_of rows in
+      let own = elements_bytes bytes_of row in
       let outer : length (number (length row) ++ (own ++ rest)) ≡ length (number (length row)) + length (own ++ rest) = length-append (number (length row)) (own ++ rest) in
       let inner : length (own ++ rest) ≡ length own + length rest = length-append own rest in
       let eight = length-number (length row) in
@@ -59,26 +58,53 @@ module _ {F : Type 0} (number_of : F → ℕ) where
       let here : length row < bound = omega arith in
       (omega (arith, more.0), (here, all_below (bound - 1) bound (omega arith) rows more.1))
 
-  pub counted_if_short : (rows : List (List F)) → length (row_bytes_of number_of rows) < 2 ^ 64 → IsCounted rows
-  counted_if_short rows few = rows_short rows (2 ^ 64) (omega (arith, few, length-append (number (length rows)) (rows_bytes number_of rows)))
+  pub counted_if_short : (rows : List (List F)) → length (row_bytes_of bytes_of rows) < 2 ^ 64 → IsCounted rows
+  counted_if_short rows few = rows_short rows (2 ^ 64) (omega (arith, few, length-append (number (length rows)) (rows_bytes bytes_of rows)))
 
   -- Rows with the same bytes are the same, where the bytes are few.
-  pub short_rows_same : RowBytesTell number_of → (rows others : List (List F)) → length (row_bytes_of number_of others) < 2 ^ 64 → row_bytes_of number_of rows ≡ row_bytes_of number_of others → rows ≡ others
+  pub short_rows_same : RowBytesTell bytes_of → (rows others : List (List F)) → length (row_bytes_of bytes_of others) < 2 ^ 64 → row_bytes_of bytes_of rows ≡ row_bytes_of bytes_of others → rows ≡ others
   short_rows_same stated rows others few same =
       stated rows others (counted_if_short rows (subst (λ t. length t < 2 ^ 64) (sym same) few)) (counted_if_short others few) same
 
+-- Of elements of at most 8 bytes, one row of fewer than 2^32 has fewer than 2^64.
+module _ {F : Type 0} (bytes_of : F → List ℕ) (few : (x : F) → length (bytes_of x) ≤ 8) where
+  elements_few : (row : List F) → length (elements_bytes bytes_of row) ≤ 8 * length row
+  unfolding elements_bytes
+  elements_few [] = omega arith
+  elements_few (x ∷ row) = omega (arith, few x, elements_few row, length-append (bytes_of x) (elements_bytes bytes_of row))
+
+  row_few : (row : List F) → length row < 2 ^ 32 → length (row_bytes_of bytes_of (row ∷ [])) < 2 ^ 64
+  unfolding rows_bytes
+  row_few row narrow =
+      let own = elements_bytes bytes_of row in
+      let whole : length (number 1 ++ (number (length row) ++ (own ++ []))) ≡ length (number 1) + length (number (length row) ++ (own ++ [])) = length-append (number 1) (number (length row) ++ (own ++ [])) in
+      let outer : length (number (length row) ++ (own ++ [])) ≡ length (number (length row)) + length (own ++ []) = length-append (number (length row)) (own ++ []) in
+      let inner : length (own ++ []) ≡ length own + 0 = length-append own [] in
+      omega (arith, narrow, whole, outer, inner, elements_few row, length-number 1, length-number (length row))
+
+pub short_row : {F : Type 0} (size : ℕ) (number_of : F → ℕ) → size ≤ 8 → (row : List F) → length row < 2 ^ 32 → length (row_bytes_of (element_bytes size number_of) (row ∷ [])) < 2 ^ 64
+short_row size number_of few row narrow = row_few (element_bytes size number_of) (λ x. omega (arith, few, length-element_bytes size number_of x)) row narrow
+
 -- Rows and pairs are named by their bytes, by the laws of the base field's numbers and of the extension's basis.
 module _ {F E : Type 0} (two_adic : TwoAdic F) (base : Members F) (prime : Prime F) (field : Members E) (extension : Extension E F) where
-  pub names_by : ((x : F) → prime.number_of x < prime.ORDER) → prime.ORDER ≤ 2 ^ 64 → ((x : F) → prime.of_number (prime.number_of x) ≡ x)
+  has_bytes : (size : ℕ) → prime.ORDER ≤ 256 ^ size → 255 < prime.ORDER → 1 ≤ size
+  has_bytes zero fits above = absurd (omega (arith, fits, above))
+  has_bytes (suc size) fits above = omega arith
+
+  pub names_by : ((x : F) → prime.number_of x < prime.ORDER) → 255 < prime.ORDER → prime.ORDER ≤ 256 ^ prime.BYTES → ((x : F) → prime.of_number (prime.number_of x) ≡ x)
       → IsBasis field.ring extension.embed extension.DIMENSION extension.basis extension.coordinates
-      → (hash : List ℕ → List ℕ) → ((text : List ℕ) → length (hash text) ≡ 32) → BytesNameValues (fields_by two_adic base prime field extension) hash
-  names_by below fits same basis hash digests = record {
-    digests = digests;
-    rows = short_rows_same prime.number_of (rows_stated prime.number_of prime.of_number prime.ORDER below fits same);
-    pairs =
-        pairs_stated prime.number_of prime.of_number prime.ORDER below fits same extension.coordinates extension.DIMENSION basis.count
-        (λ x y e. basis.sum x ∙ ap (λ cs. basis_sum field.ring (λ c. c) extension.basis (map extension.embed cs)) e ∙ sym (basis.sum y));
-  }
+      → (hash : TreeDigests) → AreDigests hash → BytesNameValues (fields_by two_adic base prime field extension) hash
+  names_by below above fits same basis hash digests =
+      let some = has_bytes prime.BYTES fits above in
+      record {
+        digests = digests;
+        rows =
+            short_rows_same (element_bytes prime.BYTES prime.number_of) (λ x. omega (arith, some, length-element_bytes prime.BYTES prime.number_of x))
+            (rows_stated prime.BYTES prime.number_of prime.of_number prime.ORDER below fits same);
+        pairs =
+            pairs_stated prime.BYTES prime.number_of prime.of_number prime.ORDER below fits same extension.coordinates extension.DIMENSION basis.count
+            (λ x y e. basis.sum x ∙ ap (λ cs. basis_sum field.ring (λ c. c) extension.basis (map extension.embed cs)) e ∙ sym (basis.sum y));
+      }
 
 -- ---- digests
 
@@ -98,16 +124,16 @@ are_digests : (roots : List Root) → AllByRecursion IsDigest (digests_of roots)
 are_digests [] = tt
 are_digests (root ∷ roots) = (root.sized, are_digests roots)
 
-module _ (hash : List ℕ → List ℕ) (size : (text : List ℕ) → length (hash text) ≡ 32) where
+module _ (hash : TreeDigests) (digests : AreDigests hash) where
   -- Bytes that lead from one place to one root are the same, or they are not and there is a collision.
   same_or_collide : (root : List ℕ) (depth place : ℕ) (a b : List ℕ) (p q : List Root) → LeadsTo hash root depth place a (digests_of p) → LeadsTo hash root depth place b (digests_of q)
       → (a ≡ b) ⊎ ((a ≢ b) × HashCollision hash)
   same_or_collide root depth place a b p q by_a by_b = elim (same_or_not a b) [
     | inl same ↦ inl same
-    | inr other ↦ inr (other, rows_collide hash size root depth place a b (digests_of p) (digests_of q) (are_digests p) (are_digests q) other by_a by_b)
+    | inr other ↦ inr (other, rows_collide hash digests root depth place a b (digests_of p) (digests_of q) (are_digests p) (are_digests q) other by_a by_b)
   ]
 
-module _ {F E : Type 0} (fields : FriFields F E) (hash : List ℕ → List ℕ) (named : BytesNameValues fields hash) where
+module _ {F E : Type 0} (fields : FriFields F E) (hash : TreeDigests) (named : BytesNameValues fields hash) where
   -- ---- rows
 
   module _ (words : Words F E) (bits place : ℕ) where

@@ -12,7 +12,7 @@ use Rattle.stark_fri_proof.specs.Paths.{digests_of}
 use Rattle.stark_fri_proof.specs.declared.proof.LayerOpening.{LayerOpening}
 use Rattle.stark_fri_proof.specs.declared.proof.Phase.{Phase}
 use Rattle.stark_fri.proofs.WalkSteps.{mapped_place}
-use Rattle.stark_merkle.specs.Tree.{LeadsTo}
+use Rattle.stark_merkle.specs.Tree.{LeadsTo, TreeDigests}
 use Rattle.stark_fri.specs.Parts.{FriFields}
 use Rattle.stark_fri.specs.Query.{PairLeads, PairOpening, next_at, pair_at, pairs_of, phase_root, walked_by}
 use Rattle.stark_fri.specs.Walks.{opening_of, openings_of, pair_on, pairs_on}
@@ -144,7 +144,7 @@ module _ {F E : Type 0} (fields : FriFields F E) where
           subst (IsFirstFault P (openings_of fields k trees layers pairs)) (omega arith) (so_far 0 (subst (λ t. IsFirstFault P t 0) (sym from_here) never))
 
   -- A test of a pair in memory is one of its opening.
-  pub pair_observed : (hash : List ℕ → List ℕ) (depth : ℕ) (root tree : List ℕ) (layer : LayerOpening E) (pair : Pair E) (bytes : List ℕ) (path : List (List ℕ)) (observed : Bool)
+  pub pair_observed : (hash : TreeDigests) (depth : ℕ) (root tree : List ℕ) (layer : LayerOpening E) (pair : Pair E) (bytes : List ℕ) (path : List (List ℕ)) (observed : Bool)
       → root ≡ tree → bytes ≡ fields.pair_bytes pair.low pair.high → path ≡ digests_of layer.path → (IsTrue observed ↔ LeadsTo hash root depth pair.place bytes path)
       → IsTrue observed ↔ PairLeads hash (opening_of fields depth tree layer pair)
   pair_observed hash depth root tree layer pair bytes path observed is_root is_bytes is_path test =
@@ -153,7 +153,7 @@ module _ {F E : Type 0} (fields : FriFields F E) where
 
 -- ---- a turn of the loop over the layers
 
-module _ {F E : Type 0} (fields : FriFields F E) (hash : List ℕ → List ℕ) (bits : ℕ) (phases : List (Phase F)) (layers : List (LayerOpening E)) (pairs : List (Pair E))
+module _ {F E : Type 0} (fields : FriFields F E) (hash : TreeDigests) (bits : ℕ) (phases : List (Phase F)) (layers : List (LayerOpening E)) (pairs : List (Pair E))
     (as_many : length layers ≡ length phases) (also : length pairs ≡ length phases) (i : ℕ) (turn : i < length phases)
     (phase : Phase F) (is_phase : phase ≡ get_or phases i phase) (layer : LayerOpening E) (is_layer : layer ≡ get_or layers i layer) (pair : Pair E) (is_pair : pair ≡ get_or pairs i pair)
     (root bytes : List ℕ) (path : List (List ℕ)) (is_root : root ≡ phase_root (get_or phases i phase)) (is_bytes : bytes ≡ fields.pair_bytes pair.low pair.high)

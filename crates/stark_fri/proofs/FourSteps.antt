@@ -1,7 +1,7 @@
 -- The steps of four queries side by side.
 use Rattle.std.proofs.Common.{◌≡◌, ◌∙◌, ℕ, zero, suc, ◌+◌, ◌<◌, ◌≤◌, List, [], ◌∷◌, ◌++◌, length, get_or, drop, take, sym, ap, refl, subst, arith}
 use Rattle.std.specs.List.{AllByRecursion, zip}
-use Rattle.stark_merkle.specs.Tree.{LeadsTo}
+use Rattle.stark_merkle.specs.Tree.{LeadsTo, TreeDigests}
 use Rattle.stark_fri_proof.specs.Parts.{InputOpening, QueryProof}
 use Rattle.stark_fri_proof.specs.Paths.{digests_of}
 use Rattle.stark_fri_proof.specs.declared.proof.LayerOpening.{LayerOpening}
@@ -61,7 +61,7 @@ module _ {A B : Type 0} (P : A → B → Type 0) (xs : List A) (ys : List B) (fo
 
 -- ---- what a query opens of a round, and of a layer
 
-module _ {F E : Type 0} (fields : FriFields F E) (hash : List ℕ → List ℕ) (root : List ℕ) where
+module _ {F E : Type 0} (fields : FriFields F E) (hash : TreeDigests) (root : List ℕ) where
   pub rows_lane : (bits round place : ℕ) (query : QueryProof F E) (input : InputOpening F) (row : List ℕ) (path : List (List ℕ)) → round < length query.inputs
       → input ≡ get_or query.inputs round input → row ≡ fields.row_bytes input.rows → path ≡ digests_of input.path → LeadsTo hash root bits place row path
       → (other : InputOpening F) → other ≡ get_or query.inputs round other → LeadsTo hash root bits place (fields.row_bytes other.rows) (digests_of other.path)

@@ -1,6 +1,6 @@
 -- What functions compute with, in one record, by the ghost members of their bounds.
 use Rattle.std.proofs.Common.{ℕ}
-use Rattle.stark_merkle.specs.Bytes.{pair_bytes_of, row_bytes_of}
+use Rattle.stark_merkle.specs.Bytes.{element_bytes, pair_bytes_of, row_bytes_of}
 use Rattle.stark_merkle.specs.declared.root.Root.{Root}
 use Rattle.stark_support.specs.declared.challenger.CanObserve.{Ghosts as Observed}
 use Rattle.stark_support.specs.declared.challenger.CanSample.{Ghosts as Sampled}
@@ -23,8 +23,8 @@ fields_by two_adic base prime field extension = record {
   ring = field.ring;
   inverse = field.inverse_of;
   embed = extension.embed;
-  row_bytes = row_bytes_of prime.number_of;
-  pair_bytes = pair_bytes_of prime.number_of extension.coordinates;
+  row_bytes = row_bytes_of (element_bytes prime.BYTES prime.number_of);
+  pair_bytes = pair_bytes_of (element_bytes prime.BYTES prime.number_of) extension.coordinates;
 }
 
 -- A challenger that elements and roots are observed into.

@@ -4,6 +4,7 @@ use Rattle.std.specs.List.{AllByRecursion}
 use Rattle.std.proofs.lemmas.List.{length-map}
 use Rattle.stark_support.specs.Faults.{FindsFirstFault}
 use Rattle.stark_support.specs.Polynomial.{value}
+use Rattle.stark_merkle.specs.Tree.{TreeDigests}
 use Rattle.stark_fri_proof.specs.Parts.{FriProofView, InputOpening, QueryProof}
 use Rattle.stark_fri_proof.specs.declared.proof.LayerOpening.{LayerOpening}
 use Rattle.stark_fri_proof.specs.declared.proof.Phase.{Phase}
@@ -19,7 +20,7 @@ use Rattle.stark_fri.specs.declared.folds.Pair.{Pair}
 use Rattle.stark_fri.specs.declared.replay.Drawn.{Drawn}
 use Rattle.stark_fri.proofs.FoldSteps.{openings_are}
 
-module _ {F E : Type 0} (fields : FriFields F E) (hash : List ℕ → List ℕ) (rounds : List (RoundRead E)) (bits : ℕ) (drawn : Drawn E) (proof : FriProofView F E) (place : ℕ) (query : QueryProof F E) where
+module _ {F E : Type 0} (fields : FriFields F E) (hash : TreeDigests) (rounds : List (RoundRead E)) (bits : ℕ) (drawn : Drawn E) (proof : FriProofView F E) (place : ℕ) (query : QueryProof F E) where
   module _ (phases : List (Phase F)) (is_phases : phases ≡ proof.phases) (shape : QueryFits rounds (length phases) query)
       (inputs : List (InputOpening F)) (is_inputs : inputs ≡ query.inputs) (lead : FindsInputFault fields hash bits place rounds inputs None) where
     fits : Fits fields hash (target_by rounds bits drawn proof) (place, query)

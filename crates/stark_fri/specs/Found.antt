@@ -22,7 +22,7 @@ use Rattle.stark_fri.specs.declared.error.QueryFault.{QueryFault}
 use Rattle.stark_fri.specs.Scheme.{claimed_by}
 use Rattle.std.specs.Borrow.{Bor}
 use Rattle.stark_merkle.specs.declared.root.Root.{Root}
-use Rattle.stark_merkle.specs.Tree.{items_of}
+use Rattle.stark_merkle.specs.Tree.{TreeDigests, items_of}
 
 -- All witnesses pass, and these are the drawn challenges and the state behind them; or this fold's witness is the first that doesn't.
 abbrev pub Plays : {C F E : Type 0} → SpongeCalls C F E → ℕ → C → List (Phase F) → Result (List E × C) ℕ → Type 0
@@ -61,16 +61,16 @@ FindsHeight fields s rounds (Ok k) = ClaimsFit fields s rounds × (k ≡ height_
 FindsHeight fields s rounds (Err error) = ClaimsFault fields s rounds error
 
 -- The first round whose rows don't lead to its root; none where all do.
-abbrev pub FindsInputFault : {F E : Type 0} → FriFields F E → (List ℕ → List ℕ) → ℕ → ℕ → List (RoundRead E) → List (InputOpening F) → Option ℕ → Type 0
+abbrev pub FindsInputFault : {F E : Type 0} → FriFields F E → TreeDigests → ℕ → ℕ → List (RoundRead E) → List (InputOpening F) → Option ℕ → Type 0
 FindsInputFault fields hash bits place rounds inputs fault = FindsFirstFault (InputLeads fields hash bits place) (zip rounds inputs) fault
 
 -- The query's first fault; none where it holds.
-abbrev pub FindsQueryFault : {F E : Type 0} → FriFields F E → (List ℕ → List ℕ) → Target E → QueryAt F E → Option QueryFault → Type 0
+abbrev pub FindsQueryFault : {F E : Type 0} → FriFields F E → TreeDigests → Target E → QueryAt F E → Option QueryFault → Type 0
 FindsQueryFault fields hash target q None = QueryHolds fields hash target q
 FindsQueryFault fields hash target q (Some fault) = QueryFails fields hash target fault q
 
 -- Each query holds; or this is the first that doesn't, and its first fault.
-abbrev pub FindsFault : {F E : Type 0} → FriFields F E → (List ℕ → List ℕ) → Target E → List (QueryAt F E) → Option (ℕ × QueryFault) → Type 0
+abbrev pub FindsFault : {F E : Type 0} → FriFields F E → TreeDigests → Target E → List (QueryAt F E) → Option (ℕ × QueryFault) → Type 0
 FindsFault fields hash target queries None = AllByRecursion (QueryHolds fields hash target) queries
 FindsFault fields hash target queries (Some fault) = IsFirstFaultWith (QueryHolds fields hash target) (QueryFails fields hash target fault.1) queries fault.0
 

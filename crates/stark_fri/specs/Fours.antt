@@ -5,7 +5,7 @@ use Rattle.std.specs.Borrow.{Bor}
 use Rattle.std.specs.declared.vec.Vec.{Vec}
 use Rattle.stark_support.specs.Coset.{TwoAdicCoset}
 use Rattle.stark_support.specs.Polynomial.{value}
-use Rattle.stark_merkle.specs.Tree.{LeadsTo}
+use Rattle.stark_merkle.specs.Tree.{LeadsTo, TreeDigests}
 use Rattle.stark_merkle.specs.declared.root.Root.{Root}
 use Rattle.stark_fri_proof.specs.Parts.{FriProofView, InputOpening, QueryProof}
 use Rattle.stark_fri_proof.specs.Paths.{digests_of}
@@ -41,7 +41,7 @@ HavePairs count walks = InFour (λ walk. length walk.pairs.items ≡ count) walk
 abbrev pub FourFit : {F E : Type 0} → List (RoundRead E) → ℕ → List (QueryProof F E) → Type 0
 FourFit rounds folds queries = InFour (QueryFits rounds folds) queries
 
-module _ {F E : Type 0} (fields : FriFields F E) (hash : List ℕ → List ℕ) where
+module _ {F E : Type 0} (fields : FriFields F E) (hash : TreeDigests) where
   -- What each opens of a round leads to its root.
   abbrev pub RowsLead : List ℕ → ℕ → ℕ → List ℕ → List (QueryProof F E) → Type 0
   RowsLead root bits round places queries =
@@ -84,5 +84,5 @@ FourEnd fields proof bits places walks = InBothFour (EndsAt fields proof bits) p
 
 module _ {F E D A B : Type 0} (fields : FriFields F E) where
   -- Where it is true, all that the four open of the rounds leads to the roots.
-  abbrev pub FourLeadIf : (List ℕ → List ℕ) → (D → TwoAdicCoset F) → List (Bor Root × Vec (D × Vec (E × Bor (List E)) A) B) → ℕ → List ℕ → List (QueryProof F E) → Bool → Type 0
+  abbrev pub FourLeadIf : TreeDigests → (D → TwoAdicCoset F) → List (Bor Root × Vec (D × Vec (E × Bor (List E)) A) B) → ℕ → List ℕ → List (QueryProof F E) → Bool → Type 0
   FourLeadIf hash coset_of claims bits places queries lead = IsTrue lead → FourInputsLead fields hash bits (rounds_in coset_of claims) places queries

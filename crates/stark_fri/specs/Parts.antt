@@ -2,6 +2,7 @@
 use Rattle.std.specs.Prelude.{ℕ, Bool, List}
 use Rattle.stark_support.specs.Ring.{RingOps}
 use Rattle.stark_support.specs.declared.matrix.RowMajorMatrix.{RowMajorMatrix}
+use Rattle.stark_merkle.specs.Tree.{TreeDigests}
 use Rattle.stark_merkle.specs.declared.root.Root.{Root}
 
 -- The prover's data: the root, the logarithm of the height, and for each matrix its columns and their rows on the larger coset.
@@ -45,5 +46,5 @@ pub record SpongeCalls (C F E : Type 0) : Type 0 where
 -- The fields, the trees' hash and the challenger.
 pub record FriOps (C F E : Type 0) : Type 0 where
   pub fields : FriFields F E
-  pub hash : List ℕ → List ℕ
+  pub hash : TreeDigests
   pub sponge : SpongeCalls C F E

@@ -3,7 +3,7 @@ use Rattle.std.specs.Prelude.{◌≡◌, ℕ, ◌-◌, ◌%◌, ltb, cond, List,
 use Rattle.std.specs.List.{AllByRecursion, flat_map, zip}
 use Rattle.stark_support.specs.Coset.{TwoAdicCoset, coset_point}
 use Rattle.stark_support.specs.Polynomial.{value}
-use Rattle.stark_merkle.specs.Tree.{LeadsTo}
+use Rattle.stark_merkle.specs.Tree.{LeadsTo, TreeDigests}
 use Rattle.stark_folding.specs.Fold.{squared_coset}
 use Rattle.stark_folding.specs.Reduce.{Seen, reduced_at}
 use Rattle.stark_folding.specs.Walk.{half_size, last_coset, last_place, next_value, walked}
@@ -13,6 +13,8 @@ use Rattle.stark_fri_proof.specs.declared.proof.LayerOpening.{LayerOpening}
 use Rattle.stark_fri_proof.specs.declared.proof.Phase.{Phase}
 use Rattle.stark_fri.specs.Claims.{MatrixRead, RoundRead}
 use Rattle.stark_support.specs.Faults.{IsFirstFault, PlaceByPlace}
+use Rattle.stark_merkle.specs.Bytes.{row_bytes_of}
+use Rattle.stark_merkle.specs.declared.root.Root.{Root}
 use Rattle.stark_fri.specs.Parts.{FriFields}
 use Rattle.stark_fri.specs.declared.error.QueryFault.{QueryFault}
 use Rattle.stark_fri.specs.declared.error.QueryFault.TheVariants.{Shape, Input, Layer, Final}
@@ -56,12 +58,16 @@ pub record PairOpening : Type 0 where
   pub bytes : List ℕ
   pub path : List (List ℕ)
 
-abbrev pub PairLeads : (List ℕ → List ℕ) → PairOpening → Type 0
+abbrev pub PairLeads : TreeDigests → PairOpening → Type 0
 PairLeads hash pair = LeadsTo hash pair.tree pair.depth pair.place pair.bytes pair.path
+
+-- Opened rows stand at a place of the tree of 2 ^ bits leaves that has the root.
+abbrev pub OpenedRowsLead : {F : Type 0} → TreeDigests → (F → List ℕ) → Root → ℕ → ℕ → InputOpening F → Type 0
+OpenedRowsLead hash bytes_of root bits place input = LeadsTo hash root.bytes bits place (row_bytes_of bytes_of input.rows) (digests_of input.path)
 
 module _ {F E : Type 0} (fields : FriFields F E) where
   -- A round's rows lead to its root.
-  abbrev pub InputLeads : (List ℕ → List ℕ) → ℕ → ℕ → RoundRead E × InputOpening F → Type 0
+  abbrev pub InputLeads : TreeDigests → ℕ → ℕ → RoundRead E × InputOpening F → Type 0
   InputLeads hash bits place both = LeadsTo hash both.0.0.bytes bits place (fields.row_bytes both.1.rows) (digests_of both.1.path)
 
   -- ---- claims and opened rows
@@ -133,7 +139,7 @@ module _ {F E : Type 0} (fields : FriFields F E) where
 
   -- ---- a query
 
-  module _ (hash : List ℕ → List ℕ) (target : Target E) where
+  module _ (hash : TreeDigests) (target : Target E) where
     abbrev pub first_coset : TwoAdicCoset E
     first_coset = extension_coset target.bits
 

@@ -3,6 +3,7 @@ use Rattle.std.specs.Prelude.{◌≡◌, ℕ, ◌≤◌, Bool, IsTrue, List, len
 use Rattle.std.specs.List.{AllByRecursion, zip}
 use Rattle.std.specs.declared.vec.Vec.{Vec}
 use Rattle.stark_support.specs.Coset.{TwoAdicCoset}
+use Rattle.stark_merkle.specs.Tree.{TreeDigests}
 use Rattle.stark_fri_proof.specs.Parts.{QueryProof}
 use Rattle.stark_fri.specs.Claims.{AreOff, RoundRead, rounds_in}
 use Rattle.stark_fri.specs.Found.{FindsFault, FindsQueryFault, target_by}
@@ -39,7 +40,7 @@ module _ {F E D : Type 0} (fields : FriFields F E) (coset_of : D → TwoAdicCose
   abbrev pub FindsFourWalks : {A : Type 0} → List ℕ → List (QueryProof F E) → Vec (FoldWalk E) A → Type 0
   FindsFourWalks places queries walks = AreWalks fields target_of places queries walks.items
 
-  module _ (hash : List ℕ → List ℕ) where
+  module _ (hash : TreeDigests) where
     -- The first fault of a query; none where it holds.
     abbrev pub FindsFaultIn : ℕ → QueryProof F E → Option QueryFault → Type 0
     FindsFaultIn place query fault = FindsQueryFault fields hash target_of (place, query) fault

@@ -10,7 +10,7 @@ use Rattle.std.specs.Borrow.{Bor}
 use Rattle.std.specs.declared.vec.Vec.{Vec}
 use Rattle.stark_support.specs.Claims.{RoundClaim, RoundPoints, claim_view}
 use Rattle.stark_support.specs.Scheme.{CommittedMatrix, CommittingCalls, HasRows, OpenedRound, RoundStands, SchemeOps, TakesRows, handed, matrix_row, row_at, true_claim}
-use Rattle.stark_merkle.specs.Tree.{layer_above, leaf_of, node_of}
+use Rattle.stark_merkle.specs.Tree.{layer_above}
 use Rattle.stark_merkle.specs.declared.root.Root.{Root}
 use Rattle.stark_fri_proof.specs.declared.parameters.FriParameters.{FriParameters}
 use Rattle.stark_fri_proof.specs.Parts.{FriProofView}
@@ -64,7 +64,7 @@ module _ {C F E : Type 0} (ops : FriOps C F E) where
 
   -- The root of the tree over the extended rows.
   abbrev pub IsRootOf : ℕ → List (List (List F)) → Root → Type 0
-  IsRootOf bits matrices root = layer_above (node_of ops.hash) bits (map (λ i. leaf_of ops.hash (ops.fields.row_bytes (extended_row bits matrices i))) (range_with_len 0 (2 ^ bits))) ≡ root.bytes ∷ []
+  IsRootOf bits matrices root = layer_above ops.hash.node bits (map (λ i. ops.hash.leaf (ops.fields.row_bytes (extended_row bits matrices i))) (range_with_len 0 (2 ^ bits))) ≡ root.bytes ∷ []
 
   pub record FriStands (s : FriParameters) (root : Root) (prover_data : FriDataView F) (matrices : List (CommittedMatrix F)) : Type 0 where
     pub commitment : root ≡ prover_data.root

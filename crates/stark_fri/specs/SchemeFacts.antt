@@ -11,6 +11,7 @@ use Rattle.stark_fri_proof.specs.Parts.{FriProofView}
 use Rattle.stark_fri.specs.Accept.{Accepted, Refused, target_of}
 use Rattle.stark_fri.specs.Claims.{RoundRead, matrix_read, own_claim, own_matrices, round_read}
 use Rattle.stark_support.specs.Faults.{no_first_fault, no_first_fault_with}
+use Rattle.stark_merkle.specs.Tree.{TreeDigests}
 use Rattle.stark_fri.specs.Parts.{FriDataView, FriFields, FriOps}
 use Rattle.stark_fri.specs.Query.{QueryAt, QueryFails, QueryHolds, Target}
 use Rattle.stark_fri.specs.Scheme.{IsFull, columns_of, fri_scheme, instance_of, own_rounds, points_view}
@@ -22,7 +23,7 @@ use Rattle.stark_fri.specs.declared.error.QueryFault.TheVariants.{Shape, Input, 
 
 -- ---- accepted or refused
 
-module _ {F E : Type 0} (fields : FriFields F E) (hash : List ℕ → List ℕ) (target : Target E) where
+module _ {F E : Type 0} (fields : FriFields F E) (hash : TreeDigests) (target : Target E) where
   query_not_both : (fault : QueryFault) (q : QueryAt F E) → QueryHolds fields hash target q → QueryFails fields hash target fault q → ⊥
   query_not_both Shape q holds fails = fails holds.fits
   query_not_both (Input round) q holds fails = no_first_fault _ _ round fails.1 holds.inputs

@@ -9,7 +9,7 @@ use Rattle.stark_support.specs.Embedding.{IsEmbedding}
 use Rattle.stark_support.specs.Polynomial.{HoldsOfAtMost}
 use Rattle.stark_support.specs.Ring.{FieldLaws}
 use Rattle.stark_support.specs.TwoAdic.{TwoAdicLaws}
-use Rattle.stark_merkle.specs.Tree.{HashCollision}
+use Rattle.stark_merkle.specs.Tree.{AreDigests, HashCollision, TreeDigests}
 use Rattle.stark_merkle.specs.declared.root.Root.{Root}
 use Rattle.stark_fri_soundness.specs.Agreement.{count}
 use Rattle.stark_fri_soundness.specs.BaseWords.{BaseClaimsHold}
@@ -35,9 +35,9 @@ pub record AreFields {F E : Type 0} (fields : FriFields F E) : Type 0 where
   pub embeds : IsEmbedding fields.base fields.ring fields.embed
   pub two_adic : TwoAdicLaws fields.base fields.adicity fields.root fields.generator
 
--- Digests have 32 bytes, and rows and pairs with the same bytes are the same.
-pub record BytesNameValues {F E : Type 0} (fields : FriFields F E) (hash : List ℕ → List ℕ) : Type 0 where
-  pub digests : (text : List ℕ) → length (hash text) ≡ 32
+-- Leaves and nodes have 32 bytes, and rows and pairs with the same bytes are the same.
+pub record BytesNameValues {F E : Type 0} (fields : FriFields F E) (hash : TreeDigests) : Type 0 where
+  pub digests : AreDigests hash
   pub rows : (rows others : List (List F)) → length (fields.row_bytes others) < 2 ^ 64 → fields.row_bytes rows ≡ fields.row_bytes others → rows ≡ others
   pub pairs : (x y other_x other_y : E) → fields.pair_bytes x y ≡ fields.pair_bytes other_x other_y → (x ≡ other_x) × (y ≡ other_y)
 
@@ -99,7 +99,7 @@ module _ {C F E : Type 0} (ops : FriOps C F E) (i : Instance C F E) where
       pub folds : Opens ops.fields.ring ops.fields.inverse (extension_root ops.fields) (extension_coset ops.fields (bits_of ops i)) (zip words.folds (fold_betas ops.sponge i)) q.0
           (batched_value ops.fields ops.hash (target_of ops i) q) (map (λ layer. layer.sibling) q.1.layers)
 
-    -- Some query opens something else than the words, though both lead to one root; so two different texts have one digest.
+    -- Some query opens something else than the words, though both lead to one root; so the trees' hash collides.
     pub record OpensOtherwise : Type 0 where
       pub otherwise : AllByRecursion QueryOpens (all_queries ops i) → ⊥
       pub collision : HashCollision ops.hash

@@ -2,6 +2,7 @@
 use Rattle.std.specs.Prelude.{◌≡◌, ℕ, ◌-◌, ◌%◌, ltb, cond, List, [], ◌∷◌, Option, map}
 use Rattle.stark_support.specs.Coset.{TwoAdicCoset}
 use Rattle.stark_support.specs.Faults.{FindsFirstFault}
+use Rattle.stark_merkle.specs.Tree.{TreeDigests}
 use Rattle.stark_folding.specs.Fold.{squared_coset}
 use Rattle.stark_folding.specs.Walk.{half_size}
 use Rattle.stark_fri_proof.specs.Paths.{digests_of}
@@ -45,5 +46,5 @@ module _ {F E : Type 0} (fields : FriFields F E) where
   FoldsTo c beta place v sibling folded = folded ≡ (pair_on c place v sibling, next_at fields c beta place v sibling)
 
   -- The first fold whose pair doesn't lead to its root; none where all do.
-  abbrev pub FindsLayerFault : (List ℕ → List ℕ) → ℕ → List (Phase F) → List (LayerOpening E) → List (Pair E) → Option ℕ → Type 0
+  abbrev pub FindsLayerFault : TreeDigests → ℕ → List (Phase F) → List (LayerOpening E) → List (Pair E) → Option ℕ → Type 0
   FindsLayerFault hash bits phases layers pairs fault = FindsFirstFault (PairLeads hash) (openings_of bits (map phase_root phases) layers pairs) fault

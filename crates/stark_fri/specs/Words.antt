@@ -1,7 +1,7 @@
 -- The words that a prover of the FRI scheme is bound to by its roots, and the claims of their columns.
 use Rattle.std.specs.Prelude.{◌≡◌, ℕ, suc, ◌+◌, ◌-◌, ◌^◌, ◌%◌, ◌<◌, ⊤, List, [], ◌∷◌, ◌++◌, length, slice_index_or}
 use Rattle.stark_support.specs.Coset.{TwoAdicCoset}
-use Rattle.stark_merkle.specs.Tree.{LeadsTo}
+use Rattle.stark_merkle.specs.Tree.{LeadsTo, TreeDigests}
 use Rattle.stark_merkle.specs.declared.root.Root.{Root}
 use Rattle.stark_folding.specs.Fold.{squared_coset}
 use Rattle.stark_folding.specs.Walk.{half_size}
@@ -56,7 +56,7 @@ module _ {F E : Type 0} (fields : FriFields F E) (words : Words F E) where
 
 -- ---- roots
 
-module _ {F E : Type 0} (fields : FriFields F E) (hash : List ℕ → List ℕ) (words : Words F E) where
+module _ {F E : Type 0} (fields : FriFields F E) (hash : TreeDigests) (words : Words F E) where
   -- Some path leads from the round's rows at a place, which have fewer than 2^64 bytes, to a root.
   pub record RowsAreBound (bits round place : ℕ) (root : Root) : Type 0 where
     pub path : List Root
@@ -68,7 +68,7 @@ module _ {F E : Type 0} (fields : FriFields F E) (hash : List ℕ → List ℕ) 
   RoundsAreBound bits round place [] = ⊤
   RoundsAreBound bits round place (read ∷ rounds) = RowsAreBound bits round place read.0 × RoundsAreBound bits (suc round) place rounds
 
-module _ {F E : Type 0} (fields : FriFields F E) (hash : List ℕ → List ℕ) where
+module _ {F E : Type 0} (fields : FriFields F E) (hash : TreeDigests) where
   -- Some path leads from a word's pair at a place to a root.
   pub record PairIsBound (depth half place : ℕ) (tree : List ℕ) (word : ℕ → E) : Type 0 where
     pub path : List Root

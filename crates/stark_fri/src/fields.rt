@@ -1,5 +1,5 @@
 //! What the verifier computes with, in one record.
-ghost use Rattle.stark_merkle.specs.Bytes.{pair_bytes_of, row_bytes_of};
+ghost use Rattle.stark_merkle.specs.Bytes.{element_bytes, pair_bytes_of, row_bytes_of};
 ghost use Rattle.stark_fri.specs.Parts.{FriFields};
 
 use stark_support::{ExtensionField, PrimeField64, TwoAdicField};
@@ -23,7 +23,7 @@ where
       ring = EF.ring;
       inverse = EF.inverse_of;
       embed = EF.embed;
-      row_bytes = row_bytes_of F.number_of;
-      pair_bytes = pair_bytes_of F.number_of EF.coordinates;
+      row_bytes = row_bytes_of (element_bytes F.BYTES F.number_of);
+      pair_bytes = pair_bytes_of (element_bytes F.BYTES F.number_of) EF.coordinates;
     } };
 }

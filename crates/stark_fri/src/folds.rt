@@ -132,7 +132,7 @@ where
     requires layers { length layers.now ≡ length phases.now }
     requires pairs { length pairs.now ≡ length phases.now }
     requires folds { length phases.now ≤ bits }
-    ensures { IfOk result (FindsLayerFault ⟦<EF as FoldingFields<F>>⟧.folding H.digest_of bits
+    ensures { IfOk result (FindsLayerFault ⟦<EF as FoldingFields<F>>⟧.folding H.digests bits
         phases.now layers.now pairs.now) }
 {
     for i in 0..phases.len() {

@@ -43,7 +43,7 @@ fn four_rows_lead<F: TwoAdicField + PrimeField64, EF: ExtensionField<F>, H: Tree
     requires queries { length queries.now ≡ 4 }
     requires within { InFour (λ query. round < length query.inputs) queries.now }
     ensures { IfOk result (λ lead. IsTrue lead → RowsLead ⟦<EF as FoldingFields<F>>⟧.folding
-        H.digest_of root.now.bytes bits round places.now queries.now) }
+        H.digests root.now.bytes bits round places.now queries.now) }
 {
     let first = &queries[0].inputs()[round];
     let second = &queries[1].inputs()[round];
@@ -82,7 +82,7 @@ where
     requires places { length places.now ≡ 4 }
     requires queries { length queries.now ≡ 4 }
     requires rounds { OpenRounds (length claims.now) queries.now }
-    ensures { IfOk result (FourLeadIf ⟦<EF as FoldingFields<D::Val>>⟧.folding H.digest_of
+    ensures { IfOk result (FourLeadIf ⟦<EF as FoldingFields<D::Val>>⟧.folding H.digests
         D.coset_of claims.now bits places.now queries.now) }
 {
     for r in 0..claims.len() {
@@ -108,7 +108,7 @@ fn four_pairs_lead<F: TwoAdicField + PrimeField64, EF: ExtensionField<F>, H: Tre
     requires layers { InFour (λ query. layer < length query.layers) queries.now }
     requires pairs { InFour (λ walk. layer < length walk.pairs.items) walks.now }
     ensures { IfOk result (λ lead. IsTrue lead → PairsLead ⟦<EF as FoldingFields<F>>⟧.folding
-        H.digest_of root.now.bytes depth layer queries.now walks.now) }
+        H.digests root.now.bytes depth layer queries.now walks.now) }
 {
     let first = &walks[0].pairs[layer];
     let second = &walks[1].pairs[layer];
@@ -146,7 +146,7 @@ fn four_layers_lead<F: TwoAdicField + PrimeField64, EF: ExtensionField<F>, H: Tr
     requires pairs { HavePairs (length phases.now) walks.now }
     requires folds { length phases.now ≤ bits }
     ensures { IfOk result (λ lead. IsTrue lead → FourLayersLead ⟦<EF as FoldingFields<F>>⟧.folding
-        H.digest_of bits phases.now queries.now walks.now) }
+        H.digests bits phases.now queries.now walks.now) }
 {
     for i in 0..phases.len() {
         let root = &phases[i].root;
@@ -219,7 +219,7 @@ fn four_hold<EF: ExtensionField<D::Val>, D: PolynomialSpace<Val: PrimeField64>, 
     requires checkable { IsCheckable ⟦<EF as FoldingFields<D::Val>>⟧.folding D.coset_of
         replayed.now }
     ensures { IfOk result (FourHoldIf ⟦<EF as FoldingFields<D::Val>>⟧.folding D.coset_of
-        replayed.now H.digest_of places.now queries.now) }
+        replayed.now H.digests places.now queries.now) }
 {
     let claims = replayed.claims;
     let proof = replayed.proof;
@@ -250,7 +250,7 @@ where
     H: TreeHash,
     requires { IsCheckable ⟦<EF as FoldingFields<D::Val>>⟧.folding D.coset_of replayed.now }
     ensures { IfOk result (FirstHold ⟦<EF as FoldingFields<D::Val>>⟧.folding D.coset_of
-        replayed.now H.digest_of) }
+        replayed.now H.digests) }
 {
     let queries = replayed.proof.queries();
     let drawn = replayed.drawn;

@@ -2,14 +2,13 @@
 ghost use Rattle.std.specs.Prelude.{◌≡◌, ◌<◌, ◌≤◌, ◌^◌, ◌↔◌, IfOk, IsTrue, length, map};
 ghost use Rattle.stark_support.specs.Faults.{PlaceByPlace};
 ghost use Rattle.stark_support.specs.Polynomial.{value};
-ghost use Rattle.stark_merkle.specs.Bytes.{row_bytes_of};
-ghost use Rattle.stark_merkle.specs.Tree.{LeadsTo, items_of};
-ghost use Rattle.stark_fri_proof.specs.Paths.{digests_of};
+ghost use Rattle.stark_merkle.specs.Bytes.{element_bytes};
+ghost use Rattle.stark_merkle.specs.Tree.{items_of};
 ghost use Rattle.stark_fri.specs.Claims.{matrices_in, rounds_in};
 ghost use Rattle.stark_fri.specs.Found.{FindsInputFault};
 ghost use Rattle.stark_fri.specs.Fours.{EndsAt};
 ghost use Rattle.stark_fri.specs.Replayed.{FindsFaultIn, IsCheckable, IsWalkIn};
-ghost use Rattle.stark_fri.specs.Query.{QueryFits, RowFits, extension_coset, last_point};
+ghost use Rattle.stark_fri.specs.Query.{OpenedRowsLead, QueryFits, RowFits, extension_coset, last_point};
 
 use crate::claims::points_have_count;
 use crate::error::QueryFault;
@@ -77,8 +76,8 @@ fn input_leads<F: PrimeField64, H: TreeHash>(
     bits: usize,
     place: usize,
 ) -> Result<bool, AllocError>
-    ensures { IfOk result (λ l. IsTrue l ↔ LeadsTo H.digest_of root.now.bytes bits place
-        (row_bytes_of F.number_of input.now.rows) (digests_of input.now.path)) }
+    ensures { IfOk result (λ leads. IsTrue leads ↔ OpenedRowsLead H.digests
+        (element_bytes F.BYTES F.number_of) root.now bits place input.now) }
 {
     let bytes = row_bytes(alloc, input.rows())?;
     Ok(is_path_to::<H>(&root.bytes(), bits, place, &bytes, input.path().digests()))
@@ -96,7 +95,7 @@ where
     D: PolynomialSpace<Val: PrimeField64>,
     EF: ExtensionField<D::Val>,
     H: TreeHash,
-    ensures { IfOk result (FindsInputFault ⟦<EF as FoldingFields<D::Val>>⟧.folding H.digest_of
+    ensures { IfOk result (FindsInputFault ⟦<EF as FoldingFields<D::Val>>⟧.folding H.digests
         bits place (rounds_in D.coset_of claims.now) inputs.now) }
 {
     for r in 0..claims.len().min(inputs.len()) {
@@ -185,7 +184,7 @@ where
     H: TreeHash,
     requires { IsCheckable ⟦<EF as FoldingFields<D::Val>>⟧.folding D.coset_of replayed.now }
     ensures { IfOk result (FindsFaultIn ⟦<EF as FoldingFields<D::Val>>⟧.folding D.coset_of
-        replayed.now H.digest_of place query.now) }
+        replayed.now H.digests place query.now) }
 {
     let claims = replayed.claims;
     let proof = replayed.proof;

@@ -83,7 +83,7 @@ where
 {
     ghost fri_ops = { record {
       fields = ⟦<EF as FoldingFields<F>>⟧.folding;
-      hash = H.digest_of;
+      hash = H.digests;
       sponge = ⟦<C as FriSponge<F, EF>>⟧.sponge_calls;
     } };
 }

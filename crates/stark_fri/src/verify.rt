@@ -59,7 +59,7 @@ where
     H: TreeHash,
     requires { IsCheckable ⟦<EF as FoldingFields<D::Val>>⟧.folding D.coset_of replayed.now }
     ensures { IfOk result (FindsFirstQuery ⟦<EF as FoldingFields<D::Val>>⟧.folding D.coset_of
-        replayed.now H.digest_of) }
+        replayed.now H.digests) }
 {
     let queries = replayed.proof.queries();
     let drawn = replayed.drawn;
@@ -85,8 +85,8 @@ where
 /// `2 e + 2^height < 2^bits`. It is one of five: the columns agree with polynomials over the base
 /// field of degree at most `2^height`, at all places but `e`, and all claims are true of these;
 /// alpha is bad for the words; a beta is; all drawn places are among fewer than `2^bits - e` that
-/// pass; or a query opens something else than the words under the same root, so that two texts have
-/// one digest. `few` says how few alphas, betas and lists of places these are.
+/// pass; or a query opens something else than the words under the same root, so that the trees'
+/// hash collides. `few` says how few alphas, betas and lists of places these are.
 pub fn verify_openings<C, EF, D, H>(
     alloc: Global,
     parameters: &FriParameters,

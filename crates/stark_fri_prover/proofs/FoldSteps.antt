@@ -5,6 +5,7 @@ use Rattle.std.specs.List.{AllByRecursion}
 use Rattle.stark_support.specs.Coset.{TwoAdicCoset, coset_from}
 use Rattle.stark_support.specs.KeepsRing.{KeepsRing}
 use Rattle.stark_support.specs.Ring.{RingOps}
+use Rattle.stark_merkle.specs.Tree.{TreeDigests}
 use Rattle.stark_folding.specs.Fold.{folded, squared_coset}
 use Rattle.stark_folding.specs.Walk.{folded_all}
 use Rattle.stark_fri.specs.Parts.{SpongeCalls}
@@ -72,9 +73,9 @@ module _ {C F E : Type 0} (sponge : SpongeCalls C F E) (bits : ℕ) where
 
 -- ---- layers
 
-module _ {F E : Type 0} (number_of : F → ℕ) (coordinates : E → List F) (zero : E) (hash : List ℕ → List ℕ) where
+module _ {F E : Type 0} (bytes_of : F → List ℕ) (coordinates : E → List F) (zero : E) (hash : TreeDigests) where
   abbrev Are : ℕ → List (Phase F) → List (Layer E) → Type 0
-  Are log_size phases layers = AreLayersOf number_of coordinates zero hash log_size phases layers
+  Are log_size phases layers = AreLayersOf bytes_of coordinates zero hash log_size phases layers
 
   -- The layers so far, and the size of the coset after them.
   abbrev pub LayersSoFar : ℕ → ℕ → List (Phase F) → List (Layer E) → Type 0
@@ -86,21 +87,21 @@ module _ {F E : Type 0} (number_of : F → ℕ) (coordinates : E → List F) (ze
       subst (λ t. LayersSoFar log_size log_size t layers) (sym none) (subst (λ t. LayersSoFar log_size log_size [] t) (sym none_either) (tt, omega arith))
 
   one_layer_more : (log_size : ℕ) (phases : List (Phase F)) (layers : List (Layer E)) (phase : Phase F) (layer : Layer E) → Are log_size phases layers
-      → IsLayerOf number_of coordinates zero hash (log_size - length layers) phase.root layer → Are log_size (phases ++ phase ∷ []) (layers ++ layer ∷ [])
+      → IsLayerOf bytes_of coordinates zero hash (log_size - length layers) phase.root layer → Are log_size (phases ++ phase ∷ []) (layers ++ layer ∷ [])
   unfolding AreLayersOf
-  one_layer_more log_size [] [] phase layer all here = (subst (λ n. IsLayerOf number_of coordinates zero hash n phase.root layer) (omega arith) here, tt)
+  one_layer_more log_size [] [] phase layer all here = (subst (λ n. IsLayerOf bytes_of coordinates zero hash n phase.root layer) (omega arith) here, tt)
   one_layer_more log_size [] (l ∷ layers) phase layer all here = absurd all
   one_layer_more log_size (p ∷ phases) [] phase layer all here = absurd all
   one_layer_more log_size (p ∷ phases) (l ∷ layers) phase layer all here =
       let fewer : log_size - suc (length layers) ≡ log_size - 1 - length layers = omega arith in
-      (all.0, one_layer_more (log_size - 1) phases layers phase layer all.1 (subst (λ n. IsLayerOf number_of coordinates zero hash n phase.root layer) fewer here))
+      (all.0, one_layer_more (log_size - 1) phases layers phase layer all.1 (subst (λ n. IsLayerOf bytes_of coordinates zero hash n phase.root layer) fewer here))
 
   pub layer_more : (log_size left next : ℕ) (phases later : List (Phase F)) (layers more : List (Layer E)) (phase : Phase F) (layer : Layer E) → later ≡ phases ++ phase ∷ [] → more ≡ layers ++ layer ∷ []
-      → IsLayerOf number_of coordinates zero hash left phase.root layer → next ≡ left - 1 → LayersSoFar log_size left phases layers → LayersSoFar log_size next later more
+      → IsLayerOf bytes_of coordinates zero hash left phase.root layer → next ≡ left - 1 → LayersSoFar log_size left phases layers → LayersSoFar log_size next later more
   layer_more log_size left next phases later layers more phase layer pushed pushed_too here half so_far =
       let number = length-append layers (layer ∷ []) in
       subst (λ t. LayersSoFar log_size next t more) (sym pushed) (subst (λ t. LayersSoFar log_size next (phases ++ phase ∷ []) t) (sym pushed_too) (
-        one_layer_more log_size phases layers phase layer so_far.0 (subst (λ n. IsLayerOf number_of coordinates zero hash n phase.root layer) so_far.1 here),
+        one_layer_more log_size phases layers phase layer so_far.0 (subst (λ n. IsLayerOf bytes_of coordinates zero hash n phase.root layer) so_far.1 here),
         omega (arith, number, half, so_far.1),
       ))
 

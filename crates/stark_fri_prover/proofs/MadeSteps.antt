@@ -26,7 +26,7 @@ use Rattle.stark_fri_prover.specs.Work.{StopsAtFold, StopsAtQueries}
 use Rattle.stark_fri_prover.specs.OwnClaims.{RefusesRounds, points_in}
 use Rattle.stark_fri_prover.specs.declared.layers.Layer.{Layer}
 
-module _ {C F E T X : Type 0} (ops : FriOps C F E) (number_of : F → ℕ) (coordinates : E → List F) (data_of : T → FriDataView F) (layers_of : T → List (List (List ℕ))) (points_of : X → List (List E))
+module _ {C F E T X : Type 0} (ops : FriOps C F E) (bytes_of : F → List ℕ) (coordinates : E → List F) (data_of : T → FriDataView F) (layers_of : T → List (List (List ℕ))) (points_of : X → List (List E))
     (s : FriParameters) (rounds : List (Bor T × X)) (start : C) where
   abbrev seen : List (RoundPoints E (FriDataView F))
   seen = seen_rounds data_of points_of rounds
@@ -51,14 +51,14 @@ module _ {C F E T X : Type 0} (ops : FriOps C F E) (number_of : F → ℕ) (coor
     -- A fold asks for work that no element passes, or the queries do.
     abbrev Stops : ℕ → ℕ → C → List E → Type 0
     Stops bits count state batch =
-        StopsAtFold ops number_of s.commit_proof_of_work_bits ops.fields.generator bits count state batch
-        ⊎ StopsAtQueries ops number_of s.commit_proof_of_work_bits ops.fields.generator bits count s.query_proof_of_work_bits state batch
+        StopsAtFold ops bytes_of s.commit_proof_of_work_bits ops.fields.generator bits count state batch
+        ⊎ StopsAtQueries ops bytes_of s.commit_proof_of_work_bits ops.fields.generator bits count s.query_proof_of_work_bits state batch
 
     pub lacks_witness : (bits count : ℕ) → bits ≡ log_height + s.log_blowup → count ≡ fold_count s log_height → (batch : List E) → ClaimsFit ops.fields s (own_rounds ops seen) → AreOfHeight log_height seen
         → (HaveDegreesBelow (2 ^ log_height) seen → IsBatch ops.fields.ring ops.fields.embed alpha (2 ^ log_height) seen batch)
-        → StopsAtFold ops number_of s.commit_proof_of_work_bits ops.fields.generator bits count after_alpha batch
-        ⊎ StopsAtQueries ops number_of s.commit_proof_of_work_bits ops.fields.generator bits count s.query_proof_of_work_bits after_alpha batch
-        → LacksWitness ops number_of s seen start
+        → StopsAtFold ops bytes_of s.commit_proof_of_work_bits ops.fields.generator bits count after_alpha batch
+        ⊎ StopsAtQueries ops bytes_of s.commit_proof_of_work_bits ops.fields.generator bits count s.query_proof_of_work_bits after_alpha batch
+        → LacksWitness ops bytes_of s seen start
     lacks_witness bits count is_bits is_count batch fit heights batched stops =
         let n = height_of (own_rounds ops seen) + s.log_blowup in
         let folds = fold_count s (height_of (own_rounds ops seen)) in
@@ -84,10 +84,10 @@ module _ {C F E T X : Type 0} (ops : FriOps C F E) (number_of : F → ℕ) (coor
           → (HaveDegreesBelow (2 ^ log_height) seen → IsBatch ops.fields.ring ops.fields.embed alpha (2 ^ log_height) seen batch)
           → AreFolds ops.sponge ops.fields.ring s.commit_proof_of_work_bits count after_alpha after_folds batch proof.phases proof.final_polynomial
           → AreWordsOf ops.fields.ring (extension_root ops.fields) (extension_coset ops.fields bits) (betas_of ops.sponge s.commit_proof_of_work_bits after_alpha proof.phases) batch layers
-          → AreLayersOf number_of coordinates ops.fields.ring.zero ops.hash bits proof.phases layers
+          → AreLayersOf bytes_of coordinates ops.fields.ring.zero ops.hash bits proof.phases layers
           → IsWitness ops.sponge.zero ops.sponge.passes ops.sponge.after_check s.query_proof_of_work_bits after_final after_work proof.query_witness
           → OpensEach (λ stored. (data_of stored).extended) layers_of rounds layers places proof.queries
-          → IsMade ops number_of coordinates data_of layers_of points_of s rounds start proof
+          → IsMade ops bytes_of coordinates data_of layers_of points_of s rounds start proof
       is_made fit heights batched folds words trees work opens = record {
         claims = fit;
         heights = subst (λ k. AreOfHeight k seen) height heights;
@@ -102,7 +102,7 @@ module _ {C F E T X : Type 0} (ops : FriOps C F E) (number_of : F → ℕ) (coor
           words = subst (λ state. AreWordsOf ops.fields.ring (extension_root ops.fields) (extension_coset ops.fields (own_bits ops s seen start proof))
               (betas_of ops.sponge s.commit_proof_of_work_bits state proof.phases) batch layers) (is_after ∙ ap ops.sponge.after_draw claims_state)
               (subst (λ n. AreWordsOf ops.fields.ring (extension_root ops.fields) (extension_coset ops.fields n) (betas_of ops.sponge s.commit_proof_of_work_bits after_alpha proof.phases) batch layers) bits_here words);
-          trees = subst (λ n. AreLayersOf number_of coordinates ops.fields.ring.zero ops.hash n proof.phases layers) bits_here trees;
+          trees = subst (λ n. AreLayersOf bytes_of coordinates ops.fields.ring.zero ops.hash n proof.phases layers) bits_here trees;
           after_work = after_work;
           work = subst (λ state. IsWitness ops.sponge.zero ops.sponge.passes ops.sponge.after_check s.query_proof_of_work_bits state after_work proof.query_witness) is_final work;
         };
@@ -125,8 +125,8 @@ module _ {F E T A B : Type 0} (data_of : T → FriDataView F) (k : ℕ) (rounds 
       (all_unmapped (seen_round data_of points_in) (λ (round : RoundPoints E (FriDataView F)). round.0.log_height ≡ k) rounds all)
 
 -- And so is what is refused of them.
-pub refused_again : {C F E T A B : Type 0} (ops : FriOps C F E) (number_of : F → ℕ) (data_of : T → FriDataView F) (s : FriParameters) (rounds : List (Bor T × Vec (Vec E A) B)) (state : C) (fault : SchemeFault FriProverError)
-    → IfRefused fault (RefusesRounds ops number_of data_of s rounds state)
-    → IfRefused fault (OpeningFault ops number_of s (map (λ (r : RoundPoints E T). (data_of r.0, r.1)) (map round_view rounds)) state)
-refused_again ops number_of data_of s rounds state OutOfMemory refused = tt
-refused_again ops number_of data_of s rounds state (Refused error) refused = subst (λ some. OpeningFault ops number_of s some state error) (sym (seen_again data_of rounds)) refused
+pub refused_again : {C F E T A B : Type 0} (ops : FriOps C F E) (bytes_of : F → List ℕ) (data_of : T → FriDataView F) (s : FriParameters) (rounds : List (Bor T × Vec (Vec E A) B)) (state : C) (fault : SchemeFault FriProverError)
+    → IfRefused fault (RefusesRounds ops bytes_of data_of s rounds state)
+    → IfRefused fault (OpeningFault ops bytes_of s (map (λ (r : RoundPoints E T). (data_of r.0, r.1)) (map round_view rounds)) state)
+refused_again ops bytes_of data_of s rounds state OutOfMemory refused = tt
+refused_again ops bytes_of data_of s rounds state (Refused error) refused = subst (λ some. OpeningFault ops bytes_of s some state error) (sym (seen_again data_of rounds)) refused

@@ -21,15 +21,15 @@ half_of_power (suc k) count some is =
     subst (λ n. count / 2 ≡ 2 ^ n) (sym less) (omega (arith, is, two-pow-succ k))
 
 -- Where folds were made and no witness passes after the root of what is left, the folds stop.
-module _ {C F E : Type 0} (ops : FriOps C F E) (number_of : F → ℕ) (bits : ℕ) (shift : F) (log_size count : ℕ) (start : C) (polynomial : List E) where
+module _ {C F E : Type 0} (ops : FriOps C F E) (bytes_of : F → List ℕ) (bits : ℕ) (shift : F) (log_size count : ℕ) (start : C) (polynomial : List E) where
   pub stops_here : (n : ℕ) (state : C) (phases : List (Phase F)) (left : List E) (layers : List (Layer E)) (here : F) (size : ℕ) (word : List E) → n < count
       → AreFolds ops.sponge ops.fields.ring bits n start state polynomial phases left
-      → LayersSoFar number_of ops.sponge.observing.coordinates ops.fields.ring.zero ops.hash log_size size phases layers
+      → LayersSoFar bytes_of ops.sponge.observing.coordinates ops.fields.ring.zero ops.hash log_size size phases layers
       → WordsTo ops.fields.ring (extension_root ops.fields) (coset_from (ops.fields.embed shift) log_size) polynomial (betas_of ops.sponge bits start phases) layers (coset_from (ops.fields.embed here) size) left word
-      → StopsAtRoot ops number_of bits here size state left → StopsAtFold ops number_of bits shift log_size count start polynomial
+      → StopsAtRoot ops bytes_of bits here size state left → StopsAtFold ops bytes_of bits shift log_size count start polynomial
   unfolding AreWordsOf
   stops_here n state phases left layers here size word below folds trees words stop =
-      let next = without_work ops number_of bits stop.root in
+      let next = without_work ops bytes_of bits stop.root in
       let beta = ops.sponge.draw (worked ops.sponge bits state next) in
       let drawn = one_more_beta ops.sponge bits ops.fields.ring start polynomial n state phases (phases ++ next ∷ []) left next refl folds in
       record {
@@ -43,7 +43,7 @@ module _ {C F E : Type 0} (ops : FriOps C F E) (number_of : F → ℕ) (bits : �
           layers = layers ++ stop.layer ∷ [];
           words = subst (λ betas. AreWordsOf ops.fields.ring (extension_root ops.fields) (coset_from (ops.fields.embed shift) log_size) betas polynomial (layers ++ stop.layer ∷ [])) (sym drawn)
               (words.1 (beta ∷ []) (stop.layer ∷ []) (stop.word, tt));
-          trees = (layer_more number_of ops.sponge.observing.coordinates ops.fields.ring.zero ops.hash log_size size (size - 1) phases (phases ++ next ∷ [])
+          trees = (layer_more bytes_of ops.sponge.observing.coordinates ops.fields.ring.zero ops.hash log_size size (size - 1) phases (phases ++ next ∷ [])
               layers (layers ++ stop.layer ∷ []) next stop.layer refl refl stop.tree refl trees).0;
         };
         none = stop.none;

@@ -22,7 +22,7 @@ use Rattle.stark_fri_prover.specs.OwnClaims.{AreFitting, RefusesRounds, points_i
 -- What the verifier computes with, how elements are written, and how domains and the prover's data are read.
 pub record ProverCalls (C F E T D : Type 0) : Type 0 where
   pub ops : FriOps C F E
-  pub number_of : F → ℕ
+  pub bytes_of : F → List ℕ
   pub coordinates : E → List F
   pub coset_of : D → TwoAdicCoset F
   pub data_of : T → FriDataView F
@@ -36,15 +36,15 @@ module _ {C F E T D : Type 0} (calls : ProverCalls C F E T D) (s : FriParameters
 
     -- The proof is made of the rounds, from this state.
     abbrev pub IsProofOf : C → FriProofView F E → Type 0
-    IsProofOf state proof = IsMade calls.ops calls.number_of calls.coordinates calls.data_of calls.layers_of points_in s rounds state proof
+    IsProofOf state proof = IsMade calls.ops calls.bytes_of calls.coordinates calls.data_of calls.layers_of points_in s rounds state proof
 
     -- Why nothing is opened from this state.
     abbrev pub RefusesOpening : C → FriProverError → Type 0
-    RefusesOpening state error = RefusesRounds calls.ops calls.number_of calls.data_of s rounds state error
+    RefusesOpening state error = RefusesRounds calls.ops calls.bytes_of calls.data_of s rounds state error
 
     -- From this state an honest transcript comes to a check that no element passes.
     abbrev pub LacksWork : C → Type 0
-    LacksWork state = LacksWitness calls.ops calls.number_of s (seen_rounds calls.data_of points_in rounds) state
+    LacksWork state = LacksWitness calls.ops calls.bytes_of s (seen_rounds calls.data_of points_in rounds) state
 
   module _ {A B G : Type 0} (claims : Vec (Bor Root × Vec (D × Vec (E × Bor (List E)) A) B) G) (state : C) (proof : FriProofView F E) where
     -- The verifier accepts the claims by the proof, or this is its first fault.

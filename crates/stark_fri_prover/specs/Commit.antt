@@ -8,9 +8,9 @@ use Rattle.stark_support.specs.declared.matrix.RowMajorMatrix.{RowMajorMatrix}
 use Rattle.std.specs.declared.vec.Vec.{Vec}
 use Rattle.stark_columns.specs.Columns.{columns_list}
 use Rattle.stark_fri.specs.Parts.{FriDataView}
-use Rattle.stark_merkle.specs.Bytes.{row_bytes_of}
+use Rattle.stark_merkle.specs.Bytes.{element_bytes, row_bytes_of}
 use Rattle.stark_merkle.specs.declared.root.Root.{Root}
-use Rattle.stark_merkle.specs.Tree.{HasPath, IsPathIn, layer_above, leaf_of, node_of, layers_from}
+use Rattle.stark_merkle.specs.Tree.{HasPath, IsPathIn, TreeDigests, digests_in, layer_above, layers_from}
 pub use Rattle.stark_fri.specs.Scheme.{AreExtended, IsExtended, extension_of}
 
 -- Row i of a matrix, and whether it is there.
@@ -34,20 +34,20 @@ pub record IsPathOrNone (layers : List (List (List ℕ))) (place : ℕ) (digests
   pub none : (HasPath layers place → ⊥) → digests ≡ []
 
 -- Leaf i of the tree over the matrices' rows.
-abbrev pub leaf_at : {F : Type 0} → (List ℕ → List ℕ) → (F → ℕ) → List (RowMajorMatrix F) → ℕ → List ℕ
-leaf_at hash number_of extended i = leaf_of hash (row_bytes_of number_of (map (row_of i) extended))
+abbrev pub leaf_at : {F : Type 0} → TreeDigests → (F → List ℕ) → List (RowMajorMatrix F) → ℕ → List ℕ
+leaf_at hash bytes_of extended i = hash.leaf (row_bytes_of bytes_of (map (row_of i) extended))
 
-abbrev pub leaves_of : {F : Type 0} → (List ℕ → List ℕ) → (F → ℕ) → List (RowMajorMatrix F) → ℕ → List (List ℕ)
-leaves_of hash number_of extended count = map (leaf_at hash number_of extended) (range_with_len 0 count)
+abbrev pub leaves_of : {F : Type 0} → TreeDigests → (F → List ℕ) → List (RowMajorMatrix F) → ℕ → List (List ℕ)
+leaves_of hash bytes_of extended count = map (leaf_at hash bytes_of extended) (range_with_len 0 count)
 
 -- Row i of the columns' values on the coset, a row a matrix.
 abbrev pub extended_row : {F : Type 0} → RingOps F → (ℕ → F) → TwoAdicCoset F → List (List (List F)) → ℕ → List (List F)
 extended_row ring root coset matrices i = map (λ columns. row_at ring (λ c. c) columns (coset_point ring root coset i)) matrices
 
 -- The root of the tree over these rows.
-abbrev pub IsRootOver : {F : Type 0} → RingOps F → (ℕ → F) → (List ℕ → List ℕ) → (F → ℕ) → TwoAdicCoset F → List (List (List F)) → List ℕ → Type 0
-IsRootOver ring root hash number_of coset matrices top =
-    layer_above (node_of hash) coset.log_size (map (λ i. leaf_of hash (row_bytes_of number_of (extended_row ring root coset matrices i))) (range_with_len 0 (2 ^ coset.log_size))) ≡ top ∷ []
+abbrev pub IsRootOver : {F : Type 0} → RingOps F → (ℕ → F) → TreeDigests → (F → List ℕ) → TwoAdicCoset F → List (List (List F)) → List ℕ → Type 0
+IsRootOver ring root hash bytes_of coset matrices top =
+    layer_above hash.node coset.log_size (map (λ i. hash.leaf (row_bytes_of bytes_of (extended_row ring root coset matrices i))) (range_with_len 0 (2 ^ coset.log_size))) ≡ top ∷ []
 
 -- The prover's data, as the scheme's definitions read them.
 abbrev pub data_seen : {F A B G J : Type 0} → Root → ℕ → Vec (Vec (Vec F A) B) G → Vec (RowMajorMatrix F) J → FriDataView F
@@ -63,15 +63,18 @@ HasRowsOf stored rows = (rows.values.items ≡ stored.values.items) × (rows.wid
 abbrev pub AreKept : {F A B J : Type 0} → RingOps F → (ℕ → F) → TwoAdicCoset F → List (Vec (Vec F A) B) → Vec (RowMajorMatrix F) J → Type 0
 AreKept ring root coset matrices kept = AreExtended ring root coset (map columns_list matrices) kept.items
 
-abbrev pub IsTopOver : {F A B : Type 0} → RingOps F → (ℕ → F) → (List ℕ → List ℕ) → (F → ℕ) → TwoAdicCoset F → List (Vec (Vec F A) B) → Root → Type 0
-IsTopOver ring root hash number_of coset matrices top = IsRootOver ring root hash number_of coset (map columns_list matrices) top.bytes
+abbrev pub IsTopOver : {F A B : Type 0} → RingOps F → (ℕ → F) → F → TreeDigests → ℕ → (F → ℕ) → ℕ → List (Vec (Vec F A) B) → Root → Type 0
+IsTopOver ring root generator hash size number_of bits matrices top = IsRootOver ring root hash (element_bytes size number_of) (extension_of generator bits) (map columns_list matrices) top.bytes
 
 abbrev pub IsKept : {F A B J : Type 0} → RingOps F → (ℕ → F) → TwoAdicCoset F → Vec (Vec F A) B → Vec (RowMajorMatrix F) J → Type 0
 IsKept ring root coset columns kept = AreExtended ring root coset (columns_list columns ∷ []) kept.items
 
-abbrev pub IsTopOf : {F A B : Type 0} → RingOps F → (ℕ → F) → (List ℕ → List ℕ) → (F → ℕ) → TwoAdicCoset F → Vec (Vec F A) B → Root → Type 0
-IsTopOf ring root hash number_of coset columns top = IsRootOver ring root hash number_of coset (columns_list columns ∷ []) top.bytes
+abbrev pub IsTopOf : {F A B : Type 0} → RingOps F → (ℕ → F) → F → TreeDigests → ℕ → (F → ℕ) → ℕ → Vec (Vec F A) B → Root → Type 0
+IsTopOf ring root generator hash size number_of bits columns top = IsRootOver ring root hash (element_bytes size number_of) (extension_of generator bits) (columns_list columns ∷ []) top.bytes
 
 -- The layers of the tree over the first 2 ^ bits rows.
-abbrev pub AreLayersOver : {F : Type 0} → (List ℕ → List ℕ) → (F → ℕ) → ℕ → List (RowMajorMatrix F) → List (List (List ℕ)) → Type 0
-AreLayersOver hash number_of bits extended layers = layers ≡ layers_from (node_of hash) bits (leaves_of hash number_of extended (2 ^ bits))
+abbrev pub AreLayersOver : {F : Type 0} → TreeDigests → (F → List ℕ) → ℕ → List (RowMajorMatrix F) → List (List (List ℕ)) → Type 0
+AreLayersOver hash bytes_of bits extended layers = layers ≡ layers_from hash.node bits (leaves_of hash bytes_of extended (2 ^ bits))
+
+abbrev pub AreLayersIn : {F A B G : Type 0} → TreeDigests → ℕ → (F → ℕ) → ℕ → Vec (RowMajorMatrix F) A → Vec (Vec (List ℕ) B) G → Type 0
+AreLayersIn hash size number_of bits extended layers = AreLayersOver hash (element_bytes size number_of) bits extended.items (digests_in layers.items)

@@ -9,7 +9,7 @@ use Rattle.stark_support.specs.Faults.{PlaceByPlace}
 use Rattle.stark_support.specs.Ring.{RingOps}
 use Rattle.stark_support.specs.declared.matrix.RowMajorMatrix.{RowMajorMatrix}
 use Rattle.stark_merkle.specs.Bytes.{row_bytes_of}
-use Rattle.stark_merkle.specs.Tree.{leaf_of}
+use Rattle.stark_merkle.specs.Tree.{TreeDigests}
 use Rattle.stark_fri_prover.specs.Commit.{AreExtended, HaveRows, extended_row, leaf_at, leaves_of, row_of}
 
 module _ {F : Type 0} (ring : RingOps F) (root : ℕ → F) (coset : TwoAdicCoset F) where
@@ -33,14 +33,14 @@ module _ {F : Type 0} (ring : RingOps F) (root : ℕ → F) (coset : TwoAdicCose
       let inside = full_rows i (coset_size coset) rows.width (omega arith) in
       (omega (arith, inside, all.0.number), have_rows matrices extended all.1 i below)
 
-  pub same_leaves : (hash : List ℕ → List ℕ) (number_of : F → ℕ) (matrices : List (List (List F))) (extended : List (RowMajorMatrix F)) → AreExtended ring root coset matrices extended → (n : ℕ) → n ≤ coset_size coset
-      → leaves_of hash number_of extended n ≡ map (λ i. leaf_of hash (row_bytes_of number_of (extended_row ring root coset matrices i))) (range_with_len 0 n)
-  same_leaves hash number_of matrices extended all zero below = refl
-  same_leaves hash number_of matrices extended all (suc n) below =
-      let leaf : ℕ → List ℕ = λ i. leaf_of hash (row_bytes_of number_of (extended_row ring root coset matrices i)) in
-      ap (λ m. leaves_of hash number_of extended m) (sym (add-one n))
-      ∙ map-range_with_len_more (leaf_at hash number_of extended) 0 n n (omega arith)
-      ∙ ap (λ t. t ++ leaf_at hash number_of extended n ∷ []) (same_leaves hash number_of matrices extended all n (omega arith))
-      ∙ ap (λ t. map leaf (range_with_len 0 n) ++ leaf_of hash (row_bytes_of number_of t) ∷ []) (rows_are matrices extended all n (omega arith))
+  pub same_leaves : (hash : TreeDigests) (bytes_of : F → List ℕ) (matrices : List (List (List F))) (extended : List (RowMajorMatrix F)) → AreExtended ring root coset matrices extended → (n : ℕ) → n ≤ coset_size coset
+      → leaves_of hash bytes_of extended n ≡ map (λ i. hash.leaf (row_bytes_of bytes_of (extended_row ring root coset matrices i))) (range_with_len 0 n)
+  same_leaves hash bytes_of matrices extended all zero below = refl
+  same_leaves hash bytes_of matrices extended all (suc n) below =
+      let leaf : ℕ → List ℕ = λ i. hash.leaf (row_bytes_of bytes_of (extended_row ring root coset matrices i)) in
+      ap (λ m. leaves_of hash bytes_of extended m) (sym (add-one n))
+      ∙ map-range_with_len_more (leaf_at hash bytes_of extended) 0 n n (omega arith)
+      ∙ ap (λ t. t ++ leaf_at hash bytes_of extended n ∷ []) (same_leaves hash bytes_of matrices extended all n (omega arith))
+      ∙ ap (λ t. map leaf (range_with_len 0 n) ++ hash.leaf (row_bytes_of bytes_of t) ∷ []) (rows_are matrices extended all n (omega arith))
       ∙ sym (map-range_with_len_more leaf 0 n n (omega arith))
       ∙ ap (λ m. map leaf (range_with_len 0 m)) (add-one n)

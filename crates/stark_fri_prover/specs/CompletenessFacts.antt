@@ -29,8 +29,8 @@ use Rattle.stark_fri_prover.specs.CompletenessFactsLists.{all_zipped, related_co
 use Rattle.stark_fri_prover.specs.CompletenessFactsOpened.{batched_is_value, embedded_point, inputs_fit}
 use Rattle.stark_fri_prover.specs.CompletenessFactsWay.{LeadsToRoots, have_places, way_leads}
 
-module _ {C F E : Type 0} (ops : FriOps C F E) (number_of : F → ℕ) (coordinates : E → List F) (lawful : AreLawful ops.fields number_of coordinates) (s : FriParameters)
-    (rounds : List (RoundPoints E (FriDataView F))) (start : C) (proof : FriProofView F E) (opening : IsOpening ops number_of coordinates s rounds start proof) where
+module _ {C F E : Type 0} (ops : FriOps C F E) (bytes_of : F → List ℕ) (coordinates : E → List F) (lawful : AreLawful ops.fields bytes_of coordinates) (s : FriParameters)
+    (rounds : List (RoundPoints E (FriDataView F))) (start : C) (proof : FriProofView F E) (opening : IsOpening ops bytes_of coordinates s rounds start proof) where
   abbrev own : Instance C F E
   own = own_instance ops s rounds start proof
 
@@ -126,7 +126,7 @@ module _ {C F E : Type 0} (ops : FriOps C F E) (number_of : F → ℕ) (coordina
       → LeadsToRoots ops.fields ops.hash coset betas opening.polynomial place
       (batched_value ops.fields ops.hash (target_of ops own) (place, query)) (map phase_root proof.phases) query.layers
   leads place below query opens =
-      way_leads ops.fields number_of coordinates ops.fields.ring.zero ops.hash lawful.pair_bytes lawful.extension lifted coset valid betas opening.polynomial opening.folding.layers proof.phases query.layers place
+      way_leads ops.fields bytes_of coordinates ops.fields.ring.zero ops.hash lawful.pair_bytes lawful.extension lifted coset valid betas opening.polynomial opening.folding.layers proof.phases query.layers place
       (batched_value ops.fields ops.hash (target_of ops own) (place, query)) few below (value_is place below query opens) opening.folding.words opening.folding.trees
       (opens.way (have_places ops.fields coset betas opening.polynomial opening.folding.layers place few below opening.folding.words))
 

@@ -25,9 +25,9 @@ use Rattle.stark_fri_prover.specs.CompletenessFactsTrees.{extended_rounds, queri
 
 -- ---- what is made of rounds in memory
 
-module _ {C F E T X : Type 0} (ops : FriOps C F E) (number_of : F → ℕ) (coordinates : E → List F) (lawful : AreLawful ops.fields number_of coordinates) (data_of : T → FriDataView F)
+module _ {C F E T X : Type 0} (ops : FriOps C F E) (bytes_of : F → List ℕ) (coordinates : E → List F) (lawful : AreLawful ops.fields bytes_of coordinates) (data_of : T → FriDataView F)
     (layers_of : T → List (List (List ℕ))) (points_of : X → List (List E)) (s : FriParameters) (rounds : List (Bor T × X)) (start : C) (proof : FriProofView F E)
-    (makes : IsMade ops number_of coordinates data_of layers_of points_of s rounds start proof) where
+    (makes : IsMade ops bytes_of coordinates data_of layers_of points_of s rounds start proof) where
   abbrev seen : List (RoundPoints E (FriDataView F))
   seen = seen_rounds data_of points_of rounds
 
@@ -35,24 +35,24 @@ module _ {C F E T X : Type 0} (ops : FriOps C F E) (number_of : F → ℕ) (coor
   bits = own_bits ops s seen start proof
 
   -- What is made of kept rounds, of columns of a degree below their height, is an opening of them.
-  pub made_is_opening : AllByRecursion (λ (round : Bor T × X). IsKeptRound ops.fields bits ops.hash number_of (layers_of round.0.now) (seen_round data_of points_of round)) rounds
-      → HaveDegreesBelow (2 ^ own_height ops s seen start proof) seen → IsOpening ops number_of coordinates s seen start proof
+  pub made_is_opening : AllByRecursion (λ (round : Bor T × X). IsKeptRound ops.fields bits ops.hash bytes_of (layers_of round.0.now) (seen_round data_of points_of round)) rounds
+      → HaveDegreesBelow (2 ^ own_height ops s seen start proof) seen → IsOpening ops bytes_of coordinates s seen start proof
   made_is_opening kept degrees = record {
     claims = makes.claims;
-    extended = extended_rounds ops.fields bits ops.hash number_of lawful.row_bytes data_of layers_of points_of rounds kept;
+    extended = extended_rounds ops.fields bits ops.hash bytes_of lawful.row_bytes data_of layers_of points_of rounds kept;
     polynomial = makes.polynomial;
     batch = makes.batch degrees;
     folding = makes.folding;
-    queries = queries_lead ops.fields bits ops.hash number_of lawful.row_bytes data_of layers_of points_of rounds kept makes.folding.layers
+    queries = queries_lead ops.fields bits ops.hash bytes_of lawful.row_bytes data_of layers_of points_of rounds kept makes.folding.layers
         (places_from ops.sponge bits s.num_queries makes.folding.after_work) proof.queries (places_below ops.sponge bits s.num_queries makes.folding.after_work) makes.queries;
   }
 
 -- ---- of rounds that stand
 
-module _ {C F E S T P : Type 0} (ops : FriOps C F E) (number_of : F → ℕ) (parameters_of : S → FriParameters) (data_of : T → FriDataView F) (layers_of : T → List (List (List ℕ)))
+module _ {C F E S T P : Type 0} (ops : FriOps C F E) (bytes_of : F → List ℕ) (parameters_of : S → FriParameters) (data_of : T → FriDataView F) (layers_of : T → List (List (List ℕ)))
     (proof_of : P → FriProofView F E) (calls : CommittingCalls S F Root T) where
   -- It keeps the laws of schemes.
-  pub kept_laws : ops.fields.adicity < 64 → SchemeLaws (kept_scheme ops number_of parameters_of data_of layers_of proof_of calls)
+  pub kept_laws : ops.fields.adicity < 64 → SchemeLaws (kept_scheme ops bytes_of parameters_of data_of layers_of proof_of calls)
   kept_laws bound =
       let laws = fri_laws ops parameters_of data_of proof_of calls bound in
       record {
@@ -68,7 +68,7 @@ module _ {C F E S T P : Type 0} (ops : FriOps C F E) (number_of : F → ℕ) (pa
 
     -- The round stands, and so does its tree.
     abbrev pub IsStanding : Round → Type 0
-    IsStanding round = RoundStands (kept_scheme ops number_of parameters_of data_of layers_of proof_of calls) s round
+    IsStanding round = RoundStands (kept_scheme ops bytes_of parameters_of data_of layers_of proof_of calls) s round
 
     abbrev pub StandsAlone : Round → Type 0
     StandsAlone round = RoundStands (fri_scheme ops parameters_of data_of proof_of calls) s round
@@ -110,23 +110,23 @@ module _ {C F E S T P : Type 0} (ops : FriOps C F E) (number_of : F → ℕ) (pa
 
     -- ---- trees
 
-    module _ (row_bytes : (rows : List (List F)) → ops.fields.row_bytes rows ≡ row_bytes_of number_of rows) (height : ℕ) where
+    module _ (row_bytes : (rows : List (List F)) → ops.fields.row_bytes rows ≡ row_bytes_of bytes_of rows) (height : ℕ) where
       abbrev IsKept : RoundPoints E T → Type 0
-      IsKept round = IsKeptRound ops.fields (height + (parameters_of s).log_blowup) ops.hash number_of (layers_of round.0) (data_of round.0, round.1)
+      IsKept round = IsKeptRound ops.fields (height + (parameters_of s).log_blowup) ops.hash bytes_of (layers_of round.0) (data_of round.0, round.1)
 
       are_kept : (made : List Round) → AllByRecursion IsStanding made → HaveHeight height (map handed made) → AllByRecursion IsKept (map handed made)
       are_kept [] stand heights = tt
       are_kept (round ∷ made) stand heights = (
-        subst (λ n. IsKeptRound ops.fields (n + (parameters_of s).log_blowup) ops.hash number_of (layers_of round.prover_data) (data_of round.prover_data, round.points)) heights.0
-            (stands_is_kept ops number_of row_bytes (parameters_of s) round.commitment round.matrices (data_of round.prover_data, round.points) (layers_of round.prover_data)
+        subst (λ n. IsKeptRound ops.fields (n + (parameters_of s).log_blowup) ops.hash bytes_of (layers_of round.prover_data) (data_of round.prover_data, round.points)) heights.0
+            (stands_is_kept ops bytes_of row_bytes (parameters_of s) round.commitment round.matrices (data_of round.prover_data, round.points) (layers_of round.prover_data)
             stand.0.stands.0 stand.0.number stand.0.stands.1),
         are_kept made stand.1 heights.1,
       )
 
     -- ---- what was made
 
-    module _ {X : Type 0} (points_of : X → List (List E)) (coordinates : E → List F) (lawful : AreLawful ops.fields number_of coordinates) (rounds : List (Bor T × X)) (start : C) (proof : P)
-        (makes : IsMade ops number_of coordinates data_of layers_of points_of (parameters_of s) rounds start (proof_of proof)) where
+    module _ {X : Type 0} (points_of : X → List (List E)) (coordinates : E → List F) (lawful : AreLawful ops.fields bytes_of coordinates) (rounds : List (Bor T × X)) (start : C) (proof : P)
+        (makes : IsMade ops bytes_of coordinates data_of layers_of points_of (parameters_of s) rounds start (proof_of proof)) where
       abbrev pub round_points : Bor T × X → RoundPoints E T
       round_points round = (round.0.now, points_of round.1)
 
@@ -150,7 +150,7 @@ module _ {C F E S T P : Type 0} (ops : FriOps C F E) (number_of : F → ℕ) (pa
             all_mapped (seen_round data_of points_of) (λ (round : RoundPoints E (FriDataView F)). AllByRecursion (AllByRecursion (HasDegreeBelow (2 ^ height_of))) round.0.matrices) rounds
             (all_unmapped round_points (HasDegrees height_of) rounds (subst (AllByRecursion (HasDegrees height_of)) (sym same) (degrees_within height_of made stand of_height)))
 
-        kept : AllByRecursion (λ (round : Bor T × X). IsKeptRound ops.fields bits_here ops.hash number_of (layers_of round.0.now) (seen_round data_of points_of round)) rounds
+        kept : AllByRecursion (λ (round : Bor T × X). IsKeptRound ops.fields bits_here ops.hash bytes_of (layers_of round.0.now) (seen_round data_of points_of round)) rounds
         kept = all_unmapped round_points (IsKept lawful.row_bytes height_of) rounds
             (subst (AllByRecursion (IsKept lawful.row_bytes height_of)) (sym same) (are_kept lawful.row_bytes height_of made stand of_height))
 
@@ -159,9 +159,9 @@ module _ {C F E S T P : Type 0} (ops : FriOps C F E) (number_of : F → ℕ) (pa
 
         -- What is made of rounds that stand is accepted of their true claims.
         pub made_is_accepted : (index : Option ℕ)
-            → (kept_scheme ops number_of parameters_of data_of layers_of proof_of calls).Accepts s (map (true_claim ops.fields.ring ops.fields.embed) made) proof start index
+            → (kept_scheme ops bytes_of parameters_of data_of layers_of proof_of calls).Accepts s (map (true_claim ops.fields.ring ops.fields.embed) made) proof start index
         made_is_accepted index =
             own_is_true ops parameters_of data_of proof_of calls s made proof start index (stand_alone made stand)
             (subst (λ some. Accepted ops (instance_of (parameters_of s) (own_rounds ops some) (proof_of proof) start)) seen_is_handed
-            (opening_is_accepted ops number_of coordinates lawful (parameters_of s) own_seen start (proof_of proof)
-            (made_is_opening ops number_of coordinates lawful data_of layers_of points_of (parameters_of s) rounds start (proof_of proof) makes kept of_degree)))
+            (opening_is_accepted ops bytes_of coordinates lawful (parameters_of s) own_seen start (proof_of proof)
+            (made_is_opening ops bytes_of coordinates lawful data_of layers_of points_of (parameters_of s) rounds start (proof_of proof) makes kept of_degree)))

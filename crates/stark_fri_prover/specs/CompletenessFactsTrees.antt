@@ -12,7 +12,7 @@ use Rattle.stark_support.specs.Faults.{PlaceByPlace}
 use Rattle.stark_support.specs.Ring.{RingOps}
 use Rattle.stark_support.specs.Scheme.{CommittedMatrix}
 use Rattle.stark_merkle.specs.Bytes.{row_bytes_of}
-use Rattle.stark_merkle.specs.Tree.{HasPath, IsPath, IsPathIn, layer_above, leaf_of, led, node_of}
+use Rattle.stark_merkle.specs.Tree.{HasPath, IsPath, IsPathIn, TreeDigests, layer_above, led}
 use Rattle.stark_merkle.specs.TreeFacts.{full_has_path, led_to_root, path_in_layers, path_length}
 use Rattle.stark_merkle.specs.declared.root.Root.{Root}
 use Rattle.stark_fri.specs.Claims.{HasHeight, MatrixRead, own_claim, own_matrices}
@@ -28,41 +28,41 @@ use Rattle.stark_fri_prover.specs.CompletenessFactsLists.{related_mapped, relate
 use Rattle.stark_fri_prover.specs.Layers.{OpensAt, OpensEach, OpensRow, OpensRows}
 use Rattle.stark_fri_prover.specs.declared.layers.Layer.{Layer}
 
-module _ {F E : Type 0} (fields : FriFields F E) (bits : ℕ) (hash : List ℕ → List ℕ) (number_of : F → ℕ) (row_bytes : (rows : List (List F)) → fields.row_bytes rows ≡ row_bytes_of number_of rows) where
+module _ {F E : Type 0} (fields : FriFields F E) (bits : ℕ) (hash : TreeDigests) (bytes_of : F → List ℕ) (row_bytes : (rows : List (List F)) → fields.row_bytes rows ≡ row_bytes_of bytes_of rows) where
   -- A row that is opened of a kept round leads to its root.
   pub row_leads : (place : ℕ) → place < 2 ^ bits → (round : RoundPoints E (FriDataView F)) (layers : List (List (List ℕ))) (opened : InputOpening F)
-      → IsKeptRound fields bits hash number_of layers round → OpensRow place round.0.extended layers opened → OpensRound fields bits hash place round opened
+      → IsKeptRound fields bits hash bytes_of layers round → OpensRow place round.0.extended layers opened → OpensRound fields bits hash place round opened
   row_leads place below round layers opened kept opens =
       let coset : TwoAdicCoset F = extension_of fields.generator bits in
-      let node = node_of hash in
+      let node = hash.node in
       let matrices = round.0.matrices in
       let extended = round.0.extended in
       let digests = digests_of opened.path in
-      let leaves = leaves_of hash number_of extended (2 ^ bits) in
-      let leaf = leaf_at hash number_of extended in
+      let leaves = leaves_of hash bytes_of extended (2 ^ bits) in
+      let leaf = leaf_at hash bytes_of extended in
       let have : HaveRow place extended = have_rows fields.base fields.root coset matrices extended kept.extended.rows place (omega (arith, below)) in
       let rows = opens.rows have in
       let full : length leaves ≡ 2 ^ bits = length-map-range_with_len leaf 0 (2 ^ bits) in
       let way : IsPathIn layers place digests = (opens.path have).path (subst (λ t. HasPath t place) (sym kept.tree) (full_has_path node bits leaves place full below)) in
       let path : IsPath node bits leaves place digests = path_in_layers node bits leaves place digests (subst (λ t. IsPathIn t place digests) kept.tree way) in
       let top : layer_above node bits leaves ≡ round.0.root.bytes ∷ []
-      = ap (layer_above node bits) (same_leaves fields.base fields.root coset hash number_of matrices extended kept.extended.rows (2 ^ bits) (omega arith)) ∙ kept.root in
+      = ap (layer_above node bits) (same_leaves fields.base fields.root coset hash bytes_of matrices extended kept.extended.rows (2 ^ bits) (omega arith)) ∙ kept.root in
       let there : slice_get leaves place ≡ Some (leaf place)
       = slice_get-get_or leaves place [] (subst (λ m. place < m) (sym full) below) ∙ ap Some (get_or-map-range_with_len leaf 0 (2 ^ bits) place place [] below (omega arith)) in
-      let bytes : fields.row_bytes opened.rows ≡ row_bytes_of number_of (map (row_of place) extended) = row_bytes opened.rows ∙ ap (row_bytes_of number_of) rows in
+      let bytes : fields.row_bytes opened.rows ≡ row_bytes_of bytes_of (map (row_of place) extended) = row_bytes opened.rows ∙ ap (row_bytes_of bytes_of) rows in
       record {
         rows = rows;
         path = (
           path_length node bits leaves place digests path,
           below,
-          ap (λ t. led node place (leaf_of hash t) digests) bytes ∙ led_to_root node bits leaves round.0.root.bytes place (leaf place) digests top there path,
+          ap (λ t. led node place (hash.leaf t) digests) bytes ∙ led_to_root node bits leaves round.0.root.bytes place (leaf place) digests top there path,
         );
       }
 
   -- What is kept of rounds in memory, whose data are seen so.
   module _ {T X : Type 0} (data_of : T → FriDataView F) (layers_of : T → List (List (List ℕ))) (points_of : X → List (List E)) where
     abbrev pub IsKeptInMemory : Bor T × X → Type 0
-    IsKeptInMemory round = IsKeptRound fields bits hash number_of (layers_of round.0.now) (seen_round data_of points_of round)
+    IsKeptInMemory round = IsKeptRound fields bits hash bytes_of (layers_of round.0.now) (seen_round data_of points_of round)
 
     pub extended_rounds : (rounds : List (Bor T × X)) → AllByRecursion IsKeptInMemory rounds → AllByRecursion (IsExtendedRound fields bits) (seen_rounds data_of points_of rounds)
     extended_rounds [] kept = tt
@@ -105,17 +105,17 @@ module _ {F E : Type 0} (ring : RingOps E) (embed : F → E) where
   have_claimed_height height [] all same some = tt
   have_claimed_height height (round ∷ rounds) all same some = (has_claimed_height height round all.0 same.0 some.0, have_claimed_height height rounds all.1 same.1 some.1)
 
-module _ {C F E : Type 0} (ops : FriOps C F E) (number_of : F → ℕ) (row_bytes : (rows : List (List F)) → ops.fields.row_bytes rows ≡ row_bytes_of number_of rows) (s : FriParameters) where
+module _ {C F E : Type 0} (ops : FriOps C F E) (bytes_of : F → List ℕ) (row_bytes : (rows : List (List F)) → ops.fields.row_bytes rows ≡ row_bytes_of bytes_of rows) (s : FriParameters) where
   -- The data of a commitment that stands, with the tree over its rows, are kept.
   pub stands_is_kept : (root : Root) (matrices : List (CommittedMatrix F)) (round : RoundPoints E (FriDataView F)) (layers : List (List (List ℕ))) → FriStands ops s root round.0 matrices
-      → length round.1 ≡ length matrices → AreLayersOver ops.hash number_of (round.0.log_height + s.log_blowup) round.0.extended layers
-      → IsKeptRound ops.fields (round.0.log_height + s.log_blowup) ops.hash number_of layers round
+      → length round.1 ≡ length matrices → AreLayersOver ops.hash bytes_of (round.0.log_height + s.log_blowup) round.0.extended layers
+      → IsKeptRound ops.fields (round.0.log_height + s.log_blowup) ops.hash bytes_of layers round
   stands_is_kept root matrices round layers stands number built =
       let bits = round.0.log_height + s.log_blowup in
-      let same : ops.fields.row_bytes ≡ row_bytes_of number_of = λ k rows. row_bytes rows k in
+      let same : ops.fields.row_bytes ≡ row_bytes_of bytes_of = λ k rows. row_bytes rows k in
       record {
         extended = record { rows = stands.rows; points = number ∙ sym (length-map matrices (λ m. m.columns)) ∙ ap length (sym stands.columns) };
         tree = built;
-        root = ap (λ (bytes : List (List F) → List ℕ). layer_above (node_of ops.hash) bits (map (λ i. leaf_of ops.hash (bytes (extended_row ops bits round.0.matrices i))) (range_with_len 0 (2 ^ bits)))) (sym same)
+        root = ap (λ (bytes : List (List F) → List ℕ). layer_above ops.hash.node bits (map (λ i. ops.hash.leaf (bytes (extended_row ops bits round.0.matrices i))) (range_with_len 0 (2 ^ bits)))) (sym same)
             ∙ stands.extended ∙ ap (λ (top : Root). top.bytes ∷ []) stands.commitment;
       }

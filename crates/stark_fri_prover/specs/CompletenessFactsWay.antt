@@ -17,7 +17,7 @@ use Rattle.stark_folding.specs.FoldFacts.{squares_valid}
 use Rattle.stark_folding.specs.Walk.{folded_all, half_size, steps_of_layers, last_coset, last_place, next_value, opposite_place, walked}
 use Rattle.stark_folding.specs.WalkFacts.{walk_of_layers}
 use Rattle.stark_merkle.specs.Bytes.{pair_bytes_of}
-use Rattle.stark_merkle.specs.Tree.{HasPath, IsPathIn, digests_in, layers_from, leaf_of, node_of, top_of}
+use Rattle.stark_merkle.specs.Tree.{HasPath, IsPathIn, TreeDigests, digests_in, layers_from, top_of}
 use Rattle.stark_merkle.specs.TreeFacts.{full_has_path, own_row_leads}
 use Rattle.stark_merkle.specs.declared.root.Root.{Root}
 use Rattle.stark_fri.specs.Parts.{FriFields}
@@ -117,15 +117,15 @@ module _ {F E : Type 0} (fields : FriFields F E) where
       )
 
   -- Each pair that is opened on the way of value v at place i leads to its tree's root, and the values are those of an honest walk.
-  pub record LeadsToRoots (hash : List ℕ → List ℕ) (c : TwoAdicCoset E) (betas p : List E) (i : ℕ) (v : E) (trees : List (List ℕ)) (opened : List (LayerOpening E)) : Type 0 where
+  pub record LeadsToRoots (hash : TreeDigests) (c : TwoAdicCoset E) (betas p : List E) (i : ℕ) (v : E) (trees : List (List ℕ)) (opened : List (LayerOpening E)) : Type 0 where
     pub pairs : AllByRecursion (PairLeads hash) (pairs_of fields c i v trees betas opened)
     pub steps : zip betas (map (λ layer. layer.sibling) opened) ≡ steps_of_layers fields.ring (extension_root fields) c i p betas
     pub number : length opened ≡ length betas
 
 -- ---- one layer
 
-module _ {F E : Type 0} (fields : FriFields F E) (number_of : F → ℕ) (coordinates : E → List F) (zero : E) (hash : List ℕ → List ℕ)
-    (pair_bytes : (x y : E) → fields.pair_bytes x y ≡ pair_bytes_of number_of coordinates x y) where
+module _ {F E : Type 0} (fields : FriFields F E) (bytes_of : F → List ℕ) (coordinates : E → List F) (zero : E) (hash : TreeDigests)
+    (pair_bytes : (x y : E) → fields.pair_bytes x y ≡ pair_bytes_of bytes_of coordinates x y) where
   module _ (c : TwoAdicCoset E) (p : List E) (values : List E) (word : TakesOn fields.ring (extension_root fields) c (value fields.ring p) values) where
     -- The polynomial's value at a place.
     abbrev at_place : ℕ → E
@@ -135,7 +135,7 @@ module _ {F E : Type 0} (fields : FriFields F E) (number_of : F → ℕ) (coordi
     value_at : (i : ℕ) → i < coset_size c → get_or values i zero ≡ at_place i
     value_at i below = get_or_from_slice_get values i (at_place i) zero (word.at_row i below)
 
-    module _ (some : 1 ≤ c.log_size) (tree : List (List (List ℕ))) (root : Root) (built : IsPairTree number_of coordinates zero hash c.log_size values tree root) (i : ℕ) (below : i < coset_size c)
+    module _ (some : 1 ≤ c.log_size) (tree : List (List (List ℕ))) (root : Root) (built : IsPairTree bytes_of coordinates zero hash c.log_size values tree root) (i : ℕ) (below : i < coset_size c)
         (opened : LayerOpening E) (opens : OpensPlace values tree i opened) where
       half_is : length values / 2 ≡ half_size c
       half_is = halved (length values) (half_size c) (word.number ∙ size_is_twice c some)
@@ -147,7 +147,7 @@ module _ {F E : Type 0} (fields : FriFields F E) (number_of : F → ℕ) (coordi
           same_Some _ _ (sym both.sibling ∙ word.at_row (opposite_place c i) (opposite_below c some i))
 
       -- The pair's bytes are those of the pair that the tree has at the rest.
-      bytes_are : pair_bytes_at fields c i (at_place i) (at_place (opposite_place c i)) ≡ pair_of number_of coordinates zero values (length values / 2) (i % half_size c)
+      bytes_are : pair_bytes_at fields c i (at_place i) (at_place (opposite_place c i)) ≡ pair_of bytes_of coordinates zero values (length values / 2) (i % half_size c)
       bytes_are =
           let n = half_size c in
           let j = i % n in
@@ -155,12 +155,12 @@ module _ {F E : Type 0} (fields : FriFields F E) (number_of : F → ℕ) (coordi
           let twice = size_is_twice c some in
           let first = value_at j (omega (arith, rest, twice)) in
           let second = value_at (n + j) (omega (arith, rest, twice)) in
-          let pair : fields.pair_bytes (at_place j) (at_place (j + n)) ≡ pair_of number_of coordinates zero values (length values / 2) j
+          let pair : fields.pair_bytes (at_place j) (at_place (j + n)) ≡ pair_of bytes_of coordinates zero values (length values / 2) j
           = pair_bytes (at_place j) (at_place (j + n))
-          ∙ ap (λ m. pair_bytes_of number_of coordinates (at_place j) (at_place m)) (omega arith)
-          ∙ ap (λ a. pair_bytes_of number_of coordinates a (at_place (n + j))) (sym first)
-          ∙ ap (λ b. pair_bytes_of number_of coordinates (get_or values j zero) b) (sym second)
-          ∙ ap (λ h. pair_of number_of coordinates zero values h j) (sym half_is) in
+          ∙ ap (λ m. pair_bytes_of bytes_of coordinates (at_place j) (at_place m)) (omega arith)
+          ∙ ap (λ a. pair_bytes_of bytes_of coordinates a (at_place (n + j))) (sym first)
+          ∙ ap (λ b. pair_bytes_of bytes_of coordinates (get_or values j zero) b) (sym second)
+          ∙ ap (λ h. pair_of bytes_of coordinates zero values h j) (sym half_is) in
           let chosen = λ (b : Bool). cond b (fields.pair_bytes (at_place i) (at_place (cond b (j + n) j))) (fields.pair_bytes (at_place (cond b (j + n) j)) (at_place i)) in
           elim (leb_tells (suc i) n) [
             | inl w ↦ let low : i < n = w.1 in ap chosen w.0 ∙ ap (λ m. fields.pair_bytes (at_place m) (at_place (j + n))) (sym (low_rest i n low)) ∙ pair
@@ -176,32 +176,32 @@ module _ {F E : Type 0} (fields : FriFields F E) (number_of : F → ℕ) (coordi
       -- It leads to the root.
       pair_leads : (v : E) → v ≡ at_place i → PairLeads hash (pair_at fields c i v root.bytes opened)
       pair_leads v is_value =
-          let node = node_of hash in
+          let node = hash.node in
           let j = i % half_size c in
           let depth = c.log_size - 1 in
           let half = length values / 2 in
-          let leaves = pair_leaves_of number_of coordinates zero hash values in
+          let leaves = pair_leaves_of bytes_of coordinates zero hash values in
           let rest = rest_below c some i in
           let both = opens_opposite c some values tree i opened word.number below opens in
-          let leaf = pair_leaf number_of coordinates zero hash values half in
+          let leaf = pair_leaf bytes_of coordinates zero hash values half in
           let full : length leaves ≡ half_size c = length-map-range_with_len leaf 0 half ∙ half_is in
           let there : slice_get leaves j ≡ Some (leaf j)
           = slice_get-get_or leaves j [] (subst (λ m. j < m) (sym full) rest)
           ∙ ap Some (get_or-map-range_with_len leaf 0 half j j [] (subst (λ m. j < m) (sym half_is) rest) (omega arith)) in
-          let bytes : pair_bytes_at fields c i v opened.sibling ≡ pair_of number_of coordinates zero values half j
+          let bytes : pair_bytes_at fields c i v opened.sibling ≡ pair_of bytes_of coordinates zero values half j
           = ap (λ a. pair_bytes_at fields c i a opened.sibling) is_value ∙ ap (pair_bytes_at fields c i (at_place i)) sibling_is ∙ bytes_are in
           let way : IsPathIn (layers_from node depth leaves) j (digests_of opened.path)
           = subst (λ t. IsPathIn t j (digests_of opened.path)) built.levels
           (both.path.path (subst (λ t. HasPath t j) (sym built.levels) (full_has_path node depth leaves j full rest))) in
           own_row_leads hash depth leaves root.bytes (pair_bytes_at fields c i v opened.sibling) j (digests_of opened.path) full
           (ap top_of (sym built.levels) ∙ built.top)
-          (there ∙ ap (λ t. Some (leaf_of hash t)) (sym bytes))
+          (there ∙ ap (λ t. Some (hash.leaf t)) (sym bytes))
           way
 
   -- ---- all layers
 
   abbrev Trees : ℕ → List (Phase F) → List (Layer E) → Type 0
-  Trees log_size phases layers = AreLayersOf number_of coordinates zero hash log_size phases layers
+  Trees log_size phases layers = AreLayersOf bytes_of coordinates zero hash log_size phases layers
 
   module _ (laws : FieldLaws fields.ring fields.inverse) (two_adic : TwoAdicLaws fields.ring fields.adicity (extension_root fields) (fields.embed fields.generator)) where
     abbrev Valid : TwoAdicCoset E → Type 0

@@ -8,6 +8,7 @@ use Rattle.stark_fri.specs.Transcript.{Passes, after_phases, asked, betas_of, ch
 use Rattle.stark_fri_proof.specs.declared.proof.Phase.{Phase}
 use Rattle.stark_support.specs.Coset.{coset_from}
 use Rattle.stark_support.specs.Ring.{RingOps}
+use Rattle.stark_merkle.specs.Tree.{TreeDigests}
 use Rattle.stark_fri_prover.specs.Batching.{AreWordsOf, IsWordOf}
 use Rattle.stark_fri_prover.specs.Layers.{AreLayersOf, IsLayerOf}
 use Rattle.stark_fri_prover.specs.Words.{IsWordIn}
@@ -48,13 +49,13 @@ module _ {C F E : Type 0} (sponge : SpongeCalls C F E) (ring : RingOps E) (bits 
   abbrev pub MakesFolds : ℕ → C → C → List E → Folds F E → Type 0
   MakesFolds count before after polynomial made = AreFolds sponge ring bits count before after polynomial made.phases.items made.last.items
 
-module _ {F E : Type 0} (number_of : F → ℕ) (coordinates : E → List F) (zero : E) (hash : List ℕ → List ℕ) where
+module _ {F E : Type 0} (bytes_of : F → List ℕ) (coordinates : E → List F) (zero : E) (hash : TreeDigests) where
   -- The root of a fold's phase is that of its layer's tree.
   abbrev pub CommitsLayer : ℕ → Halved F E → Type 0
-  CommitsLayer log_size made = IsLayerOf number_of coordinates zero hash log_size made.phase.root made.layer
+  CommitsLayer log_size made = IsLayerOf bytes_of coordinates zero hash log_size made.phase.root made.layer
 
   abbrev pub CommitsLayers : ℕ → Folds F E → Type 0
-  CommitsLayers log_size made = AreLayersOf number_of coordinates zero hash log_size made.phases.items made.layers.items
+  CommitsLayers log_size made = AreLayersOf bytes_of coordinates zero hash log_size made.phases.items made.layers.items
 
 -- A fold's layer has the polynomial's word on the coset, and what is left is the word of what it is folded to, on the squares.
 abbrev pub FoldsWord : {F E : Type 0} → RingOps E → (F → E) → (ℕ → F) → F → ℕ → List E → Halved F E → Type 0

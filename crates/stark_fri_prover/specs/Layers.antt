@@ -12,16 +12,16 @@ use Rattle.stark_support.specs.declared.matrix.RowMajorMatrix.{RowMajorMatrix}
 use Rattle.stark_fri_prover.specs.Commit.{HaveRow, IsPathOrNone, row_of}
 use Rattle.stark_merkle.specs.Bytes.{pair_bytes_of}
 use Rattle.stark_merkle.specs.declared.root.Root.{Root}
-use Rattle.stark_merkle.specs.Tree.{digests_in, layers_from, leaf_of, node_of, top_of}
+use Rattle.stark_merkle.specs.Tree.{TreeDigests, digests_in, layers_from, top_of}
 
-module _ {F E : Type 0} (number_of : F → ℕ) (coordinates : E → List F) (zero : E) where
+module _ {F E : Type 0} (bytes_of : F → List ℕ) (coordinates : E → List F) (zero : E) where
   -- The bytes of the values at a place and half the word further.
   abbrev pub pair_of : List E → ℕ → ℕ → List ℕ
-  pair_of values half i = pair_bytes_of number_of coordinates (get_or values i zero) (get_or values (half + i) zero)
+  pair_of values half i = pair_bytes_of bytes_of coordinates (get_or values i zero) (get_or values (half + i) zero)
 
-  module _ (hash : List ℕ → List ℕ) where
+  module _ (hash : TreeDigests) where
     abbrev pub pair_leaf : List E → ℕ → ℕ → List ℕ
-    pair_leaf values half i = leaf_of hash (pair_of values half i)
+    pair_leaf values half i = hash.leaf (pair_of values half i)
 
     -- The leaves of the first pairs, and of all of them.
     abbrev pub pair_leaves_to : List E → ℕ → List (List ℕ)
@@ -36,7 +36,7 @@ module _ {F E : Type 0} (number_of : F → ℕ) (coordinates : E → List F) (ze
 
     -- The layers of the tree over the pairs of a word of 2 ^ log_size values, and its root.
     pub record IsPairTree (log_size : ℕ) (values : List E) (layers : List (List (List ℕ))) (root : Root) : Type 0 where
-      pub levels : layers ≡ layers_from (node_of hash) (log_size - 1) (pair_leaves_of values)
+      pub levels : layers ≡ layers_from hash.node (log_size - 1) (pair_leaves_of values)
       pub top : top_of layers ≡ Some root.bytes
 
 -- The value at another place, with the path of a pair.
@@ -50,10 +50,10 @@ pub record OpensPlace {E : Type 0} (values : List E) (layers : List (List (List 
   pub lower : place < length values / 2 → OpensPair values layers (place + length values / 2) place opened
   pub upper : length values / 2 ≤ place → OpensPair values layers (place - length values / 2) (place - length values / 2) opened
 
-module _ {F E : Type 0} (number_of : F → ℕ) (coordinates : E → List F) (zero : E) (hash : List ℕ → List ℕ) where
+module _ {F E : Type 0} (bytes_of : F → List ℕ) (coordinates : E → List F) (zero : E) (hash : TreeDigests) where
   -- The tree of a layer of 2 ^ log_size values has this root.
   abbrev pub IsLayerOf : ℕ → Root → Layer E → Type 0
-  IsLayerOf log_size root layer = IsPairTree number_of coordinates zero hash log_size layer.values.items (digests_in layer.tree.items) root
+  IsLayerOf log_size root layer = IsPairTree bytes_of coordinates zero hash log_size layer.values.items (digests_in layer.tree.items) root
 
   -- The trees of layers, each of half as many values as the one before, have the phases' roots.
   unfoldable pub AreLayersOf : ℕ → List (Phase F) → List (Layer E) → Type 0

@@ -11,7 +11,7 @@ use Rattle.stark_support.specs.Scheme.{CommittingCalls, SchemeOps}
 use Rattle.stark_support.specs.Sponge.{observed_all}
 use Rattle.stark_support.specs.TwoAdic.{TwoAdicLaws}
 use Rattle.stark_merkle.specs.Bytes.{pair_bytes_of, row_bytes_of}
-use Rattle.stark_merkle.specs.Tree.{LeadsTo}
+use Rattle.stark_merkle.specs.Tree.{LeadsTo, TreeDigests}
 use Rattle.stark_merkle.specs.declared.root.Root.{Root}
 use Rattle.stark_fri.specs.Accept.{bits_of, fold_count, log_height_of}
 use Rattle.stark_fri.specs.Claims.{ClaimsFit, height_of}
@@ -34,13 +34,13 @@ use Rattle.stark_fri_prover.specs.Work.{StopsAtFold, StopsAtQueries}
 
 -- The base field and the extension are fields, the one inside the other, the base has its roots of one, and rows and pairs are
 -- written by the numbers of their elements.
-pub record AreLawful {F E : Type 0} (fields : FriFields F E) (number_of : F → ℕ) (coordinates : E → List F) : Type 0 where
+pub record AreLawful {F E : Type 0} (fields : FriFields F E) (bytes_of : F → List ℕ) (coordinates : E → List F) : Type 0 where
   pub base : FieldLaws fields.base fields.base_inverse
   pub extension : FieldLaws fields.ring fields.inverse
   pub embeds : IsEmbedding fields.base fields.ring fields.embed
   pub two_adic : TwoAdicLaws fields.base fields.adicity fields.root fields.generator
-  pub row_bytes : (rows : List (List F)) → fields.row_bytes rows ≡ row_bytes_of number_of rows
-  pub pair_bytes : (x y : E) → fields.pair_bytes x y ≡ pair_bytes_of number_of coordinates x y
+  pub row_bytes : (rows : List (List F)) → fields.row_bytes rows ≡ row_bytes_of bytes_of rows
+  pub pair_bytes : (x y : E) → fields.pair_bytes x y ≡ pair_bytes_of bytes_of coordinates x y
 
 module _ {F E : Type 0} (fields : FriFields F E) (bits : ℕ) where
   -- A round's kept rows are its columns' values at 2 ^ bits points, and each matrix has its list of points.
@@ -48,12 +48,12 @@ module _ {F E : Type 0} (fields : FriFields F E) (bits : ℕ) where
     pub rows : AreExtended fields.base fields.root (extension_of fields.generator bits) round.0.matrices round.0.extended
     pub points : length round.1 ≡ length round.0.matrices
 
-  module _ (hash : List ℕ → List ℕ) where
+  module _ (hash : TreeDigests) where
     -- Over the kept rows stands a tree of these layers, with the round's root.
-    pub record IsKeptRound (number_of : F → ℕ) (layers : List (List (List ℕ))) (round : RoundPoints E (FriDataView F)) : Type 0 where
+    pub record IsKeptRound (bytes_of : F → List ℕ) (layers : List (List (List ℕ))) (round : RoundPoints E (FriDataView F)) : Type 0 where
       pub extended : IsExtendedRound round
-      pub tree : AreLayersOver hash number_of bits round.0.extended layers
-      pub root : IsRootOver fields.base fields.root hash number_of (extension_of fields.generator bits) round.0.matrices round.0.root.bytes
+      pub tree : AreLayersOver hash bytes_of bits round.0.extended layers
+      pub root : IsRootOver fields.base fields.root hash bytes_of (extension_of fields.generator bits) round.0.matrices round.0.root.bytes
 
     -- What is opened of a round at a place is the kept row, with a path to the round's root.
     pub record OpensRound (place : ℕ) (round : RoundPoints E (FriDataView F)) (opened : InputOpening F) : Type 0 where
@@ -81,7 +81,7 @@ module _ {C F E : Type 0} (ops : FriOps C F E) (s : FriParameters) (rounds : Lis
   abbrev pub IsBatched : List E → Type 0
   IsBatched polynomial = IsBatch ops.fields.ring ops.fields.embed (alpha_of ops.sponge own_instance) (2 ^ own_height) rounds polynomial
 
-module _ {C F E : Type 0} (ops : FriOps C F E) (number_of : F → ℕ) (coordinates : E → List F) (s : FriParameters) (rounds : List (RoundPoints E (FriDataView F))) (start : C) (proof : FriProofView F E) where
+module _ {C F E : Type 0} (ops : FriOps C F E) (bytes_of : F → List ℕ) (coordinates : E → List F) (s : FriParameters) (rounds : List (RoundPoints E (FriDataView F))) (start : C) (proof : FriProofView F E) where
   abbrev own : Instance C F E
   own = own_instance ops s rounds start proof
 
@@ -96,7 +96,7 @@ module _ {C F E : Type 0} (ops : FriOps C F E) (number_of : F → ℕ) (coordina
         proof.phases proof.final_polynomial
     pub layers : List (Layer E)
     pub words : AreWordsOf ops.fields.ring (extension_root ops.fields) (extension_coset ops.fields bits) (fold_betas ops.sponge own) polynomial layers
-    pub trees : AreLayersOf number_of coordinates ops.fields.ring.zero ops.hash bits proof.phases layers
+    pub trees : AreLayersOf bytes_of coordinates ops.fields.ring.zero ops.hash bits proof.phases layers
     pub after_work : C
     pub work : IsWitness ops.sponge.zero ops.sponge.passes ops.sponge.after_check s.query_proof_of_work_bits
         (observed_all (observed_extension ops.sponge.observing) proof.final_polynomial after_folds) after_work proof.query_witness
@@ -128,7 +128,7 @@ seen_rounds data_of points_of rounds = map (seen_round data_of points_of) rounds
 abbrev pub AreOfHeight : {F E : Type 0} → ℕ → List (RoundPoints E (FriDataView F)) → Type 0
 AreOfHeight {F} {E} height rounds = AllByRecursion (λ (round : RoundPoints E (FriDataView F)). round.0.log_height ≡ height) rounds
 
-module _ {C F E T X : Type 0} (ops : FriOps C F E) (number_of : F → ℕ) (coordinates : E → List F) (data_of : T → FriDataView F) (layers_of : T → List (List (List ℕ))) (points_of : X → List (List E))
+module _ {C F E T X : Type 0} (ops : FriOps C F E) (bytes_of : F → List ℕ) (coordinates : E → List F) (data_of : T → FriDataView F) (layers_of : T → List (List (List ℕ))) (points_of : X → List (List E))
     (s : FriParameters) (rounds : List (Bor T × X)) (start : C) (proof : FriProofView F E) where
   abbrev seen : List (RoundPoints E (FriDataView F))
   seen = seen_rounds data_of points_of rounds
@@ -140,12 +140,12 @@ module _ {C F E T X : Type 0} (ops : FriOps C F E) (number_of : F → ℕ) (coor
     pub heights : AreOfHeight (own_height ops s seen start proof) seen
     pub polynomial : List E
     pub batch : HaveDegreesBelow (2 ^ own_height ops s seen start proof) seen → IsBatched ops s seen start proof polynomial
-    pub folding : IsFolding ops number_of coordinates s seen start proof polynomial
+    pub folding : IsFolding ops bytes_of coordinates s seen start proof polynomial
     pub queries : OpensEach (λ stored. (data_of stored).extended) layers_of rounds folding.layers (places_from ops.sponge (own_bits ops s seen start proof) s.num_queries folding.after_work) proof.queries
 
 -- ---- why there is no opening
 
-module _ {C F E : Type 0} (ops : FriOps C F E) (number_of : F → ℕ) (s : FriParameters) (rounds : List (RoundPoints E (FriDataView F))) (start : C) where
+module _ {C F E : Type 0} (ops : FriOps C F E) (bytes_of : F → List ℕ) (s : FriParameters) (rounds : List (RoundPoints E (FriDataView F))) (start : C) where
   -- The state from which alpha is drawn, and the logarithm of the columns' length.
   abbrev claimed : C
   claimed = observed_claims ops.sponge.observing (observed_parameters ops.sponge.observing start s) (own_rounds ops rounds)
@@ -154,10 +154,10 @@ module _ {C F E : Type 0} (ops : FriOps C F E) (number_of : F → ℕ) (s : FriP
   log_height = height_of (own_rounds ops rounds)
 
   abbrev FoldsStop : List E → Type 0
-  FoldsStop polynomial = StopsAtFold ops number_of s.commit_proof_of_work_bits ops.fields.generator (log_height + s.log_blowup) (fold_count s log_height) (ops.sponge.after_draw claimed) polynomial
+  FoldsStop polynomial = StopsAtFold ops bytes_of s.commit_proof_of_work_bits ops.fields.generator (log_height + s.log_blowup) (fold_count s log_height) (ops.sponge.after_draw claimed) polynomial
 
   abbrev QueriesStop : List E → Type 0
-  QueriesStop polynomial = StopsAtQueries ops number_of s.commit_proof_of_work_bits ops.fields.generator (log_height + s.log_blowup) (fold_count s log_height) s.query_proof_of_work_bits
+  QueriesStop polynomial = StopsAtQueries ops bytes_of s.commit_proof_of_work_bits ops.fields.generator (log_height + s.log_blowup) (fold_count s log_height) s.query_proof_of_work_bits
       (ops.sponge.after_draw claimed) polynomial
 
   -- An honest transcript comes to a check that no element passes: the claims fit and are batched, and of the batch's folds one asks
@@ -177,10 +177,10 @@ module _ {C F E : Type 0} (ops : FriOps C F E) (number_of : F → ℕ) (s : FriP
   OpeningFault NoWork = LacksWitness
 
 -- The FRI scheme, where what stands for matrices also has the tree over their rows, and work is lacking only where no witness passes.
-abbrev pub kept_scheme : {C F E S T P : Type 0} → FriOps C F E → (F → ℕ) → (S → FriParameters) → (T → FriDataView F) → (T → List (List (List ℕ))) → (P → FriProofView F E)
+abbrev pub kept_scheme : {C F E S T P : Type 0} → FriOps C F E → (F → List ℕ) → (S → FriParameters) → (T → FriDataView F) → (T → List (List (List ℕ))) → (P → FriProofView F E)
     → CommittingCalls S F Root T → SchemeOps S F E C Root T P FriError FriProverError
-kept_scheme ops number_of parameters_of data_of layers_of proof_of calls = record (fri_scheme ops parameters_of data_of proof_of calls) {
+kept_scheme ops bytes_of parameters_of data_of layers_of proof_of calls = record (fri_scheme ops parameters_of data_of proof_of calls) {
   Stands = λ s root stored matrices. FriStands ops (parameters_of s) root (data_of stored) matrices
-      × AreLayersOver ops.hash number_of ((data_of stored).log_height + (parameters_of s).log_blowup) (data_of stored).extended (layers_of stored);
-  RefusesOpening = λ s rounds state index error. OpeningFault ops number_of (parameters_of s) (map (points_view ops parameters_of data_of proof_of) rounds) state error;
+      × AreLayersOver ops.hash bytes_of ((data_of stored).log_height + (parameters_of s).log_blowup) (data_of stored).extended (layers_of stored);
+  RefusesOpening = λ s rounds state index error. OpeningFault ops bytes_of (parameters_of s) (map (points_view ops parameters_of data_of proof_of) rounds) state error;
 }

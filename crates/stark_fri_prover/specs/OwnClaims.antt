@@ -64,5 +64,5 @@ module _ {C F E D T A B G J : Type 0} (ops : FriOps C F E) (coset_of : D → Two
     pub heights : AreOfHeight log_height (seen_rounds data_of points_in rounds)
 
 -- What may be answered in place of an opening of rounds in memory.
-abbrev pub RefusesRounds : {C F E T A B : Type 0} → FriOps C F E → (F → ℕ) → (T → FriDataView F) → FriParameters → List (Bor T × Vec (Vec E A) B) → C → FriProverError → Type 0
-RefusesRounds ops number_of data_of s rounds state error = OpeningFault ops number_of s (seen_rounds data_of points_in rounds) state error
+abbrev pub RefusesRounds : {C F E T A B : Type 0} → FriOps C F E → (F → List ℕ) → (T → FriDataView F) → FriParameters → List (Bor T × Vec (Vec E A) B) → C → FriProverError → Type 0
+RefusesRounds ops bytes_of data_of s rounds state error = OpeningFault ops bytes_of s (seen_rounds data_of points_in rounds) state error

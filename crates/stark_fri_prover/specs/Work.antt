@@ -2,6 +2,7 @@
 use Rattle.std.specs.Prelude.{◌≡◌, ℕ, ◌<◌, false, Bool, List, [], ◌∷◌, ◌++◌, length, IfNone, IfOk, Option, Result}
 use Rattle.stark_support.specs.Coset.{TwoAdicCoset, coset_from}
 use Rattle.stark_support.specs.Sponge.{observed_all}
+use Rattle.stark_merkle.specs.Bytes.{element_bytes}
 use Rattle.stark_merkle.specs.declared.root.Root.{Root}
 use Rattle.stark_fri.specs.Parts.{FriOps}
 use Rattle.stark_fri.specs.Query.{extension_root}
@@ -21,12 +22,12 @@ NonePasses {C} {F} passes bits state = (witness : F) → passes state bits witne
 abbrev pub IfNoneMade : {T X : Type 0} → Result (Option T) X → Type 0 → Type 0
 IfNoneMade result holds = IfOk result (λ made. IfNone made holds)
 
-module _ {C F E : Type 0} (ops : FriOps C F E) (number_of : F → ℕ) (bits : ℕ) where
+module _ {C F E : Type 0} (ops : FriOps C F E) (bytes_of : F → List ℕ) (bits : ℕ) where
   -- The roots of the phases are those of the trees over the words of a polynomial and of what it is folded to, from a coset on.
   pub record AreRootsOf (coset : TwoAdicCoset E) (start : C) (polynomial : List E) (phases : List (Phase F)) : Type 0 where
     pub layers : List (Layer E)
     pub words : AreWordsOf ops.fields.ring (extension_root ops.fields) coset (betas_of ops.sponge bits start phases) polynomial layers
-    pub trees : AreLayersOf number_of ops.sponge.observing.coordinates ops.fields.ring.zero ops.hash coset.log_size phases layers
+    pub trees : AreLayersOf bytes_of ops.sponge.observing.coordinates ops.fields.ring.zero ops.hash coset.log_size phases layers
 
   -- A phase of which the witness is of no account.
   abbrev pub without_work : Root → Phase F
@@ -38,7 +39,7 @@ module _ {C F E : Type 0} (ops : FriOps C F E) (number_of : F → ℕ) (bits : �
       pub layer : Layer E
       pub root : Root
       pub word : IsWordIn ops.fields.ring ops.fields.embed ops.fields.root shift log_size polynomial layer.values.items
-      pub tree : IsLayerOf number_of ops.sponge.observing.coordinates ops.fields.ring.zero ops.hash log_size root layer
+      pub tree : IsLayerOf bytes_of ops.sponge.observing.coordinates ops.fields.ring.zero ops.hash log_size root layer
       pub none : NonePasses ops.sponge.passes bits (ops.sponge.observing.observe_root state root)
 
     -- Fewer folds than asked for were made, and for the next one, whose root is that of what is left, no witness passes.
@@ -61,11 +62,12 @@ module _ {C F E : Type 0} (ops : FriOps C F E) (number_of : F → ℕ) (bits : �
       pub roots : AreRootsOf (coset_from (ops.fields.embed shift) log_size) start polynomial phases
       pub none : NonePasses ops.sponge.passes query_bits (observed_all (observed_extension ops.sponge.observing) last after)
 
-    -- ---- in memory
+-- ---- in memory
 
-    -- Where no fold was made, no witness passes after the root of the polynomial's word; where not all folds were, one of them stops so.
-    abbrev pub StopsTheFold : {T X : Type 0} → C → List E → Result (Option T) X → Type 0
-    StopsTheFold state polynomial result = IfNoneMade result (StopsAtRoot state polynomial)
+module _ {C F E : Type 0} (ops : FriOps C F E) (size : ℕ) (number_of : F → ℕ) (bits : ℕ) (shift : F) (log_size : ℕ) where
+  -- Where no fold was made, no witness passes after the root of the polynomial's word; where not all folds were, one of them stops so.
+  abbrev pub NoFold : {T X : Type 0} → C → List E → Result (Option T) X → Type 0
+  NoFold state polynomial result = IfNoneMade result (StopsAtRoot ops (element_bytes size number_of) bits shift log_size state polynomial)
 
-    abbrev pub StopsTheFolds : {T X : Type 0} → ℕ → C → List E → Result (Option T) X → Type 0
-    StopsTheFolds count start polynomial result = IfNoneMade result (StopsAtFold count start polynomial)
+  abbrev pub NoFolds : {T X : Type 0} → ℕ → C → List E → Result (Option T) X → Type 0
+  NoFolds count start polynomial result = IfNoneMade result (StopsAtFold ops (element_bytes size number_of) bits shift log_size count start polynomial)

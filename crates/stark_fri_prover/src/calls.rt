@@ -1,4 +1,5 @@
 //! What the prover computes with, in one record.
+ghost use Rattle.stark_merkle.specs.Bytes.{element_bytes};
 ghost use Rattle.stark_merkle.specs.Tree.{digests_in};
 ghost use Rattle.stark_fri_prover.specs.Calls.{ProverCalls};
 ghost use Rattle.stark_fri_prover.specs.Commit.{data_seen};
@@ -24,7 +25,7 @@ where
 {
     ghost calls = { record {
       ops = ⟦<C as FriCalls<F, EF, H>>⟧.fri_ops;
-      number_of = F.number_of;
+      bytes_of = element_bytes F.BYTES F.number_of;
       coordinates = EF.coordinates;
       coset_of = ⟦<Coset<F> as PolynomialSpace>⟧.coset_of;
       data_of = λ d. data_seen d.root d.domain.log_size d.matrices d.extended;

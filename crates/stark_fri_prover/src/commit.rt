@@ -4,17 +4,15 @@ ghost use Rattle.std.specs.List.{AllByRecursion, slice_get};
 ghost use Rattle.stark_support.specs.Coset.{coset_from};
 ghost use Rattle.stark_columns.specs.Columns.{columns_list};
 ghost use Rattle.stark_fri_proof.specs.Paths.{digests_of};
-ghost use Rattle.stark_merkle.specs.Bytes.{row_bytes_of};
+ghost use Rattle.stark_merkle.specs.Bytes.{element_bytes, row_bytes_of};
 ghost use Rattle.stark_merkle.specs.Tree.{digests_in, items_of};
 ghost use Rattle.stark_support.specs.declared.matrix.RowMajorMatrix.{RowMajorMatrix};
-ghost use Rattle.stark_fri_prover.specs.Commit.{AreExtended, AreKept, AreLayersOver, HasRow, HasRowsOf, HaveRow, HaveRows, IsPathOrNone, IsTopOver, extension_of, leaf_at, leaves_of, row_of};
+ghost use Rattle.stark_fri_prover.specs.Commit.{AreExtended, AreKept, AreLayersIn, HasRow, HasRowsOf, HaveRow, HaveRows, IsPathOrNone, IsTopOver, extension_of, leaf_at, leaves_of, row_of};
 
 use stark_bench::Coset;
 use stark_columns::rows_on;
 use stark_fri_proof::{InputOpening, MerklePath};
-use stark_merkle::{
-    Root, TreeHash, begin_rows, four_leaves, leaf, path_in, push_row, root_in, tree_layers,
-};
+use stark_merkle::{Root, TreeHash, begin_rows, path_in, push_row, root_in, tree_layers};
 use stark_support::{DomainShape, PrimeField64, RowMajorMatrix, TwoAdicField};
 use std::alloc::{AllocError, Global};
 
@@ -180,14 +178,15 @@ fn rows_at<F: Copy>(
     Ok(rows)
 }
 
-/// How many bytes the rows of the matrices take: a word for each element, for each row's length
-/// and for the number of rows.
-fn room_of_rows<F>(extended: &[RowMajorMatrix<F>]) -> usize {
-    let mut words: usize = 1;
+/// How many bytes the rows of the matrices take: each element's, and 8 for each row's length and
+/// for the number of rows.
+fn room_of_rows<F: PrimeField64>(extended: &[RowMajorMatrix<F>]) -> usize {
+    let mut room: usize = 8;
     for matrix in extended {
-        words = words.saturating_add(1).saturating_add(matrix.width);
+        let elements = matrix.width.saturating_mul(F::BYTES);
+        room = room.saturating_add(8).saturating_add(elements);
     }
-    words.saturating_mul(8)
+    room
 }
 
 /// The bytes of row `place` of each matrix, which its leaf commits to; `room` as `room_of_rows`
@@ -200,7 +199,8 @@ fn bytes_at<F: PrimeField64>(
 ) -> Result<Vec<u8>, AllocError>
     requires { AllByRecursion (HasRow place) extended.now }
     ensures { IfOk result (λ bytes.
-        bytes.items ≡ row_bytes_of F.number_of (map (row_of place) extended.now)) }
+        bytes.items ≡ row_bytes_of (element_bytes F.BYTES F.number_of)
+        (map (row_of place) extended.now)) }
 {
     let mut bytes = begin_rows(alloc, extended.len(), room)?;
     for matrix in extended {
@@ -219,14 +219,14 @@ fn four_leaves_of<F: PrimeField64, H: TreeHash>(
 ) -> Result<[[u8; 32]; 4], AllocError>
     requires word { place + 4 < 2 ^ 64 }
     requires rows { HaveRows (place + 4) extended.now }
-    ensures { IfOk result (λ leaves. (j : ℕ) → j < 4 → slice_index_or leaves j []
-        ≡ leaf_at H.digest_of F.number_of extended.now (place + j)) }
+    ensures { IfOk result (λ four. (j : ℕ) → j < 4 → slice_index_or four j []
+        ≡ leaf_at H.digests (element_bytes F.BYTES F.number_of) extended.now (place + j)) }
 {
     let one = bytes_at(alloc, extended, room, place)?;
     let two = bytes_at(alloc, extended, room, place + 1)?;
     let three = bytes_at(alloc, extended, room, place + 2)?;
     let four = bytes_at(alloc, extended, room, place + 3)?;
-    Ok(four_leaves::<H>([&one, &two, &three, &four]))
+    Ok(H::four_leaves([&one, &two, &three, &four]))
 }
 
 /// The leaves over the first `count` rows.
@@ -237,7 +237,8 @@ fn leaves<F: PrimeField64, H: TreeHash>(
 ) -> Result<Vec<[u8; 32]>, AllocError>
     requires { HaveRows count extended.now }
     ensures { IfOk result (λ leaves.
-        leaves.items ≡ leaves_of H.digest_of F.number_of extended.now count) }
+        leaves.items ≡ leaves_of H.digests (element_bytes F.BYTES F.number_of) extended.now
+        count) }
 {
     let room = room_of_rows(extended);
     let mut leaves = Vec::with_capacity(alloc, count)?;
@@ -250,7 +251,7 @@ fn leaves<F: PrimeField64, H: TreeHash>(
     }
     for place in 4 * groups..count {
         let bytes = bytes_at(alloc, extended, room, place)?;
-        leaves.push(leaf::<H>(&bytes))?;
+        leaves.push(H::leaf(&bytes))?;
     }
     Ok(leaves)
 }
@@ -271,10 +272,10 @@ pub fn commit_columns<F: TwoAdicField + PrimeField64, H: TreeHash>(
     ensures rows { IfOk result (λ made.
         AreKept F.ring F.root (extension_of F.GENERATOR (log_height + log_blowup))
         matrices.items made.1.extended) }
-    ensures root { IfOk result (λ m. IsTopOver F.ring F.root H.digest_of F.number_of
-        (extension_of F.GENERATOR (log_height + log_blowup)) matrices.items m.0) }
-    ensures tree { IfOk result (λ m. AreLayersOver H.digest_of F.number_of (log_height + log_blowup)
-        m.1.extended.items (digests_in m.1.layers.items)) }
+    ensures root { IfOk result (λ m. IsTopOver F.ring F.root F.GENERATOR H.digests F.BYTES
+        F.number_of (log_height + log_blowup) matrices.items m.0) }
+    ensures tree { IfOk result (λ m. AreLayersIn H.digests F.BYTES F.number_of
+        (log_height + log_blowup) m.1.extended m.1.layers) }
 {
     let bits = log_height + log_blowup;
     let domain = Coset::new(F::GENERATOR, bits);

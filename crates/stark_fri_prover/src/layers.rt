@@ -1,6 +1,7 @@
 //! The layers of a folding: the words that are folded, and the trees over their pairs.
 ghost use Rattle.std.specs.Prelude.{◌≡◌, ◌+◌, ◌*◌, ◌/◌, ◌^◌, ◌<◌, ◌≤◌, IfOk, IfSome, IsSome, length, map};
 ghost use Rattle.stark_columns.specs.Columns.{columns_list};
+ghost use Rattle.stark_merkle.specs.Bytes.{element_bytes};
 ghost use Rattle.stark_merkle.specs.Tree.{digests_in};
 ghost use Rattle.stark_fri_prover.specs.Words.{IsWordIn, coordinate_at, coordinate_columns, element_of, elements_of};
 ghost use Rattle.stark_fri_prover.specs.Layers.{AreFourLeaves, IsLayerOf, OpensPlace, OpensWay, pair_leaves_of, pair_of, pair_place};
@@ -9,7 +10,7 @@ use crate::commit::path_or_none;
 use stark_bench::Coset;
 use stark_columns::rows_on;
 use stark_fri_proof::LayerOpening;
-use stark_merkle::{Root, TreeHash, four_leaves, leaf, pair_bytes, root_in, tree_layers};
+use stark_merkle::{Root, TreeHash, pair_bytes, root_in, tree_layers};
 use stark_support::{DomainShape, ExtensionField, PrimeField64, TwoAdicField};
 use std::alloc::{AllocError, Global};
 
@@ -118,7 +119,8 @@ fn pair_at<F: PrimeField64, EF: ExtensionField<F>>(
 ) -> Result<Vec<u8>, AllocError>
     requires { half + place < length values.now }
     ensures { IfOk result (λ bytes. bytes.items
-        ≡ pair_of F.number_of EF.coordinates EF.ring.zero values.now half place) }
+        ≡ pair_of (element_bytes F.BYTES F.number_of) EF.coordinates EF.ring.zero values.now half
+        place) }
 {
     pair_bytes::<F, EF>(alloc, values[place], values[half + place])
 }
@@ -131,14 +133,14 @@ fn four_pair_leaves<F: PrimeField64, EF: ExtensionField<F>, H: TreeHash>(
     place: usize,
 ) -> Result<[[u8; 32]; 4], AllocError>
     requires { half + place + 4 ≤ length values.now }
-    ensures { IfOk result (AreFourLeaves F.number_of EF.coordinates EF.ring.zero H.digest_of
-        values.now half place) }
+    ensures { IfOk result (AreFourLeaves (element_bytes F.BYTES F.number_of) EF.coordinates
+        EF.ring.zero H.digests values.now half place) }
 {
     let one = pair_at::<F, EF>(alloc, values, half, place)?;
     let two = pair_at::<F, EF>(alloc, values, half, place + 1)?;
     let three = pair_at::<F, EF>(alloc, values, half, place + 2)?;
     let four = pair_at::<F, EF>(alloc, values, half, place + 3)?;
-    Ok(four_leaves::<H>([&one, &two, &three, &four]))
+    Ok(H::four_leaves([&one, &two, &three, &four]))
 }
 
 /// The leaves over a word's pairs, of a value in the first half and the one half the word further.
@@ -147,7 +149,8 @@ fn pair_leaves<F: PrimeField64, EF: ExtensionField<F>, H: TreeHash>(
     values: &[EF],
 ) -> Result<Vec<[u8; 32]>, AllocError>
     ensures { IfOk result (λ leaves. leaves.items
-        ≡ pair_leaves_of F.number_of EF.coordinates EF.ring.zero H.digest_of values.now) }
+        ≡ pair_leaves_of (element_bytes F.BYTES F.number_of) EF.coordinates EF.ring.zero H.digests
+        values.now) }
 {
     let half = values.len() / 2;
     let mut leaves = Vec::with_capacity(alloc, half)?;
@@ -160,7 +163,7 @@ fn pair_leaves<F: PrimeField64, EF: ExtensionField<F>, H: TreeHash>(
     }
     for place in 4 * groups..half {
         let bytes = pair_at::<F, EF>(alloc, values, half, place)?;
-        leaves.push(leaf::<H>(&bytes))?;
+        leaves.push(H::leaf(&bytes))?;
     }
     Ok(leaves)
 }
@@ -173,8 +176,8 @@ pub(crate) fn layer_of<F: TwoAdicField + PrimeField64, EF: ExtensionField<F>, H:
 ) -> Result<(Root, Layer<EF>), AllocError>
     requires pairs { 1 ≤ log_size }
     requires number { length values.items ≡ 2 ^ log_size }
-    ensures tree { IfOk result (λ made. IsLayerOf F.number_of EF.coordinates EF.ring.zero
-        H.digest_of log_size made.0 made.1) }
+    ensures tree { IfOk result (λ made. IsLayerOf (element_bytes F.BYTES F.number_of)
+        EF.coordinates EF.ring.zero H.digests log_size made.0 made.1) }
     ensures word { IfOk result (λ made. made.1.values.items ≡ values.items) }
 {
     let leaves = pair_leaves::<F, EF, H>(alloc, &values)?;

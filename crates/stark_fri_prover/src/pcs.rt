@@ -7,9 +7,10 @@ ghost use Rattle.stark_support.specs.Coset.{coset_from};
 ghost use Rattle.stark_columns.specs.ColumnPoints.{height_of};
 ghost use Rattle.stark_columns.specs.Columns.{columns_list};
 ghost use Rattle.stark_fri.specs.Scheme.{ArePlain, fri_calls};
+ghost use Rattle.stark_merkle.specs.Bytes.{element_bytes};
 ghost use Rattle.stark_merkle.specs.Tree.{digests_in};
 ghost use Rattle.stark_fri_prover.specs.Calls.{Accepts, CommitsQuotient, FewBadDraws, ProofShows, Refuses, RefusesRoundsIn};
-ghost use Rattle.stark_fri_prover.specs.Commit.{AreLayersOver, data_seen, extension_of, IsKept, IsTopOf};
+ghost use Rattle.stark_fri_prover.specs.Commit.{AreLayersIn, IsKept, IsTopOf, data_seen, extension_of};
 ghost use Rattle.stark_fri_prover.specs.CompletenessFactsScheme.{kept_laws};
 ghost use Rattle.stark_fri_prover.specs.MadeOpening.{kept_scheme};
 ghost use Rattle.stark_support.specs.SchemeClauses.{CommitsChunks, CommitsRows, OpensTrueValues, ProvesTrueClaims, RowsStand, IsTableOver};
@@ -90,10 +91,10 @@ fn commit_alone<F: TwoAdicField + PrimeField64, H: TreeHash>(
     ensures rows { IfOk result (λ made.
         IsKept F.ring F.root (extension_of F.GENERATOR (log_height + log_blowup)) columns
         made.1.extended) }
-    ensures root { IfOk result (λ m. IsTopOf F.ring F.root H.digest_of F.number_of
-        (extension_of F.GENERATOR (log_height + log_blowup)) columns m.0) }
-    ensures tree { IfOk result (λ m. AreLayersOver H.digest_of F.number_of (log_height + log_blowup)
-        m.1.extended.items (digests_in m.1.layers.items)) }
+    ensures root { IfOk result (λ m. IsTopOf F.ring F.root F.GENERATOR H.digests F.BYTES
+        F.number_of (log_height + log_blowup) columns m.0) }
+    ensures tree { IfOk result (λ m. AreLayersIn H.digests F.BYTES F.number_of
+        (log_height + log_blowup) m.1.extended m.1.layers) }
 {
     let mut matrices = Vec::new(alloc);
     matrices.push(columns)?;
@@ -133,7 +134,8 @@ where
 
     ghost ZK = { false };
 
-    ghost scheme = { kept_scheme ⟦<C as FriCalls<F, EF, H>>⟧.fri_ops F.number_of (λ s. s.parameters)
+    ghost scheme = { kept_scheme ⟦<C as FriCalls<F, EF, H>>⟧.fri_ops
+        (element_bytes F.BYTES F.number_of) (λ s. s.parameters)
         (λ d. data_seen d.root d.domain.log_size d.matrices d.extended)
         (λ d. digests_in d.layers.items) (λ p. p)
         (fri_calls F.ring F.root (λ d. data_seen d.root d.domain.log_size d.matrices d.extended)) };
@@ -312,8 +314,9 @@ where
         verify_openings::<C, EF, Coset<F>, H>(alloc, &self.parameters, &claims, proof, challenger)
     }
 
-    ghost scheme_laws = { kept_laws ⟦<C as FriCalls<F, EF, H>>⟧.fri_ops F.number_of
-        (λ s. s.parameters) (λ d. data_seen d.root d.domain.log_size d.matrices d.extended)
+    ghost scheme_laws = { kept_laws ⟦<C as FriCalls<F, EF, H>>⟧.fri_ops
+        (element_bytes F.BYTES F.number_of) (λ s. s.parameters)
+        (λ d. data_seen d.root d.domain.log_size d.matrices d.extended)
         (λ d. digests_in d.layers.items) (λ p. p)
         (fri_calls F.ring F.root (λ d. data_seen d.root d.domain.log_size d.matrices d.extended))
         F.two_adic.bounded };

@@ -1,8 +1,9 @@
 //! The folds' part of the transcript, as the prover plays it.
 ghost use Rattle.std.specs.Prelude.{◌≡◌, ◌-◌, ◌≤◌, IfNone, IfSome};
+ghost use Rattle.stark_merkle.specs.Bytes.{element_bytes};
 ghost use Rattle.stark_fri_prover.specs.Folds.{CommitsLayer, CommitsLayers, FoldsWord, IfMade, IsWitness, MakesFold, MakesFolds, WordsOf};
 ghost use Rattle.stark_fri_prover.specs.Words.{IsWordIn};
-ghost use Rattle.stark_fri_prover.specs.Work.{NonePasses, StopsTheFold, StopsTheFolds};
+ghost use Rattle.stark_fri_prover.specs.Work.{NoFold, NoFolds, NonePasses};
 
 use crate::layers::{Layer, layer_of, values_of};
 use stark_bench::Coset;
@@ -76,12 +77,12 @@ where
         polynomial.now word.items }
     ensures folded { IfMade result (MakesFold ⟦<C as FriSponge<F, EF>>⟧.sponge_calls EF.ring bits
         challenger.old challenger.new polynomial.now) }
-    ensures layer { IfMade result (CommitsLayer F.number_of EF.coordinates EF.ring.zero H.digest_of
-        domain.now.log_size) }
+    ensures layer { IfMade result (CommitsLayer (element_bytes F.BYTES F.number_of)
+        EF.coordinates EF.ring.zero H.digests domain.now.log_size) }
     ensures words { IfMade result (FoldsWord EF.ring EF.embed F.root domain.now.shift
         domain.now.log_size polynomial.now) }
-    ensures none { StopsTheFold ⟦<C as FriCalls<F, EF, H>>⟧.fri_ops F.number_of bits
-        domain.now.shift domain.now.log_size challenger.old polynomial.now result }
+    ensures none { NoFold ⟦<C as FriCalls<F, EF, H>>⟧.fri_ops F.BYTES F.number_of
+        bits domain.now.shift domain.now.log_size challenger.old polynomial.now result }
 {
     let (root, layer) = layer_of::<F, EF, H>(alloc, word, domain.log_size)?;
     <C as CanObserve<Root>>::observe(&mut *challenger, &root);
@@ -118,12 +119,12 @@ where
     requires { count ≤ domain.log_size }
     ensures folded { IfMade result (MakesFolds ⟦<C as FriSponge<F, EF>>⟧.sponge_calls EF.ring bits
         count challenger.old challenger.new polynomial.items) }
-    ensures layers { IfMade result (CommitsLayers F.number_of EF.coordinates EF.ring.zero
-        H.digest_of domain.log_size) }
+    ensures layers { IfMade result (CommitsLayers (element_bytes F.BYTES F.number_of)
+        EF.coordinates EF.ring.zero H.digests domain.log_size) }
     ensures word { WordsOf ⟦<C as FriSponge<F, EF>>⟧.sponge_calls EF.ring EF.embed F.root bits
         domain.shift domain.log_size challenger.old polynomial.items result }
-    ensures none { StopsTheFolds ⟦<C as FriCalls<F, EF, H>>⟧.fri_ops F.number_of bits
-        domain.shift domain.log_size count challenger.old polynomial.items result }
+    ensures none { NoFolds ⟦<C as FriCalls<F, EF, H>>⟧.fri_ops F.BYTES F.number_of
+        bits domain.shift domain.log_size count challenger.old polynomial.items result }
 {
     // The one transform: each next word is folded of the one before.
     let mut word = values_of(alloc, &polynomial, &domain)?;

@@ -11,7 +11,7 @@ statement_key digest key = record { digest = digest; key = key }
 
 -- the bytes that each file begins with
 abbrev pub key_magic : List ℕ
-key_magic = codes "voskligan key 1"
+key_magic = codes "voskligan key 2"
 
 module _ {K : Type 0} (ops : BytesOps K) where
   -- how many columns, the logarithm of the committed height, and the commitment

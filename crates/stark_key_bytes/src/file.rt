@@ -22,7 +22,7 @@ fn whole_key<Com: BytesCodec + Drop>(
     ensures { Decodes (λ x. x) result (key_reading Com.bytes bytes.now) }
 {
     let mut reader = ByteReader::new(bytes);
-    reader.next_prefix("voskligan key 1".as_bytes())?;
+    reader.next_prefix("voskligan key 2".as_bytes())?;
     let key = read_key(alloc, &mut reader)?;
     if reader.len() > 0 {
         return Err(BytesFault::TrailingBytes);
@@ -31,7 +31,7 @@ fn whole_key<Com: BytesCodec + Drop>(
 }
 
 /// The key that the bytes of a file name, which no other bytes name, or their first fault. The
-/// bytes are the text `voskligan key 1`; the 32 bytes of the digest of the statement's canonical
+/// bytes are the text `voskligan key 2`; the 32 bytes of the digest of the statement's canonical
 /// bytes; and the byte 0 where the statement's AIR declares no preprocessed columns, else the byte
 /// 1, how many columns there are, the logarithm of the committed height, and the commitment. A
 /// number has 8 bytes, the high one first; the commitment has its own codec's bytes. Columns of any
@@ -69,7 +69,7 @@ pub fn key_to_bytes<Com: BytesCodec + Drop>(
         key_reading Com.bytes bytes.items ≡ Ok key.now) }
 {
     let mut bytes = Vec::new(alloc);
-    bytes.extend_from_slice("voskligan key 1".as_bytes())?;
+    bytes.extend_from_slice("voskligan key 2".as_bytes())?;
     write_key(key, &mut bytes)?;
     Ok(bytes)
 }

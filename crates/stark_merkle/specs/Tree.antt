@@ -1,7 +1,8 @@
 -- Binary trees of digests, their paths, and collisions.
-use Rattle.std.specs.Prelude.{◌≡◌, ◌≢◌, ℕ, zero, suc, ◌+◌, ◌*◌, ◌-◌, ◌/◌, ◌%◌, ◌^◌, ◌<◌, eqb, cond, ⊤, List, [], ◌∷◌, ◌++◌, length, map, slice_index_or, IsSome, None, Option, Some}
+use Rattle.std.specs.Prelude.{◌≡◌, ◌≢◌, ◌⊎◌, ℕ, zero, suc, ◌+◌, ◌*◌, ◌-◌, ◌/◌, ◌%◌, ◌^◌, ◌<◌, eqb, cond, ⊤, List, [], ◌∷◌, length, map, slice_index_or, IsSome, None, Option, Some}
 use Rattle.std.specs.List.{AllByRecursion, slice_get}
 use Rattle.std.specs.declared.vec.Vec.{Vec}
+use Rattle.hex.specs.Hex.{IsBytes}
 
 abbrev pub items_of : {T A : Type 0} → Vec T A → List T
 items_of v = v.items
@@ -12,27 +13,45 @@ digests_in layers = map items_of layers
 
 -- ---- digests
 
--- A leaf is the digest of a row's bytes behind the byte 0, a node that of two digests behind the byte 1.
-abbrev pub leaf_of : (List ℕ → List ℕ) → List ℕ → List ℕ
-leaf_of hash row = hash (0 ∷ row)
-
-abbrev pub node_of : (List ℕ → List ℕ) → List ℕ → List ℕ → List ℕ
-node_of hash left right = hash (1 ∷ (left ++ right))
+-- What a tree hashes with: the digest of a leaf's bytes, and that of two digests.
+pub record TreeDigests : Type 0 where
+  pub leaf : List ℕ → List ℕ
+  pub node : List ℕ → List ℕ → List ℕ
 
 -- Nodes first to first + 3 of the layer above, side by side.
-abbrev pub AreNodesOf : (List ℕ → List ℕ) → List (List ℕ) → ℕ → List (List ℕ) → Type 0
+abbrev pub AreNodesOf : TreeDigests → List (List ℕ) → ℕ → List (List ℕ) → Type 0
 AreNodesOf hash layer first nodes = (i : ℕ) → i < 4
-    → slice_index_or nodes i [] ≡ node_of hash (slice_index_or layer (2 * (first + i)) []) (slice_index_or layer (2 * (first + i) + 1) [])
+    → slice_index_or nodes i [] ≡ hash.node (slice_index_or layer (2 * (first + i)) []) (slice_index_or layer (2 * (first + i) + 1) [])
 
 abbrev pub IsDigest : List ℕ → Type 0
 IsDigest x = length x ≡ 32
 
--- Two different texts with one digest.
-pub record HashCollision (hash : List ℕ → List ℕ) : Type 0 where
+-- Leaves and nodes have 32 bytes.
+pub record AreDigests (hash : TreeDigests) : Type 0 where
+  pub leaf_size : (row : List ℕ) → IsDigest (hash.leaf row)
+  pub node_size : (left right : List ℕ) → IsDigest (hash.node left right)
+  pub leaf_bytes : (row : List ℕ) → IsBytes (hash.leaf row)
+  pub node_bytes : (left right : List ℕ) → IsBytes (hash.node left right)
+
+-- Two different texts with one leaf.
+pub record LeafCollision (hash : TreeDigests) : Type 0 where
   pub first : List ℕ
   pub second : List ℕ
   pub differ : first ≢ second
-  pub collide : hash first ≡ hash second
+  pub collide : hash.leaf first ≡ hash.leaf second
+
+-- Two different pairs of digests with one node.
+pub record NodeCollision (hash : TreeDigests) : Type 0 where
+  pub left : List ℕ
+  pub right : List ℕ
+  pub other_left : List ℕ
+  pub other_right : List ℕ
+  pub sized : AllByRecursion IsDigest (left ∷ right ∷ other_left ∷ other_right ∷ [])
+  pub differ : left ≡ other_left → right ≡ other_right → ⊥
+  pub collide : hash.node left right ≡ hash.node other_left other_right
+
+abbrev pub HashCollision : TreeDigests → Type 0
+HashCollision hash = LeafCollision hash ⊎ NodeCollision hash
 
 -- ---- layers
 
@@ -102,41 +121,41 @@ led node i x [] = x
 led node i x (s ∷ path) = led node (i / 2) (joined node i x s) path
 
 -- The path of a row at place i, one of 2^depth, has one digest a layer and leads to the root.
-abbrev pub LeadsTo : (List ℕ → List ℕ) → List ℕ → ℕ → ℕ → List ℕ → List (List ℕ) → Type 0
-LeadsTo hash root depth i row path = (length path ≡ depth) × (i < 2 ^ depth) × (led (node_of hash) i (leaf_of hash row) path ≡ root)
+abbrev pub LeadsTo : TreeDigests → List ℕ → ℕ → ℕ → List ℕ → List (List ℕ) → Type 0
+LeadsTo hash root depth i row path = (length path ≡ depth) × (i < 2 ^ depth) × (led hash.node i (hash.leaf row) path ≡ root)
 
 -- ---- laws
 
 -- In the layers of a tree each leaf's path leads to the root.
-abbrev pub TreesLeadToRoots : (List ℕ → List ℕ) → ℕ → Type 0
-TreesLeadToRoots hash depth = (leaves : List (List ℕ)) (root : List ℕ) (i : ℕ) (x : List ℕ) (path : List (List ℕ)) → layer_above (node_of hash) depth leaves ≡ root ∷ []
-    → slice_get leaves i ≡ Some x → IsPathIn (layers_from (node_of hash) depth leaves) i path → led (node_of hash) i x path ≡ root
+abbrev pub TreesLeadToRoots : TreeDigests → ℕ → Type 0
+TreesLeadToRoots hash depth = (leaves : List (List ℕ)) (root : List ℕ) (i : ℕ) (x : List ℕ) (path : List (List ℕ)) → layer_above hash.node depth leaves ≡ root ∷ []
+    → slice_get leaves i ≡ Some x → IsPathIn (layers_from hash.node depth leaves) i path → led hash.node i x path ≡ root
 
 -- The digest that the last of a tree's layers has is its root.
-abbrev pub TopsAreRoots : (List ℕ → List ℕ) → ℕ → Type 0
-TopsAreRoots hash depth = (leaves : List (List ℕ)) (root : List ℕ) → top_of (layers_from (node_of hash) depth leaves) ≡ Some root
-    → layer_above (node_of hash) depth leaves ≡ root ∷ []
+abbrev pub TopsAreRoots : TreeDigests → ℕ → Type 0
+TopsAreRoots hash depth = (leaves : List (List ℕ)) (root : List ℕ) → top_of (layers_from hash.node depth leaves) ≡ Some root
+    → layer_above hash.node depth leaves ≡ root ∷ []
 
 -- Over 2^depth leaves the last layer has one digest.
-abbrev pub FullTreesHaveRoots : (List ℕ → List ℕ) → ℕ → Type 0
-FullTreesHaveRoots hash depth = (leaves : List (List ℕ)) → length leaves ≡ 2 ^ depth → IsSome (top_of (layers_from (node_of hash) depth leaves))
+abbrev pub FullTreesHaveRoots : TreeDigests → ℕ → Type 0
+FullTreesHaveRoots hash depth = (leaves : List (List ℕ)) → length leaves ≡ 2 ^ depth → IsSome (top_of (layers_from hash.node depth leaves))
 
 -- Over 2^depth leaves each place has a path.
-abbrev pub FullTreesHavePaths : (List ℕ → List ℕ) → ℕ → Type 0
-FullTreesHavePaths hash depth = (leaves : List (List ℕ)) (i : ℕ) → length leaves ≡ 2 ^ depth → i < 2 ^ depth → HasPath (layers_from (node_of hash) depth leaves) i
+abbrev pub FullTreesHavePaths : TreeDigests → ℕ → Type 0
+FullTreesHavePaths hash depth = (leaves : List (List ℕ)) (i : ℕ) → length leaves ≡ 2 ^ depth → i < 2 ^ depth → HasPath (layers_from hash.node depth leaves) i
 
 -- Of each row of a tree over 2^depth leaves, the path in its layers leads to the root on top of them.
-abbrev pub OwnRowsLeadToRoots : (List ℕ → List ℕ) → ℕ → Type 0
+abbrev pub OwnRowsLeadToRoots : TreeDigests → ℕ → Type 0
 OwnRowsLeadToRoots hash depth = (leaves : List (List ℕ)) (root row : List ℕ) (i : ℕ) (path : List (List ℕ)) → length leaves ≡ 2 ^ depth
-    → top_of (layers_from (node_of hash) depth leaves) ≡ Some root → slice_get leaves i ≡ Some (leaf_of hash row)
-    → IsPathIn (layers_from (node_of hash) depth leaves) i path → LeadsTo hash root depth i row path
+    → top_of (layers_from hash.node depth leaves) ≡ Some root → slice_get leaves i ≡ Some (hash.leaf row)
+    → IsPathIn (layers_from hash.node depth leaves) i path → LeadsTo hash root depth i row path
 
 -- Paths of one length that lead from different digests at one place to one root show a collision.
-abbrev pub PathsBind : (List ℕ → List ℕ) → ℕ → Type 0
+abbrev pub PathsBind : TreeDigests → ℕ → Type 0
 PathsBind hash i = (x y : List ℕ) (p q : List (List ℕ)) → IsDigest x → IsDigest y → AllByRecursion IsDigest p → AllByRecursion IsDigest q
-    → length p ≡ length q → x ≢ y → led (node_of hash) i x p ≡ led (node_of hash) i y q → HashCollision hash
+    → length p ≡ length q → x ≢ y → led hash.node i x p ≡ led hash.node i y q → HashCollision hash
 
 -- Two different rows that lead to one root from one place show a collision.
-abbrev pub RowsBind : (List ℕ → List ℕ) → ℕ → ℕ → Type 0
+abbrev pub RowsBind : TreeDigests → ℕ → ℕ → Type 0
 RowsBind hash depth i = (root a b : List ℕ) (p q : List (List ℕ)) → AllByRecursion IsDigest p → AllByRecursion IsDigest q → a ≢ b
     → LeadsTo hash root depth i a p → LeadsTo hash root depth i b q → HashCollision hash

@@ -1,11 +1,10 @@
 -- In a tree every path leads to the root; and paths bind: two of them that lead from different rows to one root show a collision.
-use Rattle.std.specs.Prelude.{◌≡◌, ◌≢◌, ◌⊎◌, ℕ, zero, suc, ◌+◌, ◌-◌, ◌*◌, ◌/◌, ◌%◌, ◌^◌, ◌<◌, true, false, eqb, cond, List, [], ◌∷◌, ◌++◌, length, take, drop, IsSome, Some, refl}
+use Rattle.std.specs.Prelude.{◌≡◌, ◌≢◌, ◌⊎◌, ℕ, zero, suc, ◌+◌, ◌-◌, ◌*◌, ◌/◌, ◌%◌, ◌^◌, ◌<◌, true, false, eqb, cond, List, [], ◌∷◌, length, IsSome, Some, refl}
 use Rattle.std.proofs.Common.{sym, ap, ◌∙◌, subst, inl, inr, arith}
 use Rattle.std.proofs.lemmas.Bool.Decides.{eqb_tells}
-use Rattle.std.proofs.Math.Seq.{drop-append_seam, take-append_seam}
 use Rattle.std.proofs.lemmas.Option.{slice_get_within}
 use Rattle.std.specs.List.{AllByRecursion, slice_get}
-use Rattle.stark_merkle.specs.Tree.{HasPath, HashCollision, IsDigest, IsPath, IsPathIn, LeadsTo, joined, layer_above, layers_from, leaf_of, led, neighbour, node_of, paired, sole, top_of}
+use Rattle.stark_merkle.specs.Tree.{AreDigests, HasPath, HashCollision, IsDigest, IsPath, IsPathIn, LeadsTo, TreeDigests, joined, layer_above, layers_from, led, neighbour, paired, sole, top_of}
 
 -- ---- a tree's own paths
 
@@ -152,66 +151,59 @@ same_or_not (x ∷ xs) (y ∷ ys) = elim (eqb_tells x y) [
   | inr w ↦ inr (λ e. let head : x ≡ y = (cc) in w.1 head)
 ]
 
-split : (a b x y : List ℕ) → length a ≡ length b → a ++ x ≡ b ++ y → (a ≡ b) × (x ≡ y)
-split a b x y l e = (
-  sym (take-append_seam a x) ∙ ap (take (length a)) e ∙ ap (λ k. take k (b ++ y)) l ∙ take-append_seam b y,
-  sym (drop-append_seam a x) ∙ ap (drop (length a)) e ∙ ap (λ k. drop k (b ++ y)) l ∙ drop-append_seam b y,
-)
-
-pub own_row_leads : (hash : List ℕ → List ℕ) (depth : ℕ) (leaves : List (List ℕ)) (root row : List ℕ) (i : ℕ) (path : List (List ℕ)) → length leaves ≡ 2 ^ depth
-    → top_of (layers_from (node_of hash) depth leaves) ≡ Some root → slice_get leaves i ≡ Some (leaf_of hash row)
-    → IsPathIn (layers_from (node_of hash) depth leaves) i path → LeadsTo hash root depth i row path
+pub own_row_leads : (hash : TreeDigests) (depth : ℕ) (leaves : List (List ℕ)) (root row : List ℕ) (i : ℕ) (path : List (List ℕ)) → length leaves ≡ 2 ^ depth
+    → top_of (layers_from hash.node depth leaves) ≡ Some root → slice_get leaves i ≡ Some (hash.leaf row)
+    → IsPathIn (layers_from hash.node depth leaves) i path → LeadsTo hash root depth i row path
 own_row_leads hash depth leaves root row i path full top here way =
-    let node = node_of hash in
+    let node = hash.node in
     let in_tree = path_in_layers node depth leaves i path way in (
       path_length node depth leaves i path in_tree,
-      subst (λ n. i < n) full (slice_get_within leaves i (leaf_of hash row) here),
-      led_to_root node depth leaves root i (leaf_of hash row) path (top_is_root node depth leaves root top) here in_tree,
+      subst (λ n. i < n) full (slice_get_within leaves i (hash.leaf row) here),
+      led_to_root node depth leaves root i (hash.leaf row) path (top_is_root node depth leaves root top) here in_tree,
     )
 
-module _ (hash : List ℕ → List ℕ) (size : (m : List ℕ) → length (hash m) ≡ 32) where
-  -- Different pairs of digests with one node.
-  nodes_collide : (a b c d : List ℕ) → IsDigest a → IsDigest c → (a ≡ c → b ≡ d → ⊥) → node_of hash a b ≡ node_of hash c d → HashCollision hash
-  nodes_collide a b c d la lc differ same = record {
-    first = 1 ∷ (a ++ b);
-    second = 1 ∷ (c ++ d);
-    differ = λ e.
-        let tails : a ++ b ≡ c ++ d = (cc) in
-        let parts = split a c b d (la ∙ sym lc) tails in
-        differ parts.0 parts.1;
-    collide = same;
-  }
+module _ (hash : TreeDigests) (are : AreDigests hash) where
+  joined_size : (i : ℕ) (x s : List ℕ) → IsDigest (joined hash.node i x s)
+  joined_size i x s =
+      elim (eqb (i % 2) 0) as (λ b. length (cond b (hash.node x s) (hash.node s x)) ≡ 32) [ true ↦ are.node_size x s | false ↦ are.node_size s x ]
 
-  joined_size : (i : ℕ) (x s : List ℕ) → IsDigest (joined (node_of hash) i x s)
-  joined_size i x s = elim (eqb (i % 2) 0) as (λ b. length (cond b (node_of hash x s) (node_of hash s x)) ≡ 32) [ true ↦ size _ | false ↦ size _ ]
-
-  joined_collide : (i : ℕ) (x y s t : List ℕ) → IsDigest x → IsDigest y → IsDigest s → IsDigest t → x ≢ y → joined (node_of hash) i x s ≡ joined (node_of hash) i y t → HashCollision hash
+  joined_collide : (i : ℕ) (x y s t : List ℕ) → IsDigest x → IsDigest y → IsDigest s → IsDigest t → x ≢ y → joined hash.node i x s ≡ joined hash.node i y t → HashCollision hash
   joined_collide i x y s t lx ly ls lt differ same = elim (eqb_tells (i % 2) 0) [
-    | inl w ↦
-        let one : node_of hash x s ≡ node_of hash y t
-        = ap (λ b. cond b (node_of hash x s) (node_of hash s x)) (sym w.0) ∙ same ∙ ap (λ b. cond b (node_of hash y t) (node_of hash t y)) w.0 in
-        nodes_collide x s y t lx ly (λ e f. differ e) one
-    | inr w ↦
-        let one : node_of hash s x ≡ node_of hash t y
-        = ap (λ b. cond b (node_of hash x s) (node_of hash s x)) (sym w.0) ∙ same ∙ ap (λ b. cond b (node_of hash y t) (node_of hash t y)) w.0 in
-        nodes_collide s x t y ls lt (λ e f. differ f) one
+    | inl w ↦ inr (record {
+      left = x;
+      right = s;
+      other_left = y;
+      other_right = t;
+      sized = (lx, (ls, (ly, (lt, tt))));
+      differ = λ e f. differ e;
+      collide = ap (λ b. cond b (hash.node x s) (hash.node s x)) (sym w.0) ∙ same ∙ ap (λ b. cond b (hash.node y t) (hash.node t y)) w.0;
+    })
+    | inr w ↦ inr (record {
+      left = s;
+      right = x;
+      other_left = t;
+      other_right = y;
+      sized = (ls, (lx, (lt, (ly, tt))));
+      differ = λ e f. differ f;
+      collide = ap (λ b. cond b (hash.node x s) (hash.node s x)) (sym w.0) ∙ same ∙ ap (λ b. cond b (hash.node y t) (hash.node t y)) w.0;
+    })
   ]
 
   pub paths_collide : (i : ℕ) (x y : List ℕ) (p q : List (List ℕ)) → IsDigest x → IsDigest y → AllByRecursion IsDigest p → AllByRecursion IsDigest q
-      → length p ≡ length q → x ≢ y → led (node_of hash) i x p ≡ led (node_of hash) i y q → HashCollision hash
+      → length p ≡ length q → x ≢ y → led hash.node i x p ≡ led hash.node i y q → HashCollision hash
   unfolding led
   paths_collide i x y [] [] lx ly lp lq lengths differ same = absurd (differ same)
   paths_collide i x y [] (t ∷ q) lx ly lp lq lengths differ same = absurd (omega arith)
   paths_collide i x y (s ∷ p) [] lx ly lp lq lengths differ same = absurd (omega arith)
   paths_collide i x y (s ∷ p) (t ∷ q) lx ly lp lq lengths differ same =
-      elim (same_or_not (joined (node_of hash) i x s) (joined (node_of hash) i y t)) [
+      elim (same_or_not (joined hash.node i x s) (joined hash.node i y t)) [
         | inl one ↦ joined_collide i x y s t lx ly lp.0 lq.0 differ one
-        | inr two ↦ paths_collide (i / 2) (joined (node_of hash) i x s) (joined (node_of hash) i y t) p q (joined_size i x s) (joined_size i y t) lp.1 lq.1 (omega arith) two same
+        | inr two ↦ paths_collide (i / 2) (joined hash.node i x s) (joined hash.node i y t) p q (joined_size i x s) (joined_size i y t) lp.1 lq.1 (omega arith) two same
       ]
 
   pub rows_collide : (root : List ℕ) (depth i : ℕ) (a b : List ℕ) (p q : List (List ℕ)) → AllByRecursion IsDigest p → AllByRecursion IsDigest q → a ≢ b
       → LeadsTo hash root depth i a p → LeadsTo hash root depth i b q → HashCollision hash
-  rows_collide root depth i a b p q lp lq differ h k = elim (same_or_not (leaf_of hash a) (leaf_of hash b)) [
-    | inl same ↦ record { first = 0 ∷ a; second = 0 ∷ b; differ = λ e. let rows : a ≡ b = (cc) in differ rows; collide = same }
-    | inr other ↦ paths_collide i (leaf_of hash a) (leaf_of hash b) p q (size _) (size _) lp lq (h.0 ∙ sym k.0) other (h.2 ∙ sym k.2)
+  rows_collide root depth i a b p q lp lq differ h k = elim (same_or_not (hash.leaf a) (hash.leaf b)) [
+    | inl same ↦ inl (record { first = a; second = b; differ = differ; collide = same })
+    | inr other ↦ paths_collide i (hash.leaf a) (hash.leaf b) p q (are.leaf_size a) (are.leaf_size b) lp lq (h.0 ∙ sym k.0) other (h.2 ∙ sym k.2)
   ]

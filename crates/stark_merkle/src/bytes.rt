@@ -1,14 +1,14 @@
 //! The bytes of rows and of pairs, which the leaves of trees are the digests of.
 ghost use Rattle.std.specs.Prelude.{◌≡◌, ◌++◌, IfOk, OnOk, length, map};
 ghost use Rattle.stark_support.specs.Seed.{number};
-ghost use Rattle.stark_merkle.specs.Bytes.{OpenedRowsBind, PairBytesTell, RowBytesTell, elements_bytes, pair_bytes_of, row_bytes_of, rows_bytes};
+ghost use Rattle.stark_merkle.specs.Bytes.{OpenedRowsBind, PairBytesTell, RowBytesTell, element_bytes, elements_bytes, pair_bytes_of, row_bytes_of, rows_bytes};
 ghost use Rattle.stark_merkle.specs.Tree.{items_of};
 
 use crate::hash::TreeHash;
 use stark_support::{ExtensionField, PrimeField64};
 use std::alloc::{AllocError, Global};
 
-/// Puts a number behind the bytes, in 8 bytes, the high one first.
+/// Puts a number after the bytes, in 8 bytes, the high one first.
 #[tactic(auto, unfolding(stark_support::specs::Seed::number))]
 fn push_number(bytes: &mut Vec<u8>, n: u64) -> Result<(), AllocError>
     ensures { OnOk result (bytes.new.items ≡ bytes.old.items ++ number n) }
@@ -16,11 +16,22 @@ fn push_number(bytes: &mut Vec<u8>, n: u64) -> Result<(), AllocError>
     bytes.extend_from_slice(&n.to_be_bytes())
 }
 
+/// Puts an element's number after the bytes, in as many as the field's numbers have room in, the
+/// high one first.
+#[tactic(auto, unfolding(stark_support::specs::Seed::number))]
+fn push_element<F: PrimeField64>(bytes: &mut Vec<u8>, x: &F) -> Result<(), AllocError>
+    ensures { OnOk result (bytes.new.items
+        ≡ bytes.old.items ++ element_bytes F.BYTES F.number_of x.now) }
+{
+    bytes.extend_from_slice(&x.as_canonical_u64().to_be_bytes()[8 - F::BYTES..])
+}
+
 fn push_elements<F: PrimeField64>(bytes: &mut Vec<u8>, xs: &[F]) -> Result<(), AllocError>
-    ensures { OnOk result (bytes.new.items ≡ bytes.old.items ++ elements_bytes F.number_of xs.now) }
+    ensures { OnOk result (bytes.new.items
+        ≡ bytes.old.items ++ elements_bytes (element_bytes F.BYTES F.number_of) xs.now) }
 {
     for x in xs {
-        push_number(&mut *bytes, x.as_canonical_u64())?;
+        push_element(&mut *bytes, x)?;
     }
     Ok(())
 }
@@ -29,11 +40,11 @@ fn push_coordinates<F: PrimeField64, EF: ExtensionField<F>>(
     bytes: &mut Vec<u8>,
     x: EF,
 ) -> Result<(), AllocError>
-    ensures { OnOk result (bytes.new.items
-        ≡ bytes.old.items ++ elements_bytes F.number_of (EF.coordinates x)) }
+    ensures { OnOk result (bytes.new.items ≡ bytes.old.items
+        ++ elements_bytes (element_bytes F.BYTES F.number_of) (EF.coordinates x)) }
 {
     for index in 0..EF::DIMENSION {
-        push_number(&mut *bytes, x.coordinate(index).as_canonical_u64())?;
+        push_element(&mut *bytes, &x.coordinate(index))?;
     }
     Ok(())
 }
@@ -49,22 +60,23 @@ pub fn begin_rows(alloc: Global, count: usize, room: usize) -> Result<Vec<u8>, A
     Ok(bytes)
 }
 
-/// Puts a row behind the bytes: how many elements it has, and the elements' numbers. It is Err only
+/// Puts a row after the bytes: how many elements it has, and the elements' numbers. It is Err only
 /// where memory was refused.
 pub fn push_row<F: PrimeField64>(bytes: &mut Vec<u8>, row: &[F]) -> Result<(), AllocError>
     ensures { OnOk result (bytes.new.items
-        ≡ bytes.old.items ++ (number (length row.now) ++ elements_bytes F.number_of row.now)) }
+        ≡ bytes.old.items ++ (number (length row.now)
+        ++ elements_bytes (element_bytes F.BYTES F.number_of) row.now)) }
 {
     push_number(&mut *bytes, row.len() as u64)?;
     push_elements(bytes, row)
 }
 
 /// The bytes of the rows that one leaf commits to, a matrix each: how many there are, and for each
-/// how many elements it has and the elements' numbers; every number in 8 bytes, the high one first.
-/// It is Err only where memory was refused.
+/// how many elements it has, both in 8 bytes, and the elements' numbers, each in as many bytes as
+/// the field's numbers have room in; the high byte first. It is Err only where memory was refused.
 pub fn row_bytes<F: PrimeField64>(alloc: Global, rows: &[Vec<F>]) -> Result<Vec<u8>, AllocError>
     ensures { IfOk result (λ bytes. bytes.items
-        ≡ row_bytes_of F.number_of (map items_of rows.now)) }
+        ≡ row_bytes_of (element_bytes F.BYTES F.number_of) (map items_of rows.now)) }
 {
     let mut bytes = begin_rows(alloc, rows.len(), 8)?;
     for row in rows {
@@ -74,17 +86,18 @@ pub fn row_bytes<F: PrimeField64>(alloc: Global, rows: &[Vec<F>]) -> Result<Vec<
 }
 
 /// The bytes of a pair of elements of an extension: the numbers of the first one's coordinates and
-/// then those of the second one's, each in 8 bytes, the high one first. It is Err only where memory
-/// was refused.
+/// then those of the second one's, each in as many bytes as the field's numbers have room in, the
+/// high one first. It is Err only where memory was refused.
 pub fn pair_bytes<F: PrimeField64, EF: ExtensionField<F>>(
     alloc: Global,
     first: EF,
     second: EF,
 ) -> Result<Vec<u8>, AllocError>
     ensures { IfOk result (λ bytes. bytes.items
-        ≡ pair_bytes_of F.number_of EF.coordinates first second) }
+        ≡ pair_bytes_of (element_bytes F.BYTES F.number_of) EF.coordinates first second) }
 {
-    let mut bytes = Vec::with_capacity(alloc, EF::DIMENSION.saturating_mul(16))?;
+    let room = EF::DIMENSION.saturating_mul(2).saturating_mul(F::BYTES);
+    let mut bytes = Vec::with_capacity(alloc, room)?;
     push_coordinates::<F, EF>(&mut bytes, first)?;
     push_coordinates::<F, EF>(&mut bytes, second)?;
     Ok(bytes)
@@ -92,16 +105,17 @@ pub fn pair_bytes<F: PrimeField64, EF: ExtensionField<F>>(
 
 /// A law, with no code: rows with the same bytes are the same.
 pub fn row_bytes_tell_rows<F: PrimeField64>(_some: &F)
-    ensures { RowBytesTell F.number_of }
+    ensures { RowBytesTell (element_bytes F.BYTES F.number_of) }
 {}
 
 /// A law, with no code: pairs with the same bytes are the same.
 pub fn pair_bytes_tell_pairs<F: PrimeField64, EF: ExtensionField<F>>(_some: &EF)
-    ensures { PairBytesTell F.number_of EF.coordinates }
+    ensures { PairBytesTell (element_bytes F.BYTES F.number_of) EF.coordinates }
 {}
 
-/// A law, with no code: two openings of different rows that lead to one root from one place show
-/// two texts with one digest.
+/// A law, with no code: two openings of different rows that lead to one root from one place show a
+/// collision of leaves or of nodes.
 pub fn opened_rows_bind<F: PrimeField64, H: TreeHash>(_some: &F, _depth: usize, _index: usize)
-    ensures { OpenedRowsBind H.digest_of F.number_of _depth _index }
+    ensures { OpenedRowsBind H.digests (element_bytes F.BYTES F.number_of) _depth
+        _index }
 {}

@@ -1,59 +1,45 @@
 //! What a tree hashes with.
-ghost use Rattle.std.specs.Prelude.{◌≡◌, ◌<◌, ◌+◌, ◌*◌, ◌≤◌, ◌++◌, ◌∷◌, [], ℕ, List, length, slice_index_or};
-ghost use Rattle.sha2.specs.Sha256.{sha256};
-ghost use Rattle.stark_sha256.specs.Pieces.{piece, text_of};
-ghost use Rattle.stark_merkle.specs.Tree.{AreNodesOf, leaf_of, node_of};
-ghost use Rattle.stark_merkle.specs.Sha.{digests_are_32};
+ghost use Rattle.std.specs.Prelude.{◌≡◌, ◌<◌, ◌+◌, ◌*◌, ◌≤◌, [], ℕ, length, slice_index_or};
+ghost use Rattle.stark_sha256.specs.Pieces.{piece};
+ghost use Rattle.stark_merkle.specs.Tree.{AreDigests, AreNodesOf, TreeDigests};
+ghost use Rattle.stark_merkle.specs.Sha.{sha_are_digests, sha_digests};
 
 use sha2::{Digest, Sha256};
-use stark_sha256::sha256_lanes;
+use stark_sha256::{compress_pair, compress_pairs, sha256_lanes};
 
-/// A hash of bytes, `digest_of`, with digests of 32 bytes. A tree's laws hold of any.
+/// The digests of leaves and of nodes, of 32 bytes each. A tree's laws hold of any; what they bind,
+/// they bind as far as nobody finds two texts with one leaf, or two pairs of digests with one node.
 pub trait TreeHash {
-    ghost digest_of: { List ℕ → List ℕ };
+    ghost digests: { TreeDigests };
 
-    /// The digest of a byte and two pieces behind it, with nothing between them.
-    fn digest(tag: u8, first: &[u8], second: &[u8]) -> [u8; 32]
-        ensures { result ≡ digest_of (tag ∷ (first.now ++ second.now)) };
+    /// A leaf: the digest of a row's bytes.
+    fn leaf(row: &[u8]) -> [u8; 32]
+        ensures { result ≡ digests.leaf row.now };
 
-    /// The digests of four texts at once: of each a byte and two pieces behind it.
-    fn digests(tag: u8, first: [&[u8]; 4], second: [&[u8]; 4]) -> [[u8; 32]; 4]
+    /// A node: the digest of two digests, that of the even place first.
+    fn node(left: &[u8; 32], right: &[u8; 32]) -> [u8; 32]
+        ensures { result ≡ digests.node left.now right.now };
+
+    /// Four leaves at once.
+    fn four_leaves(rows: [&[u8]; 4]) -> [[u8; 32]; 4]
+        ensures { (i : ℕ) → i < 4
+            → slice_index_or result i [] ≡ digests.leaf (piece rows.entry i) };
+
+    /// Four nodes at once: of each its left digest and its right one.
+    fn four_nodes(left: [&[u8; 32]; 4], right: [&[u8; 32]; 4]) -> [[u8; 32]; 4]
         ensures { (i : ℕ) → i < 4 → slice_index_or result i []
-            ≡ digest_of (text_of tag (piece first.entry i) (piece second.entry i)) };
+            ≡ digests.node (piece left.entry i) (piece right.entry i) };
 
-    ghost digest_size: { (m : List ℕ) → length (digest_of m) ≡ 32 };
-}
-
-/// A leaf: the digest of the byte 0 and a row's bytes behind it. The byte tells it from a node.
-pub fn leaf<H: TreeHash>(row: &[u8]) -> [u8; 32]
-    ensures { result ≡ leaf_of H.digest_of row.now }
-{
-    H::digest(0, row, &[])
-}
-
-/// A node: the digest of the byte 1 and two digests behind it, that of the even place first.
-pub fn node<H: TreeHash>(left: &[u8; 32], right: &[u8; 32]) -> [u8; 32]
-    ensures { result ≡ node_of H.digest_of left.now right.now }
-{
-    H::digest(1, left, right)
-}
-
-/// Four leaves at once.
-pub fn four_leaves<H: TreeHash>(rows: [&[u8]; 4]) -> [[u8; 32]; 4]
-    ensures { (i : ℕ) → i < 4
-        → slice_index_or result i [] ≡ leaf_of H.digest_of (piece rows.entry i) }
-{
-    H::digests(0, rows, [&[], &[], &[], &[]])
+    ghost are_digests: { AreDigests digests };
 }
 
 /// Nodes `4 * group` to `4 * group + 3` of the layer above.
-pub(crate) fn four_nodes<H: TreeHash>(layer: &[[u8; 32]], group: usize) -> [[u8; 32]; 4]
+pub(crate) fn nodes_over<H: TreeHash>(layer: &[[u8; 32]], group: usize) -> [[u8; 32]; 4]
     requires { 8 * (group + 1) ≤ length layer.now }
-    ensures { AreNodesOf H.digest_of layer.now (4 * group) result }
+    ensures { AreNodesOf H.digests layer.now (4 * group) result }
 {
     let at = 8 * group;
-    H::digests(
-        1,
+    H::four_nodes(
         [&layer[at], &layer[at + 2], &layer[at + 4], &layer[at + 6]],
         [
             &layer[at + 1],
@@ -64,24 +50,33 @@ pub(crate) fn four_nodes<H: TreeHash>(layer: &[[u8; 32]], group: usize) -> [[u8;
     )
 }
 
-/// Trees over SHA-256.
+/// Trees over SHA-256. A leaf is the SHA-256 digest of the byte 0 and a row's bytes after it. A
+/// node is one compression of the block that its two digests are, by SHA-256's function from a
+/// starting value that no text is hashed from.
 #[derive(Clone, Copy, Debug)]
 pub struct Sha256Tree;
 
 impl TreeHash for Sha256Tree {
-    ghost digest_of = { sha256 };
+    ghost digests = { sha_digests };
 
-    fn digest(tag: u8, first: &[u8], second: &[u8]) -> [u8; 32] {
+    fn leaf(row: &[u8]) -> [u8; 32] {
         let mut hasher = Sha256::new();
-        hasher.update(&[tag]);
-        hasher.update(first);
-        hasher.update(second);
+        hasher.update(&[0]);
+        hasher.update(row);
         hasher.finalize()
     }
 
-    fn digests(tag: u8, first: [&[u8]; 4], second: [&[u8]; 4]) -> [[u8; 32]; 4] {
-        sha256_lanes([tag; 4], first, second)
+    fn node(left: &[u8; 32], right: &[u8; 32]) -> [u8; 32] {
+        compress_pair(left, right)
     }
 
-    ghost digest_size = { digests_are_32 };
+    fn four_leaves(rows: [&[u8]; 4]) -> [[u8; 32]; 4] {
+        sha256_lanes([0; 4], rows, [&[], &[], &[], &[]])
+    }
+
+    fn four_nodes(left: [&[u8; 32]; 4], right: [&[u8; 32]; 4]) -> [[u8; 32]; 4] {
+        compress_pairs(left, right)
+    }
+
+    ghost are_digests = { sha_are_digests };
 }

@@ -16,7 +16,7 @@ pub use bytes::{
     begin_rows, opened_rows_bind, pair_bytes, pair_bytes_tell_pairs, push_row, row_bytes,
     row_bytes_tell_rows,
 };
-pub use hash::{Sha256Tree, TreeHash, four_leaves, leaf, node};
+pub use hash::{Sha256Tree, TreeHash};
 pub use path::{
     full_trees_have_paths, full_trees_have_roots, is_path_to, own_rows_lead_to_roots, paths_bind,
     root_of_path, rows_bind, tops_are_roots, trees_lead_to_roots,

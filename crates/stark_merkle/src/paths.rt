@@ -2,7 +2,7 @@
 ghost use Rattle.std.specs.Prelude.{◌≡◌, ◌↔◌, ◌<◌, ◌%◌, IsTrue, ℕ, [], cond, eqb, length, slice_index, slice_index_or};
 ghost use Rattle.stark_merkle.specs.Four.{AreJoined, AreLed, FourLead, HaveDepth, HavePlaces};
 
-use crate::hash::{TreeHash, four_leaves};
+use crate::hash::TreeHash;
 use crate::path::has_place;
 
 /// Whether each of four paths has so many digests.
@@ -45,10 +45,9 @@ fn four_joined<H: TreeHash>(
     digests: &[[u8; 32]; 4],
     beside: [&[u8; 32]; 4],
 ) -> [[u8; 32]; 4]
-    ensures { AreJoined H.digest_of places digests.now beside.entry result }
+    ensures { AreJoined H.digests places digests.now beside.entry result }
 {
-    H::digests(
-        1,
+    H::four_nodes(
         [
             first_of(places[0], &digests[0], beside[0]),
             first_of(places[1], &digests[1], beside[1]),
@@ -80,7 +79,7 @@ fn roots_of_paths<H: TreeHash>(
     paths: [&[[u8; 32]]; 4],
 ) -> [[u8; 32]; 4]
     requires { HaveDepth depth paths }
-    ensures { AreLed H.digest_of indices starts paths.entry result }
+    ensures { AreLed H.digests indices starts paths.entry result }
 {
     let mut digests = starts;
     let mut places = indices;
@@ -108,11 +107,11 @@ pub fn four_lead<H: TreeHash>(
     rows: [&[u8]; 4],
     paths: [&[[u8; 32]]; 4],
 ) -> bool
-    ensures { IsTrue result ↔ FourLead H.digest_of root.now depth indices rows.entry paths.entry }
+    ensures { IsTrue result ↔ FourLead H.digests root.now depth indices rows.entry paths.entry }
 {
     if !have_depth(depth, paths) || !have_places(depth, indices) {
         return false;
     }
-    let starts = four_leaves::<H>(rows);
+    let starts = H::four_leaves(rows);
     are_all(root, &roots_of_paths::<H>(starts, indices, depth, paths))
 }

@@ -2,7 +2,7 @@
 //! computed in Python with hashlib, and which altered claims are refused by a verifier written
 //! there.
 use crate::{
-    Root, Sha256Tree, TreeHash, four_lead, is_path_to, leaf, leaves, path_in, root_in, tree_layers,
+    Root, Sha256Tree, TreeHash, four_lead, is_path_to, leaves, path_in, root_in, tree_layers,
 };
 use serde_json::Value;
 use stark_support::{JsonCodec, JsonFault, value_from_bytes};
@@ -13,29 +13,29 @@ use std::test::Fail;
 const CASES: &str = r#"
 # How many leaves there are. Answered is the root.
 root | 1 => 000c835b247f77f7f1a2ade1f76cd63e3760a4b5407fb46a7969c55413496358
-root | 2 => 6f30c90fee3730f57dbb469964df952a2e98e969be8a383424ad72be9103e045
-root | 4 => e718ef09d8e1f8c3ebf5ef632ee8a2e434c55e53e6ebb2cd7607bd6373044c22
-root | 8 => a94b4fe4b79e2f7254de09d24255b17837de9fbc890e8d2570c84383454a4ccf
-root | 16 => dd58e88824ee4f12417af5226687a58ea354fcfee6c2fe4b6b73e49023bb9497
-root | 32 => f59a306dfa46ab0dca03c0e092c870ea696a977ecd3289d55646345f54bdc839
-root | 128 => 0986554862e96fddd32de59c774fffa6ea92d495ae7e1e7efb2366a2444bfa49
+root | 2 => 1e51411e5d2695bc0b1a3e49d0dab18a13b16329ccbcb8a8cfad4184be1c21d4
+root | 4 => e1ca8f1c79bc6f3f00ee933d796b970d7aecbd8564918e78f041db2e7fec6c59
+root | 8 => ede82a9e34132fd4cd97e7c157492e4b9296d1fb7fd8d68e16239e56e1738023
+root | 16 => faf9e9c9eaf284a4bffce23b6dd47c62bfa71331504eb221301fb9d78ebd4052
+root | 32 => 5184530627c1b87f8edf00ec5fbef6e1870f65058ae9da827d7a984b958e8914
+root | 128 => 7b98411a6c5cd582504e07ab761e453bd3d1dbf8fa8768f5a1aa235d1370aa81
 
 # How many leaves, and a place. Answered are the first bytes of the path's digests, lowest first.
 path | 1 0 => no digests
 path | 2 0 => 6cbe30c8
 path | 2 1 => 000c835b
-path | 4 0 => 6cbe30c8 05250cc8
-path | 4 1 => 000c835b 05250cc8
-path | 4 2 => df23aa49 6f30c90f
-path | 4 3 => 1d7d8539 6f30c90f
-path | 8 0 => 6cbe30c8 05250cc8 bb320aa5
-path | 8 1 => 000c835b 05250cc8 bb320aa5
-path | 8 2 => df23aa49 6f30c90f bb320aa5
-path | 8 3 => 1d7d8539 6f30c90f bb320aa5
-path | 8 4 => 576780d7 d228107e e718ef09
-path | 8 5 => 34b2b4c2 d228107e e718ef09
-path | 8 6 => 30279e8c 1649555e e718ef09
-path | 8 7 => 5fef95d9 1649555e e718ef09
+path | 4 0 => 6cbe30c8 b4b8dc6e
+path | 4 1 => 000c835b b4b8dc6e
+path | 4 2 => df23aa49 1e51411e
+path | 4 3 => 1d7d8539 1e51411e
+path | 8 0 => 6cbe30c8 b4b8dc6e 8375c2a4
+path | 8 1 => 000c835b b4b8dc6e 8375c2a4
+path | 8 2 => df23aa49 1e51411e 8375c2a4
+path | 8 3 => 1d7d8539 1e51411e 8375c2a4
+path | 8 4 => 576780d7 32823138 e1ca8f1c
+path | 8 5 => 34b2b4c2 32823138 e1ca8f1c
+path | 8 6 => 30279e8c 9f325325 e1ca8f1c
+path | 8 7 => 5fef95d9 9f325325 e1ca8f1c
 
 # Places past the leaves have no path, and of three leaves the last has none beside it.
 path | 1 1 => none
@@ -175,7 +175,7 @@ fn both(alloc: Global, left: &[u8; 32], right: &[u8; 32]) -> Result<Vec<u8>, Fai
 
 /// The claim whose row is the two digests below the leaf's parent.
 fn parent_of<H: TreeHash>(alloc: Global, claim: Claim) -> Result<Claim, Fail> {
-    let below = leaf::<H>(&claim.row);
+    let below = H::leaf(&claim.row);
     let beside = *claim.path.first().ok_or("no parent")?;
     let row = if claim.index % 2 == 0 {
         both(alloc, &below, &beside)?

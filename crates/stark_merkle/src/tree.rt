@@ -1,27 +1,27 @@
 //! Trees, layer by layer.
 ghost use Rattle.std.specs.Prelude.{◌≡◌, ◌+◌, ◌<◌, ◌^◌, ◌↔◌, IfOk, IfSome, IsSome, map};
-ghost use Rattle.stark_merkle.specs.Tree.{HasPath, IsPathIn, digests_in, items_of, layers_from, leaf_of, neighbour, node_of, paired, sole, top_of};
+ghost use Rattle.stark_merkle.specs.Tree.{HasPath, IsPathIn, digests_in, items_of, layers_from, neighbour, paired, sole, top_of};
 
-use crate::hash::{TreeHash, four_leaves, four_nodes, leaf, node};
+use crate::hash::{TreeHash, nodes_over};
 use std::alloc::{AllocError, Global};
 
 /// The leaves over rows, of which the bytes are given, in order. It is Err only where memory was
 /// refused.
 pub fn leaves<H: TreeHash>(alloc: Global, rows: &[Vec<u8>]) -> Result<Vec<[u8; 32]>, AllocError>
     ensures { IfOk result (λ leaves.
-        leaves.items ≡ map (leaf_of H.digest_of) (map items_of rows.now)) }
+        leaves.items ≡ map H.digests.leaf (map items_of rows.now)) }
 {
     let mut leaves = Vec::with_capacity(alloc, rows.len())?;
     let groups = rows.len() / 4;
     for group in 0..groups {
         let at = 4 * group;
-        let four = four_leaves::<H>([&rows[at], &rows[at + 1], &rows[at + 2], &rows[at + 3]]);
+        let four = H::four_leaves([&rows[at], &rows[at + 1], &rows[at + 2], &rows[at + 3]]);
         for j in 0..4 {
             leaves.push(four[j])?;
         }
     }
     for i in 4 * groups..rows.len() {
-        leaves.push(leaf::<H>(&rows[i]))?;
+        leaves.push(H::leaf(&rows[i]))?;
     }
     Ok(leaves)
 }
@@ -32,18 +32,18 @@ pub fn next_layer<H: TreeHash>(
     alloc: Global,
     layer: &[[u8; 32]],
 ) -> Result<Vec<[u8; 32]>, AllocError>
-    ensures { IfOk result (λ above. above.items ≡ paired (node_of H.digest_of) layer.now) }
+    ensures { IfOk result (λ above. above.items ≡ paired H.digests.node layer.now) }
 {
     let mut above = Vec::with_capacity(alloc, layer.len() / 2)?;
     let groups = layer.len() / 8;
     for group in 0..groups {
-        let nodes = four_nodes::<H>(layer, group);
+        let nodes = nodes_over::<H>(layer, group);
         for j in 0..4 {
             above.push(nodes[j])?;
         }
     }
     for i in 4 * groups..layer.len() / 2 {
-        above.push(node::<H>(&layer[2 * i], &layer[2 * i + 1]))?;
+        above.push(H::node(&layer[2 * i], &layer[2 * i + 1]))?;
     }
     Ok(above)
 }
@@ -57,7 +57,7 @@ pub fn tree_layers<H: TreeHash>(
     depth: usize,
 ) -> Result<Vec<Vec<[u8; 32]>>, AllocError>
     ensures { IfOk result (λ layers. digests_in layers.items
-        ≡ layers_from (node_of H.digest_of) depth leaves.items) }
+        ≡ layers_from H.digests.node depth leaves.items) }
 {
     let mut layers = Vec::new(alloc);
     let mut layer = leaves;

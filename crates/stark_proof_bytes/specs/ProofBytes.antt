@@ -66,7 +66,7 @@ pub record ProofCodecsLaws {K E P F : Type 0} (ops : ProofCodecs K E P F) : Type
 
 -- the bytes that each file begins with
 abbrev pub magic : List ℕ
-magic = codes "voskligan proof 1"
+magic = codes "voskligan proof 2"
 
 abbrev pub magic_if : Bool → List ℕ → Result (⊤ × List ℕ) BytesFault
 magic_if b rest = if b then Ok (tt, rest) else Err Magic

@@ -28,7 +28,7 @@ fn whole_proof<
         (codecs Com.bytes Challenge.bytes PcsProof.bytes Val.bytes) bytes.now) }
 {
     let mut reader = ByteReader::new(bytes);
-    reader.next_prefix("voskligan proof 1".as_bytes())?;
+    reader.next_prefix("voskligan proof 2".as_bytes())?;
     let proof = read_proof(alloc, &mut reader)?;
     if reader.len() > 0 {
         return Err(BytesFault::TrailingBytes);
@@ -37,7 +37,7 @@ fn whole_proof<
 }
 
 /// The proof that the bytes of a file name, which no other bytes name, or their first fault. The
-/// bytes are the text `voskligan proof 1`; the commitments to the trace, to the quotient's chunks
+/// bytes are the text `voskligan proof 2`; the commitments to the trace, to the quotient's chunks
 /// and, as a value that may be missing, to a random polynomial; the opened rows of the trace, the
 /// next rows, the preprocessed rows, the quotient's chunks and the random row; the opening proof;
 /// `degree_bits`; and the two witnesses, zeta's first. A number has 8 bytes, the high one first, an
@@ -84,7 +84,7 @@ pub fn proof_to_bytes<
         ≡ Ok (proof_view proof.now)) }
 {
     let mut bytes = Vec::new(alloc);
-    bytes.extend_from_slice("voskligan proof 1".as_bytes())?;
+    bytes.extend_from_slice("voskligan proof 2".as_bytes())?;
     write_proof(proof, &mut bytes)?;
     Ok(bytes)
 }

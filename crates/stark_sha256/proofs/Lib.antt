@@ -1,3 +1,4 @@
 pub mod WordFacts
 pub mod LaneFacts
 pub mod TextFacts
+pub mod PairFacts

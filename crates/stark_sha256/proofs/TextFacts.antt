@@ -63,7 +63,7 @@ module _ (tag : ℕ) (first second : List ℕ) where
 -- ---- a word
 
 -- one byte after the other
-same_words : (x y : List ℕ) (i k : ℕ)
+pub same_words : (x y : List ℕ) (i k : ℕ)
     → ((d : ℕ) → d < 4 → slice_index x (i + d) ≡ slice_index y (k + d)) → word_at x i ≡ word_at y k
 same_words x y i k same =
     let at0 = simp add-zero at (same 0 (omega arith)) in

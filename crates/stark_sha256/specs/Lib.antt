@@ -1,4 +1,5 @@
 pub mod Lanes
 pub mod Rounds
 pub mod Pieces
+pub mod Pairs
 pub mod Texts

@@ -66,7 +66,7 @@ fn words_by_bytes(texts: &Texts, at: usize) -> u32x4
 
 /// The word at a place of some bytes.
 #[inline(always)]
-fn word_in(bytes: &[u8], at: usize) -> u32
+pub(crate) fn word_in(bytes: &[u8], at: usize) -> u32
     requires { at + 4 ≤ length bytes.now }
     ensures { result ≡ word_at bytes.now at }
 {

@@ -55,7 +55,7 @@ fn final_state(texts: &Texts) -> [u32x4; 8]
 }
 
 /// The digest in one lane: its words, the high byte of each first.
-fn digest_in_lane(state: &[u32x4; 8], j: usize) -> [u8; 32]
+pub(crate) fn digest_in_lane(state: &[u32x4; 8], j: usize) -> [u8; 32]
     requires { j < 4 }
     ensures { result ≡ digest_bytes (lane j state.now) 8 }
 {

@@ -5,9 +5,11 @@ mod blocks;
 mod compress;
 mod digest;
 mod padding;
+mod pairs;
 #[cfg(test)]
 mod tests;
 mod texts;
 mod words;
 
 pub use digest::{LANES, sha256_lanes};
+pub use pairs::{compress_pair, compress_pairs};

@@ -1,6 +1,7 @@
 //! Worked cases. Byte k of the text in lane j is (k mod 251) * (2 * j + 3), modulo 256. The digests
-//! were computed in Python with hashlib.
-use crate::{LANES, sha256_lanes};
+//! were computed in Python: with hashlib, and those of pairs by the standard's compression function
+//! written there.
+use crate::{LANES, compress_pair, compress_pairs, sha256_lanes};
 use std::alloc::Global;
 use std::test::Fail;
 
@@ -47,6 +48,15 @@ const CASES: &str = r#"
 255 30 33 64 => 17cfa100158637a1 2ea29644901b9f1d fb1aba8c1612c427 2c42778bbf500889
 "#;
 
+// Where in a lane's text the 64 bytes of its pair begin => the first bytes of each pair's digest.
+const PAIRS: &str = r#"
+0 => bf70ecb7f26b497b 0101bfa141e8af95 02ed691b09f1cc12 1edc8624ba8ea571
+1 => b45aece0daefb99a 35d293eef141cfe4 ea8257fa4593abcf 9c22fd976bc811d0
+32 => 45d3e5e66644bcc4 ea0f611ed84dda13 4f9cfdbc0a576ce2 388b6d93612bb27d
+187 => 8566fbbb8d7068c2 6c91a9fd756ce078 3cb50bd4d50aca17 ee801d3dddcaa480
+230 => f9c87fdb8f70bfd3 0e6bcb0740481665 60e24970374f0afa b3013b9e9370f5d0
+"#;
+
 /// The two pieces behind a text's first byte.
 #[derive(Drop)]
 struct Pieces {
@@ -54,11 +64,16 @@ struct Pieces {
     second: Vec<u8>,
 }
 
+/// The byte at a place of a lane's text.
+fn byte_at(lane: usize, place: usize) -> u8 {
+    ((place % 251) * (2 * (lane % LANES) + 3) % 256) as u8
+}
+
 /// So many bytes of a text, from a place on.
 fn bytes_of(alloc: Global, lane: usize, start: usize, len: usize) -> Result<Vec<u8>, Fail> {
     let mut bytes = Vec::new(alloc);
     for place in start..start.saturating_add(len) {
-        bytes.push(((place % 251) * (2 * (lane % LANES) + 3) % 256) as u8)?;
+        bytes.push(byte_at(lane, place))?;
     }
     Ok(bytes)
 }
@@ -122,6 +137,31 @@ fn answer(alloc: Global, case: &str) -> Result<String, Fail> {
     )
 }
 
+/// The 32 bytes of a text from a place on.
+fn digest_from(lane: usize, start: usize) -> [u8; 32] {
+    let mut digest = [0; 32];
+    for place in 0..32 {
+        digest[place] = byte_at(lane, start.saturating_add(place));
+    }
+    digest
+}
+
+/// The digests of the pairs whose bytes begin at a place.
+fn pair_answer(alloc: Global, case: &str) -> Result<String, Fail> {
+    let start = case.parse::<usize>()?;
+    let middle = start.saturating_add(32);
+    let left = [0, 1, 2, 3].map(|lane| digest_from(lane, start));
+    let right = [0, 1, 2, 3].map(|lane| digest_from(lane, middle));
+    let digests = compress_pairs(
+        [&left[0], &left[1], &left[2], &left[3]],
+        [&right[0], &right[1], &right[2], &right[3]],
+    );
+    if compress_pair(&left[2], &right[2]) != digests[2] {
+        return Err(Fail::new("a pair alone has another digest"));
+    }
+    shown(alloc, digests)
+}
+
 #[test]
 fn cases_are_answered(rt: HostRuntime) -> Result<(), Fail> {
     let mut count = 0usize;
@@ -134,5 +174,20 @@ fn cases_are_answered(rt: HostRuntime) -> Result<(), Fail> {
         }
     }
     assert_eq!(rt; count, 32);
+    Ok(())
+}
+
+#[test]
+fn pairs_are_compressed(rt: HostRuntime) -> Result<(), Fail> {
+    let mut count = 0usize;
+    for case in PAIRS.lines() {
+        if !case.is_empty() {
+            let (input, expected) = case.split_once(" => ").ok_or("a case without an answer")?;
+            let actual = pair_answer(rt.alloc(), input)?;
+            assert_eq!(rt; actual.as_str(), expected, "{input}");
+            count = count.saturating_add(1);
+        }
+    }
+    assert_eq!(rt; count, 5);
     Ok(())
 }

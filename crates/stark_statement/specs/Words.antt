@@ -20,7 +20,7 @@ counted words xs = length xs ∷ flat_map words xs
 
 -- What the bytes of a statement begin with, unlike those of other kinds, with the version of the writing.
 abbrev pub label : List ℕ
-label = codes "voskligan statement 2"
+label = codes "voskligan statement 3"
 
 -- the label, and each word as 8 bytes, the high one first
 unfoldable pub labelled : List ℕ → List ℕ

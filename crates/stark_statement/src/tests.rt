@@ -176,22 +176,22 @@ const DIGESTS: [(&str, usize, &str); 4] = [
     (
         "}",
         349,
-        "fcd12d6c03e3707deedd63cb082e5d3bcf2f9cec99f6facd165398ec16ffdfab",
+        "e58b62021bdb0989ae6fe4930d22b4768a04e7cdb8935edf2395f63c53756726",
     ),
     (
         ",\"log_height\":null}",
         349,
-        "fcd12d6c03e3707deedd63cb082e5d3bcf2f9cec99f6facd165398ec16ffdfab",
+        "e58b62021bdb0989ae6fe4930d22b4768a04e7cdb8935edf2395f63c53756726",
     ),
     (
         ",\"log_height\":1}",
         357,
-        "0135d812708762a433337ad146763dd63b3a6da77a99834722058e6d4eaa880c",
+        "dcc17a99b53c68ee0715b3556977d1012b7dd5c01c66f020c592bc86ab179506",
     ),
     (
         ",\"log_height\":0}",
         357,
-        "49ae08d68c9eb301fd8e89945cf90eb06df4e8cde25789bd441d21be9fb162d6",
+        "7a023a499d17972ccf3fcdfd1c5538dd0808895a3385dcaeb1b5919a9c726bd0",
     ),
 ];
 

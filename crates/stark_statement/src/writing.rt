@@ -24,7 +24,7 @@ fn labelled(alloc: Global, words: &[u64]) -> Result<Vec<u8>, AllocError>
     ensures { IfOk result (λ bytes. bytes.items ≡ labelled words.now) }
 {
     let mut bytes = Vec::with_capacity(alloc, words.len().saturating_mul(8).saturating_add(32))?;
-    bytes.extend_from_slice("voskligan statement 2".as_bytes())?;
+    bytes.extend_from_slice("voskligan statement 3".as_bytes())?;
     for word in words {
         bytes.extend_from_slice(&word.to_be_bytes())?;
     }
@@ -49,7 +49,7 @@ fn known_words(words: &[u64])
 
 impl<F: PrimeField64> Statement<F> {
     /// The bytes that tell this statement from every other over the field: how many bytes follow,
-    /// as 8 bytes, the high one first; the label `voskligan statement 2`; and words of 8 bytes
+    /// as 8 bytes, the high one first; the label `voskligan statement 3`; and words of 8 bytes
     /// each, the high one first. The words are the field (0 for BabyBear, 1 for KoalaBear, 2 for
     /// 12289), the scheme (0 in the clear, or 1 and FRI's five numbers in the order of
     /// `FriParameters::new`), the width, the number of public values, the periodic

@@ -214,7 +214,12 @@ pub trait PackedField: Field {
 pub trait PrimeField64: Field {
     ghost ORDER: { ℕ };
 
+    ghost BYTES: { ℕ };
+
     ghost number_of: { Self → ℕ };
+
+    /// In how many bytes each number below the modulus is written.
+    const BYTES: usize;
 
     /// The element's number, which is below the modulus.
     fn as_canonical_u64(&self) -> u64
@@ -231,6 +236,10 @@ pub trait PrimeField64: Field {
     /// Each number below the modulus is one of 64 bits, so that the bytes of different elements
     /// differ.
     ghost fits: { ORDER ≤ 2 ^ 64 };
+
+    ghost fits_bytes: { ORDER ≤ 256 ^ BYTES };
+
+    ghost few_bytes: { BYTES ≤ 8 };
 
     ghost below: { (x : Self) → number_of x < ORDER };
 

@@ -329,7 +329,11 @@ impl<M: Modulus, Kind> Field for Residue<M, Kind> {
 impl<M: Modulus, Kind> PrimeField64 for Residue<M, Kind> {
     ghost ORDER = { M.MODULUS };
 
+    ghost BYTES = { M.BYTES };
+
     ghost number_of = { λ x. x.value };
+
+    const BYTES: usize = M::BYTES;
 
     fn as_canonical_u64(&self) -> u64 {
         u64::from(self.value)
@@ -344,6 +348,10 @@ impl<M: Modulus, Kind> PrimeField64 for Residue<M, Kind> {
     ghost above = { M.prime.above };
 
     ghost fits = { number_fits M.MODULUS M.prime.below };
+
+    ghost fits_bytes = { M.bytes.fits };
+
+    ghost few_bytes = { M.bytes.few };
 
     ghost below = { λ x. x.in_range };
 

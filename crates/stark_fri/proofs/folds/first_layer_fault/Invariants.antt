@@ -11,6 +11,6 @@ fields_of g = fields_by g.F.TwoAdicField g.F.Field g.F.PrimeField64 g.EF.Field g
 abbrev pub invariant-loop-i : goal.invariant-loop-i
 invariant-loop-i g l =
     let fields = fields_of g in
-    let leads = PairLeads g.H.TreeHash.digest_of in
+    let leads = PairLeads g.H.TreeHash.digests in
     let trees = map phase_root l.phases in
     OpeningsSoFar fields leads l.bits trees l.layers l.pairs l.i × OpeningsPassed fields leads l.bits trees l.layers l.pairs l.i

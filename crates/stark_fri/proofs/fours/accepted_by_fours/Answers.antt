@@ -21,7 +21,7 @@ returns-then-not-branch g c =
 pub loop-group-preserved : goal.loop-group-preserved
 loop-group-preserved g c =
     let target = target_of (fields_of g) g.D.PolynomialSpace.coset_of c.args.replayed.now in
-    let holds = QueryHolds (fields_of g) g.H.TreeHash.digest_of target in
+    let holds = QueryHolds (fields_of g) g.H.TreeHash.digests target in
     let places = c.args.replayed.now.drawn.now.places.items in
     let queries = c.args.replayed.now.proof.now.queries in
     let at = 4 * c.loop-group.group in
@@ -38,7 +38,7 @@ returns g c =
     let places = c.args.replayed.now.drawn.now.places in
     let queries = c.args.replayed.now.proof.now.queries in
     let target = target_of (fields_of g) g.D.PolynomialSpace.coset_of c.args.replayed.now in
-    let holds = QueryHolds (fields_of g) g.H.TreeHash.digest_of target in
+    let holds = QueryHolds (fields_of g) g.H.TreeHash.digests target in
     let ended = c.loop-group-test.false in
     let upto = c.loop-group.auto.group-end in
     let least = c.min-groups.ensures in

@@ -12,4 +12,4 @@ fields_of g = fields_by g.D.Val.TwoAdicField g.D.Val.Field g.D.Val.PrimeField64 
 abbrev pub invariant-loop-group : goal.invariant-loop-group
 invariant-loop-group g l =
     let target = target_of (fields_of g) g.D.PolynomialSpace.coset_of l.replayed in
-    AllByRecursion (QueryHolds (fields_of g) g.H.TreeHash.digest_of target) (take (4 * l.group) (zip l.replayed.drawn.now.places.items l.replayed.proof.now.queries))
+    AllByRecursion (QueryHolds (fields_of g) g.H.TreeHash.digests target) (take (4 * l.group) (zip l.replayed.drawn.now.places.items l.replayed.proof.now.queries))

@@ -44,7 +44,7 @@ four_layers_lead-requires-clause-pairs g c = λ j walk low is_walk.
 pub returns : goal.returns
 returns g c = λ yes.
     let fields = fields_of g in
-    let hash = g.H.TreeHash.digest_of in
+    let hash = g.H.TreeHash.digests in
     let bits = c.args.replayed.now.bits in
     let drawn = c.args.replayed.now.drawn.now in
     let proof = c.args.replayed.now.proof.now in

@@ -12,7 +12,7 @@ use Rattle.stark_fri.proofs.fours.four_inputs_lead.Goals as goal
 pub loop-r-preserved : goal.loop-r-preserved
 loop-r-preserved g c = λ j place query low is_place is_query.
     let fields = fields_of g in
-    let hash = g.H.TreeHash.digest_of in
+    let hash = g.H.TreeHash.digests in
     let bits = c.args.bits in
     let claims = c.args.claims.now in
     let seen = round_seen g.D.PolynomialSpace.coset_of in
@@ -37,5 +37,5 @@ returns g c = λ yes j place query low is_place is_query.
     let rounds = map seen claims in
     let ended = c.loop-r-test.false in
     let as_many : length rounds ≡ length claims = length-map claims seen in
-    holds_end (InputLeads (fields_of g) g.H.TreeHash.digest_of c.args.bits place) (zip rounds query.inputs) c.loop-r.r
+    holds_end (InputLeads (fields_of g) g.H.TreeHash.digests c.args.bits place) (zip rounds query.inputs) c.loop-r.r
     (zip_ended rounds query.inputs c.loop-r.r (omega (arith, ended, as_many))) (c.loop-r.invariant j place query low is_place is_query)

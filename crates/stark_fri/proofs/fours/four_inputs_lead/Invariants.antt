@@ -14,4 +14,4 @@ fields_of g = fields_by g.D.Val.TwoAdicField g.D.Val.Field g.D.Val.PrimeField64 
 abbrev pub invariant-loop-r : goal.invariant-loop-r
 invariant-loop-r g l =
     let rounds = map (round_seen g.D.PolynomialSpace.coset_of) l.claims in
-    InBothFour (λ place query. HoldsSoFar (InputLeads (fields_of g) g.H.TreeHash.digest_of l.bits place) (zip rounds query.inputs) l.r) l.places l.queries
+    InBothFour (λ place query. HoldsSoFar (InputLeads (fields_of g) g.H.TreeHash.digests l.bits place) (zip rounds query.inputs) l.r) l.places l.queries

@@ -11,7 +11,7 @@ use Rattle.stark_fri.proofs.fours.four_layers_lead.Goals as goal
 pub loop-i-preserved : goal.loop-i-preserved
 loop-i-preserved g c = λ j query walk low is_query is_walk.
     let fields = fields_of g in
-    let hash = g.H.TreeHash.digest_of in
+    let hash = g.H.TreeHash.digests in
     let bits = c.args.bits in
     let phases = c.args.phases.now in
     let trees = map phase_root phases in
@@ -35,5 +35,5 @@ pub returns : goal.returns
 returns g c = λ yes j query walk low is_query is_walk.
     let trees = map phase_root c.args.phases.now in
     let ended = c.loop-i-test.false in
-    openings_end (fields_of g) (PairLeads g.H.TreeHash.digest_of) c.args.bits trees query.layers walk.pairs.items c.loop-i.i
+    openings_end (fields_of g) (PairLeads g.H.TreeHash.digests) c.args.bits trees query.layers walk.pairs.items c.loop-i.i
     (omega (arith, ended, length-map c.args.phases.now phase_root)) (c.loop-i.invariant j query walk low is_query is_walk)

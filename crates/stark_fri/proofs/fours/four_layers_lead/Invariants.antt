@@ -12,4 +12,4 @@ fields_of g = fields_by g.F.TwoAdicField g.F.Field g.F.PrimeField64 g.EF.Field g
 abbrev pub invariant-loop-i : goal.invariant-loop-i
 invariant-loop-i g l =
     let trees = map phase_root l.phases in
-    InBothFour (λ query walk. OpeningsSoFar (fields_of g) (PairLeads g.H.TreeHash.digest_of) l.bits trees query.layers walk.pairs.items l.i) l.queries l.walks
+    InBothFour (λ query walk. OpeningsSoFar (fields_of g) (PairLeads g.H.TreeHash.digests) l.bits trees query.layers walk.pairs.items l.i) l.queries l.walks

@@ -12,7 +12,7 @@ use Rattle.stark_fri.proofs.fours.four_pairs_lead.Goals as goal
 pub returns : goal.returns
 returns g c = λ lead.
     let fields = fields_by g.F.TwoAdicField g.F.Field g.F.PrimeField64 g.EF.Field g.EF.ExtensionField in
-    let hash = g.H.TreeHash.digest_of in
+    let hash = g.H.TreeHash.digests in
     let depth = c.args.depth in
     let i = c.args.layer in
     let queries = c.args.queries.now in

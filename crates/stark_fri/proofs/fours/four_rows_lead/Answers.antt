@@ -10,7 +10,7 @@ use Rattle.stark_fri.proofs.fours.four_rows_lead.Goals as goal
 pub returns : goal.returns
 returns g c = λ lead.
     let fields = fields_by g.F.TwoAdicField g.F.Field g.F.PrimeField64 g.EF.Field g.EF.ExtensionField in
-    let hash = g.H.TreeHash.digest_of in
+    let hash = g.H.TreeHash.digests in
     let bits = c.args.bits in
     let round = c.args.round in
     let places = c.args.places.now in

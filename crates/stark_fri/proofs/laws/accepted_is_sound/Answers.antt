@@ -9,7 +9,7 @@ use Rattle.stark_fri.proofs.laws.accepted_is_sound.Goals as goal
 abbrev ops_of : (g : given.Over) → FriOps g.row.C.Denot g.row.F.Denot g.row.EF.Denot
 ops_of g = record {
   fields = fields_by g.F.TwoAdicField g.F.Field g.F.PrimeField64 g.EF.Field g.EF.ExtensionField;
-  hash = g.H.TreeHash.digest_of;
+  hash = g.H.TreeHash.digests;
   sponge = sponge_by g.F.Field g.F.PrimeField64 g.EF.ExtensionField g.C.CanObserve-1 g.C.CanObserve-2 g.C.CanSample g.C.CanSampleBits g.C.GrindingChallenger;
 }
 
@@ -22,6 +22,6 @@ returns g c =
       two_adic = g.met.F.TwoAdicField.two_adic;
     } in
     let named =
-    names_by g.F.TwoAdicField g.F.Field g.F.PrimeField64 g.EF.Field g.EF.ExtensionField g.met.F.PrimeField64.below g.met.F.PrimeField64.fits g.met.F.PrimeField64.same_number
-    g.met.EF.ExtensionField.is_basis g.H.TreeHash.digest_of g.met.H.TreeHash.digest_size in
+    names_by g.F.TwoAdicField g.F.Field g.F.PrimeField64 g.EF.Field g.EF.ExtensionField g.met.F.PrimeField64.below g.met.F.PrimeField64.above g.met.F.PrimeField64.fits_bytes g.met.F.PrimeField64.same_number
+    g.met.EF.ExtensionField.is_basis g.H.TreeHash.digests g.met.H.TreeHash.are_digests in
     λ i accepted. (accepted_is_sound (ops_of g) are i named accepted, accepted_has_few (ops_of g) are i accepted)

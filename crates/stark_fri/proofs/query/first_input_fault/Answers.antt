@@ -12,7 +12,7 @@ use Rattle.stark_fri.proofs.query.first_input_fault.Goals as goal
 
 pub returns-then-not-leads : goal.returns-then-not-leads
 returns-then-not-leads g c =
-    let leads = InputLeads (fields_of g) g.H.TreeHash.digest_of c.args.bits c.args.place in
+    let leads = InputLeads (fields_of g) g.H.TreeHash.digests c.args.bits c.args.place in
     let seen = round_seen g.D.PolynomialSpace.coset_of in
     let both = zip (map seen c.args.claims.now) c.args.inputs.now in
     let at = zip_mapped c.args.claims.now c.args.inputs.now c.loop-r.r _ c.index-claims-r.result c.index-inputs-r.result c.loop-r-test.true c.index-claims-r.is c.index-inputs-r.is seen c.min-r-end.ensures in
@@ -21,7 +21,7 @@ returns-then-not-leads g c =
 
 pub loop-r-preserved : goal.loop-r-preserved
 loop-r-preserved g c =
-    let leads = InputLeads (fields_of g) g.H.TreeHash.digest_of c.args.bits c.args.place in
+    let leads = InputLeads (fields_of g) g.H.TreeHash.digests c.args.bits c.args.place in
     let seen = round_seen g.D.PolynomialSpace.coset_of in
     let both = zip (map seen c.args.claims.now) c.args.inputs.now in
     let at = zip_mapped c.args.claims.now c.args.inputs.now c.loop-r.r _ c.index-claims-r.result c.index-inputs-r.result c.loop-r-test.true c.index-claims-r.is c.index-inputs-r.is seen c.min-r-end.ensures in
@@ -30,7 +30,7 @@ loop-r-preserved g c =
 
 pub returns : goal.returns
 returns g c =
-    let leads = InputLeads (fields_of g) g.H.TreeHash.digest_of c.args.bits c.args.place in
+    let leads = InputLeads (fields_of g) g.H.TreeHash.digests c.args.bits c.args.place in
     let claims = c.args.claims.now in
     let inputs = c.args.inputs.now in
     let rounds = map (round_seen g.D.PolynomialSpace.coset_of) claims in

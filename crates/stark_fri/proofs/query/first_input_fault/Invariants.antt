@@ -12,6 +12,6 @@ fields_of g = fields_by g.D.Val.TwoAdicField g.D.Val.Field g.D.Val.PrimeField64 
 
 abbrev pub invariant-loop-r : goal.invariant-loop-r
 invariant-loop-r g l =
-    let leads = InputLeads (fields_of g) g.H.TreeHash.digest_of l.bits l.place in
+    let leads = InputLeads (fields_of g) g.H.TreeHash.digests l.bits l.place in
     let both = zip (map (round_seen g.D.PolynomialSpace.coset_of) l.claims) l.inputs in
     Left (λ v. v) leads both l.r × Passed (λ v. v) leads both l.r

@@ -28,7 +28,7 @@ first_layer_fault-requires-clause-pairs g c =
 pub returns-in-Some-fault : goal.returns-in-Some-fault
 returns-in-Some-fault g c =
     let fields = fields_of g in
-    let hash = g.H.TreeHash.digest_of in
+    let hash = g.H.TreeHash.digests in
     let rounds = map (round_seen g.D.PolynomialSpace.coset_of) c.args.replayed.now.claims.now in
     layer_fails fields hash rounds c.args.replayed.now.bits c.args.replayed.now.drawn.now c.args.replayed.now.proof.now c.args.place c.args.query.now c.phases-phases.result.now c.phases-phases.ensures
     (c.query_fits.ensures.0 c.if-not-query_fits.false) c.inputs-inputs.result.now c.inputs-inputs.ensures
@@ -39,7 +39,7 @@ returns-in-Some-fault g c =
 pub returns-then-not-ends_well : goal.returns-then-not-ends_well
 returns-then-not-ends_well g c =
     let fields = fields_of g in
-    let hash = g.H.TreeHash.digest_of in
+    let hash = g.H.TreeHash.digests in
     let rounds = map (round_seen g.D.PolynomialSpace.coset_of) c.args.replayed.now.claims.now in
     final_fails fields hash rounds c.args.replayed.now.bits c.args.replayed.now.drawn.now c.args.replayed.now.proof.now c.args.place c.args.query.now c.phases-phases.result.now c.phases-phases.ensures
     (c.query_fits.ensures.0 c.if-not-query_fits.false) c.inputs-inputs.result.now c.inputs-inputs.ensures
@@ -50,7 +50,7 @@ returns-then-not-ends_well g c =
 pub returns : goal.returns
 returns g c =
     let fields = fields_of g in
-    let hash = g.H.TreeHash.digest_of in
+    let hash = g.H.TreeHash.digests in
     let rounds = map (round_seen g.D.PolynomialSpace.coset_of) c.args.replayed.now.claims.now in
     query_holds fields hash rounds c.args.replayed.now.bits c.args.replayed.now.drawn.now c.args.replayed.now.proof.now c.args.place c.args.query.now c.phases-phases.result.now c.phases-phases.ensures
     (c.query_fits.ensures.0 c.if-not-query_fits.false) c.inputs-inputs.result.now c.inputs-inputs.ensures

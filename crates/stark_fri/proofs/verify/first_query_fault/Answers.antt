@@ -11,7 +11,7 @@ use Rattle.stark_fri.proofs.verify.first_query_fault.Goals as goal
 pub loop-i-init : goal.loop-i-init
 loop-i-init g c =
     let fields = fields_of g in
-    let hash = g.H.TreeHash.digest_of in
+    let hash = g.H.TreeHash.digests in
     let target = target_of (fields_of g) g.D.PolynomialSpace.coset_of c.args.replayed.now in
     let queries = zip c.args.replayed.now.drawn.now.places.items c.args.replayed.now.proof.now.queries in
     let holding = c.in_ok-accepted.ensures in record {
@@ -26,14 +26,14 @@ returns-in-Some g c =
     let is_place : c.index-place.result.now ≡ get_or c.args.replayed.now.drawn.now.places.items c.loop-i.i c.index-place.result.now = search rules in
     let at = zip_at c.args.replayed.now.drawn.now.places.items c.args.replayed.now.proof.now.queries c.loop-i.i _ _ _ c.loop-i-test.true is_place (c.index-queries-i.is ∙ ap (λ t. get_or t c.loop-i.i c.index-queries-i.result) c.queries-queries.ensures)
     _ _ c.min-i-end.ensures (c.len.ensures ∙ c.args.replayed.now.drawn.now.places.ok.0) (ap length c.queries-queries.ensures) in
-    let holds = QueryHolds (fields_of g) g.H.TreeHash.digest_of target in
-    passed_with_stop holds (QueryFails (fields_of g) g.H.TreeHash.digest_of target c.in-Some.fault) queries c.loop-i.i _ at.0 at.1
-    (subst (FindsQueryFault (fields_of g) g.H.TreeHash.digest_of target (c.index-place.result.now, c.index-queries-i.result)) c.in-Some.is c.in_ok-answer.ensures) (c.loop-i.invariant.passed c.in-Some.fault)
+    let holds = QueryHolds (fields_of g) g.H.TreeHash.digests target in
+    passed_with_stop holds (QueryFails (fields_of g) g.H.TreeHash.digests target c.in-Some.fault) queries c.loop-i.i _ at.0 at.1
+    (subst (FindsQueryFault (fields_of g) g.H.TreeHash.digests target (c.index-place.result.now, c.index-queries-i.result)) c.in-Some.is c.in_ok-answer.ensures) (c.loop-i.invariant.passed c.in-Some.fault)
 
 pub loop-i-preserved : goal.loop-i-preserved
 loop-i-preserved g c =
     let fields = fields_of g in
-    let hash = g.H.TreeHash.digest_of in
+    let hash = g.H.TreeHash.digests in
     let target = target_of (fields_of g) g.D.PolynomialSpace.coset_of c.args.replayed.now in
     let queries = zip c.args.replayed.now.drawn.now.places.items c.args.replayed.now.proof.now.queries in
     let is_place : c.index-place.result.now ≡ get_or c.args.replayed.now.drawn.now.places.items c.loop-i.i c.index-place.result.now = search rules in
@@ -47,7 +47,7 @@ loop-i-preserved g c =
 pub returns : goal.returns
 returns g c =
     let fields = fields_of g in
-    let hash = g.H.TreeHash.digest_of in
+    let hash = g.H.TreeHash.digests in
     let target = target_of (fields_of g) g.D.PolynomialSpace.coset_of c.args.replayed.now in
     let places = c.args.replayed.now.drawn.now.places in
     let queries = c.args.replayed.now.proof.now.queries in

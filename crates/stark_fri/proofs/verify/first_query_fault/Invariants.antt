@@ -13,7 +13,7 @@ fields_of g = fields_by g.D.Val.TwoAdicField g.D.Val.Field g.D.Val.PrimeField64 
 abbrev pub invariant-loop-i : goal.invariant-loop-i
 invariant-loop-i g l =
     let fields = fields_of g in
-    let hash = g.H.TreeHash.digest_of in
+    let hash = g.H.TreeHash.digests in
     let target = target_of (fields_of g) g.D.PolynomialSpace.coset_of l.replayed in
     let queries = zip l.replayed.drawn.now.places.items l.replayed.proof.now.queries in record {
       holds : HoldsSoFar (QueryHolds fields hash target) queries l.i;

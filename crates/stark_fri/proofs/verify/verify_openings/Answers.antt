@@ -13,7 +13,7 @@ use Rattle.stark_fri.proofs.verify.verify_openings.Goals as goal
 abbrev ops_of : (g : given.Over) → FriOps g.row.C.Denot g.row.D-Val.Denot g.row.EF.Denot
 ops_of g = record {
   fields = fields_by g.D.Val.TwoAdicField g.D.Val.Field g.D.Val.PrimeField64 g.EF.Field g.EF.ExtensionField;
-  hash = g.H.TreeHash.digest_of;
+  hash = g.H.TreeHash.digests;
   sponge = sponge_by g.D.Val.Field g.D.Val.PrimeField64 g.EF.ExtensionField g.C.CanObserve-1 g.C.CanObserve-2 g.C.CanSample g.C.CanSampleBits g.C.GrindingChallenger;
 }
 
@@ -53,7 +53,7 @@ are_fields g = record {
 bytes_name_values : (g : given.Over) → BytesNameValues (ops_of g).fields (ops_of g).hash
 bytes_name_values g =
     names_by g.D.Val.TwoAdicField g.D.Val.Field g.D.Val.PrimeField64 g.EF.Field g.EF.ExtensionField
-    g.met.D.Val.PrimeField64.below g.met.D.Val.PrimeField64.fits g.met.D.Val.PrimeField64.same_number g.met.EF.ExtensionField.is_basis g.H.TreeHash.digest_of g.met.H.TreeHash.digest_size
+    g.met.D.Val.PrimeField64.below g.met.D.Val.PrimeField64.above g.met.D.Val.PrimeField64.fits_bytes g.met.D.Val.PrimeField64.same_number g.met.EF.ExtensionField.is_basis g.H.TreeHash.digests g.met.H.TreeHash.are_digests
 
 pub returns : goal.returns
 returns g c =

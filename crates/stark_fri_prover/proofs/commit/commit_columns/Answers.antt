@@ -3,8 +3,9 @@ use Rattle.std.specs.List.{AllByRecursion}
 use Rattle.std.specs.Option.{IsSome}
 use Rattle.std.proofs.lemmas.List.FromFn.{length-map-range_with_len}
 use Rattle.stark_columns.specs.Columns.{columns_list}
-use Rattle.stark_merkle.specs.Tree.{digests_in, layer_above, layers_from, node_of, top_of}
+use Rattle.stark_merkle.specs.Tree.{digests_in, layer_above, layers_from, top_of}
 use Rattle.stark_support.specs.Coset.{TwoAdicCoset, coset_from}
+use Rattle.stark_merkle.specs.Bytes.{element_bytes}
 use Rattle.stark_merkle.specs.TreeFacts.{full_has_root, top_is_root}
 use Rattle.stark_fri_prover.specs.Commit.{AreExtended, HasRow, extension_of, leaf_at, leaves_of}
 use Rattle.stark_fri_prover.specs.CommitFacts.{have_rows, same_leaves}
@@ -17,11 +18,11 @@ leaves-requires g c = λ i below.
 
 pub unwrap-top-requires : goal.unwrap-top-requires
 unwrap-top-requires g c =
-    let hash = g.H.TreeHash.digest_of in
+    let hash = g.H.TreeHash.digests in
     let count : length c.in_ok-leaves.leaves.items ≡ 2 ^ (c.args.log_height + c.args.log_blowup) =
-    ap length c.in_ok-leaves.ensures ∙ length-map-range_with_len (leaf_at hash g.F.PrimeField64.number_of c.deref-2.result.now) 0 c.size.result ∙ c.size.ensures ∙ ap (λ n. 2 ^ n) c.new-domain.ensures.size in
+    ap length c.in_ok-leaves.ensures ∙ length-map-range_with_len (leaf_at hash (element_bytes g.F.PrimeField64.BYTES g.F.PrimeField64.number_of) c.deref-2.result.now) 0 c.size.result ∙ c.size.ensures ∙ ap (λ n. 2 ^ n) c.new-domain.ensures.size in
     subst IsSome (sym (c.root_in.ensures ∙ ap (λ t. top_of (digests_in t)) c.deref-3.ensures.value ∙ ap top_of c.in_ok-layers.ensures))
-    (full_has_root (node_of hash) (c.args.log_height + c.args.log_blowup) c.in_ok-leaves.leaves.items count)
+    (full_has_root hash.node (c.args.log_height + c.args.log_blowup) c.in_ok-leaves.leaves.items count)
 
 pub returns-clause-rows : goal.returns-clause-rows
 returns-clause-rows g c =
@@ -37,25 +38,25 @@ pub returns-clause-root : goal.returns-clause-root
 returns-clause-root g c =
     let ring = g.F.Field.ring in
     let root = g.F.TwoAdicField.root in
-    let hash = g.H.TreeHash.digest_of in
-    let number_of = g.F.PrimeField64.number_of in
+    let hash = g.H.TreeHash.digests in
+    let bytes_of = element_bytes g.F.PrimeField64.BYTES g.F.PrimeField64.number_of in
     let bits = c.args.log_height + c.args.log_blowup in
     let size : c.new-domain.result.log_size ≡ bits = c.new-domain.ensures.size in
     let coset : TwoAdicCoset g.row.F.Denot = extension_of g.F.Field.GENERATOR bits in
     let columns : List (List (List g.row.F.Denot)) = map columns_list c.args.matrices.items in
     let extended : AreExtended ring root coset columns c.in_ok-extended.extended.items = returns-clause-rows g c in
-    let leaves = c.in_ok-leaves.ensures ∙ ap (λ t. leaves_of hash number_of t c.size.result) c.deref-2.ensures.value
-    ∙ ap (leaves_of hash number_of c.in_ok-extended.extended.items) (c.size.ensures ∙ ap (λ n. 2 ^ n) size)
-    ∙ same_leaves ring root coset hash number_of columns c.in_ok-extended.extended.items extended (2 ^ bits) (omega arith) in
+    let leaves = c.in_ok-leaves.ensures ∙ ap (λ t. leaves_of hash bytes_of t c.size.result) c.deref-2.ensures.value
+    ∙ ap (leaves_of hash bytes_of c.in_ok-extended.extended.items) (c.size.ensures ∙ ap (λ n. 2 ^ n) size)
+    ∙ same_leaves ring root coset hash bytes_of columns c.in_ok-extended.extended.items extended (2 ^ bits) (omega arith) in
     let top = sym (c.root_in.ensures ∙ ap (λ t. top_of (digests_in t)) c.deref-3.ensures.value ∙ ap top_of c.in_ok-layers.ensures) ∙ c.unwrap-top.ensures in
-    sym (ap (layer_above (node_of hash) bits) leaves)
-    ∙ top_is_root (node_of hash) bits c.in_ok-leaves.leaves.items c.unwrap-top.result top ∙ ap (λ t. t ∷ []) (sym c.new-root.ensures)
+    sym (ap (layer_above hash.node bits) leaves)
+    ∙ top_is_root hash.node bits c.in_ok-leaves.leaves.items c.unwrap-top.result top ∙ ap (λ t. t ∷ []) (sym c.new-root.ensures)
 
 pub returns-clause-tree : goal.returns-clause-tree
 returns-clause-tree g c =
-    let hash = g.H.TreeHash.digest_of in
-    let number_of = g.F.PrimeField64.number_of in
+    let hash = g.H.TreeHash.digests in
+    let bytes_of = element_bytes g.F.PrimeField64.BYTES g.F.PrimeField64.number_of in
     let bits = c.args.log_height + c.args.log_blowup in
-    let leaves = c.in_ok-leaves.ensures ∙ ap (λ t. leaves_of hash number_of t c.size.result) c.deref-2.ensures.value
-    ∙ ap (leaves_of hash number_of c.in_ok-extended.extended.items) (c.size.ensures ∙ ap (λ n. 2 ^ n) c.new-domain.ensures.size) in
-    c.in_ok-layers.ensures ∙ ap (layers_from (node_of hash) bits) leaves
+    let leaves = c.in_ok-leaves.ensures ∙ ap (λ t. leaves_of hash bytes_of t c.size.result) c.deref-2.ensures.value
+    ∙ ap (leaves_of hash bytes_of c.in_ok-extended.extended.items) (c.size.ensures ∙ ap (λ n. 2 ^ n) c.new-domain.ensures.size) in
+    c.in_ok-layers.ensures ∙ ap (layers_from hash.node bits) leaves

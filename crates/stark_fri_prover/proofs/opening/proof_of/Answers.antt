@@ -1,5 +1,6 @@
 use Rattle.std.proofs.Common.{◌≡◌, ◌∙◌, ◌+◌, ◌-◌, ◌*◌, ◌%◌, ◌^◌, ◌<◌, ap, arith, inl, inr, min, subst}
 use Rattle.std.proofs.lemmas.Nat.{one_shl}
+use Rattle.stark_merkle.specs.Bytes.{element_bytes}
 use Rattle.stark_merkle.specs.Tree.{digests_in}
 use Rattle.stark_fri.specs.Parts.{FriOps}
 use Rattle.stark_fri.proofs.Members.{fields_by, sponge_by}
@@ -14,7 +15,7 @@ use Rattle.stark_fri_prover.proofs.opening.proof_of.Goals as goal
 abbrev ops_of : (g : given.Over) → FriOps g.row.C.Denot g.row.F.Denot g.row.EF.Denot
 ops_of g = record {
   fields = fields_by g.F.TwoAdicField g.F.Field g.F.PrimeField64 g.EF.Field g.EF.ExtensionField;
-  hash = g.H.TreeHash.digest_of;
+  hash = g.H.TreeHash.digests;
   sponge = sponge_by g.F.Field g.F.PrimeField64 g.EF.ExtensionField g.C.CanObserve-1 g.C.CanObserve-2 g.C.CanSample-2 g.C.CanSampleBits g.C.GrindingChallenger;
 }
 
@@ -23,7 +24,7 @@ returns-clause-made g c =
     let folds = c.in-Some.folds in
     let short : c.args.log_height < 64 = omega (arith, c.requires.height, c.requires.fit.within, g.met.F.TwoAdicField.two_adic.bounded) in
     let size : 1 * 2 ^ c.args.log_height % 2 ^ 64 ≡ 2 ^ c.args.log_height = one_shl c.args.log_height 64 short in
-    rw c.new-2.ensures (is_made (ops_of g) g.F.PrimeField64.number_of g.EF.ExtensionField.coordinates (λ d. data_seen d.root d.domain.log_size d.matrices d.extended) (λ d. digests_in d.layers.items) points_in
+    rw c.new-2.ensures (is_made (ops_of g) (element_bytes g.F.PrimeField64.BYTES g.F.PrimeField64.number_of) g.EF.ExtensionField.coordinates (λ d. data_seen d.root d.domain.log_size d.matrices d.extended) (λ d. digests_in d.layers.items) points_in
     c.args.parameters.now c.args.rounds.now c.args.challenger.now
     c.args.log_height c.requires.height _ c.requires.own c.observe_parameters.new.challenger c.observe_claims.new.challenger c.sample-alpha.new.self c.sample-alpha.result
     c.observe_parameters.ensures c.observe_claims.ensures c.sample-alpha.ensures.answer c.sample-alpha.ensures.state
@@ -44,7 +45,7 @@ returns-in_default-clause-none g c =
     let short : c.args.log_height < 64 = omega (arith, c.requires.height, c.requires.fit.within, g.met.F.TwoAdicField.two_adic.bounded) in
     let size : 1 * 2 ^ c.args.log_height % 2 ^ 64 ≡ 2 ^ c.args.log_height = one_shl c.args.log_height 64 short in
     let stop = where_none _ _ c.in_default.not-Some c.in_ok-folds.ensures.none in
-    lacks_witness (ops_of g) g.F.PrimeField64.number_of g.EF.ExtensionField.coordinates (λ d. data_seen d.root d.domain.log_size d.matrices d.extended) (λ d. digests_in d.layers.items) points_in
+    lacks_witness (ops_of g) (element_bytes g.F.PrimeField64.BYTES g.F.PrimeField64.number_of) g.EF.ExtensionField.coordinates (λ d. data_seen d.root d.domain.log_size d.matrices d.extended) (λ d. digests_in d.layers.items) points_in
     c.args.parameters.now c.args.rounds.now c.args.challenger.now
     c.args.log_height c.requires.height _ c.requires.own c.observe_parameters.new.challenger c.observe_claims.new.challenger c.sample-alpha.new.self c.sample-alpha.result
     c.observe_parameters.ensures c.observe_claims.ensures c.sample-alpha.ensures.answer c.sample-alpha.ensures.state
@@ -59,7 +60,7 @@ returns-in_default-find_witness-clause-none g c =
     let folds = c.in-Some.folds in
     let short : c.args.log_height < 64 = omega (arith, c.requires.height, c.requires.fit.within, g.met.F.TwoAdicField.two_adic.bounded) in
     let size : 1 * 2 ^ c.args.log_height % 2 ^ 64 ≡ 2 ^ c.args.log_height = one_shl c.args.log_height 64 short in
-    lacks_witness (ops_of g) g.F.PrimeField64.number_of g.EF.ExtensionField.coordinates (λ d. data_seen d.root d.domain.log_size d.matrices d.extended) (λ d. digests_in d.layers.items) points_in
+    lacks_witness (ops_of g) (element_bytes g.F.PrimeField64.BYTES g.F.PrimeField64.number_of) g.EF.ExtensionField.coordinates (λ d. data_seen d.root d.domain.log_size d.matrices d.extended) (λ d. digests_in d.layers.items) points_in
     c.args.parameters.now c.args.rounds.now c.args.challenger.now
     c.args.log_height c.requires.height _ c.requires.own c.observe_parameters.new.challenger c.observe_claims.new.challenger c.sample-alpha.new.self c.sample-alpha.result
     c.observe_parameters.ensures c.observe_claims.ensures c.sample-alpha.ensures.answer c.sample-alpha.ensures.state

@@ -2,14 +2,14 @@ use Rattle.std.proofs.Common.{◌≡◌, ◌∙◌, ◌+◌, ◌<◌, ℕ, [], �
 use Rattle.stark_sha256.specs.Pieces.{piece}
 use Rattle.stark_sha256.proofs.LaneFacts.{in_each_lane}
 use Rattle.stark_merkle.specs.Four.{path_at}
-use Rattle.stark_merkle.specs.Tree.{joined, led, node_of}
+use Rattle.stark_merkle.specs.Tree.{joined, led}
 use Rattle.stark_merkle.proofs.PathSteps.{half_each, path_is}
 use Rattle.stark_merkle.proofs.Steps.{led_all, led_more}
 use Rattle.stark_merkle.proofs.paths.roots_of_paths.Goals as goal
 
 pub loop-level-preserved : goal.loop-level-preserved
 loop-level-preserved g c i low =
-    let node = node_of g.H.TreeHash.digest_of in
+    let node = g.H.TreeHash.digests.node in
     let paths = c.args.paths in
     let level = c.loop-level.level in
     let places = c.loop-level.places in
@@ -29,5 +29,5 @@ loop-level-preserved g c i low =
 pub returns : goal.returns
 returns g c i low =
     let ended = c.loop-level-test.false in
-    led_all (node_of g.H.TreeHash.digest_of) (slice_index c.loop-level.places i) (slice_index_or c.loop-level.digests i []) (path_at c.args.paths i) c.loop-level.level _
+    led_all g.H.TreeHash.digests.node (slice_index c.loop-level.places i) (slice_index_or c.loop-level.digests i []) (path_at c.args.paths i) c.loop-level.level _
     (omega (arith, ended, c.requires i low)) (c.loop-level.invariant i low)

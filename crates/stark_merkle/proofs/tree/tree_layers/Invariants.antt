@@ -1,7 +1,7 @@
 use Rattle.std.proofs.Common.{◌≡◌, ◌-◌, ◌++◌, map}
-use Rattle.stark_merkle.specs.Tree.{items_of, layers_from, node_of}
+use Rattle.stark_merkle.specs.Tree.{items_of, layers_from}
 use Rattle.stark_merkle.proofs.tree.tree_layers.Given as goal
 
 abbrev pub invariant-loop-level : goal.invariant-loop-level
 invariant-loop-level g l =
-    map items_of l.layers.items ++ layers_from (node_of g.H.TreeHash.digest_of) (l.depth - l._level) l.layer.items ≡ layers_from (node_of g.H.TreeHash.digest_of) l.depth l.fn.leaves.items
+    map items_of l.layers.items ++ layers_from g.H.TreeHash.digests.node (l.depth - l._level) l.layer.items ≡ layers_from g.H.TreeHash.digests.node l.depth l.fn.leaves.items

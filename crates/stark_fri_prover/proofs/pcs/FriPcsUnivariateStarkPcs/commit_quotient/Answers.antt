@@ -3,6 +3,7 @@ use Rattle.std.specs.List.{AllByRecursion}
 use Rattle.stark_support.specs.Coset.{TwoAdicCoset}
 use Rattle.stark_support.specs.LogarithmFacts.{same_exponent}
 use Rattle.stark_support.specs.Scheme.{AreQuotientChunks, committed_chunk, matrix_row}
+use Rattle.stark_merkle.specs.Bytes.{element_bytes}
 use Rattle.stark_columns.specs.Columns.{columns_list}
 use Rattle.stark_merkle.specs.Tree.{digests_in}
 use Rattle.stark_columns.specs.PlainChunks.{ArePlainChunks, plain_chunks}
@@ -39,8 +40,8 @@ returns-clause-stands g c =
     let made = c.in_ok-made.ensures in
     let bits : coset.log_size - r + c.log_blowup-log_blowup.result ≡ c.in_ok-made.made.1.domain.log_size + c.args.self.now.parameters.log_blowup
     = omega (arith, made.height, c.log_blowup-log_blowup.ensures) in
-    let hash = g.H.TreeHash.digest_of in
-    let number_of = g.F.PrimeField64.number_of in
+    let hash = g.H.TreeHash.digests in
+    let bytes_of = element_bytes g.F.PrimeField64.BYTES g.F.PrimeField64.number_of in
     let generator = g.F.Field.GENERATOR in (
       chunks,
       (
@@ -51,10 +52,10 @@ returns-clause-stands g c =
           heights = subst (λ n. AllByRecursion (λ m. m.domain.log_size ≡ n) (map (committed_chunk field false) chunks)) (sym made.height) (chunk_heights field root coset r 0 matrices);
           rows = subst (λ n. AreExtended field root (extension_of generator n) (map columns_list c.in_ok-made.made.1.matrices.items) c.in_ok-made.made.1.extended.items) bits
               (subst (λ t. AreExtended field root (extension_of generator (coset.log_size - r + c.log_blowup-log_blowup.result)) (map columns_list t) c.in_ok-made.made.1.extended.items) (sym made.columns) made.rows);
-          extended = subst (λ n. IsRootOver field root hash number_of (extension_of generator n) (map columns_list c.in_ok-made.made.1.matrices.items) c.in_ok-made.made.0.bytes) bits
-              (subst (λ t. IsRootOver field root hash number_of (extension_of generator (coset.log_size - r + c.log_blowup-log_blowup.result)) (map columns_list t) c.in_ok-made.made.0.bytes) (sym made.columns) made.root);
+          extended = subst (λ n. IsRootOver field root hash bytes_of (extension_of generator n) (map columns_list c.in_ok-made.made.1.matrices.items) c.in_ok-made.made.0.bytes) bits
+              (subst (λ t. IsRootOver field root hash bytes_of (extension_of generator (coset.log_size - r + c.log_blowup-log_blowup.result)) (map columns_list t) c.in_ok-made.made.0.bytes) (sym made.columns) made.root);
         },
-        subst (λ n. AreLayersOver hash number_of n c.in_ok-made.made.1.extended.items (digests_in c.in_ok-made.made.1.layers.items)) bits made.tree,
+        subst (λ n. AreLayersOver hash bytes_of n c.in_ok-made.made.1.extended.items (digests_in c.in_ok-made.made.1.layers.items)) bits made.tree,
       ),
       λ k same.
           let e : r ≡ k = same_exponent r k (power ∙ sym same) in

@@ -158,11 +158,20 @@ module _ {S F E C T P X Y : Type 0} (ops : ProtocolOps S F E C Root T P X Y) (fr
       let own : key_degree_fault (Some key) p.degree_bits ≡ None = subst (λ k. key_degree_fault k p.degree_bits ≡ None) is clear in
       of_height key.degree_bits p.degree_bits (not_found (not (key.degree_bits == p.degree_bits)) _ own)
 
-  random : p.commitments.random ≡ None
+  -- A key is of some columns.
+  pub key_has_columns : (key : PreprocessedVerifierKey Root) → i.key ≡ Some key → nat_lt 0 key.width ≡ true
+  key_has_columns key is =
+      let width = i.layout.preprocessed in
+      let tests = preprocessed_rows_fault (width_in_force i.key width) (opens_next_row i.preprocessed_next_columns) p.opened_values.preprocessed in
+      let clear : key_width_fault i.key width ≡ None = first_none (key_width_fault i.key width) _ (later_none tests _ key_clear) in
+      let own : key_width_fault (Some key) width ≡ None = subst (λ k. key_width_fault k width ≡ None) is clear in
+      (one_not_other (nat_lt 0 key.width) (key.width == width) (not_found (not (nat_lt 0 key.width && key.width == width)) _ own)).0
+
+  pub random : p.commitments.random ≡ None
   random = no_random {X = X} ops.opening.is_zk p.commitments.random p.opened_values.random by.plain
       (first_none (randomization_fault ops.opening.is_zk p.commitments.random p.opened_values.random) _ (later_none (of_shape (domain_fault ops i p)) _ (later_none (of_shape (key_fault ops i p)) _ (later_none (of_shape (height_fault ops i p)) _ accepted.shape))))
 
-  within_field : log_height ops.opening.is_zk p.degree_bits ≤ ops.opening.fields.adicity
+  pub within_field : log_height ops.opening.is_zk p.degree_bits ≤ ops.opening.fields.adicity
   within_field = height_within (log_parts ops i p) (zk_bits ops.opening.is_zk) p.degree_bits ops.opening.fields.adicity (ops.opening.scheme.log_max_trace_height i.scheme)
       (shape_clear {X = X} _ (first_none (of_shape (domain_fault ops i p)) _ (later_none (of_shape (key_fault ops i p)) _ (later_none (of_shape (height_fault ops i p)) _ accepted.shape))))
 
@@ -187,7 +196,7 @@ module _ {S F E C T P X Y : Type 0} (ops : ProtocolOps S F E C Root T P X Y) (fr
     abbrev claims_with : Option Root → List (RoundClaim F E Root)
     claims_with commitment = claims_of coset zeta next i.key p.commitments.trace p.commitments.quotient_chunks commitment p.opened_values
 
-    height_is_claimed : height_of (map round_read (claims_with p.commitments.random)) ≡ p.degree_bits
+    pub height_is_claimed : height_of (map round_read (claims_with p.commitments.random)) ≡ p.degree_bits
     height_is_claimed = ap (λ commitment. height_of (map round_read (claims_with commitment))) random ∙ height_is coset zeta next i.key p.commitments.trace p.commitments.quotient_chunks p.opened_values
 
     -- True claims, where there is no random commitment, are of polynomials that take the opened values.

@@ -1,3 +1,6 @@
 mod TableSteps
 mod BesideSteps
 pub mod AcceptedSteps
+mod DeclaredPaths
+mod DeclaredRows
+pub mod DeclaredSteps

@@ -1,5 +1,5 @@
 -- What an accepted proof by FRI shows of tables: of rows of each matrix at each place, and a word for each fold, that lead to the proof's roots.
-use Rattle.std.specs.Prelude.{◌≡◌, ◌⊎◌, ℕ, zero, suc, ◌+◌, ◌^◌, List, [], ◌∷◌, length, map, Ok}
+use Rattle.std.specs.Prelude.{◌≡◌, ◌⊎◌, ℕ, zero, suc, ◌+◌, ◌^◌, List, [], ◌∷◌, length, map, take, Ok}
 use Rattle.std.specs.List.{AllByRecursion}
 use Rattle.stark_support.specs.Polynomial.{HasDegreeBelow}
 use Rattle.stark_support.specs.RecompositionPolynomial.{ChunksFit}
@@ -19,12 +19,13 @@ use Rattle.stark_verifier.specs.TakenValues.{embedded_polynomials}
 use Rattle.stark_fri_soundness.specs.Claims.{ColumnIndex}
 use Rattle.stark_fri_proof.specs.declared.parameters.FriParameters.{FriParameters}
 use Rattle.stark_fri_proof.specs.Parts.{FriProofView}
+use Rattle.stark_fri.specs.Accept.{bits_of}
 use Rattle.stark_fri.specs.Parts.{FriOps}
 use Rattle.stark_fri.specs.Scheme.{claimed_of}
-use Rattle.stark_fri.specs.Soundness.{ClaimsAreTrue, FewDrawsAreBad, FewPlacesPass, IsBadBatch, IsBadFold, IsRadius, LeadToRoots, OpensOtherwise, row_point}
+use Rattle.stark_fri.specs.Soundness.{ClaimsAreTrue, FewDrawsAreBad, FewPlacesPass, IsBadBatch, IsBadFold, IsRadius, LeadToRoots, OpensOtherwise, drawn_places, row_point, trees_of}
 use Rattle.stark_fri.specs.Transcript.{alpha_of}
 use Rattle.stark_fri.specs.Transcript as transcript
-use Rattle.stark_fri.specs.Words.{Words}
+use Rattle.stark_fri.specs.Words.{AreBoundAt, Words}
 
 -- ---- the polynomials that tables agree with, as columns
 
@@ -109,7 +110,7 @@ module _ {S F E C T P X Y : Type 0} (ops : ProtocolOps S F E C Root T P X Y) (fr
       pub satisfy : SatisfiesUnlessBad alpha zeta columns chunks
 
     -- Or a draw of FRI is bad for the tables, or all drawn places are among few, or a query opens something else than the tables under the
-    -- same root, so that two texts have one digest.
+    -- same root, so that the trees' hash collides.
     pub data ShownOfTables : Type 0 where
       columns_satisfy : SatisfyNearTables → ShownOfTables
       batch_is_bad : IsBadBatch fri (asked_at zeta) words e (alpha_of fri.sponge (asked_at zeta)) → ShownOfTables
@@ -148,6 +149,17 @@ module _ {S F E C T P X Y : Type 0} (ops : ProtocolOps S F E C Root T P X Y) (fr
   -- or one of the other four holds.
   abbrev pub TablesAreSoundBeside : List (List F) → Type 0
   TablesAreSoundBeside known = (alpha zeta : E) → (challenges ops i p).answer ≡ Ok (alpha, zeta) → (tables : ProverTables F E) → LeadToRoots fri (asked_at zeta) (words_with zeta known tables)
+      → (e : ℕ) → IsRadius fri (asked_at zeta) e → ShownOfTables alpha zeta (words_with zeta known tables) e (λ polynomials. known)
+
+  -- There is a word for each fold; and at each drawn place the rows of the trace and of the chunks, and the folds, lead to the roots that the
+  -- proof has, by any paths. Of the key's root nothing is asked.
+  pub record LeadToProofRoots (zeta : E) (words : Words F E) : Type 0 where
+    pub folds : length words.folds ≡ length (asked_at zeta).proof.phases
+    pub places : AllByRecursion (AreBoundAt fri.fields fri.hash (bits_of fri (asked_at zeta)) (take 2 (asked_at zeta).rounds) (trees_of fri (asked_at zeta)) words) (drawn_places fri (asked_at zeta))
+
+  -- Where the key was set up of columns that take the same rows, that is enough.
+  abbrev pub TablesAreSoundBesideOwn : List (List F) → Type 0
+  TablesAreSoundBesideOwn known = (alpha zeta : E) → (challenges ops i p).answer ≡ Ok (alpha, zeta) → (tables : ProverTables F E) → LeadToProofRoots zeta (words_with zeta known tables)
       → (e : ℕ) → IsRadius fri (asked_at zeta) e → ShownOfTables alpha zeta (words_with zeta known tables) e (λ polynomials. known)
 
   abbrev pub AreSoundBesideKnown : Type 0

@@ -112,11 +112,11 @@ where
 /// places but `e` with polynomials of degree at most `N` which, as columns and chunks, take the
 /// opened values, and these columns satisfy the AIR on H, or alpha or zeta is bad for them; FRI's
 /// batching challenge is bad for the tables; a beta is; all drawn places lie in a set of fewer
-/// than all places but `e`; or two texts have one digest. `few` says how few of each draw are bad.
+/// than all places but `e`; or the trees' hash collides. `few` says how few of each draw are bad.
 ///
 /// `beside`: where the preprocessed table is that of known columns, the values of which the owner
 /// of the key committed to, these are the columns beside which the trace satisfies the AIR: a proof
-/// that opens another row shows two texts with one digest.
+/// that opens another row shows a collision of the trees' hash.
 pub fn verify_over_fri<F, EF, H, C, A>(
     alloc: Global,
     config: &ByFri<F, EF, H, C>,

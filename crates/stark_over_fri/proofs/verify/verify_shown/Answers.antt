@@ -17,8 +17,8 @@ returns-clause-shown g c =
         embeds = g.met.EF.ExtensionField.embeds;
         two_adic = g.met.F.TwoAdicField.two_adic;
       };
-      bytes = names_by g.F.TwoAdicField g.F.Field g.F.PrimeField64 g.EF.Field g.EF.ExtensionField g.met.F.PrimeField64.below g.met.F.PrimeField64.fits g.met.F.PrimeField64.same_number
-          g.met.EF.ExtensionField.is_basis g.H.TreeHash.digest_of g.met.H.TreeHash.digest_size;
+      bytes = names_by g.F.TwoAdicField g.F.Field g.F.PrimeField64 g.EF.Field g.EF.ExtensionField g.met.F.PrimeField64.below g.met.F.PrimeField64.above g.met.F.PrimeField64.fits_bytes g.met.F.PrimeField64.same_number
+          g.met.EF.ExtensionField.is_basis g.H.TreeHash.digests g.met.H.TreeHash.are_digests;
       laws = g.met.EF.Field.field_laws;
       embeds = g.met.EF.ExtensionField.embeds;
       two_adic = g.met.F.TwoAdicField.two_adic;

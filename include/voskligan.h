@@ -58,7 +58,7 @@ enum {
  * the proof, and nowhere else; but where memory is refused nothing is judged. In the clear the columns that the proof
  * lists then break no constraint of the statement's AIR, or one of the two challenges is among the few that are bad. By
  * FRI, which a statement names by leaving its scheme out, whatever tables lead to the proof's roots are near to columns
- * that satisfy the AIR, or one of few draws was made, or two texts have one digest of SHA-256 (docs/FRI.md). The
+ * that satisfy the AIR, or one of few draws was made, or the trees' hash collides (docs/FRI.md). The
  * statement, its field and its scheme with it, has to be fixed before a proof is looked at.
  */
 int voskligan_verify(const uint8_t *statement, size_t statement_length, const uint8_t *proof, size_t proof_length,

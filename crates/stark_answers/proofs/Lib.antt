@@ -1,3 +1,5 @@
+pub mod CompleteSteps
+pub mod Depths
 pub mod Heights
 pub mod NoFloats
 pub mod Proved

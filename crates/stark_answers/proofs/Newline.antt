@@ -1,14 +1,14 @@
 -- A line feed after a JSON text changes none of its tokens.
-use Rattle.std.proofs.Common.{◌≡◌, ◌∙◌, arith, ap, refl, sym, subst, ℕ, Bool, true, false, List, [], ◌∷◌, ◌++◌, Option, None, Some, cond, ◌&&◌, ◌==◌, ◌+◌, ◌*◌, nat_lt}
+use Rattle.std.proofs.Common.{◌≡◌, ◌∙◌, arith, ap, refl, sym, subst, ℕ, Bool, true, false, List, [], ◌∷◌, ◌++◌, Option, None, Some, cond, ◌&&◌, ◌==◌, ◌+◌, ◌*◌}
 use Rattle.std.specs.Prelude.{option_and_then}
 use Rattle.std.specs.Char.{is_digit, digit_value, encode_utf8}
 use Rattle.json.specs.Ascii as ascii
-use Rattle.std.specs.Prelude.{◌-◌, ◌≤◌, option_map, length, take, drop, get_or, nat_eq, ◌||◌, zero, suc}
+use Rattle.std.specs.Prelude.{◌-◌, ◌≤◌, option_map, length, take, drop, nat_eq, ◌||◌, zero, suc}
 use Rattle.std.specs.List.{prefix_len, starts_with}
 use lib.Pointwise.{pointwise}
 use Rattle.std.specs.Char.{is_ascii_digit}
 use Rattle.json.specs.Token.{Token, number, boolean, null, bad}
-use Rattle.json.specs.Word.{after_digits, after_exponent, after_fraction, after_minus, after_number, after_sign, after_whole, ends_word, head, literal, number_before, word}
+use Rattle.json.specs.Word.{after_digits, after_exponent, after_fraction, after_minus, after_number, after_sign, after_whole, ends_word, literal, number_before, word}
 use Rattle.json.specs.Lex.{Class, Lexeme, Mode, between, in_escape, in_string, in_word, quote, backslash, operator, space, other, class, lex, lex_byte, operator_lexeme, punctuate, token, string_token, fresh, tokens}
 use Rattle.json.specs.Text.{Within, plain, after_backslash, after_u, after_high, code_unit, content, short_escape, prepend, is_high_surrogate, is_low_surrogate, surrogate_pair}
 

@@ -1,7 +1,6 @@
 -- What is written of a proof is read back as this proof.
-use Rattle.std.proofs.Common.{◌≡◌, ◌∙◌, ap, refl, sym, subst, ℕ, ◌≤◌, List, [], ◌∷◌, ◌++◌, Option, None, Some, Result, Ok, Err, option_map}
+use Rattle.std.proofs.Common.{◌≡◌, ◌∙◌, ap, refl, sym, subst, ℕ, ◌≤◌, List, None, Some, Result, Ok}
 use Rattle.std.specs.Prelude.{option_and_then}
-use Rattle.std.specs.Str.{IsUtf8}
 use Rattle.std.specs.declared.string.String.{String}
 use Rattle.std.specs.Prelude.{string_bytes}
 use Rattle.std.proofs.Utf8Push.{IsUtf8-string_bytes}
@@ -11,7 +10,7 @@ use Rattle.json.specs.Json as json
 use Rattle.stark_support.proofs.Readings.{json_of-some}
 use Rattle.stark_proof.specs.ProofJson.{ProofFault, openings_rule_fault, proof_read_back}
 use Rattle.stark_proof.specs.ProofView.{ProofView}
-use Rattle.stark_answers.specs.ReadBack.{IsReadable, SpellsProof}
+use Rattle.stark_answers.specs.ReadBack.{SpellsProof}
 use Rattle.stark_answers.proofs.Newline.{line, tokens_line}
 
 read_line : (s : List ℕ) → read (line s) ≡ read s

@@ -1,5 +1,5 @@
 -- Where an AIR's verifier accepts, the columns that the proof lists are sound, and so are all that take its opened values.
-use Rattle.std.proofs.Common.{◌≡◌, ◌⊎◌, inl, inr, ℕ, List}
+use Rattle.std.proofs.Common.{◌≡◌, inl, inr, ℕ, List}
 use Rattle.stark_support.specs.Ring.{FieldLaws}
 use Rattle.stark_air.specs.Declaration.{IsDeclared}
 use Rattle.stark_air.specs.Layout.{LeavesWithin}

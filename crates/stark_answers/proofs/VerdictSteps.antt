@@ -1,5 +1,5 @@
 -- What a verifier's answer says of a proof.
-use Rattle.std.proofs.Common.{◌≡◌, ◌⊎◌, ◌∙◌, ◌+◌, ◌<◌, arith, inl, inr, ap, refl, sym, subst, ℕ, zero, suc, Bool, true, false, nat_lt, List, Option, Some, None, Result, Ok, Err, IfOk, IfErr, IfSome, IsErr}
+use Rattle.std.proofs.Common.{◌≡◌, ◌⊎◌, ◌∙◌, ◌+◌, ◌<◌, arith, inl, inr, ap, refl, sym, subst, ℕ, zero, suc, true, false, List, Option, Some, None, Result, Ok, Err, IfOk, IfErr, IfSome, IsErr}
 use Rattle.std.proofs.lemmas.Bool.{ltb-false}
 use Rattle.stark_support.specs.Scheme.{zk_bits}
 use Rattle.stark_transcript.specs.declared.error.VerificationError.{VerificationError}

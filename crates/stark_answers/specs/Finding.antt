@@ -49,6 +49,10 @@ WhereProof Holds f = (form : ProofForm) → IsProof form f → Holds form (findi
 abbrev pub WhereLine : (List ℕ → Type 0) → Finding → Type 0
 WhereLine Holds f = WhereProof (λ form file. (form ≡ Json) × Holds file) f
 
+-- Where it is a proof of a trace that was checked first, it is accepted as it is written.
+abbrev pub IsAcceptedWhereProved : TraceTask → (List ℕ → Type 0) → Finding → Type 0
+IsAcceptedWhereProved asked Accepts f = (form : ProofForm) → asked ≡ Prove form → IsProof form f → Accepts (finding_bytes f)
+
 -- A proof is asked for in this form.
 abbrev pub AsksFor : ProofForm → TraceTask → Type 0
 AsksFor form Check = ⊥

@@ -1,4 +1,5 @@
 pub mod CheckedAir
+pub mod Completeness
 pub mod Finding
 pub mod Prove
 pub mod ProveFacts

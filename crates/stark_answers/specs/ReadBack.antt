@@ -1,5 +1,5 @@
 -- That the file of a proof spells this proof.
-use Rattle.std.specs.Prelude.{◌≡◌, ℕ, ◌≤◌, List, Option, None, Some, Result, Ok}
+use Rattle.std.specs.Prelude.{◌≡◌, ℕ, ◌≤◌, List, None, Some, Result, Ok}
 use Rattle.serde_json.specs.Data.{Data, depth}
 use Rattle.serde_json.specs.Read.{max_depth}
 use Rattle.stark_support.specs.Json.{json_of}
@@ -10,6 +10,10 @@ use Rattle.stark_answers.specs.Finding.{IsProof, finding_bytes}
 use Rattle.stark_answers.specs.declared.finding.Finding.{Finding}
 use Rattle.stark_answers.specs.declared.task.ProofForm.{ProofForm}
 use Rattle.stark_answers.specs.declared.task.ProofForm.TheVariants.{Bytes, Json}
+
+-- A value's JSON nests no deeper.
+abbrev pub NestsWithin : {A : Type 0} → ℕ → (A → Data) → Type 0
+NestsWithin {A} n writing = (x : A) → depth (writing x) ≤ n
 
 -- By how a proof is written as JSON and read.
 module _ {K E P F : Type 0} (writing : ProofView K E P F → Data) (reading : Data → Result (ProofView K E P F) ProofFault) where

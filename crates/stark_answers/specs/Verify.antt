@@ -61,7 +61,7 @@ module _ {S F E C K T P X Y : Type 0} (ops : ProtocolOps S F E C K T P X Y) (log
   abbrev pub IsKey : S → Option (Trace F) → Option (PreprocessedVerifierKey K) → Type 0
   IsKey scheme declared None = has_columns declared ≡ false
   IsKey scheme declared (Some key) = (trace : Trace F) × (declared ≡ Some trace) × (prover : PreprocessedProverData K T)
-      × IsSetUp ops.opening.scheme scheme ops.opening.fields.base ops.opening.fields.root ops.opening.is_zk log_rows trace prover key
+      × IsSetUp ops.opening.scheme scheme ops.opening.fields.base ops.opening.fields.root ops.opening.is_zk log_rows trace prover key × (0 < trace.width)
 
   -- A key of the width and height of an AIR's: none without preprocessed columns.
   abbrev pub IsSizedAsKey : Option (Trace F) → Option (PreprocessedVerifierKey K) → Type 0

@@ -8,6 +8,7 @@ ghost use Rattle.stark_transcript.specs.declared.error.VerificationError.{Verifi
 ghost use Rattle.stark_proof.specs.ProofView.{proof_view};
 ghost use Rattle.stark_proof.specs.declared.values.Proof.{Proof};
 ghost use Rattle.stark_prover.specs.ProofOfTrace.{key_of};
+ghost use Rattle.stark_answers.specs.Completeness.{IsComplete};
 ghost use Rattle.stark_answers.specs.Prove.{AnswersWithData};
 ghost use Rattle.stark_answers.specs.Verify.{IsAnswerWithKey};
 
@@ -23,6 +24,12 @@ pub trait AnswersWithColumns<A>: StarkGenericConfig {
 
     ghost proves: { ℕ → Self → A → RowMajorMatrix Self.Pcs.Domain.Val → List Self.Pcs.Domain.Val
         → Result Proof (ProvingError Self.Pcs.ProverError) → Type 0 };
+
+    /// With a key of the AIR's the proof that a prover answers of a trace is accepted, where a
+    /// check finds that the trace satisfies the AIR, unless zeta lies in the trace's domain or the
+    /// constraints' degrees don't fit the quotient's.
+    ghost completes: { ℕ → Self → A → RowMajorMatrix Self.Pcs.Domain.Val
+        → List Self.Pcs.Domain.Val → Result Proof (ProvingError Self.Pcs.ProverError) → Type 0 };
 
     ghost verifies: { ℕ → Self → A → Proof → List Self.Pcs.Domain.Val
         → Result (Unit {0}) (VerificationError Self.Pcs.Error) → Type 0 };
@@ -42,6 +49,11 @@ where
         (SC.config.scheme config) (A.preprocessed_trace air) (λ preprocessed_data.
         ⟦<SC as StarkInstance<A>>⟧.instance config air public_values
         (option_map key_of preprocessed_data)) height (trace_of trace) answer };
+
+    ghost completes = { λ log_rows config air trace public_values. IsComplete
+        ⟦<SC as StarkOperations>⟧.operations log_rows (SC.config.scheme config)
+        (A.preprocessed_trace air) (⟦<SC as StarkInstance<A>>⟧.instance config air public_values)
+        (trace_of trace) };
 
     ghost verifies = { λ log_rows config air proof public_values answer.
         IsAnswerWithKey ⟦<SC as StarkOperations>⟧.operations log_rows (SC.config.scheme config)

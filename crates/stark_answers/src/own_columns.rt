@@ -16,7 +16,9 @@ use stark_support::{GrindingChallenger, PackedExtensionField, PackedField, RowMa
 use std::alloc::Global;
 
 /// A prover's answer for a trace, beside the AIR's own preprocessed columns, which are set up first
-/// and have `2^log_rows` rows. The scheme sets up all columns.
+/// and have `2^log_rows` rows. The scheme sets up all columns. A proof that is answered is accepted
+/// with a key of these columns, where a check finds the trace satisfying, unless zeta lies in the
+/// trace's domain or the constraints' degrees don't fit the quotient's (`complete`).
 pub fn prove_with_own_columns<SC, A>(
     alloc: Global,
     config: &SC,
@@ -39,7 +41,9 @@ where
     requires any_height { SC.Pcs.scheme.log_min_trace_height (SC.config.scheme config.now) ≡ 0 }
     requires complete { SC.Pcs.scheme.IsComplete (SC.config.scheme config.now) }
     requires sets_up { SetsUpAll SC.Pcs.scheme (SC.config.scheme config.now) }
-    ensures { ⟦<SC as AnswersWithColumns<A>>⟧.proves log_rows config.now air.now trace
+    ensures proves { ⟦<SC as AnswersWithColumns<A>>⟧.proves log_rows config.now air.now trace
+        public_values.now result }
+    ensures complete { ⟦<SC as AnswersWithColumns<A>>⟧.completes log_rows config.now air.now trace
         public_values.now result }
 {
     match setup_preprocessed(alloc, config, air, log_rows) {

@@ -1,6 +1,7 @@
 -- What is accepted by FRI for a statement is sound, under the key by which it is accepted.
-use Rattle.std.proofs.Common.{◌≡◌, ◌⊎◌, ◌∙◌, inl, inr, refl, sym, subst, arith, ℕ, suc, ◌+◌, ◌^◌, ◌≤◌, Bool, true, false, nat_lt, List, [], ◌∷◌, length, Option, None, Some}
+use Rattle.std.proofs.Common.{◌≡◌, ◌⊎◌, ◌∙◌, ap, inl, inr, refl, sym, subst, arith, ℕ, suc, ◌+◌, ◌/◌, ◌^◌, ◌<◌, ◌≤◌, Bool, true, false, nat_lt, List, [], ◌∷◌, length, Option, None, Some}
 use Rattle.std.specs.List.{AllByRecursion}
+use Rattle.std.proofs.Math.Nat.{mul-div_cancel}
 use Rattle.std.proofs.lemmas.Bool.{cases_Bool}
 use Rattle.stark_support.specs.Polynomial.{HasDegreeBelow}
 use Rattle.stark_support.specs.Ring.{RingOps}
@@ -10,12 +11,16 @@ use Rattle.stark_merkle.specs.declared.root.Root.{Root}
 use Rattle.stark_fri_proof.specs.Parts.{FriProofView}
 use Rattle.stark_fri_proof.specs.declared.parameters.FriParameters.{FriParameters}
 use Rattle.stark_fri.specs.Parts.{FriOps}
-use Rattle.stark_over_fri.specs.Tables.{FitAsPreprocessed, coefficient_count}
-use Rattle.stark_over_fri.proofs.AcceptedSteps.{IsByFri, accepted_are_shown, key_has_height}
+use Rattle.stark_fri.specs.Scheme.{IsRootOf}
+use Rattle.stark_over_fri.specs.Tables.{FitAsPreprocessed, TablesAreSoundBesideOwn, coefficient_count}
+use Rattle.stark_over_fri.proofs.AcceptedSteps.{IsByFri, accepted_are_shown, key_has_columns, key_has_height, within_field}
+use Rattle.stark_over_fri.proofs.DeclaredSteps.{CommitsByFri, key_has_root, sound_beside_own}
 use Rattle.stark_proof.specs.ProofView.{ProofView}
 use Rattle.stark_protocol.specs.Acceptance.{Accepted}
-use Rattle.stark_protocol.specs.Preprocessing.{has_columns}
+use Rattle.stark_protocol.specs.Instance.{log_height}
+use Rattle.stark_protocol.specs.Preprocessing.{HasHeight, has_columns}
 use Rattle.stark_protocol.specs.declared.preprocessed.PreprocessedVerifierKey.{PreprocessedVerifierKey}
+use Rattle.stark_verifier.specs.SoundAcceptance.{BreakingNeedsBadChallenges}
 use Rattle.stark_verifier.proofs.SoundAcceptanceSteps.{accepted_is_sound}
 use Rattle.stark_statement.specs.StatementView.{StatementView}
 use Rattle.stark_answers.specs.SoundRun.{InterpolateDeclared}
@@ -64,10 +69,17 @@ unmasked_height : (is_zk : Bool) (n m k : ℕ) → is_zk ≡ false → n ≡ m +
 unmasked_height true n m k plain is same = absurd (cc)
 unmasked_height false n m k plain is same = omega (arith, is, same)
 
+plain_height : (is_zk : Bool) (d a : ℕ) → is_zk ≡ false → log_height is_zk d ≤ a → d ≤ a
+plain_height true d a plain within = absurd (cc)
+plain_height false d a plain within = omega (arith, within)
+
+positive : (n : ℕ) → nat_lt 0 n ≡ true → 0 < n
+positive n e = grind (arith, e)
+
 -- ---- acceptance by FRI
 
 module _ {S F E C T P X Y : Type 0} (ops : ServiceOps S F E C Root T P X Y) (fri : FriOps C F E) (parameters_of : S → FriParameters) (proof_of : P → FriProofView F E) (by : IsByFri ops.protocol fri parameters_of proof_of)
-    (scheme : S) (first_state : C) (s : StatementView F) where
+    (commits : CommitsByFri ops.protocol fri parameters_of) (scheme : S) (first_state : C) (s : StatementView F) where
   module _ (reads : ReadsDeclared (declared_of s.air)) (log_rows : ℕ) (p : ProofView Root E P F) where
     -- The key is of the proof's height, and so are the declared rows.
     same_height : (key : Option (PreprocessedVerifierKey Root)) → IsKey ops.protocol log_rows scheme (declared_of s.air).preprocessed_trace key → Accepted ops.protocol (judged_with ops fri parameters_of proof_of scheme first_state s key) p
@@ -88,10 +100,42 @@ module _ {S F E C T P X Y : Type 0} (ops : ServiceOps S F E C Root T P X Y) (fri
           degrees = declared_degrees fields.base fields.root log_rows declared known p.degree_bits takes (same_height key is accepted);
         }
 
-    sound_with_key : IsVerdict ops.protocol log_rows scheme first_state (declared_of s.air) p s.public_values s.ood_bits s.alpha_bits verdict.Accepted → IsSoundByFri ops fri parameters_of proof_of scheme first_state s log_rows p
+    -- A key of the declared rows is the root over the columns that take them.
+    own_root : HasHeight log_rows (declared_of s.air).preprocessed_trace → (given : Option (PreprocessedVerifierKey Root)) → IsKey ops.protocol log_rows scheme (declared_of s.air).preprocessed_trace given
+        → Accepted ops.protocol (judged_with ops fri parameters_of proof_of scheme first_state s given) p → (known : List (List F)) → TakeDeclared ops fri parameters_of proof_of scheme first_state s log_rows known
+        → (key : PreprocessedVerifierKey Root) → given ≡ Some key → (log_rows ≡ p.degree_bits) × IsRootOf fri (log_rows + (parameters_of scheme).log_blowup) (known ∷ []) key.commitment
+    own_root height given is accepted known takes key same =
+        let judged = judged_with ops fri parameters_of proof_of scheme first_state s given in
+        let fields = ops.protocol.opening.fields in
+        let own : IsKey ops.protocol log_rows scheme (declared_of s.air).preprocessed_trace (Some key) = subst (IsKey ops.protocol log_rows scheme (declared_of s.air).preprocessed_trace) same is in
+        let trace = own.0 in
+        let set = own.3 in
+        let degree : log_rows ≡ p.degree_bits = unmasked_height ops.protocol.opening.is_zk key.degree_bits log_rows p.degree_bits by.plain set.key_degree
+        (key_has_height ops.protocol fri parameters_of proof_of judged p by accepted key same) in
+        let wide : 0 < trace.width = subst (λ n. 0 < n) set.key_width (positive key.width (key_has_columns ops.protocol fri parameters_of proof_of judged p by accepted key same)) in
+        let rows : length trace.values / trace.width ≡ 2 ^ log_rows = ap (λ n. n / trace.width) (height trace own.1 wide) ∙ mul-div_cancel (2 ^ log_rows) wide in
+        let within : log_rows ≤ fri.fields.adicity = subst (λ n. n ≤ fri.fields.adicity) (sym degree)
+        (subst (λ a. p.degree_bits ≤ a) commits.adicity (plain_height ops.protocol.opening.is_zk p.degree_bits fields.adicity by.plain (within_field ops.protocol fri parameters_of proof_of judged p by accepted))) in
+        let declared : InterpolateDeclared fields.base fields.root log_rows (Some trace) known = subst (λ d. InterpolateDeclared fields.base fields.root log_rows d known) own.1 takes in
+        (degree, key_has_root ops.protocol fri parameters_of by.fields commits by.plain scheme log_rows trace own.2 key set rows within known declared.0 declared.1)
+
+    sound_beside_declared : HasHeight log_rows (declared_of s.air).preprocessed_trace → (given : Option (PreprocessedVerifierKey Root)) → IsKey ops.protocol log_rows scheme (declared_of s.air).preprocessed_trace given
+        → Accepted ops.protocol (judged_with ops fri parameters_of proof_of scheme first_state s given) p → BreakingNeedsBadChallenges ops.protocol (judged_with ops fri parameters_of proof_of scheme first_state s given) p
+        → trace_width (declared_of s.air).preprocessed_trace < 2 ^ 32 → (known : List (List F)) → TakeDeclared ops fri parameters_of proof_of scheme first_state s log_rows known
+        → TablesAreSoundBesideOwn ops.protocol fri parameters_of proof_of (judged_with ops fri parameters_of proof_of scheme first_state s given) p known
+    sound_beside_declared height given is accepted breaking few known takes =
+        let judged = judged_with ops fri parameters_of proof_of scheme first_state s given in
+        let fields = ops.protocol.opening.fields in
+        let narrow : length known < 2 ^ 32 = subst (λ n. n < 2 ^ 32) (sym (declared_number fields.base fields.root log_rows (declared_of s.air).preprocessed_trace known takes)) few in
+        let shown = accepted_are_shown ops.protocol fri parameters_of proof_of judged p by accepted breaking in
+        sound_beside_own ops.protocol fri parameters_of proof_of judged p by commits accepted log_rows known narrow
+        (λ key same. (own_root height given is accepted known takes key same).0) (λ key same. (own_root height given is accepted known takes key same).1)
+        (shown.beside known (fits given is accepted known takes))
+
+    sound_with_key : HasHeight log_rows (declared_of s.air).preprocessed_trace → IsVerdict ops.protocol log_rows scheme first_state (declared_of s.air) p s.public_values s.ood_bits s.alpha_bits verdict.Accepted → IsSoundByFri ops fri parameters_of proof_of scheme first_state s log_rows p
     unfolding IsVerdict
-    sound_with_key (inr misshapen) = absurd (accepts_none misshapen.2)
-    sound_with_key (inl said) =
+    sound_with_key height (inr misshapen) = absurd (accepts_none misshapen.2)
+    sound_with_key height (inl said) =
         let judged = judged_with ops fri parameters_of proof_of scheme first_state s said.0 in
         let breaking = accepted_is_sound ops.protocol judged p by.laws reads.within (declared_of s.air).preprocessed_trace reads.counted said.2 in
         let shown = accepted_are_shown ops.protocol fri parameters_of proof_of judged p by said.2 breaking in
@@ -100,19 +144,20 @@ module _ {S F E C T P X Y : Type 0} (ops : ServiceOps S F E C Root T P X Y) (fri
           is_key = said.1;
           accepted = said.2;
           tables = λ known takes. shown.beside known (fits said.0 said.1 said.2 known takes);
+          own = sound_beside_declared height said.0 said.1 said.2 breaking;
           few = shown.few;
           taken = breaking;
         }
 
-  sound_with_rows : ReadsDeclared (declared_of s.air) → (log_rows : ℕ) (o : Option (ProofView Root E P F)) → IsVerdictWithRows ops scheme first_state s log_rows o verdict.Accepted
+  sound_with_rows : ReadsDeclared (declared_of s.air) → (log_rows : ℕ) → HasHeight log_rows (declared_of s.air).preprocessed_trace → (o : Option (ProofView Root E P F)) → IsVerdictWithRows ops scheme first_state s log_rows o verdict.Accepted
       → IsSoundByFriWithRows ops fri parameters_of proof_of scheme first_state s log_rows o
   unfolding IsVerdictWithRows IsSoundByFriWithRows
-  sound_with_rows reads log_rows None said = bad_clash said
-  sound_with_rows reads log_rows (Some p) said = sound_with_key reads log_rows p (accepted_at_height (height_fault s.log_height p.degree_bits) (λ u. IsVerdict ops.protocol log_rows scheme first_state (declared_of s.air) p s.public_values s.ood_bits s.alpha_bits u) said)
+  sound_with_rows reads log_rows height None said = bad_clash said
+  sound_with_rows reads log_rows height (Some p) said = sound_with_key reads log_rows p height (accepted_at_height (height_fault s.log_height p.degree_bits) (λ u. IsVerdict ops.protocol log_rows scheme first_state (declared_of s.air) p s.public_values s.ood_bits s.alpha_bits u) said)
 
   sound_on : (read : Option (ProofView Root E P F)) → IsVerdictOn ops scheme first_state s read verdict.Accepted → IsSoundByFriOn ops fri parameters_of proof_of scheme first_state s read
   unfolding IsVerdictOn IsSoundByFriOn
-  sound_on read (reads, inl said) = (said.0, said.1, sound_with_rows reads said.0 read said.2)
+  sound_on read (reads, inl said) = (said.0, said.1, sound_with_rows reads said.0 said.1.height read said.2)
   sound_on read (reads, inr other) = absurd (bad_clash other.1)
 
   pub sound_by_fri : (read : Option (ProofView Root E P F)) (v : Verdict) → (v ≡ verdict.OutOfMemory) ⊎ IsVerdictOn ops scheme first_state s read v → v ≡ verdict.Accepted

@@ -1,9 +1,12 @@
+pub mod Accepting
 pub mod Configured
 pub mod DescriptionSteps
 pub mod FoundRows
 mod HeightSteps
 pub mod FriSound
+pub mod OneKey
 pub mod ReadSteps
+pub mod SchemeDepths
 pub mod SchemeFloats
 pub mod SchemeSteps
 pub mod SecuritySteps

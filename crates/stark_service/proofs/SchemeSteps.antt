@@ -5,6 +5,7 @@ use Rattle.stark_fri_proof.specs.Parts.{FriProofView}
 use Rattle.stark_fri_proof.specs.declared.parameters.FriParameters.{FriParameters}
 use Rattle.stark_fri.specs.Parts.{FriOps}
 use Rattle.stark_over_fri.proofs.AcceptedSteps.{IsByFri}
+use Rattle.stark_over_fri.proofs.DeclaredSteps.{CommitsByFri}
 use Rattle.stark_proof.specs.ProofView.{ProofView}
 use Rattle.stark_clear.specs.ClearScheme.{clear_pcs}
 use Rattle.stark_clear.specs.Stops.{StopsAt}
@@ -12,13 +13,14 @@ use Rattle.stark_clear.specs.declared.clear.call.ClearCall.{ClearCall}
 use Rattle.stark_clear.specs.declared.clear.pcs.ClearPcs.{ClearPcs}
 use Rattle.stark_statement.specs.Configuration.{fri_numbers}
 use Rattle.stark_statement.specs.StatementView.{StatementView}
-use Rattle.stark_answers.specs.Finding.{WhereProof, finding_bytes}
+use Rattle.stark_answers.specs.Finding.{IsAcceptedWhereProved, WhereProof, finding_bytes}
 use Rattle.stark_answers.specs.SoundRun.{Listed}
 use Rattle.stark_answers.specs.declared.finding.Finding.{Finding}
 use Rattle.stark_answers.specs.declared.task.TraceTask.{TraceTask}
 use Rattle.stark_answers.specs.declared.verdict.Verdict.{Verdict}
 use Rattle.stark_answers.specs.declared.verdict.Verdict.TheVariants as verdict
 use Rattle.stark_answers.proofs.SoundSteps.{InTheClear}
+use Rattle.stark_service.specs.Acceptance.{IsAcceptedOn}
 use Rattle.stark_service.specs.Schemes.{WithNumbers}
 use Rattle.stark_service.specs.Service.{ServiceOps}
 use Rattle.stark_service.specs.Statements.{IsFileOn, IsSoundOn, IsAnswerOn, IsVerdictOn}
@@ -46,14 +48,20 @@ module _ {S F E C K T P X Y : Type 0} (ops : ServiceOps S F E C K T P X Y) (sche
     pub file_by_numbers : (f : Finding) → WhereProof (λ form file. IsFileOn ops scheme state s form read file) f → WhereProof (λ form file. WithNumbers parameters_of (fri_numbers parameters) (λ pcs. IsFileOn ops pcs after s form read file)) f
     file_by_numbers f is = λ form proof. with_numbers (λ pcs c. IsFileOn ops pcs c s form read (finding_bytes f)) (is form proof)
 
+  -- A file that is accepted is so with these numbers.
+  pub accepted_by_numbers : (asked : TraceTask) (f : Finding) → IsAcceptedWhereProved asked (λ file. IsAcceptedOn ops scheme state s (ops.reading file)) f
+      → IsAcceptedWhereProved asked (λ file. WithNumbers parameters_of (fri_numbers parameters) (λ pcs. IsAcceptedOn ops pcs after s (ops.reading file))) f
+  accepted_by_numbers asked f accepts = λ form is proof. with_numbers (λ pcs c. IsAcceptedOn ops pcs c s (ops.reading (finding_bytes f))) (accepts form is proof)
+
 -- What is accepted by FRI is sound, by the verdict with the scheme and the challenger that a configuration has.
 module _ {S F E C T P X Y : Type 0} (ops : ServiceOps S F E C Root T P X Y) (scheme made : S) (parameters_of : S → FriParameters) (parameters : FriParameters) (state bound after : C) (s : StatementView F)
-    (is_made : scheme ≡ made) (made_with : parameters_of made ≡ parameters) (is_bound : state ≡ bound) (observed : bound ≡ after) (fri : FriOps C F E) (proof_of : P → FriProofView F E) (by : IsByFri ops.protocol fri parameters_of proof_of) where
+    (is_made : scheme ≡ made) (made_with : parameters_of made ≡ parameters) (is_bound : state ≡ bound) (observed : bound ≡ after) (fri : FriOps C F E) (proof_of : P → FriProofView F E) (by : IsByFri ops.protocol fri parameters_of proof_of)
+    (commits : CommitsByFri ops.protocol fri parameters_of) where
   pub sound_by_numbers : (read : Option (ProofView Root E P F)) (v : Verdict) → (v ≡ verdict.OutOfMemory) ⊎ IsVerdictOn ops scheme state s read v → v ≡ verdict.Accepted
       → WithNumbers parameters_of (fri_numbers parameters) (λ pcs. IsSoundByFriOn ops fri parameters_of proof_of pcs after s read)
   sound_by_numbers read v said is =
       with_numbers ops scheme made parameters_of parameters state bound after s is_made made_with is_bound observed (λ pcs c. IsSoundByFriOn ops fri parameters_of proof_of pcs c s read)
-      (sound_by_fri ops fri parameters_of proof_of by scheme state s read v said is)
+      (sound_by_fri ops fri parameters_of proof_of by commits scheme state s read v said is)
 
 -- What is accepted in the clear is sound, by the verdict with the scheme and the challenger that a configuration has.
 pub sound_in_the_clear : {S F E C T P X Y : Type 0} (ops : ServiceOps S F E C (Listed F) T P X Y) (scheme made other : S) (state bound after : C) (s : StatementView F)
@@ -70,6 +78,13 @@ pub file_in_the_clear : {S F E C K T P X Y : Type 0} (ops : ServiceOps S F E C K
 file_in_the_clear ops scheme made other state bound after s is_made is_new is_bound observed read f is = λ form proof.
     subst (λ p. IsFileOn ops p after s form read (finding_bytes f)) (is_made ∙ is_new)
     (subst (λ c. IsFileOn ops scheme c s form read (finding_bytes f)) (is_bound ∙ observed) (is form proof))
+
+-- A file that is accepted is so with the scheme and the challenger that a configuration has.
+pub accepted_in_the_clear : {S F E C K T P X Y : Type 0} (ops : ServiceOps S F E C K T P X Y) (scheme made other : S) (state bound after : C) (s : StatementView F) → scheme ≡ made → made ≡ other → state ≡ bound → bound ≡ after
+    → (asked : TraceTask) (f : Finding) → IsAcceptedWhereProved asked (λ file. IsAcceptedOn ops scheme state s (ops.reading file)) f → IsAcceptedWhereProved asked (λ file. IsAcceptedOn ops other after s (ops.reading file)) f
+accepted_in_the_clear ops scheme made other state bound after s is_made is_new is_bound observed asked f accepts = λ form is proof.
+    subst (λ p. IsAcceptedOn ops p after s (ops.reading (finding_bytes f))) (is_made ∙ is_new)
+    (subst (λ c. IsAcceptedOn ops scheme c s (ops.reading (finding_bytes f))) (is_bound ∙ observed) (accepts form is proof))
 
 -- A scheme that stops nowhere stops at no call.
 pub stops_nowhere : {F : Type 0} (pcs made : ClearPcs F) → pcs ≡ made → made ≡ clear_pcs → (call : ClearCall) → StopsAt pcs.stops_at call → ⊥

@@ -1,10 +1,11 @@
 -- What a proof by FRI that is accepted for a statement shows.
-use Rattle.std.specs.Prelude.{ℕ, List, Option, None, Some}
+use Rattle.std.specs.Prelude.{ℕ, ◌^◌, ◌<◌, List, Option, None, Some}
+use Rattle.stark_air.specs.Declaration.{trace_width}
 use Rattle.stark_merkle.specs.declared.root.Root.{Root}
 use Rattle.stark_fri_proof.specs.Parts.{FriProofView}
 use Rattle.stark_fri_proof.specs.declared.parameters.FriParameters.{FriParameters}
 use Rattle.stark_fri.specs.Parts.{FriOps}
-use Rattle.stark_over_fri.specs.Tables.{FewBadDrawsOfTables, TablesAreSoundBeside}
+use Rattle.stark_over_fri.specs.Tables.{FewBadDrawsOfTables, TablesAreSoundBeside, TablesAreSoundBesideOwn}
 use Rattle.stark_proof.specs.ProofView.{ProofView}
 use Rattle.stark_protocol.specs.Acceptance.{Accepted}
 use Rattle.stark_protocol.specs.Instance.{Instance}
@@ -28,12 +29,14 @@ module _ {S F E C T P X Y : Type 0} (ops : ServiceOps S F E C Root T P X Y) (fri
 
   -- The proof is accepted under a key that the owner's set-up makes of the declared rows. Beside columns that take these rows, whatever tables
   -- of the trace, the chunks and the folds lead to the proof's roots are near to columns that satisfy the statement's AIR, or one of few draws
-  -- was made, or two texts have one digest. Whatever columns take the opened values satisfy it, or alpha or zeta is bad for them.
+  -- was made, or the trees' hash collides. Of the key's root nothing is asked, where fewer than 2^32 columns are declared: the rows lead to it.
+  -- Whatever columns take the opened values satisfy the AIR, or alpha or zeta is bad for them.
   pub record IsSoundByFri (log_rows : ℕ) (p : ProofView Root E P F) : Type 0 where
     pub key : Option (PreprocessedVerifierKey Root)
     pub is_key : IsKey ops.protocol log_rows scheme (declared_of s.air).preprocessed_trace key
     pub accepted : Accepted ops.protocol (judged_with key) p
     pub tables : (known : List (List F)) → TakeDeclared log_rows known → TablesAreSoundBeside ops.protocol fri parameters_of proof_of (judged_with key) p known
+    pub own : trace_width (declared_of s.air).preprocessed_trace < 2 ^ 32 → (known : List (List F)) → TakeDeclared log_rows known → TablesAreSoundBesideOwn ops.protocol fri parameters_of proof_of (judged_with key) p known
     pub few : FewBadDrawsOfTables ops.protocol fri parameters_of proof_of (judged_with key) p
     pub taken : BreakingNeedsBadChallenges ops.protocol (judged_with key) p
 

@@ -1,3 +1,4 @@
+pub mod Acceptance
 pub mod Description
 pub mod Fitting
 pub mod Floor

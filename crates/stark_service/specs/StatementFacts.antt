@@ -97,7 +97,7 @@ module _ {F E : Type 0} (fields : FieldsOps F E) (number : F → ℕ) where
     rows_checked asked (Some rows) f (inl obtained) satisfied = unless_alone asked (periodic_fault (declared_of s.air).periodic_columns obtained.0) (declared_of s.air) s.air.list (trace_of (declared_of s.air).layout.main rows) s.public_values f obtained.2 satisfied
     rows_checked asked (Some rows) f (inr other) satisfied = subst (IsOfTrace asked) (sym other.1) (bad_alone asked)
 
-    rows_prove_none : (read : Option (List (List F))) (f : Finding) → IsCheckedWithRows fields number greatest s log_rows read f → (form : ProofForm) → IsProof form f → ⊥
+    pub rows_prove_none : (read : Option (List (List F))) (f : Finding) → IsCheckedWithRows fields number greatest s log_rows read f → (form : ProofForm) → IsProof form f → ⊥
     unfolding IsCheckedWithRows
     rows_prove_none None f is form proof = bad_no_proof f is form proof
     rows_prove_none (Some rows) f (inl obtained) form proof = unless_no_proof (periodic_fault (declared_of s.air).periodic_columns obtained.0) (declared_of s.air) s.air.list (trace_of (declared_of s.air).layout.main rows) s.public_values f obtained.2 form proof

@@ -5,7 +5,7 @@ ghost use Rattle.std.specs.Prelude.{◌≡◌, ℕ, List, Option, replicate};
 ghost use Rattle.serde_json.specs.Data.{Data};
 ghost use Rattle.stark_statement.specs.Configuration.{FriNumbers, scheme_numbers};
 ghost use Rattle.stark_statement.specs.StatementApart.{data_of};
-ghost use Rattle.stark_answers.specs.Finding.{WhereProof};
+ghost use Rattle.stark_answers.specs.Finding.{IsAcceptedWhereProved, WhereProof};
 ghost use Rattle.stark_answers.specs.declared.finding.Finding.{Finding};
 ghost use Rattle.stark_answers.specs.declared.task.ProofForm.{ProofForm};
 ghost use Rattle.stark_answers.specs.declared.task.TraceTask.{TraceTask};
@@ -43,7 +43,7 @@ pub trait ServiceField: Sized {
 
     /// In the clear the columns that the proof lists break no constraint of the statement's AIR,
     /// unless a challenge is bad. By FRI whatever tables lead to the proof's roots are near to
-    /// columns that satisfy it, or one of few draws was made, or two texts have one digest.
+    /// columns that satisfy it, or one of few draws was made, or the trees' hash collides.
     ghost sound: { Option FriNumbers → Data → List ℕ → Type 0 };
 
     /// Of the bytes of a trace, by what is asked for it.
@@ -51,6 +51,10 @@ pub trait ServiceField: Sized {
 
     /// This is the file of a proof, in a form, of the trace that the bytes spell.
     ghost proof_file: { Option FriNumbers → Data → List ℕ → ProofForm → List ℕ → Type 0 };
+
+    /// The file spells a proof whose verdict is `accepted` and no other, unless its zeta lies in
+    /// the trace's domain or the constraints' degrees don't fit the quotient's.
+    ghost accepts: { Option FriNumbers → Data → List ℕ → Type 0 };
 
     /// Of the statement alone, where it is shown.
     ghost showing: { Option FriNumbers → Data → Finding → Type 0 };
@@ -77,7 +81,9 @@ pub trait ServiceField: Sized {
             trace.items) result.answer }
         ensures kind { IsOfTrace asked result.answer }
         ensures proof { WhereProof (proof_file (scheme_numbers scheme) (data_of value)
-            trace.items) result.answer };
+            trace.items) result.answer }
+        ensures accepted { IsAcceptedWhereProved asked (accepts (scheme_numbers scheme)
+            (data_of value)) result.answer };
 
     /// What is shown. The JSON is dropped once it is read, before the text is made, which may be
     /// far longer.
@@ -101,6 +107,9 @@ impl<M: Modulus> ServiceField for Residue<M, Scalar> {
         (replicate 32 0) };
 
     ghost proof_file = { ⟦<Base<M> as ValueAnswers<Ext4<Base<M>>, Hashing<Base<M>>>>⟧.proof_file
+        (replicate 32 0) };
+
+    ghost accepts = { ⟦<Base<M> as ValueAnswers<Ext4<Base<M>>, Hashing<Base<M>>>>⟧.accepts
         (replicate 32 0) };
 
     ghost showing = { ⟦<Base<M> as ValueAnswers<Ext4<Base<M>>, Hashing<Base<M>>>>⟧.showing };
@@ -147,6 +156,9 @@ impl ServiceField for F12289 {
         (replicate 32 0) };
 
     ghost proof_file = { ⟦<F12289 as ValueAnswers<Ext4<F12289>, Hashing<F12289>>>⟧.proof_file
+        (replicate 32 0) };
+
+    ghost accepts = { ⟦<F12289 as ValueAnswers<Ext4<F12289>, Hashing<F12289>>>⟧.accepts
         (replicate 32 0) };
 
     ghost showing = { ⟦<F12289 as ValueAnswers<Ext4<F12289>, Hashing<F12289>>>⟧.showing };

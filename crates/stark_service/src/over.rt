@@ -5,11 +5,13 @@ ghost use Rattle.serde_json.specs.Data.{Data};
 ghost use Rattle.stark_statement.specs.Configuration.{FriNumbers, scheme_numbers};
 ghost use Rattle.stark_statement.specs.StatementApart.{data_of};
 ghost use Rattle.stark_statement.specs.StatementJson.{statement_reading};
-ghost use Rattle.stark_answers.specs.Finding.{WhereProof};
+ghost use Rattle.stark_answers.specs.Finding.{IsAcceptedWhereProved, WhereProof};
+ghost use Rattle.stark_answers.specs.ReadBack.{NestsWithin};
 ghost use Rattle.stark_answers.specs.declared.finding.Finding.{Finding};
 ghost use Rattle.stark_answers.specs.declared.task.ProofForm.{ProofForm};
 ghost use Rattle.stark_answers.specs.declared.task.TraceTask.{TraceTask};
 ghost use Rattle.stark_answers.specs.declared.verdict.Verdict.{Verdict};
+ghost use Rattle.stark_service.specs.Acceptance.{HoldsWithinLimits};
 ghost use Rattle.stark_service.specs.NoFloats.{WritesNoFloat};
 ghost use Rattle.stark_service.specs.Schemes.{HasRoomFor};
 ghost use Rattle.stark_service.specs.Showing.{IsShownOfRead};
@@ -41,6 +43,8 @@ pub trait ValueAnswers<EF, C>: Sized {
 
     ghost proof_file: { C → Option FriNumbers → Data → List ℕ → ProofForm → List ℕ → Type 0 };
 
+    ghost accepts: { C → Option FriNumbers → Data → List ℕ → Type 0 };
+
     ghost showing: { Option FriNumbers → Data → Finding → Type 0 };
 }
 
@@ -64,6 +68,10 @@ where
 
     ghost proof_file = { λ fresh scheme d trace form file. HoldsOfRead
         (λ s. ⟦<F as FieldAnswers<EF, C>>⟧.proof_file fresh scheme s trace form file)
+        (statement_reading F.reading d) };
+
+    ghost accepts = { λ fresh scheme d file. HoldsOfRead (HoldsWithinLimits
+        (λ s. ⟦<F as FieldAnswers<EF, C>>⟧.accepts fresh scheme s file))
         (statement_reading F.reading d) };
 
     ghost showing = { λ scheme d. IsShownOfRead ⟦<EF as Numbered<F>>⟧.fields scheme
@@ -115,11 +123,15 @@ where
     requires room { HasRoomFor F.TWO_ADICITY scheme }
     requires base { WritesNoFloat F.writing }
     requires extension { WritesNoFloat EF.writing }
+    requires shallow_base { NestsWithin 1 F.writing }
+    requires shallow_extension { NestsWithin 1 EF.writing }
     ensures finds { OrLacksMemory (⟦<F as ValueAnswers<EF, C>>⟧.finds challenger
         (scheme_numbers scheme) asked (data_of value) trace.items) result.answer }
     ensures kind { IsOfTrace asked result.answer }
     ensures proof { WhereProof (⟦<F as ValueAnswers<EF, C>>⟧.proof_file challenger
         (scheme_numbers scheme) (data_of value) trace.items) result.answer }
+    ensures accepted { IsAcceptedWhereProved asked (⟦<F as ValueAnswers<EF, C>>⟧.accepts challenger
+        (scheme_numbers scheme) (data_of value)) result.answer }
 {
     let read = read_statement::<F>(alloc, &value);
     // The JSON is several times as long as the statement.

@@ -44,7 +44,9 @@ fn prove_rows<SC: ProvingConfig>(
     requires greatest { greatest
         ≡ SC.Pcs.scheme.log_max_trace_height (SC.config.scheme config.now) }
     requires fits { IsOfRows greatest log_rows (statement_view statement.now) trace }
-    ensures { ⟦<SC as ServiceAnswers>⟧.proves config.now form greatest
+    ensures proves { ⟦<SC as ServiceAnswers>⟧.proves config.now form greatest
+        (statement_view statement.now) log_rows trace result.answer }
+    ensures accepted { ⟦<SC as ServiceAnswers>⟧.accepts_of_trace config.now greatest
         (statement_view statement.now) log_rows trace result.answer }
 {
     let public_values = statement.public_values.as_slice();
@@ -77,8 +79,10 @@ fn answer_rows<SC: ProvingConfig, P: Progress>(
         (statement_view statement.now) }
     requires columns { ⟦<SC as ServiceAnswers>⟧.has_columns_at config.now statement.now log_rows }
     requires read { AreSomeRows rows }
-    ensures { TellsOfRows rows (⟦<SC as ServiceAnswers>⟧.tells config.now asked
+    ensures tells { TellsOfRows rows (⟦<SC as ServiceAnswers>⟧.tells config.now asked
         (statement_view statement.now) log_rows) result.answer }
+    ensures accepted { ⟦<SC as ServiceAnswers>⟧.accepts_of_rows config.now asked
+        (statement_view statement.now) log_rows rows result.answer }
 {
     let greatest = config.pcs().log_max_trace_height();
     let (height, columns) = (rows.height, statement.air.width());
@@ -133,8 +137,10 @@ fn answer_with_rows<SC: ProvingConfig, P: Progress>(
     requires able { ⟦<SC as ServiceAnswers>⟧.can_prove_for config.now
         (statement_view statement.now) }
     requires columns { ⟦<SC as ServiceAnswers>⟧.has_columns_at config.now statement.now log_rows }
-    ensures { OrLacksMemory (⟦<SC as ServiceAnswers>⟧.tells_of_bytes config.now asked
+    ensures tells { OrLacksMemory (⟦<SC as ServiceAnswers>⟧.tells_of_bytes config.now asked
         (statement_view statement.now) log_rows bytes.items) result.answer }
+    ensures accepted { ⟦<SC as ServiceAnswers>⟧.accepts_at config.now asked
+        (statement_view statement.now) log_rows result.answer }
 {
     match read_rows::<Val<SC>>(alloc, bytes) {
         Ok(rows) => {
@@ -153,7 +159,10 @@ fn answer_with_rows<SC: ProvingConfig, P: Progress>(
 /// columns, proves traces of any height and refuses no true opening; by what is asked for the
 /// trace; its check and its proof are reported before they begin, and its bytes are dropped once
 /// they are read. It is `bad input` where the trace can't be read, the AIR has no main columns, or
-/// the trace isn't one of its widths and counts; or `out of memory`.
+/// the trace isn't one of its widths and counts; or `out of memory`. A proof that is found after a
+/// check is accepted as it is written, unless zeta lies in the trace's domain, by a scheme that
+/// sets up what is known in one way and whose proofs' JSON nests no deeper than a reader goes
+/// (`accepted`).
 pub fn answer_with<SC: ProvingConfig, P: Progress>(
     alloc: Global,
     config: &SC,
@@ -170,6 +179,8 @@ pub fn answer_with<SC: ProvingConfig, P: Progress>(
     ensures kind { IsOfTrace asked result.answer }
     ensures proof { WhereProof (⟦<SC as ServiceAnswers>⟧.proof_file config.now
         (statement_view statement.now) bytes.items) result.answer }
+    ensures accepted { ⟦<SC as ServiceAnswers>⟧.accepts config.now asked
+        (statement_view statement.now) result.answer }
 {
     if statement.air.width() == 0 {
         let wanted = "the AIR has no main columns, so that there is no trace";

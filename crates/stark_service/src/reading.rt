@@ -111,7 +111,7 @@ fn begin_as_proof(bytes: &[u8]) -> bool
     ensures begins { result ≡ starts_with nat_eq bytes.now magic }
     ensures no_json { result ≡ true → json_of bytes.now ≡ None }
 {
-    bytes.starts_with("voskligan proof 1".as_bytes())
+    bytes.starts_with("voskligan proof 2".as_bytes())
 }
 
 /// What is said of a proof that wasn't read of its JSON.

@@ -5,11 +5,13 @@ ghost use Rattle.stark_clear.specs.ClearScheme.{clear_pcs};
 ghost use Rattle.stark_statement.specs.StatementBytes.{after_statement};
 ghost use Rattle.stark_statement.specs.StatementView.{StatementView, statement_view};
 ghost use Rattle.stark_statement.specs.Configuration.{FriNumbers, scheme_numbers as numbers_of};
-ghost use Rattle.stark_answers.specs.Finding.{WhereProof};
+ghost use Rattle.stark_answers.specs.Finding.{IsAcceptedWhereProved, WhereProof};
+ghost use Rattle.stark_answers.specs.ReadBack.{NestsWithin};
 ghost use Rattle.stark_answers.specs.declared.finding.Finding.{Finding};
 ghost use Rattle.stark_answers.specs.declared.task.ProofForm.{ProofForm};
 ghost use Rattle.stark_answers.specs.declared.task.TraceTask.{TraceTask};
 ghost use Rattle.stark_answers.specs.declared.verdict.Verdict.{Verdict};
+ghost use Rattle.stark_service.specs.Acceptance.{IsAcceptedOn};
 ghost use Rattle.stark_service.specs.NoFloats.{WritesNoFloat};
 ghost use Rattle.stark_service.specs.Schemes.{ByScheme, HasRoomFor, WithNumbers};
 ghost use Rattle.stark_service.specs.StatementFacts.{IsOfTrace};
@@ -46,7 +48,7 @@ pub trait FieldAnswers<EF, C>: Sized {
 
     /// In the clear the columns that the proof lists break no constraint of the statement's AIR
     /// unless a challenge is bad; by FRI whatever tables lead to the proof's roots are near to
-    /// columns that satisfy it, or one of few draws was made, or two texts have one digest.
+    /// columns that satisfy it, or one of few draws was made, or the trees' hash collides.
     ghost sound: { C → Option FriNumbers → StatementView Self → List ℕ → Type 0 };
 
     /// Of the bytes of a trace, by what is asked for it.
@@ -56,6 +58,10 @@ pub trait FieldAnswers<EF, C>: Sized {
     /// This is the file of a proof, in a form, of the trace that the bytes spell.
     ghost proof_file: { C → Option FriNumbers → StatementView Self → List ℕ → ProofForm → List ℕ
         → Type 0 };
+
+    /// The file spells a proof whose verdict is `accepted` and no other, unless its zeta lies in
+    /// the trace's domain or the constraints' degrees don't fit the quotient's.
+    ghost accepts: { C → Option FriNumbers → StatementView Self → List ℕ → Type 0 };
 }
 
 impl<F, EF, C> FieldAnswers<EF, C> for F
@@ -100,6 +106,15 @@ where
         (IsFileOn ⟦<ClearConfig<F, EF, C> as StarkService>⟧.service clear_pcs
         (after_statement ⟦<C as CanObserve<F>>⟧.after_observe F.of_number F.number_of s fresh) s
         form (rows_in F.reading trace) file) };
+
+    ghost accepts = { λ fresh scheme s file. ByScheme scheme
+        (λ numbers. WithNumbers (λ pcs. pcs.parameters) numbers (λ pcs.
+        IsAcceptedOn ⟦<FriConfig<F, EF, C> as StarkService>⟧.service pcs
+        (after_statement ⟦<C as CanObserve<F>>⟧.after_observe F.of_number F.number_of s fresh) s
+        (⟦<FriConfig<F, EF, C> as StarkService>⟧.service.reading file)))
+        (IsAcceptedOn ⟦<ClearConfig<F, EF, C> as StarkService>⟧.service clear_pcs
+        (after_statement ⟦<C as CanObserve<F>>⟧.after_observe F.of_number F.number_of s fresh) s
+        (⟦<ClearConfig<F, EF, C> as StarkService>⟧.service.reading file)) };
 }
 
 /// A scheme and a challenger in its first state, with the work that a statement asks for.
@@ -187,11 +202,15 @@ pub(crate) fn answer_by<
     requires room { HasRoomFor F.TWO_ADICITY scheme }
     requires base { WritesNoFloat F.writing }
     requires extension { WritesNoFloat EF.writing }
+    requires shallow_base { NestsWithin 1 F.writing }
+    requires shallow_extension { NestsWithin 1 EF.writing }
     ensures finds { OrLacksMemory (⟦<F as FieldAnswers<EF, C>>⟧.finds fresh
         (numbers_of scheme) asked (statement_view statement.now) trace.items) result.answer }
     ensures kind { IsOfTrace asked result.answer }
     ensures proof { WhereProof (⟦<F as FieldAnswers<EF, C>>⟧.proof_file fresh
         (numbers_of scheme) (statement_view statement.now) trace.items) result.answer }
+    ensures accepted { IsAcceptedWhereProved asked (⟦<F as FieldAnswers<EF, C>>⟧.accepts fresh
+        (numbers_of scheme) (statement_view statement.now)) result.answer }
 {
     let Ok(bound) = bound(alloc, fresh, statement) else {
         return Report::out_of_memory().as_finding();

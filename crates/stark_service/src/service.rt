@@ -7,10 +7,12 @@ ghost use Rattle.stark_proof_bytes.specs.ProofBytes.{codecs};
 ghost use Rattle.stark_statement.specs.StatementView.{StatementView};
 ghost use Rattle.stark_statement.specs.declared.statement.Statement.{Statement};
 ghost use Rattle.stark_support.specs.declared.matrix.RowMajorMatrix.{RowMajorMatrix};
+ghost use Rattle.stark_trace_json.specs.declared.rows.TraceRows.{TraceRows};
 ghost use Rattle.stark_answers.specs.declared.finding.Finding.{Finding};
 ghost use Rattle.stark_answers.specs.declared.task.ProofForm.{ProofForm};
 ghost use Rattle.stark_answers.specs.declared.task.TraceTask.{TraceTask};
 ghost use Rattle.stark_answers.specs.declared.verdict.Verdict.{Verdict};
+ghost use Rattle.stark_service.specs.Acceptance.{AcceptsAt, AcceptsOfRows, AcceptsOfTrace, AcceptsOn};
 ghost use Rattle.stark_service.specs.Fitting.{TellsOfTrace};
 ghost use Rattle.stark_service.specs.Service.{CanProve, CanProveFor, HasColumnsAt, IsReady, ServiceOps};
 ghost use Rattle.stark_service.specs.Statements.{IsFileOn, IsFoundWithRows, IsSoundOfTakenOn, IsAnswerAtHeight, IsAnswerOn, IsAnswerWithRows, IsVerdictOn, IsVerdictWithRows, proof_in, rows_in};
@@ -106,6 +108,25 @@ pub trait ServiceAnswers: StarkGenericConfig {
     /// This is the file of a proof, in a form, of the trace that the bytes spell.
     ghost proof_file: { Self → StatementView Self.Pcs.Domain.Val → List ℕ → ProofForm → List ℕ
         → Type 0 };
+
+    /// By a scheme that sets up what is known in one way and whose proofs are read back as JSON, a
+    /// proof that is found of a matrix is accepted, where this is the trace of rows of at most
+    /// `2^greatest` that satisfy the AIR and are as many as the statement fixes,
+    ghost accepts_of_trace: { Self → ℕ → StatementView Self.Pcs.Domain.Val → ℕ
+        → RowMajorMatrix Self.Pcs.Domain.Val → Finding → Type 0 };
+
+    /// and one that is found of rows after a check, where they are as many as the statement fixes,
+    ghost accepts_of_rows: { Self → TraceTask → StatementView Self.Pcs.Domain.Val → ℕ
+        → TraceRows Self.Pcs.Domain.Val → Finding → Type 0 };
+
+    /// and one that is found of a file, with a key for `2^log_rows` rows,
+    ghost accepts_at: { Self → TraceTask → StatementView Self.Pcs.Domain.Val → ℕ
+        → Finding → Type 0 };
+
+    /// and with the AIR's own number of rows: the verdict on what is written is `accepted` and no
+    /// other, unless the proof's zeta lies in the trace's domain or the constraints' degrees don't
+    /// fit the quotient's.
+    ghost accepts: { Self → TraceTask → StatementView Self.Pcs.Domain.Val → Finding → Type 0 };
 }
 
 impl<SC: ServiceConfig> ServiceAnswers for SC {
@@ -157,4 +178,16 @@ impl<SC: ServiceConfig> ServiceAnswers for SC {
     ghost proof_file = { λ config s trace form. IsFileOn ⟦<SC as StarkService>⟧.service
         (SC.config.scheme config) (SC.config.first_state config) s form
         (rows_in ⟦<SC as StarkService>⟧.service.element trace) };
+
+    ghost accepts_of_trace = { λ config greatest s. AcceptsOfTrace ⟦<SC as StarkService>⟧.service
+        (SC.config.scheme config) (SC.config.first_state config) s greatest };
+
+    ghost accepts_of_rows = { λ config asked s. AcceptsOfRows ⟦<SC as StarkService>⟧.service
+        (SC.config.scheme config) (SC.config.first_state config) s asked };
+
+    ghost accepts_at = { λ config asked s. AcceptsAt ⟦<SC as StarkService>⟧.service
+        (SC.config.scheme config) (SC.config.first_state config) s asked };
+
+    ghost accepts = { λ config asked s. AcceptsOn ⟦<SC as StarkService>⟧.service
+        (SC.config.scheme config) (SC.config.first_state config) s asked };
 }

@@ -9,7 +9,7 @@ ghost use Rattle.std.specs.Prelude.{◌≡◌, ℕ, List, IfOk};
 ghost use Rattle.serde_json.specs.Data.{Data};
 ghost use Rattle.stark_statement.specs.Configuration.{ConfigurationView, IsWithinField, configuration_view};
 ghost use Rattle.stark_statement.specs.StatementApart.{data_of};
-ghost use Rattle.stark_answers.specs.Finding.{WhereProof};
+ghost use Rattle.stark_answers.specs.Finding.{IsAcceptedWhereProved, WhereProof};
 ghost use Rattle.stark_answers.specs.declared.finding.Finding.{Finding};
 ghost use Rattle.stark_answers.specs.declared.task.ProofForm.{ProofForm};
 ghost use Rattle.stark_answers.specs.declared.task.TraceTask.{TraceTask};
@@ -37,7 +37,7 @@ pub trait StatementAnswers: Sized {
 
     /// In the clear the columns that the proof lists break no constraint of the statement's AIR,
     /// unless a challenge is bad. By FRI whatever tables lead to the proof's roots are near to
-    /// columns that satisfy it, or one of few draws was made, or two texts have one digest.
+    /// columns that satisfy it, or one of few draws was made, or the trees' hash collides.
     ghost sound: { List ℕ → List ℕ → Type 0 };
 
     /// This is found of a statement and a trace, by what is asked for the trace.
@@ -45,6 +45,11 @@ pub trait StatementAnswers: Sized {
 
     /// This is the file of a proof in a form, for the statement, of the trace.
     ghost proof_file: { List ℕ → List ℕ → ProofForm → List ℕ → Type 0 };
+
+    /// The second file spells a proof whose verdict for the statement is `accepted` and no other,
+    /// unless its zeta lies in the trace's domain or the constraints' degrees don't fit the
+    /// quotient's.
+    ghost accepts: { List ℕ → List ℕ → Type 0 };
 
     /// This is found of a statement that is to be shown.
     ghost showing: { List ℕ → Finding → Type 0 };
@@ -66,7 +71,8 @@ pub trait StatementAnswers: Sized {
     ) -> Report<Finding>
         ensures finds { OrLacksMemory (finds asked statement.items trace.items) result.answer }
         ensures kind { IsOfTrace asked result.answer }
-        ensures proof { WhereProof (proof_file statement.items trace.items) result.answer };
+        ensures proof { WhereProof (proof_file statement.items trace.items) result.answer }
+        ensures accepted { IsAcceptedWhereProved asked (accepts statement.items) result.answer };
 
     /// What is shown of a statement, as `show_statement` says it.
     fn show(alloc: Global, statement: Vec<u8>) -> Report<Finding>
@@ -88,6 +94,8 @@ pub trait ConfiguredAnswers {
     ghost finds: { TraceTask → ConfigurationView → Data → List ℕ → Finding → Type 0 };
 
     ghost proof_file: { ConfigurationView → Data → List ℕ → ProofForm → List ℕ → Type 0 };
+
+    ghost accepts: { ConfigurationView → Data → List ℕ → Type 0 };
 
     ghost showing: { ConfigurationView → Data → Finding → Type 0 };
 }
@@ -113,6 +121,11 @@ impl ConfiguredAnswers for NamedFields {
         (⟦<KoalaBearField as ServiceField>⟧.proof_file c.fri d trace form file)
         (⟦<F12289 as ServiceField>⟧.proof_file c.fri d trace form file) };
 
+    ghost accepts = { λ c d file. OverField c.field
+        (⟦<BabyBearField as ServiceField>⟧.accepts c.fri d file)
+        (⟦<KoalaBearField as ServiceField>⟧.accepts c.fri d file)
+        (⟦<F12289 as ServiceField>⟧.accepts c.fri d file) };
+
     ghost showing = { λ c d f. OverField c.field
         (⟦<BabyBearField as ServiceField>⟧.showing c.fri d f)
         (⟦<KoalaBearField as ServiceField>⟧.showing c.fri d f)
@@ -131,6 +144,9 @@ impl StatementAnswers for NamedFields {
 
     ghost proof_file = { λ statement trace form file. HoldsOfBytes (λ c d.
         ⟦<NamedFields as ConfiguredAnswers>⟧.proof_file c d trace form file) statement };
+
+    ghost accepts = { λ statement file. HoldsOfBytes (λ c d.
+        ⟦<NamedFields as ConfiguredAnswers>⟧.accepts c d file) statement };
 
     ghost showing = { IsSaidOfBytes (λ v. Finding.Verdict v)
         ⟦<NamedFields as ConfiguredAnswers>⟧.showing };
@@ -225,6 +241,8 @@ fn answer_value<P: Progress>(
     ensures kind { IsOfTrace asked result.answer }
     ensures proof { WhereProof (⟦<NamedFields as ConfiguredAnswers>⟧.proof_file
         (configuration_view configuration) (data_of value) trace.items) result.answer }
+    ensures accepted { IsAcceptedWhereProved asked (⟦<NamedFields as ConfiguredAnswers>⟧.accepts
+        (configuration_view configuration) (data_of value)) result.answer }
 {
     let scheme = configuration.scheme;
     match configuration.field {
@@ -274,7 +292,7 @@ pub fn copied(alloc: Global, bytes: &[u8]) -> Result<Vec<u8>, AllocError>
 /// lists break no constraint of the AIR, unless alpha or zeta is bad for them. By FRI take any
 /// tables of the trace, the chunks and the folds that lead to the proof's roots beside the
 /// statement's own preprocessed rows: they are near to columns that satisfy the AIR on H, or one of
-/// few draws was made, or two texts have one digest (`sound`). So a service needs this one call.
+/// few draws was made, or the trees' hash collides (`sound`). So a service needs this one call.
 pub fn verify_statement(alloc: Global, statement: &[u8], proof: &[u8]) -> Report<Verdict>
     ensures verdict { OrUnjudged (⟦<NamedFields as StatementAnswers>⟧.verdict
         statement.now proof.now) result.answer }
@@ -304,6 +322,10 @@ pub fn verify_statement(alloc: Global, statement: &[u8], proof: &[u8]) -> Report
 /// is written of it is its file in that form, of a proof of the trace that was read (`proof`): a
 /// line of JSON, or the bytes that `stark_proof_bytes` gives. A proof of any size has both.
 ///
+/// What is written of a proof under `Prove` is accepted by `verify_statement` for this statement,
+/// unless the zeta that the proof's replay draws lies in the trace's domain, or the constraints'
+/// degrees don't fit the quotient's (`accepted`).
+///
 /// It works on copies of the bytes, which it drops once they are read.
 pub fn answer_trace(
     alloc: Global,
@@ -316,6 +338,8 @@ pub fn answer_trace(
     ensures kind { IsOfTrace asked result.answer }
     ensures proof { WhereProof (⟦<NamedFields as StatementAnswers>⟧.proof_file
         statement.now trace.now) result.answer }
+    ensures accepted { IsAcceptedWhereProved asked (⟦<NamedFields as StatementAnswers>⟧.accepts
+        statement.now) result.answer }
 {
     let Ok(statement) = copied(alloc, statement) else {
         return Report::out_of_memory().as_finding();
@@ -342,6 +366,8 @@ pub fn prove_statement(alloc: Global, statement: &[u8], trace: &[u8]) -> Report<
     ensures kind { IsOfTrace (TraceTask.Prove ProofForm.Json) result.answer }
     ensures proof { WhereProof (⟦<NamedFields as StatementAnswers>⟧.proof_file
         statement.now trace.now) result.answer }
+    ensures accepted { IsAcceptedWhereProved (TraceTask.Prove ProofForm.Json)
+        (⟦<NamedFields as StatementAnswers>⟧.accepts statement.now) result.answer }
 {
     answer_trace(alloc, TraceTask::Prove(ProofForm::Json), statement, trace)
 }

@@ -19,7 +19,7 @@ const STEEP: &str =
 
 // Of the trace 5, 6 in the clear, by a model in Python.
 const PROOF: &str =
-    r#"{"commitments":{"quotient_chunks":[[[1099,0],[5487,0],[1148,0],[3233,0]]],"random":null,"trace":[[[6150,6144]]]},"degree_bits":1,"ood_pow_witness":0,"opened_values":{"preprocessed_local":null,"preprocessed_next":null,"quotient_chunks":[[[1099,0,0,0],[5487,0,0,0],[1148,0,0,0],[3233,0,0,0]]],"random":null,"trace_local":[[4985,8594,8401,8972]],"trace_next":[[7315,3695,3888,3317]]},"opening_proof":null}"#;
+    r#"{"commitments":{"quotient_chunks":[[[4730,0],[8858,0],[10735,0],[3816,0]]],"random":null,"trace":[[[6150,6144]]]},"degree_bits":1,"ood_pow_witness":0,"opened_values":{"preprocessed_local":null,"preprocessed_next":null,"quotient_chunks":[[[4730,0,0,0],[8858,0,0,0],[10735,0,0,0],[3816,0,0,0]]],"random":null,"trace_local":[[6349,10188,7775,906]],"trace_next":[[5951,2101,4514,11383]]},"opening_proof":null}"#;
 
 /// Bits by FRI.
 fn by_fri(proved: usize, conjectured: usize) -> Result<SecurityBits, SecurityError> {

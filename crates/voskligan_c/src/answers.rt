@@ -24,7 +24,7 @@ pub trait ProgramAnswers {
 
     /// In the clear the columns that the proof lists break no constraint of the statement's AIR,
     /// unless a challenge is bad. By FRI whatever tables lead to the proof's roots are near to
-    /// columns that satisfy it, or one of few draws was made, or two texts have one digest.
+    /// columns that satisfy it, or one of few draws was made, or the trees' hash collides.
     ghost sound: { List ℕ → List ℕ → Type 0 };
 
     /// This is said of a statement and a proof, where a floor in proved bits is set.
@@ -41,6 +41,11 @@ pub trait ProgramAnswers {
 
     /// This is the line of a proof, for the statement, of the trace.
     ghost proof_line: { List ℕ → List ℕ → List ℕ → Type 0 };
+
+    /// The second file spells a proof whose verdict for the statement is `accepted` and no other,
+    /// unless its zeta lies in the trace's domain or the constraints' degrees don't fit the
+    /// quotient's.
+    ghost accepts: { List ℕ → List ℕ → Type 0 };
 
     /// The bytes of the key's file of a statement are made, or the verdict says why there is none.
     ghost makes: { List ℕ → Result (List ℕ) Verdict → Type 0 };
@@ -67,6 +72,8 @@ impl ProgramAnswers for Program {
 
     ghost proof_line = { λ statement trace. ⟦<Judged as Answers>⟧.proof_file statement trace
         ProofForm.Json };
+
+    ghost accepts = { ⟦<Judged as Answers>⟧.accepts };
 
     ghost makes = { ⟦<Judged as Keys>⟧.makes };
 

@@ -171,6 +171,10 @@ pub extern "C" fn voskligan_check(
 /// `needed` gets how many bytes the proof has, with the newline at its end, or 0 where there is
 /// none. `proof` gets the whole proof at its head, under status 0, and else stays as it was.
 /// `message` gets `proved`, `no room`, or the lines as by `voskligan_verify`.
+///
+/// Under status 0 `voskligan_verify` accepts the proof for the statement, unless the zeta that its
+/// replay draws lies in the trace's domain or the constraints' degrees don't fit the quotient's
+/// (`accepted`).
 #[unsafe(no_mangle)]
 pub extern "C" fn voskligan_prove(
     alloc: Global,
@@ -184,6 +188,8 @@ pub extern "C" fn voskligan_prove(
         result needed.new proof.old proof.new message.old message.new }
     ensures proved { result ≡ pos 0 → ⟦<Program as ProgramAnswers>⟧.proof_line
         statement.now trace.now (take needed.new proof.new) }
+    ensures accepted { result ≡ pos 0 → ⟦<Program as ProgramAnswers>⟧.accepts
+        statement.now (take needed.new proof.new) }
     ensures kept { result ≢ pos 0 → proof.new ≡ proof.old }
 {
     let report = prove_statement(alloc, statement, trace);

@@ -23,7 +23,7 @@ const IN_THE_CLEAR: &[u8] =
 // The proof of `[[5],[6]]` for it as bytes, which a script outside this repository wrote from the
 // proof's JSON.
 const PROOF_BYTES: &[u8] =
-    b"voskligan proof 1\0\0\0\0\0\0\0\x01\0\0\0\0\0\0\0\x01\0\0\0\0\0\0\0\x02\0\0\x18\x06\0\0\x18\0\0\0\0\0\0\0\0\x01\0\0\0\0\0\0\0\x04\0\0\0\0\0\0\0\x02\0\0\x04K\0\0\0\0\0\0\0\0\0\0\0\x02\0\0\x15o\0\0\0\0\0\0\0\0\0\0\0\x02\0\0\x04|\0\0\0\0\0\0\0\0\0\0\0\x02\0\0\x0c\xa1\0\0\0\0\0\0\0\0\0\0\0\0\x01\0\0\x13y\0\0!\x92\0\0 \xd1\0\0#\x0c\x01\0\0\0\0\0\0\0\x01\0\0\x1c\x93\0\0\x0eo\0\0\x0f0\0\0\x0c\xf5\0\0\0\0\0\0\0\0\x01\0\0\0\0\0\0\0\x04\0\0\x04K\0\0\0\0\0\0\0\0\0\0\0\0\0\0\x15o\0\0\0\0\0\0\0\0\0\0\0\0\0\0\x04|\0\0\0\0\0\0\0\0\0\0\0\0\0\0\x0c\xa1\0\0\0\0\0\0\0\0\0\0\0\0\0\0\0\0\0\0\0\0\0\x01\0\0\0\0\0\0\0\0";
+    b"voskligan proof 2\0\0\0\0\0\0\0\x01\0\0\0\0\0\0\0\x01\0\0\0\0\0\0\0\x02\0\0\x18\x06\0\0\x18\0\0\0\0\0\0\0\0\x01\0\0\0\0\0\0\0\x04\0\0\0\0\0\0\0\x02\0\0\x12z\0\0\0\0\0\0\0\0\0\0\0\x02\0\0\"\x9a\0\0\0\0\0\0\0\0\0\0\0\x02\0\0)\xef\0\0\0\0\0\0\0\0\0\0\0\x02\0\0\x0e\xe8\0\0\0\0\0\0\0\0\0\0\0\0\x01\0\0\x18\xcd\0\0'\xcc\0\0\x1e_\0\0\x03\x8a\x01\0\0\0\0\0\0\0\x01\0\0\x17?\0\0\x085\0\0\x11\xa2\0\0,w\0\0\0\0\0\0\0\0\x01\0\0\0\0\0\0\0\x04\0\0\x12z\0\0\0\0\0\0\0\0\0\0\0\0\0\0\"\x9a\0\0\0\0\0\0\0\0\0\0\0\0\0\0)\xef\0\0\0\0\0\0\0\0\0\0\0\0\0\0\x0e\xe8\0\0\0\0\0\0\0\0\0\0\0\0\0\0\0\0\0\0\0\0\0\x01\0\0\0\0\0\0\0\0";
 
 #[test]
 fn a_proof_is_made_and_accepted(rt: HostRuntime) -> Result<(), AllocError> {
@@ -133,7 +133,7 @@ fn a_key_is_made_and_taken(rt: HostRuntime) {
     assert_eq!(rt; made, 0);
     // The text, the digest, and that there are no columns.
     assert_eq!(rt; needed, 48);
-    assert!(rt; key.starts_with(b"voskligan key 1"));
+    assert!(rt; key.starts_with(b"voskligan key 2"));
     assert!(rt; message.starts_with(b"made\n\0"));
     let (key, _) = key.split_at(48);
     let judged = voskligan_verify_with_key(

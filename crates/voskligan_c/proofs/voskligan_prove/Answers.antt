@@ -1,4 +1,4 @@
-use Rattle.std.proofs.Common.{◌≡◌, pos, w32, to_z, of_z, rules, length}
+use Rattle.std.proofs.Common.{◌≡◌, pos, w32, to_z, of_z, refl, rules, length}
 use Rattle.stark_answers.specs.declared.task.ProofForm.TheVariants.{Json}
 use Rattle.voskligan_c.specs.Calls.{handed_of, status_of_call}
 use Rattle.voskligan_c.specs.Message.{words_of}
@@ -14,6 +14,13 @@ returns-clause-proved c = λ e.
     let t = c.args.trace.now in
     rw (c.hand_over-handed.ensures.needed, c.hand_over-handed.ensures.placed)
     (line_placed (program.proof_line-value.it s t) f c.args.proof.now c.prove_statement-report.ensures.kind (c.prove_statement-report.ensures.proof Json) (pos_zero _ _ status e))
+
+pub returns-clause-accepted : goal.returns-clause-accepted
+returns-clause-accepted c = λ e.
+    let f = c.prove_statement-report.result.answer in
+    let status : to_z w32 (of_z w32 c.status.result) ≡ pos (status_of_call (handed_of f (length c.args.proof.now)) f) = search rules in
+    rw (c.hand_over-handed.ensures.needed, c.hand_over-handed.ensures.placed)
+    (line_placed (program.accepts-value.it c.args.statement.now) f c.args.proof.now c.prove_statement-report.ensures.kind (c.prove_statement-report.ensures.accepted Json refl) (pos_zero _ _ status e))
 
 pub returns-clause-answer : goal.returns-clause-answer
 returns-clause-answer c =

@@ -1,5 +1,6 @@
 use Rattle.std.proofs.Common.{None, Some, ap, is_some, sym, ◌∙◌}
 use Rattle.stark_protocol.proofs.Carried.{carried}
+use Rattle.stark_answers.proofs.CompleteSteps.{some_wide}
 use Rattle.stark_answers.proofs.VerdictSteps.{answer_of_shape, answer_with_key, of_some}
 use Rattle.stark_answers.proofs.keyed.verify_with_key.Goals as goal
 
@@ -15,7 +16,9 @@ returns-in-Ok-None g c =
 pub returns-in-Ok-Some : goal.returns-in-Ok-Some
 returns-in-Ok-Some g c =
     let made = of_some _ c.in-Ok-Some.field-0 (c.in-Ok-Some._data, c.in-Ok-Some.key) c.in-Ok-Some.field-0-is c.in-Ok-Some.ensures.set_up in
-    answer_with_key _ c.args.log_rows (g.SC.StarkGenericConfig.config.scheme c.args.config.now) (g.A.BaseAir.preprocessed_trace c.args.air.now) _ _ (Some c.in-Ok-Some.key) _ (made.0, made.1, c.in-Ok-Some._data, made.2) c.verify_with_preprocessed.ensures.accepted c.verify_with_preprocessed.ensures.refused
+    let there = sym (ap is_some c.in-Ok-Some.field-0-is) ∙ c.in-Ok-Some.ensures.there in
+    answer_with_key _ c.args.log_rows (g.SC.StarkGenericConfig.config.scheme c.args.config.now) (g.A.BaseAir.preprocessed_trace c.args.air.now) _ _ (Some c.in-Ok-Some.key) _
+    (made.0, made.1, c.in-Ok-Some._data, made.2, some_wide _ made.0 made.1 there) c.verify_with_preprocessed.ensures.accepted c.verify_with_preprocessed.ensures.refused
 
 pub setup_preprocessed-requires-clause-within : goal.setup_preprocessed-requires-clause-within
 setup_preprocessed-requires-clause-within g c = λ trace declared some. c.requires.within

@@ -1,5 +1,6 @@
 use Rattle.std.proofs.Common.{◌∙◌, ◌+◌, ◌≤◌, ap, arith, is_some, subst, sym}
 use Rattle.stark_support.specs.Scheme.{zk_bits}
+use Rattle.stark_answers.proofs.CompleteSteps.{some_wide}
 use Rattle.stark_answers.proofs.VerdictSteps.{of_some}
 use Rattle.stark_service.proofs.StatementSteps.{same_declared, tree_checked}
 use Rattle.stark_keys.proofs.MakingSteps.{declared_trace, no_columns}
@@ -20,4 +21,5 @@ returns-in-Ok-Some g c =
     let d = c.args.statement.now.air.declaration in
     let l = c.args.statement.now.air.list in
     let made = of_some _ c.in-Ok-Some.field-0 (c.in-Ok-Some._data, c.in-Ok-Some.key) c.in-Ok-Some.field-0-is c.in-Ok-Some.ensures.set_up in
-    (made.0, declared_trace (tree_checked d l) _ made.0 (same_declared d l) made.1, c.in-Ok-Some._data, made.2)
+    let there = sym (ap is_some c.in-Ok-Some.field-0-is) ∙ c.in-Ok-Some.ensures.there in
+    (made.0, declared_trace (tree_checked d l) _ made.0 (same_declared d l) made.1, c.in-Ok-Some._data, made.2, some_wide _ made.0 made.1 there)

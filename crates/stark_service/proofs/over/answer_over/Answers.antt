@@ -18,3 +18,9 @@ returns-in-Err-clause-kind g c = unread_of_trace c.args.asked _ _ _ c.as_finding
 
 pub returns-in-Err-clause-proof : goal.returns-in-Err-clause-proof
 returns-in-Err-clause-proof g c = λ form proof. absurd (verdict_no_proof _ _ c.as_finding.ensures form proof)
+
+pub returns-in-Ok-clause-accepted : goal.returns-in-Ok-clause-accepted
+returns-in-Ok-clause-accepted g c = λ form is proof. holds_of_read _ _ (statement_view c.in-Ok.statement) c.in-Ok.ensures.0 (c.in-Ok.ensures.1, c.answer_by.ensures.accepted form is proof)
+
+pub returns-in-Err-clause-accepted : goal.returns-in-Err-clause-accepted
+returns-in-Err-clause-accepted g c = λ form is proof. absurd (verdict_no_proof _ _ c.as_finding.ensures form proof)

@@ -1,7 +1,7 @@
 use Rattle.std.proofs.Common.{refl}
-use Rattle.sha2.specs.Sha256.{sha256}
-use Rattle.stark_merkle.specs.Sha.{digests_are_32}
-use Rattle.stark_fri.proofs.BoundSteps.{names_by}
+use Rattle.stark_merkle.specs.Sha.{sha_are_digests, sha_digests}
+use Rattle.stark_fri.proofs.BoundSteps.{names_by, short_row}
+use Rattle.stark_fri_prover.specs.Commit.{data_seen}
 use Rattle.stark_clear.specs.ClearScheme.{clear_pcs}
 use Rattle.stark_statement.specs.StatementView.{statement_view}
 use Rattle.stark_service.proofs.SchemeSteps.{sound_by_numbers, sound_in_the_clear, verdict_by_numbers}
@@ -28,11 +28,21 @@ returns-in-Fri-clause-sound g c = rw c.in-Fri.is (
         embeds = g.met.EF.ExtensionField.embeds;
         two_adic = g.met.F.TwoAdicField.two_adic;
       };
-      bytes = names_by g.F.TwoAdicField g.F.Field g.F.PrimeField64 g.EF.Field g.EF.ExtensionField g.met.F.PrimeField64.below g.met.F.PrimeField64.fits g.met.F.PrimeField64.same_number
-          g.met.EF.ExtensionField.is_basis sha256 digests_are_32;
+      bytes = names_by g.F.TwoAdicField g.F.Field g.F.PrimeField64 g.EF.Field g.EF.ExtensionField g.met.F.PrimeField64.below g.met.F.PrimeField64.above g.met.F.PrimeField64.fits_bytes g.met.F.PrimeField64.same_number
+          g.met.EF.ExtensionField.is_basis sha_digests sha_are_digests;
       laws = g.met.EF.Field.field_laws;
       embeds = g.met.EF.ExtensionField.embeds;
       two_adic = g.met.F.TwoAdicField.two_adic;
+    })
+    (record {
+      adicity = refl;
+      base = refl;
+      root = refl;
+      data_of = λ d. data_seen d.root d.domain.log_size d.matrices d.extended;
+      stands = λ s root stored matrices is. is.0;
+      plain = λ s domain values width made is. is;
+      digests = sha_are_digests;
+      short = short_row g.F.PrimeField64.BYTES g.F.PrimeField64.number_of g.met.F.PrimeField64.few_bytes;
     })
     _ _ c.verify_with.ensures.verdict accepted
     )

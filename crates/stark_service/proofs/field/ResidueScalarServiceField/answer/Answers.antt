@@ -5,3 +5,6 @@ returns-clause-finds g c = rw c.new-challenger.ensures at c.answer_over.ensures.
 
 pub returns-clause-proof : goal.returns-clause-proof
 returns-clause-proof g c = rw c.new-challenger.ensures at c.answer_over.ensures.proof
+
+pub returns-clause-accepted : goal.returns-clause-accepted
+returns-clause-accepted g c = rw c.new-challenger.ensures at c.answer_over.ensures.accepted

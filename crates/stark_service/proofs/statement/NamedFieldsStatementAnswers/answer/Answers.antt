@@ -17,3 +17,9 @@ returns-in-Err-clause-kind g c = unconfigured_stated _ _ c.as_finding.ensures _ 
 
 pub returns-in-Err-clause-proof : goal.returns-in-Err-clause-proof
 returns-in-Err-clause-proof g c = λ form proof. absurd (verdict_proves_none _ _ c.as_finding.ensures form proof)
+
+pub returns-in-Ok-clause-accepted : goal.returns-in-Ok-clause-accepted
+returns-in-Ok-clause-accepted g c = λ form is proof. holds_of_bytes _ _ _ _ c.in-Ok.ensures.0 c.in-Ok.ensures.1 (c.answer_value.ensures.accepted form is proof)
+
+pub returns-in-Err-clause-accepted : goal.returns-in-Err-clause-accepted
+returns-in-Err-clause-accepted g c = λ form is proof. absurd (verdict_proves_none _ _ c.as_finding.ensures form proof)

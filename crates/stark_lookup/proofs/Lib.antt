@@ -1,0 +1,5 @@
+pub mod FitSteps
+pub mod CountSteps
+pub mod DrawSteps
+pub mod SoundSteps
+pub mod VerdictSteps

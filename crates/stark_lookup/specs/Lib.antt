@@ -1,0 +1,5 @@
+pub mod OwnLookups
+pub mod LookupErrors
+pub mod LookupDraws
+pub mod LookupVerdict
+pub mod LookupSound

@@ -1,0 +1,2 @@
+mod TotalSteps
+mod BalanceSteps

@@ -273,11 +273,11 @@ verify | {"config":<in the clear>,"air":<air of counter>,"public_values":[5]}\1e
 verify | {"config":<in the clear>,"air":<air of counter>,"public_values":[5]}\1e{"proof":<proof of two rows>} | bad input
 
 # What begins as a proof's bytes do is read as such, and as no JSON: it is cut, or says no more.
-verify | {"config":<in the clear>,"air":<air of counter>,"public_values":[5]}\1evoskligan proof 1 | bad input
-verify | {"config":<in the clear>,"air":<air of counter>,"public_values":[5]}\1evoskligan proof 1<proof of two rows> | bad input
+verify | {"config":<in the clear>,"air":<air of counter>,"public_values":[5]}\1evoskligan proof 2 | bad input
+verify | {"config":<in the clear>,"air":<air of counter>,"public_values":[5]}\1evoskligan proof 2<proof of two rows> | bad input
 verify | {"config":<in the clear>,"air":<air of counter>,"public_values":[5]}\1evoskligan proof <proof of two rows> | bad input
 verify | <proved> | "degree_bits":1 => "degree_bits":-1 | bad input
-verify | <proved> | [4985, => [12289, | bad input
+verify | <proved> | [6349, => [12289, | bad input
 "#;
 
 // AIRs at the limits of what is taken, and past them: nothing else of the statement, the proof or
@@ -361,12 +361,12 @@ show | <small> | <lines of small>
 
 // What is told of the stages of runs, a line each.
 pub(crate) const STAGES: &str = r#"
-prove | <two rows> | reading the statement\0areading the trace\0aparsing: statement of 330 bytes, trace of 9 bytes\0achecking: rows 2, columns 1\0aproving: rows 2, columns 1\0awriting the proof: 403 bytes
-prove --unchecked | <two rows> | reading the statement\0areading the trace\0aparsing: statement of 330 bytes, trace of 9 bytes\0aproving: rows 2, columns 1\0awriting the proof: 403 bytes
+prove | <two rows> | reading the statement\0areading the trace\0aparsing: statement of 330 bytes, trace of 9 bytes\0achecking: rows 2, columns 1\0aproving: rows 2, columns 1\0awriting the proof: 406 bytes
+prove --unchecked | <two rows> | reading the statement\0areading the trace\0aparsing: statement of 330 bytes, trace of 9 bytes\0aproving: rows 2, columns 1\0awriting the proof: 406 bytes
 prove | <two rows> | [[5],[6]] => [[6],[7]] | reading the statement\0areading the trace\0aparsing: statement of 330 bytes, trace of 9 bytes\0achecking: rows 2, columns 1
 prove | {} | reading the statement\0areading the trace\0aparsing: statement of 2 bytes, trace of 0 bytes
 check | <two rows> | reading the statement\0areading the trace\0aparsing: statement of 330 bytes, trace of 9 bytes\0achecking: rows 2, columns 1
-verify | <proved> | reading the statement\0areading the proof\0averifying: statement of 330 bytes, proof of 402 bytes
+verify | <proved> | reading the statement\0areading the proof\0averifying: statement of 330 bytes, proof of 405 bytes
 show | <small> | reading the statement\0ashowing: statement of 152 bytes
 "#;
 

@@ -74,9 +74,9 @@ pub(crate) const VOSKLIGAN_TEXTS: &str = r#"
 
 
 # The counter's trace 5, 6 and its proof, as computed by a model in Python: the challenger observes the digest of the statement's bytes, the seed
-# and the trace, alpha is 10093, 1315, 9993, 5823, and zeta 2330, 7390, 7776, 6634.
+# and the trace, alpha is 2831, 6862, 3108, 4657, and zeta 11891, 4202, 9028, 10477.
 <two rows> = {"config":<in the clear>,"air":<air of counter>,"public_values":[5]}\1e[[5],[6]]
-<proof of two rows> = {"commitments":{"quotient_chunks":[[[1099,0],[5487,0],[1148,0],[3233,0]]],"random":null,"trace":[[[6150,6144]]]},"degree_bits":1,"ood_pow_witness":0,"opened_values":{"preprocessed_local":null,"preprocessed_next":null,"quotient_chunks":[[[1099,0,0,0],[5487,0,0,0],[1148,0,0,0],[3233,0,0,0]]],"random":null,"trace_local":[[4985,8594,8401,8972]],"trace_next":[[7315,3695,3888,3317]]},"opening_proof":null}
+<proof of two rows> = {"commitments":{"quotient_chunks":[[[4730,0],[8858,0],[10735,0],[3816,0]]],"random":null,"trace":[[[6150,6144]]]},"degree_bits":1,"ood_pow_witness":0,"opened_values":{"preprocessed_local":null,"preprocessed_next":null,"quotient_chunks":[[[4730,0,0,0],[8858,0,0,0],[10735,0,0,0],[3816,0,0,0]]],"random":null,"trace_local":[[6349,10188,7775,906]],"trace_next":[[5951,2101,4514,11383]]},"opening_proof":null}
 <lines of two rows> = columns: 1 main, 1 public, 0 periodic, 0 preprocessed\0aconstraint 0 (base, degree 2): first_row * (main[0] - public[0]) = 0\0aconstraint 1 (base, degree 1): transition * (next[0] - main[0] - 1) = 0\0aquotient chunks: 1\0aerror bound at 2^12 rows: 1 alpha, 8191 zeta\0a<challenges over 12289>\0aproved: 40 bits at 2^12 rows (by count; SHA-256 as a random oracle)\0aconjectured: nothing; in the clear the proof lists its columns\0aconfiguration: f12289, in the clear\0aheight: the prover's choice\0awork: 0 bits before alpha, 0 before zeta\0apublic values (1): 5
 <proved> = {"config":<in the clear>,"air":<air of counter>,"public_values":[5]}\1e<proof of two rows>
 

@@ -1,3 +1,4 @@
+pub mod AcceptedSteps
 pub mod Delivery
 pub mod Findings
 pub mod Lines

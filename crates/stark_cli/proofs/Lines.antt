@@ -28,7 +28,7 @@ first_of_object bytes e = first_of_one 123 bytes e
 
 first_of_bytes : (bytes : List ℕ) → take (length magic) bytes ≡ magic → first_of bytes ≡ 118
 first_of_bytes [] e = absurd (cc)
-first_of_bytes (x ∷ xs) e = let h : x ∷ take 16 xs ≡ 118 ∷ codes "oskligan proof 1" = e in cc
+first_of_bytes (x ∷ xs) e = let h : x ∷ take 16 xs ≡ 118 ∷ codes "oskligan proof 2" = e in cc
 
 first_of_text : (bytes : List ℕ) → take 1 bytes ≡ codes "c" → first_of bytes ≡ 99
 first_of_text [] e = absurd (cc)

@@ -8,11 +8,11 @@ differs : (b : Bool) (P : Type 0) → Decides b P → (P → ⊥) → b ≡ fals
 differs true P decides other = absurd (other (decides.0 refl))
 differs false P decides other = refl
 
-other_word : (a b : List ℕ) → (a ≡ b → ⊥) → bytes_eq a b ≡ false
+pub other_word : (a b : List ℕ) → (a ≡ b → ⊥) → bytes_eq a b ≡ false
 other_word a b other = differs _ _ (bytes_eq-Decides a b) other
 
 -- A choice that isn't taken.
-otherwise : {A : Type 0} (b : Bool) (x last : A) → b ≡ false → (if b then x else last) ≡ last
+pub otherwise : {A : Type 0} (b : Bool) (x last : A) → b ≡ false → (if b then x else last) ≡ last
 otherwise true x last other = absurd (let clash : true ≡ false = other in cc)
 otherwise false x last other = refl
 

@@ -1,3 +1,4 @@
+pub mod AcceptedProofs
 pub mod Running
 pub mod Misuses
 pub mod Words

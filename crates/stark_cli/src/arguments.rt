@@ -8,18 +8,21 @@ use stark_answers::{ProofForm, TraceTask};
 
 /// How the program is used.
 pub const USAGE: &str = "usage: voskligan verify [--at-least BITS] [--quiet] STATEMENT [PROOF]
+       voskligan verify --key KEY [--quiet] STATEMENT [PROOF]
        voskligan prove [--unchecked] [--binary] [--quiet] [--output FILE] STATEMENT [TRACE]
        voskligan check [--quiet] STATEMENT [TRACE]
+       voskligan key STATEMENT
        voskligan show STATEMENT
        voskligan --help | --version
 Each word is a file's path, or - for standard input, which a last word that is left out stands for.
 A path that begins with -- is written ./--NAME.
   --at-least BITS  judges a proof only where no fewer bits are proved of such proofs at its height
+  --key KEY        verifies with the statement's key in the file KEY, which `key` wrote once
   --unchecked      proves a trace whether or not it satisfies the AIR
   --binary         writes the proof as bytes, which verify takes as well, in place of JSON
   --output FILE    writes the proof to FILE, whole or not at all, in place of standard output
   --quiet          tells no stages, which are else told on standard error where that is a terminal
-Status 0: accepted, proved, satisfied, shown. 1: refused, a constraint broken. 2: not judged.
+Status 0: accepted, proved, satisfied, shown, a key made. 1: refused, a constraint broken. 2: not judged.
 Status 4: not judged, since fewer bits are proved.
 ";
 
@@ -88,7 +91,7 @@ pub(crate) fn verb_of(word: &str) -> Option<Verb>
 
 /// The path that a word is; none where it is `-`, or begins as an option does.
 #[tactic(auto, unfolding(crate::specs::Arguments::path_of))]
-pub(crate) fn path_of(word: &str) -> Option<&str>
+pub fn path_of(word: &str) -> Option<&str>
     ensures { option_copied result ≡ path_of word.now }
 {
     if word == "-" || word.starts_with("--") {
@@ -108,7 +111,7 @@ pub(crate) fn bits_of(word: &str) -> Option<usize>
 
 /// The input that a word names: standard input or a file.
 #[tactic(auto, unfolding(crate::specs::Arguments::input_of))]
-fn input_of(word: &str) -> Option<InputWord<'_>>
+pub fn input_of(word: &str) -> Option<InputWord<'_>>
     ensures { option_map input_view result ≡ input_of word.now }
 {
     if word == "-" {

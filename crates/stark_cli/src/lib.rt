@@ -16,7 +16,7 @@ pub mod statements;
 mod streams;
 mod words;
 
-pub use arguments::{InputWord, Request, Task, USAGE, request_of};
+pub use arguments::{InputWord, Request, Task, USAGE, input_of, path_of, request_of};
 pub use files::{InputFile, OpenFault};
 pub use host::{exit_code, words_of};
 pub use misuse::{Misuse, misuse_of};

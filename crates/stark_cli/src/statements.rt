@@ -2,6 +2,7 @@
 
 ghost use Rattle.std.specs.Prelude.{◌≡◌, ◌↔◌, ◌⊎◌, ℕ, List, Option, true, false, IfErr, IfOk, IfSome, is_err};
 ghost use Rattle.std.specs.Io.KnownBytes.{Appends};
+ghost use Rattle.stark_cli.specs.AcceptedProofs.{AcceptsFound, AcceptsFoundOf, ProvesAccepted};
 ghost use Rattle.stark_cli.specs.Running.{Exchange, Found, IsFoundOrLacksMemory, SaidAnswer, SaidProof, Says, SaysOf, WhereAccepted, WhereForm, both};
 ghost use Rattle.stark_cli.specs.StatementRun.{Accepts, AcceptsInput, DeliversProof, IsEndUnder, IsFinding, ProvesTrace, SaysSatisfied, WritesProof, WritesText, no_memory};
 ghost use Rattle.stark_cli.specs.declared.statements.Delivered.{Delivered};
@@ -66,7 +67,7 @@ pub trait StatementFindings {
 
     /// and in the clear the columns that the proof lists break no constraint, unless a challenge is
     /// bad; by FRI whatever tables lead to its roots are near to columns that satisfy the AIR, or
-    /// one of few draws was made, or two texts have one digest.
+    /// one of few draws was made, or the trees' hash collides.
     ghost sound: { Exchange (List ℕ × List ℕ) → Type 0 };
 
     /// Where it wrote what begins as a proof does, that is the front of the file of one of the
@@ -76,6 +77,17 @@ pub trait StatementFindings {
     /// It ended well only where it wrote `accepted` of inputs that are, the file of such a proof,
     /// the text that shows the statement, or that a trace satisfies its AIR, as it does.
     ghost ends: { Verb → Exchange (List ℕ × List ℕ) → RunEnd → Type 0 };
+
+    /// A proof that is found after a check is accepted for the statement, as it is written, unless
+    /// its zeta lies in the trace's domain or the constraints' degrees don't fit the quotient's;
+    ghost accepts_found: { Verb → List ℕ × List ℕ → Finding → Type 0 };
+
+    /// and so of the readers' bytes.
+    ghost finds_accepted: { Verb → Option (List ℕ × List ℕ) → Finding → Type 0 };
+
+    /// Where it was asked for a proof after a check and ended well, it wrote one that is accepted
+    /// so.
+    ghost proves_accepted: { Verb → Exchange (List ℕ × List ℕ) → RunEnd → Type 0 };
 }
 
 impl<A: FloorAnswers> StatementFindings for A {
@@ -122,6 +134,13 @@ impl<A: FloorAnswers> StatementFindings for A {
         run.new
         ⊎ SaysSatisfied A.finds verb run.input run.old
         run.new)) };
+
+    ghost accepts_found = { AcceptsFound A.accepts };
+
+    ghost finds_accepted = { AcceptsFoundOf A.accepts };
+
+    ghost proves_accepted = { λ verb run end. end ≡ RunEnd.Accepted
+        → ProvesAccepted A.accepts verb run.input run.old run.new };
 }
 
 /// What is said of a run whose proof goes to an output of its own: of a proof by what it wrote to
@@ -130,6 +149,10 @@ pub trait DeliveryFindings {
     /// It wrote the file of a proof of the trace: whole where it ended well, or a front of it where
     /// a write failed.
     ghost delivered: { Verb → Exchange (List ℕ × List ℕ) → Delivered → Type 0 };
+
+    /// Where it was asked for a proof after a check and ended well with one, it wrote to the output
+    /// one that is accepted, as `run` does.
+    ghost proves_accepted: { Verb → Exchange (List ℕ × List ℕ) → Delivered → Type 0 };
 
     /// It said what is found of inputs that are known, as `run` does.
     ghost says: { Verb → Exchange (List ℕ × List ℕ) → Delivered → Type 0 };
@@ -142,6 +165,9 @@ pub trait DeliveryFindings {
 impl<A: FloorAnswers> DeliveryFindings for A {
     ghost delivered = { λ verb run of. of.is_proof ≡ true
         → DeliversProof A.proof_file verb run.input of.ended.end run.old run.new };
+
+    ghost proves_accepted = { λ verb run of. of.is_proof ≡ true
+        → ⟦<A as StatementFindings>⟧.proves_accepted verb run of.ended.end };
 
     ghost says = { λ verb run of. of.is_proof ≡ false
         → ⟦<A as StatementFindings>⟧.says verb run of.ended.end };
@@ -162,8 +188,10 @@ fn answer<A: FloorAnswers, P: Progress>(
     second: Vec<u8>,
     progress: &mut P,
 ) -> Report<Finding>
-    ensures { IsFoundOrLacksMemory no_memory
+    ensures finds { IsFoundOrLacksMemory no_memory
         (⟦<A as StatementFindings>⟧.finding verb)
+        (statement.items, second.items) result.answer }
+    ensures accepted { ⟦<A as StatementFindings>⟧.accepts_found verb
         (statement.items, second.items) result.answer }
 {
     match verb {
@@ -203,6 +231,8 @@ fn find<A: FloorAnswers, S: Source, R: Source, P: Progress>(
     requires first { S.has_failed statement.old ≡ false }
     requires behind { R.has_failed second.old ≡ false }
     ensures finds { IfOk result (λ r. ⟦<A as StatementFindings>⟧.finds verb
+        (both (S.remaining statement.old) (R.remaining second.old)) r.answer) }
+    ensures accepted { IfOk result (λ r. ⟦<A as StatementFindings>⟧.finds_accepted verb
         (both (S.remaining statement.old) (R.remaining second.old)) r.answer) }
     ensures kind { IfErr result (λ e. e ≡ RunEnd.InputFailed) }
     ensures failed { (is_err result ≡ true)
@@ -296,6 +326,12 @@ pub fn run<A: FloorAnswers, S: Source, R: Source, W: Sink, P: Progress>(
     ensures accepted_end { ⟦<A as StatementFindings>⟧.ends verb
         (⟦<W as RunWithBoth<S, R>>⟧.run statement.old second.old writer.old writer.new)
         result.end }
+    // A run that is asked for a proof after a check, and ends well, wrote one that a verifier of
+    // the statement accepts, unless zeta lies in the trace's domain or the constraints' degrees
+    // don't fit the quotient's.
+    ensures proof { ⟦<A as StatementFindings>⟧.proves_accepted verb
+        (⟦<W as RunWithBoth<S, R>>⟧.run statement.old second.old writer.old writer.new)
+        result.end }
 {
     let finding = find::<A, S, R, P>(alloc, verb, statement, second, progress);
     tell_finding(finding, writer, progress)
@@ -365,6 +401,9 @@ pub fn run_to<A: FloorAnswers, S: Source, R: Source, O: Sink, W: Sink, P: Progre
     ensures delivered { ⟦<A as DeliveryFindings>⟧.delivered verb
         (⟦<O as RunWithBoth<S, R>>⟧.run statement.old second.old output.old output.new) result }
     ensures kept { result.is_proof ≡ true → writer.new ≡ writer.old }
+    // After a check it is a proof that a verifier of the statement accepts, as of `run`.
+    ensures proof { ⟦<A as DeliveryFindings>⟧.proves_accepted verb
+        (⟦<O as RunWithBoth<S, R>>⟧.run statement.old second.old output.old output.new) result }
     // Of anything else the output holds what it held, and the writer gets what `run` says.
     ensures untouched { result.is_proof ≡ false → output.new ≡ output.old }
     ensures says { ⟦<A as DeliveryFindings>⟧.says verb

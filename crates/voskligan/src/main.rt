@@ -1,4 +1,4 @@
-//! Verifies a proof for a statement, proves a trace, or shows the statement's AIR.
+//! Verifies a proof for a statement, proves a trace, makes a statement's key, or shows its AIR.
 #![tactic(auto)]
 
 use stark_answers::{RunEnd, Verdict};
@@ -7,6 +7,7 @@ use stark_cli::{
     InputFile, InputWord, PartialFile, Request, StageLines, Task, USAGE, WatchedReader,
     WatchedWriter, exit_code, misuse_of, request_of, words_of,
 };
+use stark_key_runs::{KeyRequest, key_request_of, run_key, run_with_key};
 use stark_service::NamedFields;
 use std::fmt::Display;
 use std::io;
@@ -143,6 +144,54 @@ fn open_and_perform(rt: &HostRuntime, task: Task<'_>) -> ExitCode {
     }
 }
 
+/// Makes the key of the statement that a word names, and writes its file to standard output.
+fn make_key(rt: &HostRuntime, word: InputWord<'_>) -> ExitCode {
+    let Some(statement) = open(rt, word) else {
+        return exit_code(rt, RunEnd::InputFailed);
+    };
+    let mut statement = WatchedReader::new(statement);
+    let ended = run_key::<NamedFields, _, _>(
+        rt.alloc(),
+        &mut statement,
+        &mut WatchedWriter::new(rt.stdout()),
+    );
+    tell_failed_read(rt, word, &statement);
+    ended_code(rt, &ended)
+}
+
+/// Verifies with the key in the file of a path. The three files are opened before any is read.
+fn judge_with_key(
+    rt: &HostRuntime,
+    path: &str,
+    statement_word: InputWord<'_>,
+    proof_word: InputWord<'_>,
+) -> ExitCode {
+    let key_word = InputWord::File(path);
+    let Some(key) = open(rt, key_word) else {
+        return exit_code(rt, RunEnd::InputFailed);
+    };
+    let Some(statement) = open(rt, statement_word) else {
+        return exit_code(rt, RunEnd::InputFailed);
+    };
+    let Some(proof) = open(rt, proof_word) else {
+        return exit_code(rt, RunEnd::InputFailed);
+    };
+    let mut key = WatchedReader::new(key);
+    let mut statement = WatchedReader::new(statement);
+    let mut proof = WatchedReader::new(proof);
+    let ended = run_with_key::<NamedFields, _, _, _, _>(
+        rt.alloc(),
+        &mut key,
+        &mut statement,
+        &mut proof,
+        &mut WatchedWriter::new(rt.stdout()),
+    );
+    tell_failed_read(rt, key_word, &key);
+    tell_failed_read(rt, statement_word, &statement);
+    tell_failed_read(rt, proof_word, &proof);
+    ended_code(rt, &ended)
+}
+
 /// Prints a text that was asked for.
 fn print(rt: &HostRuntime, text: &str) -> ExitCode {
     match print!(rt; "{text}") {
@@ -157,16 +206,32 @@ fn refuse_words<E: Display>(rt: &HostRuntime, misuse: &E) -> ExitCode {
     exit_code(rt, RunEnd::NotJudged)
 }
 
+/// Does what words ask for that are about no key.
+fn answer_words(rt: &HostRuntime, words: &[String]) -> ExitCode {
+    match request_of(words) {
+        Request::Run(task) => open_and_perform(rt, task),
+        Request::Help => print(rt, USAGE),
+        Request::Version => print(rt, VERSION),
+        Request::Unknown => refuse_words(rt, &misuse_of(words)),
+    }
+}
+
 fn main(rt: HostRuntime) -> ExitCode {
     let words = match words_of(&rt) {
         Ok(words) => words,
         Err(Verdict::BadInput) => return refuse_words(&rt, &"a word is no UTF-8"),
         Err(_) => return refuse_words(&rt, &"out of memory"),
     };
-    match request_of(&words) {
-        Request::Run(task) => open_and_perform(&rt, task),
-        Request::Help => print(&rt, USAGE),
-        Request::Version => print(&rt, VERSION),
-        Request::Unknown => refuse_words(&rt, &misuse_of(&words)),
+    match key_request_of(&words) {
+        Some(KeyRequest::Make(statement)) => make_key(&rt, statement),
+        Some(
+            KeyRequest::Judge {
+                key,
+                statement,
+                proof,
+            },
+        ) => judge_with_key(&rt, key, statement, proof),
+        Some(KeyRequest::Misused(misuse)) => refuse_words(&rt, &misuse),
+        None => answer_words(&rt, &words),
     }
 }

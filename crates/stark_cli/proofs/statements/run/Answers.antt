@@ -3,6 +3,7 @@ use Rattle.std.proofs.lemmas.Bool.{false≢true}
 use Rattle.std.specs.Io.KnownBytes.{Keeps}
 use Rattle.std.proofs.KnownBytes.{Keeps-refl}
 use Rattle.stark_cli.specs.StatementRun.{no_memory}
+use Rattle.stark_cli.proofs.AcceptedSteps.{accepted_written}
 use Rattle.stark_cli.proofs.Findings.{accepts_or_tells, none_failed, said_of, says_known, unjudged_memory}
 use Rattle.stark_cli.proofs.Lines.{accepted_only_known, proved_only_known}
 use Rattle.stark_cli.proofs.StatementMeaning.{accepts, accepts_soundly, ends_under, ends_well, kinds, stated_traces}
@@ -45,3 +46,7 @@ returns-clause-accepted_end g c = λ end.
     (accepts_or_tells no_memory unjudged_memory _ _ _ _ _
     (said_of no_memory _ (λ report. report.answer) _ c.find-finding.result _ _ _ c.find-finding.ensures.finds c.tell_finding.ensures.says c.tell_finding.ensures.input_failed.1)
     end)
+
+pub returns-clause-proof : goal.returns-clause-proof
+returns-clause-proof g c = λ end.
+    accepted_written _ _ _ _ _ _ _ c.args.verb _ (λ report. report.answer) c.tell_finding.result.end _ _ c.find-finding.result c.find-finding.ensures.finds c.find-finding.ensures.accepted c.tell_finding.ensures.says c.tell_finding.ensures.input_failed.1 end

@@ -1,0 +1,2 @@
+pub mod KeyRuns
+pub mod KeyWords

@@ -18,9 +18,24 @@ says of each line of JSON the first fault, by the name that the verifier gives i
 """
 import hashlib
 import json
+import struct
 import sys
 
-PRIME, GENERATOR, ROOT, ADICITY = 12289, 11, 1331, 12
+PRIME, GENERATOR, ROOT, ADICITY, BYTES = 12289, 11, 1331, 12, 2
+
+# The words that SHA-256 adds in its rounds, and the state that a node of a tree is compressed from.
+MASK = 0xFFFFFFFF
+CONSTANTS = [
+    0x428A2F98, 0x71374491, 0xB5C0FBCF, 0xE9B5DBA5, 0x3956C25B, 0x59F111F1, 0x923F82A4, 0xAB1C5ED5,
+    0xD807AA98, 0x12835B01, 0x243185BE, 0x550C7DC3, 0x72BE5D74, 0x80DEB1FE, 0x9BDC06A7, 0xC19BF174,
+    0xE49B69C1, 0xEFBE4786, 0x0FC19DC6, 0x240CA1CC, 0x2DE92C6F, 0x4A7484AA, 0x5CB0A9DC, 0x76F988DA,
+    0x983E5152, 0xA831C66D, 0xB00327C8, 0xBF597FC7, 0xC6E00BF3, 0xD5A79147, 0x06CA6351, 0x14292967,
+    0x27B70A85, 0x2E1B2138, 0x4D2C6DFC, 0x53380D13, 0x650A7354, 0x766A0ABB, 0x81C2C92E, 0x92722C85,
+    0xA2BFE8A1, 0xA81A664B, 0xC24B8B70, 0xC76C51A3, 0xD192E819, 0xD6990624, 0xF40E3585, 0x106AA070,
+    0x19A4C116, 0x1E376C08, 0x2748774C, 0x34B0BCB5, 0x391C0CB3, 0x4ED8AA4A, 0x5B9CCA4F, 0x682E6FF3,
+    0x748F82EE, 0x78A5636F, 0x84C87814, 0x8CC70208, 0x90BEFFFA, 0xA4506CEB, 0xBEF9A3F7, 0xC67178F2,
+]
+NODE = struct.unpack(">8I", hashlib.sha256(b"Voskligan: a node of a tree").digest())
 
 SAMPLES = """\
 1 0 2 0 0 0 1x1
@@ -106,23 +121,60 @@ def number(n):
 def row_bytes(rows):
     data = number(len(rows))
     for row in rows:
-        data += number(len(row)) + b"".join(number(x) for x in row)
+        data += number(len(row)) + elements(row)
     return data
 
 
+def elements(xs):
+    return b"".join(x.to_bytes(BYTES, "big") for x in xs)
+
+
 def pair_bytes(x, y):
-    return b"".join(number(c) for c in x + y)
+    return elements(x + y)
 
 
-def digest(tag, data):
-    return hashlib.sha256(bytes([tag]) + data).digest()
+def leaf_of(data):
+    return hashlib.sha256(b"\0" + data).digest()
+
+
+def words_of(data):
+    return list(struct.unpack(f">{len(data) // 4}I", data))
+
+
+def rotated(x, *counts):
+    mixed = 0
+    for count in counts:
+        mixed ^= (x >> count) | (x << (32 - count))
+    return mixed & MASK
+
+
+def compress(state, block):
+    """SHA-256's compression function, by a window of sixteen words."""
+    window, v = words_of(block), list(state)
+    for turn in range(64):
+        word = window[turn % 16]
+        if turn >= 16:
+            near, far = window[(turn + 14) % 16], window[(turn + 1) % 16]
+            word += rotated(near, 17, 19) ^ (near >> 10)
+            word += window[(turn + 9) % 16] + (rotated(far, 7, 18) ^ (far >> 3))
+            word = window[turn % 16] = word & MASK
+        chosen = v[6] ^ (v[4] & (v[5] ^ v[6]))
+        most = (v[0] & v[1]) | (v[2] & (v[0] | v[1]))
+        first = v[7] + rotated(v[4], 6, 11, 25) + chosen + CONSTANTS[turn] + word
+        v = [(first + rotated(v[0], 2, 13, 22) + most) & MASK, *v[:7]]
+        v[4] = (v[4] + first) & MASK
+    return struct.pack(">8I", *((x + y) & MASK for x, y in zip(state, v)))
+
+
+def node_of(left, right):
+    return compress(NODE, left + right)
 
 
 def tree_of(leaves):
-    layers = [[digest(0, leaf) for leaf in leaves]]
+    layers = [[leaf_of(leaf) for leaf in leaves]]
     while len(layers[-1]) > 1:
         below = layers[-1]
-        layers.append([digest(1, below[i] + below[i + 1]) for i in range(0, len(below), 2)])
+        layers.append([node_of(below[i], below[i + 1]) for i in range(0, len(below), 2)])
     return layers
 
 
@@ -135,9 +187,9 @@ def path_in(layers, place):
 
 
 def leads_to(root, depth, place, data, path):
-    reached = digest(0, data)
+    reached = leaf_of(data)
     for beside in path:
-        reached = digest(1, beside + reached if place % 2 else reached + beside)
+        reached = node_of(beside, reached) if place % 2 else node_of(reached, beside)
         place //= 2
     return len(path) == depth and place == 0 and reached == root
 

@@ -15,7 +15,7 @@ from run_texts import named_texts
 
 BYTES = b'"09-]} '
 # What a proof as bytes begins with.
-BINARY = b"voskligan proof 1"
+BINARY = b"voskligan proof 2"
 SECOND, GIGABYTE = (256, 1), (1024, 60)
 COLUMNS, CELLS, NODES, CONSTRAINTS = 65_536, 1_048_576, 131_072, 32_768
 # The fields, with the logarithm of the greatest group of a power of two.

@@ -11,6 +11,7 @@ strangers. It shares nothing with `fri_vectors.py`.
 import hashlib, json, sys
 
 FIELDS = {"baby_bear": (2013265921, 31, 11, 27, 440564289), "koala_bear": (2130706433, 3, 3, 24, 1791270792), "f12289": (12289, 11, 11, 12, 1331)}
+BYTES = {"baby_bear": 4, "koala_bear": 4, "f12289": 2}
 NODES = "constant main next preprocessed preprocessed_next public periodic first last transition add sub mul neg".split()
 NUMBERS = {"log_blowup": 2, "log_final_poly_len": 0, "num_queries": 120, "commit_proof_of_work_bits": 0, "query_proof_of_work_bits": 16}
 SETS = {"default": {}, "fast": {"log_blowup": 1, "num_queries": 85}, "proved_100": {"log_blowup": 1, "num_queries": 220}}
@@ -33,11 +34,52 @@ def sha(*parts):
     return hashlib.sha256(b"".join(parts)).digest()
 
 
+def round_constants():
+    """Of the cube roots of the first 64 primes the first 32 bits after the point."""
+    primes = [k for k in range(2, 312) if all(k % d for d in range(2, k))]
+    words = []
+    for prime in primes:
+        low, high = 0, 2**36
+        while high - low > 1:
+            middle = (low + high) // 2
+            low, high = (middle, high) if middle**3 <= prime << 96 else (low, middle)
+        words.append(low % 2**32)
+    return words
+
+
+ROUNDS = round_constants()
+NODE = [int.from_bytes(sha(b"Voskligan: a node of a tree")[i : i + 4], "big") for i in range(0, 32, 4)]
+
+
+def turned(x, k):
+    return (x >> k | x << (32 - k)) % 2**32
+
+
+def compressed(state, block):
+    """The function that SHA-256 takes each block in with (FIPS 180-4, 6.2.2)."""
+    w = [int.from_bytes(block[i : i + 4], "big") for i in range(0, 64, 4)]
+    for t in range(16, 64):
+        low = turned(w[t - 15], 7) ^ turned(w[t - 15], 18) ^ w[t - 15] >> 3
+        high = turned(w[t - 2], 17) ^ turned(w[t - 2], 19) ^ w[t - 2] >> 10
+        w.append((w[t - 16] + low + w[t - 7] + high) % 2**32)
+    a, b, c, d, e, f, g, h = state
+    for k, word in zip(ROUNDS, w):
+        one = h + (turned(e, 6) ^ turned(e, 11) ^ turned(e, 25)) + (e & f ^ ~e & g) + k + word
+        two = (turned(a, 2) ^ turned(a, 13) ^ turned(a, 22)) + (a & b ^ a & c ^ b & c)
+        a, b, c, d, e, f, g, h = (one + two) % 2**32, a, b, c, (d + one) % 2**32, e, f, g
+    return b"".join(((x + y) % 2**32).to_bytes(4, "big") for x, y in zip(state, (a, b, c, d, e, f, g, h)))
+
+
+def node(left, right):
+    return compressed(NODE, left + right)
+
+
 class Field:
     """The field and its extension, whose elements are lists of four numbers."""
 
     def __init__(self, name):
         self.p, self.g, self.c, self.adicity, self.r = FIELDS[name]
+        self.bytes = BYTES[name]
         self.zero, self.one = [0] * 4, [1, 0, 0, 0]
 
     def root(self, k):
@@ -162,7 +204,7 @@ class Statement:
             words += [kind, node]
         words += [len(self.public), *self.public, self.alpha_bits, self.ood_bits]
         words += [] if self.log_height is None else [self.log_height]
-        body = b"voskligan statement 2" + b"".join(map(num, words))
+        body = b"voskligan statement 3" + b"".join(map(num, words))
         return num(len(body)) + body
 
     def log_chunks(self):
@@ -184,13 +226,17 @@ def leads(root, depth, place, data, path):
     digest = sha(b"\0", data)
     for beside in path:
         beside = bytes.fromhex(beside)
-        digest = sha(b"\1", digest, beside) if place % 2 == 0 else sha(b"\1", beside, digest)
+        digest = node(digest, beside) if place % 2 == 0 else node(beside, digest)
         place //= 2
     return len(path) == depth and place == 0 and digest == root
 
 
-def row_bytes(rows):
-    return num(len(rows)) + b"".join(num(len(row)) + b"".join(map(num, row)) for row in rows)
+def element_bytes(field, elements):
+    return b"".join(x.to_bytes(field.bytes, "big") for x in elements)
+
+
+def row_bytes(field, rows):
+    return num(len(rows)) + b"".join(num(len(row)) + element_bytes(field, row) for row in rows)
 
 
 def key_of(field, statement):
@@ -208,15 +254,15 @@ def key_of(field, statement):
     for i in range(2**b):
         x = field.g * pow(field.root(b), i, p) % p
         row = [sum(a * pow(x, j, p) for j, a in enumerate(column)) % p for column in columns]
-        layer.append(sha(b"\0", row_bytes([row])))
+        layer.append(sha(b"\0", row_bytes(field, [row])))
     while len(layer) > 1:
-        layer = [sha(b"\1", layer[i], layer[i + 1]) for i in range(0, len(layer), 2)]
+        layer = [node(layer[i], layer[i + 1]) for i in range(0, len(layer), 2)]
     return k, layer[0]
 
 
 def key_file(statement):
     """The bytes of the statement's key."""
-    begun = b"voskligan key 1" + sha(statement.canonical())
+    begun = b"voskligan key 2" + sha(statement.canonical())
     if not statement.preprocessed["width"]:
         return begun + b"\0"
     k, root = key_of(Field(statement.field_name), statement)
@@ -317,7 +363,7 @@ def query_holds(field, rounds, b, batching, betas, phases, final, i, query):
     if len(query["inputs"]) != len(rounds) or len(query["layers"]) != len(phases):
         return False
     for (root, matrices), opened in zip(rounds, query["inputs"]):
-        if len(opened["rows"]) != len(matrices) or not leads(root, b, i, row_bytes(opened["rows"]), opened["path"]):
+        if len(opened["rows"]) != len(matrices) or not leads(root, b, i, row_bytes(field, opened["rows"]), opened["path"]):
             return False
         for matrix, row in zip(matrices, opened["rows"]):
             for point, values in matrix:
@@ -332,7 +378,7 @@ def query_holds(field, rounds, b, batching, betas, phases, final, i, query):
         half = 2 ** (b - t - 1)
         low, high = (value, layer["sibling"]) if i < half else (layer["sibling"], value)
         i %= half
-        if not leads(bytes.fromhex(phase["commitment"]), b - t - 1, i, b"".join(map(num, low + high)), layer["path"]):
+        if not leads(bytes.fromhex(phase["commitment"]), b - t - 1, i, element_bytes(field, low + high), layer["path"]):
             return False
         y = shift * pow(field.root(b - t), i, p) % p
         turned = field.mul(field.mul(beta, field.of(field.inv(y))), field.sub(low, high))

@@ -1,34 +1,24 @@
 //! Binary trees of digests.
 
 use crate::field::BabyBear;
-#[cfg(not(wide))]
-use crate::sha256::digest;
 use crate::sha256::Digest;
+#[cfg(not(wide))]
+use crate::sha256::{digest, node};
 #[cfg(wide)]
 use crate::wide::{self, LANES};
 
-/// What the texts of leaves and of nodes begin with.
+/// What the text of a leaf begins with.
 const LEAF: u8 = 0;
-const NODE: u8 = 1;
 
-/// The digest of the text that is written behind a byte.
-#[cfg(not(wide))]
-fn digest_of(tag: u8, text: &mut Vec<u8>, write: impl FnOnce(&mut Vec<u8>)) -> Digest {
-    text.clear();
-    text.push(tag);
-    write(text);
-    digest(text)
-}
-
-/// The digests of texts of one length, each written after the byte.
+/// The digests of leaves of one length, whose bytes are written.
 #[cfg(wide)]
-fn digests(tag: u8, count: usize, write: impl Fn(usize, &mut Vec<u8>)) -> Vec<Digest> {
+pub fn leaves(count: usize, write: impl Fn(usize, &mut Vec<u8>)) -> Vec<Digest> {
     let mut texts: [Vec<u8>; LANES] = Default::default();
     let mut found = Vec::with_capacity(count);
     for first in (0..count).step_by(LANES) {
         for (i, text) in (first..count).zip(&mut texts) {
             text.clear();
-            text.push(tag);
+            text.push(LEAF);
             write(i, text);
         }
         // Where fewer are left, the texts before stand in the other lanes.
@@ -42,18 +32,17 @@ fn digests(tag: u8, count: usize, write: impl Fn(usize, &mut Vec<u8>)) -> Vec<Di
     found
 }
 
-/// The digests of N texts, each written after the byte.
-#[cfg(not(wide))]
-fn digests(tag: u8, count: usize, write: impl Fn(usize, &mut Vec<u8>)) -> Vec<Digest> {
-    let mut text = Vec::new();
-    (0..count)
-        .map(|i| digest_of(tag, &mut text, |text| write(i, text)))
-        .collect()
-}
-
 /// The digests of leaves, whose bytes are written.
+#[cfg(not(wide))]
 pub fn leaves(count: usize, write: impl Fn(usize, &mut Vec<u8>)) -> Vec<Digest> {
-    digests(LEAF, count, write)
+    let mut text = Vec::new();
+    let leaf = |i| {
+        text.clear();
+        text.push(LEAF);
+        write(i, &mut text);
+        digest(&text)
+    };
+    (0..count).map(leaf).collect()
 }
 
 /// The text of a leaf, whose bytes are written.
@@ -63,21 +52,36 @@ pub fn leaf_text(write: impl FnOnce(&mut Vec<u8>)) -> Vec<u8> {
     text
 }
 
-/// The text of two digests' node.
-fn node_text(left: &Digest, right: &Digest) -> [u8; 65] {
-    let mut text = [NODE; 65];
-    text[1..33].copy_from_slice(left);
-    text[33..].copy_from_slice(right);
-    text
+/// The block that two digests are.
+fn block_of(left: &Digest, right: &Digest) -> [u8; 64] {
+    let mut block = [0; 64];
+    block[..32].copy_from_slice(left);
+    block[32..].copy_from_slice(right);
+    block
 }
 
 /// The nodes above a layer.
+#[cfg(not(wide))]
 fn layer_above(layer: &[Digest]) -> Vec<Digest> {
-    let write = |i: usize, text: &mut Vec<u8>| {
-        text.extend_from_slice(&layer[2 * i]);
-        text.extend_from_slice(&layer[2 * i + 1]);
-    };
-    digests(NODE, layer.len() / 2, write)
+    let (pairs, _) = layer.as_chunks::<2>();
+    let above = |[left, right]: &[Digest; 2]| node(&block_of(left, right));
+    pairs.iter().map(above).collect()
+}
+
+/// The nodes above a layer.
+#[cfg(wide)]
+fn layer_above(layer: &[Digest]) -> Vec<Digest> {
+    let (pairs, _) = layer.as_chunks::<2>();
+    let mut found = Vec::with_capacity(pairs.len());
+    for group in pairs.chunks(LANES) {
+        // Where fewer are left, the first pair stands in the other lanes.
+        let blocks: [_; LANES] = std::array::from_fn(|lane| {
+            let [left, right] = group.get(lane).unwrap_or(&group[0]);
+            block_of(left, right)
+        });
+        found.extend(&wide::nodes(blocks.each_ref())[..group.len()]);
+    }
+    found
 }
 
 /// The layers of a tree, the leaves first, up to the root.
@@ -120,19 +124,19 @@ pub struct Way<'a> {
 }
 
 impl Way<'_> {
-    /// The text of the node over a digest that many levels above the leaf.
-    fn node_text(&self, level: usize, below: &Digest) -> [u8; 65] {
+    /// The block of the node over a digest that many levels above the leaf.
+    fn block_above(&self, level: usize, below: &Digest) -> [u8; 64] {
         let beside = &self.path[level];
         if (self.place >> level) & 1 == 0 {
-            node_text(below, beside)
+            block_of(below, beside)
         } else {
-            node_text(beside, below)
+            block_of(beside, below)
         }
     }
 
     #[cfg(not(wide))]
     fn leads(&self) -> bool {
-        let above = |below, level| digest(&self.node_text(level, &below));
+        let above = |below, level| node(&self.block_above(level, &below));
         self.path.len() == self.depth
             && (0..self.depth).fold(digest(&self.leaf), above) == *self.root
     }
@@ -164,9 +168,9 @@ fn eight_lead(ways: &[&Way]) -> bool {
     let lanes: [&Way; LANES] = std::array::from_fn(|lane| *ways.get(lane).unwrap_or(&ways[0]));
     let mut states = wide::digests(lanes.map(|way| way.leaf.as_slice()));
     for level in 0..depth {
-        let texts: [_; LANES] =
-            std::array::from_fn(|lane| lanes[lane].node_text(level, &states[lane]));
-        states = wide::digests(texts.each_ref().map(|text| &text[..]));
+        let blocks: [_; LANES] =
+            std::array::from_fn(|lane| lanes[lane].block_above(level, &states[lane]));
+        states = wide::nodes(blocks.each_ref());
     }
     lanes
         .iter()
@@ -179,10 +183,10 @@ fn number_bytes(number: usize) -> [u8; 8] {
     (number as u64).to_be_bytes()
 }
 
-/// Elements behind the bytes, 8 bytes each.
+/// Elements behind the bytes, 4 bytes each, the high one first.
 fn push_elements(bytes: &mut Vec<u8>, elements: &[BabyBear]) {
     for element in elements {
-        bytes.extend_from_slice(&number_bytes(element.number() as usize));
+        bytes.extend_from_slice(&element.number().to_be_bytes());
     }
 }
 

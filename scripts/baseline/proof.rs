@@ -46,7 +46,7 @@ pub struct Proof {
 }
 
 /// What a proof's bytes begin with.
-const MAGIC: &[u8] = b"voskligan proof 1";
+const MAGIC: &[u8] = b"voskligan proof 2";
 
 /// Bytes that grow.
 struct Writer(Vec<u8>);

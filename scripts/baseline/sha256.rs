@@ -20,6 +20,11 @@ pub const INITIAL: [u32; 8] = [
     0x6a09e667, 0xbb67ae85, 0x3c6ef372, 0xa54ff53a, 0x510e527f, 0x9b05688c, 0x1f83d9ab, 0x5be0cd19,
 ];
 
+/// The state before a node's block: the digest of the text "Voskligan: a node of a tree".
+pub const NODE: [u32; 8] = [
+    0xdc2227cc, 0x1bde2fe4, 0xace08707, 0x6153b1db, 0xe865567d, 0xe49a000b, 0x6d03969b, 0xc3605b12,
+];
+
 /// The next sixteen words of the schedule, in place of the last sixteen.
 #[inline(always)]
 fn advance(words: &mut [u32; 16]) {
@@ -119,6 +124,14 @@ fn bytes_of(state: [u32; 8]) -> Digest {
         bytes.copy_from_slice(&word.to_be_bytes());
     }
     digest
+}
+
+/// The node over a block of two digests.
+#[cfg(not(wide))]
+pub fn node(block: &[u8; 64]) -> Digest {
+    let mut state = NODE;
+    compress(&mut state, block);
+    bytes_of(state)
 }
 
 /// The digest of a text.

@@ -126,7 +126,7 @@ fn statement_digest(air: &Json, rows: &[Json], publics: &[u64]) -> Option<Digest
     let mut words = Words::default();
     // The number of bytes behind it, which is known in the end.
     words.push(0);
-    words.bytes.extend(b"voskligan statement 2");
+    words.bytes.extend(b"voskligan statement 3");
     // BabyBear, and FRI with its numbers.
     words.extend(&[0, 1]);
     words.extend(&PARAMETERS.numbers().map(|number| number as u64));

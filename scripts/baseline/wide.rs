@@ -4,7 +4,7 @@
 
 use crate::extension::{Extension, DEGREE};
 use crate::field::{Algebra, BabyBear, P, P_INVERSE};
-use crate::sha256::{Blocks, Digest, CONSTANTS, INITIAL};
+use crate::sha256::{Blocks, Digest, CONSTANTS, INITIAL, NODE};
 use std::arch::x86_64::*;
 use std::array::from_fn;
 use std::ops::{Add, Mul, Sub};
@@ -342,6 +342,18 @@ pub fn digests(texts: [&[u8]; LANES]) -> [Digest; LANES] {
     for i in 0..blocks[0].count() {
         unsafe { compress(&mut state, from_fn(|lane| blocks[lane].get(i))) }
     }
+    digests_of(state)
+}
+
+/// The nodes over eight blocks of two digests.
+pub fn nodes(blocks: [&[u8; 64]; LANES]) -> [Digest; LANES] {
+    let mut state = NODE.map(splat);
+    unsafe { compress(&mut state, blocks) }
+    digests_of(state)
+}
+
+/// The bytes of eight states.
+fn digests_of(state: [__m256i; 8]) -> [Digest; LANES] {
     unsafe {
         let rows = transposed(state);
         rows.map(|row| {

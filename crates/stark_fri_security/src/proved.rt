@@ -132,7 +132,7 @@ fn draws_in_third(claims: u128, rows: u128, places: u128, log_height: usize) -> 
 /// where there are 2^127 places and more. A blow-up above 2^14 counts as 2^14 where it is asked how
 /// many places pass, more than 4096 queries as 4096, a field of more than 2^127 elements as one of
 /// 2^127. What the bits mean is the law `proved_bits_hold`. That SHA-256 draws evenly and that no
-/// two texts with one digest are found is no part of it.
+/// collision of the trees' hash is found is no part of it.
 pub fn proved_security_bits(
     params: &StarkSecurityParams,
     bad_alphas: usize,

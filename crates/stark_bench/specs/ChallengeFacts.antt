@@ -9,7 +9,7 @@ use Rattle.stark_fields.specs.declared.modulus.Modulus.{Ghosts}
 use Rattle.stark_fields.specs.declared.residue.Residue.{Residue}
 use Rattle.stark_fields.specs.Residues.{residue, residue_of_value, value_of_residue}
 use Rattle.stark_fields.specs.Ext4Field.{coordinate_list}
-use Rattle.stark_bench.specs.Challenges.{IsFirstOfFour, after_trial, leading, passes_behind, least, found_by, four_drawn, after_four, script_passes, sha_passes, sha_after_check}
+use Rattle.stark_bench.specs.Challenges.{IsFirstOfEight, after_trial, leading, passes_after, least, found_by, four_drawn, after_four, script_passes, sha_passes, sha_after_check}
 
 -- ---- searches
 
@@ -94,16 +94,16 @@ none_between p n (suc m) e le none = elim (eqb_tells n (suc m)) [
   | inr w ↦ let ne : n ≢ suc m = w.1 in let lt : n ≤ m = omega arith in none_yet p m (none_between p n m e lt (λ k from to. none k from (omega arith))) (none m lt (omega arith))
 ]
 
--- Whether the element of a number passes shows in the state behind its trial.
-trial_by_bits : {M K : Type 0} {G : Ghosts M} (s : List ℕ) (bits : ℕ) (w : Residue M K G) (n : ℕ) → w.value ≡ n → sha_passes s bits w ≡ passes_behind (after_trial s n) bits
+-- Whether the element of a number passes shows in the state after its trial.
+trial_by_bits : {M K : Type 0} {G : Ghosts M} (s : List ℕ) (bits : ℕ) (w : Residue M K G) (n : ℕ) → w.value ≡ n → sha_passes s bits w ≡ passes_after (after_trial s n) bits
 trial_by_bits s bits w n same =
-    let behind = passes_behind (after_trial s w.value) bits in
+    let after = passes_after (after_trial s w.value) bits in
     elim (eqb_tells bits 0) [
-      | inl e ↦ ap (λ b. cond b true behind) e.0 ∙ sym (ap (passes_behind (after_trial s n)) e.1 ∙ ap (λ m. eqb m 0) (mod-one (leading (after_trial s n))))
-      | inr e ↦ ap (λ b. cond b true behind) e.0 ∙ ap (λ m. passes_behind (after_trial s m) bits) same
+      | inl e ↦ ap (λ b. cond b true after) e.0 ∙ sym (ap (passes_after (after_trial s n)) e.1 ∙ ap (λ m. eqb m 0) (mod-one (leading (after_trial s n))))
+      | inr e ↦ ap (λ b. cond b true after) e.0 ∙ ap (λ m. passes_after (after_trial s m) bits) same
     ]
 
-pub trial_passes : {M : Type 0} (K : Type 0) (G : Ghosts M) (s : List ℕ) (bits n : ℕ) → n < G.MODULUS → sha_passes s bits (residue {M = M} {K = K} {G = G} n) ≡ passes_behind (after_trial s n) bits
+pub trial_passes : {M : Type 0} (K : Type 0) (G : Ghosts M) (s : List ℕ) (bits n : ℕ) → n < G.MODULUS → sha_passes s bits (residue {M = M} {K = K} {G = G} n) ≡ passes_after (after_trial s n) bits
 trial_passes {M} K G s bits n below = trial_by_bits s bits (residue {M = M} {K = K} {G = G} n) n (value_of_residue G.MODULUS n below)
 
 -- ---- the turns of a search
@@ -128,28 +128,28 @@ module _ {C M K : Type 0} {G : Ghosts M} (passes : C → ℕ → Residue M K G �
   pub search_ends : NonePassedBelow passes s bits n → n ≤ G.MODULUS → G.MODULUS ≤ n → None ≡ found_by passes s bits
   search_ends e l h = let all : n ≡ G.MODULUS = omega arith in ap (option_map residue) (sym (subst (λ j. NonePassedBelow passes s bits j) all e))
 
--- ---- four trials at once
+-- ---- eight trials at once
 
-module _ {M : Type 0} (K : Type 0) (G : Ghosts M) (s state : List ℕ) (bits first : ℕ) (same : state ≡ s) (within : first + 4 ≤ G.MODULUS) where
-  trial : (j : ℕ) → j < 4 → sha_passes s bits (residue {M = M} {K = K} {G = G} (first + j)) ≡ passes_behind (after_trial state (first + j)) bits
-  trial j low = trial_passes K G s bits (first + j) (omega arith) ∙ ap (λ t. passes_behind (after_trial t (first + j)) bits) (sym same)
+module _ {M : Type 0} (K : Type 0) (G : Ghosts M) (s state : List ℕ) (bits first : ℕ) (same : state ≡ s) (within : first + 8 ≤ G.MODULUS) where
+  trial : (j : ℕ) → j < 8 → sha_passes s bits (residue {M = M} {K = K} {G = G} (first + j)) ≡ passes_after (after_trial state (first + j)) bits
+  trial j low = trial_passes K G s bits (first + j) (omega arith) ∙ ap (λ t. passes_after (after_trial t (first + j)) bits) (sym same)
 
-  -- Where no number before passed, and of four those before the j-th don't, none before it does.
-  none_to : (j : ℕ) → j ≤ 4 → NonePassedBelow (sha_passes {M = M} {K = K} {G = G}) s bits first → ((k : ℕ) → k < j → passes_behind (after_trial state (first + k)) bits ≡ false)
+  -- Where no number before passed, and of eight those before the j-th don't, none before it does.
+  none_to : (j : ℕ) → j ≤ 8 → NonePassedBelow (sha_passes {M = M} {K = K} {G = G}) s bits first → ((k : ℕ) → k < j → passes_after (after_trial state (first + k)) bits ≡ false)
       → NonePassedBelow (sha_passes {M = M} {K = K} {G = G}) s bits (first + j)
   none_to j most before none = none_between (λ k. sha_passes s bits (residue {M = M} {K = K} {G = G} k)) first (first + j) before (omega arith)
       (λ k from to. let place : first + (k - first) ≡ k = omega arith in
       subst (λ m. sha_passes s bits (residue {M = M} {K = K} {G = G} m) ≡ false) place (trial (k - first) (omega arith) ∙ none (k - first) (omega arith)))
 
-  pub four_skipped : NonePassedBelow (sha_passes {M = M} {K = K} {G = G}) s bits first → IsFirstOfFour (λ n. passes_behind (after_trial state n) bits) first None
-      → NonePassedBelow (sha_passes {M = M} {K = K} {G = G}) s bits (first + 4)
-  four_skipped before none = none_to 4 (omega arith) before none
+  pub eight_skipped : NonePassedBelow (sha_passes {M = M} {K = K} {G = G}) s bits first → IsFirstOfEight (λ n. passes_after (after_trial state n) bits) first None
+      → NonePassedBelow (sha_passes {M = M} {K = K} {G = G}) s bits (first + 8)
+  eight_skipped before none = none_to 8 (omega arith) before none
 
-  pub one_of_four_found : (n : ℕ) → NonePassedBelow (sha_passes {M = M} {K = K} {G = G}) s bits first → IsFirstOfFour (λ n. passes_behind (after_trial state n) bits) first (Some n)
+  pub one_of_eight_found : (n : ℕ) → NonePassedBelow (sha_passes {M = M} {K = K} {G = G}) s bits first → IsFirstOfEight (λ n. passes_after (after_trial state n) bits) first (Some n)
       → Some (residue n) ≡ found_by (sha_passes {M = M} {K = K} {G = G}) s bits
-  one_of_four_found n before obtained =
+  one_of_eight_found n before obtained =
       let j = obtained.0 in
-      let passes = ap (λ m. passes_behind (after_trial state m) bits) (sym obtained.2) ∙ obtained.3 in
+      let passes = ap (λ m. passes_after (after_trial state m) bits) (sym obtained.2) ∙ obtained.3 in
       rw obtained.2 (search_finds (sha_passes {M = M} {K = K} {G = G}) s bits (first + j) (none_to j (omega (arith, obtained.1)) before obtained.4) refl refl
       (trial j obtained.1 ∙ passes) (omega (arith, obtained.1)))
 

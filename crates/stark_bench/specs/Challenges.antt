@@ -17,10 +17,10 @@ unfoldable pub least : (ℕ → Bool) → ℕ → Option ℕ
 least p zero = None
 least p (suc n) = option_or (least p n) (cond (p n) (Some n) None)
 
--- The first of four numbers, from this one on, that passes; None where none does.
-abbrev pub IsFirstOfFour : (ℕ → Bool) → ℕ → Option ℕ → Type 0
-IsFirstOfFour p first None = (j : ℕ) → j < 4 → p (first + j) ≡ false
-IsFirstOfFour p first (Some n) = (j : ℕ) × (j < 4) × (n ≡ first + j) × (p n ≡ true) × ((k : ℕ) → k < j → p (first + k) ≡ false)
+-- The first of eight numbers, from this one on, that passes; None where none does.
+abbrev pub IsFirstOfEight : (ℕ → Bool) → ℕ → Option ℕ → Type 0
+IsFirstOfEight p first None = (j : ℕ) → j < 8 → p (first + j) ≡ false
+IsFirstOfEight p first (Some n) = (j : ℕ) × (j < 8) × (n ≡ first + j) × (p n ≡ true) × ((k : ℕ) → k < j → p (first + k) ≡ false)
 
 -- The element of the least number that passes.
 abbrev pub found_by : {C M K : Type 0} {G : Ghosts M} → (C → ℕ → Residue M K G → Bool) → C → ℕ → Option (Residue M K G)
@@ -75,13 +75,13 @@ drawn_element s = residue (leading (after_draw s))
 abbrev pub drawn_bits : List ℕ → ℕ → ℕ
 drawn_bits s bits = leading (after_bits s) % 2 ^ bits
 
--- The state after the element of a number, and a draw of bits behind it.
+-- The state after the element of a number and a draw of bits.
 abbrev pub after_trial : List ℕ → ℕ → List ℕ
 after_trial s n = after_bits (absorbed s 0 (number n))
 
 -- The number that a state hands out is a multiple of 2 ^ bits, which a word holds.
-abbrev pub passes_behind : List ℕ → ℕ → Bool
-passes_behind s bits = ltb bits 64 && eqb (leading s % 2 ^ bits) 0
+abbrev pub passes_after : List ℕ → ℕ → Bool
+passes_after s bits = ltb bits 64 && eqb (leading s % 2 ^ bits) 0
 
 abbrev pub sha_passes : {M K : Type 0} {G : Ghosts M} → List ℕ → ℕ → Residue M K G → Bool
 sha_passes s bits w = cond (eqb bits 0) true (ltb bits 64 && eqb (drawn_bits (after_element s w) bits) 0)

@@ -1,5 +1,5 @@
 -- By which call a commitment in the clear was made: which masks its columns have.
-use Rattle.std.specs.Prelude.{◌≡◌, ℕ, ◌-◌, ◌/◌, ◌^◌, List, [], ◌∷◌, length, map, IfOk, IfSome, Option, Result}
+use Rattle.std.specs.Prelude.{◌≡◌, ℕ, ◌-◌, ◌/◌, ◌^◌, List, [], ◌∷◌, length, map, IfOk, Option, Result}
 use Rattle.std.specs.List.{AllByRecursion}
 use Rattle.stark_support.specs.Ring.{RingOps}
 use Rattle.stark_support.specs.Coset.{TwoAdicCoset, coset_size}
@@ -84,10 +84,6 @@ abbrev pub IsMaskedOf : {F A B : Type 0} → RingOps F → (F → F) → (ℕ �
 IsMaskedOf field inverse root masks domain flat count chunks = AreMaskedChunksOf field inverse root masks domain flat.values.items flat.width count (map columns_list chunks)
 
 -- ---- of what a call answers
-
--- What holds of what was made, where something was.
-abbrev pub IfMade : {T X : Type 0} → Result (Option T) X → (T → Type 0) → Type 0
-IfMade result holds = IfOk result (λ made. IfSome made holds)
 
 -- Where something was made of a quotient, it stands for its chunks.
 abbrev pub ChunksStand : {S F E C K T P X Y Z : Type 0} → OpeningOps S F E C K T P X Y → S → TwoAdicCoset F → RowMajorMatrix F → ℕ → Result (K × T) Z → Type 0

@@ -1,6 +1,7 @@
 pub mod ColumnFacts
 pub mod ColumnPoints
 pub mod Columns
+pub mod Made
 pub mod Opened
 pub mod OpenedFacts
 pub mod PlainChunkFacts

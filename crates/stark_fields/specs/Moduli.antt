@@ -33,7 +33,7 @@ pub record IsPrimeModulus (p g : ℕ) : Type 0 where
   pub reaches : power_mod p g 32 (p - 1) ≡ 1
   pub apart : each_passes (keeps_apart p g) factors ≡ true
 
--- Each number below p has room in so many bytes.
+-- Each number below p has room in this number of bytes.
 pub record IsWrittenIn (bytes p : ℕ) : Type 0 where
   pub few : bytes ≤ 8
   pub fits : p ≤ 256 ^ bytes

@@ -1,8 +1,8 @@
 -- What leads to a root that binds a word is the word's, or it is something else and there is a collision.
-use Rattle.std.specs.Prelude.{◌≡◌, ◌≢◌, ◌⊎◌, ℕ, zero, suc, ◌+◌, ◌-◌, ◌*◌, ◌^◌, ◌%◌, ◌<◌, ◌≤◌, cond, List, [], ◌∷◌, ◌++◌, length, map, refl}
+use Rattle.std.specs.Prelude.{◌≡◌, ◌≢◌, ◌⊎◌, ℕ, zero, suc, ◌+◌, ◌-◌, ◌*◌, ◌^◌, ◌%◌, ◌<◌, ◌≤◌, cond, List, [], ◌∷◌, ◌++◌, length, map}
 use Rattle.std.specs.List.{AllByRecursion, zip}
 use Rattle.std.proofs.Common.{sym, ap, ◌∙◌, inl, inr, arith, length-append, subst}
-use Rattle.std.proofs.lemmas.Bool.Decides.{eqb_tells, leb_tells}
+use Rattle.std.proofs.lemmas.Bool.Decides.{leb_tells}
 use Rattle.stark_support.specs.Coset.{TwoAdicCoset, coset_size}
 use Rattle.stark_support.specs.Faults.{PlaceByPlace}
 use Rattle.stark_support.specs.Seed.{number}
@@ -15,7 +15,7 @@ use Rattle.stark_support.specs.declared.field.TwoAdicField.{Ghosts as TwoAdic}
 use Rattle.stark_merkle.proofs.BytesRead.{length-element_bytes, pairs_stated, rows_stated}
 use Rattle.stark_merkle.specs.Bytes.{IsCounted, RowBytesTell, element_bytes, elements_bytes, row_bytes_of, rows_bytes}
 use Rattle.stark_merkle.specs.Tree.{AreDigests, HashCollision, IsDigest, LeadsTo, TreeDigests}
-use Rattle.stark_merkle.specs.TreeFacts.{rows_collide}
+use Rattle.stark_merkle.specs.TreeFacts.{rows_collide, same_or_not}
 use Rattle.stark_merkle.specs.declared.root.Root.{Root}
 use Rattle.stark_folding.specs.Fold.{squared_coset}
 use Rattle.stark_folding.specs.Walk.{half_size, opposite_place}
@@ -107,18 +107,6 @@ module _ {F E : Type 0} (two_adic : TwoAdic F) (base : Members F) (prime : Prime
       }
 
 -- ---- digests
-
-same_or_not : (xs ys : List ℕ) → (xs ≡ ys) ⊎ (xs ≢ ys)
-same_or_not [] [] = inl refl
-same_or_not [] (y ∷ ys) = inr (λ e. (cc))
-same_or_not (x ∷ xs) [] = inr (λ e. (cc))
-same_or_not (x ∷ xs) (y ∷ ys) = elim (eqb_tells x y) [
-  | inl w ↦ elim (same_or_not xs ys) [
-    | inl same ↦ let head : x ≡ y = w.1 in inl (cc)
-    | inr other ↦ inr (λ e. let rest : xs ≡ ys = (cc) in other rest)
-  ]
-  | inr w ↦ inr (λ e. let head : x ≡ y = (cc) in w.1 head)
-]
 
 are_digests : (roots : List Root) → AllByRecursion IsDigest (digests_of roots)
 are_digests [] = tt

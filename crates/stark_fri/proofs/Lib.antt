@@ -2,7 +2,7 @@ pub mod AcceptSteps
 pub mod BoundSteps
 pub mod ClaimSteps
 pub mod FoldSteps
-pub mod FourSteps
+pub mod EightSteps
 pub mod ListSteps
 pub mod Members
 pub mod ObserveSteps

@@ -10,7 +10,7 @@ use Rattle.stark_fri_proof.specs.declared.proof.LayerOpening.{LayerOpening}
 use Rattle.stark_fri_proof.specs.declared.proof.Phase.{Phase}
 use Rattle.stark_fri.specs.Claims.{RoundRead}
 use Rattle.stark_fri.specs.Found.{FindsInputFault, target_by}
-use Rattle.stark_fri.specs.Fours.{EndsAt, IsQueryWalk}
+use Rattle.stark_fri.specs.Eights.{EndsAt, IsQueryWalk}
 use Rattle.stark_fri.specs.Parts.{FriFields}
 use Rattle.stark_fri.specs.Query.{Fits, InputsLead, PairLeads, QueryFails, QueryFits, QueryHolds, batched_at, extension_coset, last_point, phase_root, query_pairs}
 use Rattle.stark_fri.specs.Walks.{FindsLayerFault, openings_of}

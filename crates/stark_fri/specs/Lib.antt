@@ -1,7 +1,7 @@
 pub mod Accept
 pub mod Claims
 pub mod Found
-pub mod Fours
+pub mod Eights
 pub mod Parts
 pub mod Query
 pub mod Replayed

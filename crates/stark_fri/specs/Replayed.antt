@@ -1,5 +1,5 @@
 -- What is found of a proof that was replayed.
-use Rattle.std.specs.Prelude.{◌≡◌, ℕ, ◌≤◌, Bool, IsTrue, List, length, Option, take}
+use Rattle.std.specs.Prelude.{◌≡◌, ℕ, ◌+◌, ◌≤◌, Bool, IsTrue, List, length, Option, take}
 use Rattle.std.specs.List.{AllByRecursion, zip}
 use Rattle.std.specs.declared.vec.Vec.{Vec}
 use Rattle.stark_support.specs.Coset.{TwoAdicCoset}
@@ -7,7 +7,7 @@ use Rattle.stark_merkle.specs.Tree.{TreeDigests}
 use Rattle.stark_fri_proof.specs.Parts.{QueryProof}
 use Rattle.stark_fri.specs.Claims.{AreOff, RoundRead, rounds_in}
 use Rattle.stark_fri.specs.Found.{FindsFault, FindsQueryFault, target_by}
-use Rattle.stark_fri.specs.Fours.{AreWalks, IsQueryWalk}
+use Rattle.stark_fri.specs.Eights.{AreWalks, IsQueryWalk}
 use Rattle.stark_fri.specs.Parts.{FriFields}
 use Rattle.stark_fri.specs.Query.{QueryHolds, Target}
 use Rattle.stark_fri.specs.declared.error.QueryFault.{QueryFault}
@@ -33,12 +33,12 @@ module _ {F E D : Type 0} (fields : FriFields F E) (coset_of : D → TwoAdicCose
   abbrev pub queries_of : List (ℕ × QueryProof F E)
   queries_of = zip replayed.drawn.now.places.items replayed.proof.now.queries
 
-  -- A query's way through the folds, and those of four.
+  -- A query's way through the folds, and those of eight.
   abbrev pub IsWalkIn : ℕ → QueryProof F E → FoldWalk E → Type 0
   IsWalkIn place query walk = IsQueryWalk fields target_of place query walk
 
-  abbrev pub FindsFourWalks : {A : Type 0} → List ℕ → List (QueryProof F E) → Vec (FoldWalk E) A → Type 0
-  FindsFourWalks places queries walks = AreWalks fields target_of places queries walks.items
+  abbrev pub FindsEightWalks : {A : Type 0} → List ℕ → List (QueryProof F E) → Vec (FoldWalk E) A → Type 0
+  FindsEightWalks places queries walks = AreWalks fields target_of places queries walks.items
 
   module _ (hash : TreeDigests) where
     -- The first fault of a query; none where it holds.
@@ -49,10 +49,14 @@ module _ {F E D : Type 0} (fields : FriFields F E) (coset_of : D → TwoAdicCose
     abbrev pub FindsFirstQuery : Option (ℕ × QueryFault) → Type 0
     FindsFirstQuery fault = FindsFault fields hash target_of queries_of fault
 
-    -- Where it is true, the four hold.
-    abbrev pub FourHoldIf : List ℕ → List (QueryProof F E) → Bool → Type 0
-    FourHoldIf places queries hold = IsTrue hold → AllByRecursion (QueryHolds fields hash target_of) (zip places queries)
+    -- Where it is true, the eight hold.
+    abbrev pub EightHoldIf : List ℕ → List (QueryProof F E) → Bool → Type 0
+    EightHoldIf places queries hold = IsTrue hold → AllByRecursion (QueryHolds fields hash target_of) (zip places queries)
 
-    -- So many of the first queries hold, and there are as many.
+    -- The first n queries hold, and there are as many.
     abbrev pub FirstHold : ℕ → Type 0
     FirstHold n = (n ≤ length queries_of) × AllByRecursion (QueryHolds fields hash target_of) (take n queries_of)
+
+    -- Where it is true and those before a place hold, the eight from there on hold too.
+    abbrev pub HoldsOnIf : ℕ → Bool → Type 0
+    HoldsOnIf at hold = IsTrue hold → FirstHold at → FirstHold (at + 8)

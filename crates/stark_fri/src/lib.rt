@@ -3,10 +3,10 @@
 #![tactic(auto)]
 
 mod claims;
+mod eights;
 mod error;
 mod fields;
 mod folds;
-mod fours;
 mod laws;
 mod phases;
 mod query;

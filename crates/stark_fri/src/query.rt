@@ -6,7 +6,7 @@ ghost use Rattle.stark_merkle.specs.Bytes.{element_bytes};
 ghost use Rattle.stark_merkle.specs.Tree.{items_of};
 ghost use Rattle.stark_fri.specs.Claims.{matrices_in, rounds_in};
 ghost use Rattle.stark_fri.specs.Found.{FindsInputFault};
-ghost use Rattle.stark_fri.specs.Fours.{EndsAt};
+ghost use Rattle.stark_fri.specs.Eights.{EndsAt};
 ghost use Rattle.stark_fri.specs.Replayed.{FindsFaultIn, IsCheckable, IsWalkIn};
 ghost use Rattle.stark_fri.specs.Query.{OpenedRowsLead, QueryFits, RowFits, extension_coset, last_point};
 

@@ -6,9 +6,9 @@ ghost use Rattle.stark_fri.specs.Replayed.{FindsFirstQuery, IsCheckable};
 ghost use Rattle.stark_fri.specs.Soundness.{FewAreBadOfClaims, IsSoundOfClaims};
 
 use crate::claims::check_claims;
+use crate::eights::accepted_by_eights;
 use crate::error::{FriError, QueryFault};
 use crate::fields::FoldingFields;
-use crate::fours::accepted_by_fours;
 use crate::query::query_fault;
 use crate::replay::{ReplayedProof, replay_proof};
 use crate::sponge::{FriCalls, FriChallenger};
@@ -47,7 +47,7 @@ fn check_shape<F, EF>(
     Ok(())
 }
 
-/// The first query at fault, and its first fault. The queries are taken four at a time as long as
+/// The first query at fault, and its first fault. The queries are taken eight at a time as long as
 /// these hold, and then one by one.
 fn first_query_fault<EF, D, H>(
     alloc: Global,
@@ -63,7 +63,7 @@ where
 {
     let queries = replayed.proof.queries();
     let drawn = replayed.drawn;
-    let accepted = accepted_by_fours::<EF, D, H>(alloc, replayed)?;
+    let accepted = accepted_by_eights::<EF, D, H>(alloc, replayed)?;
     for i in accepted..drawn.places.len().min(queries.len()) {
         let place = drawn.places[i];
         let query = &queries[i];

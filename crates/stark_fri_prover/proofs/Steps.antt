@@ -60,9 +60,9 @@ place_more f n x before after pushed so_far is =
     pushed ∙ ap (λ t. t ++ x ∷ []) so_far ∙ ap (λ t. map f (range_with_len 0 n) ++ t ∷ []) is
     ∙ sym (map-range_with_len_more f 0 n n (omega arith))
 
--- one more of a group of four
+-- one more of a group of eight
 pub lane_more : {A : Type 0} (f : ℕ → A) (group j : ℕ) (x : A) (before after : List A) → after ≡ before ++ x ∷ []
-    → before ≡ map f (range_with_len 0 (4 * group + j)) → x ≡ f (4 * group + j) → after ≡ map f (range_with_len 0 (4 * group + (j + 1)))
+    → before ≡ map f (range_with_len 0 (8 * group + j)) → x ≡ f (8 * group + j) → after ≡ map f (range_with_len 0 (8 * group + (j + 1)))
 lane_more f group j x before after pushed so_far is =
-    let next : 4 * group + j + 1 ≡ 4 * group + (j + 1) = omega arith in
-    subst (λ n. after ≡ map f (range_with_len 0 n)) next (place_more f (4 * group + j) x before after pushed so_far is)
+    let next : 8 * group + j + 1 ≡ 8 * group + (j + 1) = omega arith in
+    subst (λ n. after ≡ map f (range_with_len 0 n)) next (place_more f (8 * group + j) x before after pushed so_far is)

@@ -34,8 +34,12 @@ pub record IsPathOrNone (layers : List (List (List ℕ))) (place : ℕ) (digests
   pub none : (HasPath layers place → ⊥) → digests ≡ []
 
 -- Leaf i of the tree over the matrices' rows.
+-- The bytes of row i of each matrix, and its leaf.
+abbrev pub text_at : {F : Type 0} → (F → List ℕ) → List (RowMajorMatrix F) → ℕ → List ℕ
+text_at bytes_of extended i = row_bytes_of bytes_of (map (row_of i) extended)
+
 abbrev pub leaf_at : {F : Type 0} → TreeDigests → (F → List ℕ) → List (RowMajorMatrix F) → ℕ → List ℕ
-leaf_at hash bytes_of extended i = hash.leaf (row_bytes_of bytes_of (map (row_of i) extended))
+leaf_at hash bytes_of extended i = hash.leaf (text_at bytes_of extended i)
 
 abbrev pub leaves_of : {F : Type 0} → TreeDigests → (F → List ℕ) → List (RowMajorMatrix F) → ℕ → List (List ℕ)
 leaves_of hash bytes_of extended count = map (leaf_at hash bytes_of extended) (range_with_len 0 count)

@@ -1,6 +1,7 @@
 -- What the prover's folds leave.
-use Rattle.std.specs.Prelude.{◌≡◌, ℕ, true, Bool, List, length, IfOk, IfSome, Option, Result}
+use Rattle.std.specs.Prelude.{◌≡◌, ℕ, true, Bool, List, length, Option, Result}
 use Rattle.std.specs.List.{AllByRecursion}
+use Rattle.stark_columns.specs.Made.{IfMade}
 use Rattle.stark_folding.specs.Fold.{folded, squared_coset}
 use Rattle.stark_folding.specs.Walk.{folded_all}
 use Rattle.stark_fri.specs.Parts.{SpongeCalls}
@@ -35,10 +36,6 @@ pub record AreFolds {C F E : Type 0} (sponge : SpongeCalls C F E) (ring : RingOp
   pub state : after ≡ after_phases sponge bits before phases
 
 -- ---- in memory
-
--- What holds of what was made; nothing is said of want of memory, and where none was.
-abbrev pub IfMade : {T X : Type 0} → Result (Option T) X → (T → Type 0) → Type 0
-IfMade result holds = IfOk result (λ made. IfSome made holds)
 
 module _ {C F E : Type 0} (sponge : SpongeCalls C F E) (ring : RingOps E) (bits : ℕ) where
   -- A fold was made of the polynomial, with its layer.

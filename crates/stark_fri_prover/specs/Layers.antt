@@ -19,6 +19,10 @@ module _ {F E : Type 0} (bytes_of : F → List ℕ) (coordinates : E → List F)
   abbrev pub pair_of : List E → ℕ → ℕ → List ℕ
   pair_of values half i = pair_bytes_of bytes_of coordinates (get_or values i zero) (get_or values (half + i) zero)
 
+  -- The bytes of eight pairs.
+  abbrev pub AreEightPairs : List E → ℕ → ℕ → List (List ℕ) → Type 0
+  AreEightPairs values half place texts = (j : ℕ) → j < 8 → slice_index_or texts j [] ≡ pair_of values half (place + j)
+
   module _ (hash : TreeDigests) where
     abbrev pub pair_leaf : List E → ℕ → ℕ → List ℕ
     pair_leaf values half i = hash.leaf (pair_of values half i)
@@ -30,9 +34,9 @@ module _ {F E : Type 0} (bytes_of : F → List ℕ) (coordinates : E → List F)
     abbrev pub pair_leaves_of : List E → List (List ℕ)
     pair_leaves_of values = pair_leaves_to values (length values / 2)
 
-    -- Those of four pairs.
-    abbrev pub AreFourLeaves : List E → ℕ → ℕ → List (List ℕ) → Type 0
-    AreFourLeaves values half place leaves = (j : ℕ) → j < 4 → slice_index_or leaves j [] ≡ pair_leaf values half (place + j)
+    -- Those of eight pairs.
+    abbrev pub AreEightLeaves : List E → ℕ → ℕ → List (List ℕ) → Type 0
+    AreEightLeaves values half place leaves = (j : ℕ) → j < 8 → slice_index_or leaves j [] ≡ pair_leaf values half (place + j)
 
     -- The layers of the tree over the pairs of a word of 2 ^ log_size values, and its root.
     pub record IsPairTree (log_size : ℕ) (values : List E) (layers : List (List (List ℕ))) (root : Root) : Type 0 where

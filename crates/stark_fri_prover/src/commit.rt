@@ -1,20 +1,23 @@
 //! Commitments to columns: their values on a larger coset, and the tree over these rows.
-ghost use Rattle.std.specs.Prelude.{◌≡◌, ◌≤◌, ◌<◌, ◌↔◌, ◌+◌, ◌*◌, ◌^◌, ℕ, [], IfOk, IsTrue, None, Some, map, slice_index_or};
+ghost use Rattle.std.specs.Prelude.{◌≡◌, ◌≤◌, ◌<◌, ◌↔◌, ◌+◌, ◌*◌, ◌^◌, ℕ, [], IfOk, IsTrue, None, OnOk, Some, map, slice_index_or};
 ghost use Rattle.std.specs.List.{AllByRecursion, slice_get};
 ghost use Rattle.stark_support.specs.Coset.{coset_from};
 ghost use Rattle.stark_columns.specs.Columns.{columns_list};
 ghost use Rattle.stark_fri_proof.specs.Paths.{digests_of};
-ghost use Rattle.stark_merkle.specs.Bytes.{element_bytes, row_bytes_of};
+ghost use Rattle.stark_merkle.specs.Bytes.{element_bytes};
 ghost use Rattle.stark_merkle.specs.Tree.{digests_in, items_of};
 ghost use Rattle.stark_support.specs.declared.matrix.RowMajorMatrix.{RowMajorMatrix};
-ghost use Rattle.stark_fri_prover.specs.Commit.{AreExtended, AreKept, AreLayersIn, HasRow, HasRowsOf, HaveRow, HaveRows, IsPathOrNone, IsTopOver, extension_of, leaf_at, leaves_of, row_of};
+ghost use Rattle.stark_fri_prover.specs.Commit.{AreExtended, AreKept, AreLayersIn, HasRow, HasRowsOf, HaveRow, HaveRows, IsPathOrNone, IsTopOver, extension_of, leaf_at, leaves_of, row_of, text_at};
 
 use stark_bench::Coset;
 use stark_columns::rows_on;
 use stark_fri_proof::{InputOpening, MerklePath};
-use stark_merkle::{Root, TreeHash, begin_rows, path_in, push_row, root_in, tree_layers};
+use stark_merkle::{
+    Root, TreeHash, begin_rows, first_eight_leaves, path_in, push_row, root_in, tree_layers,
+};
 use stark_support::{DomainShape, PrimeField64, RowMajorMatrix, TwoAdicField};
 use std::alloc::{AllocError, Global};
+use std::array;
 
 /// What the prover keeps of a commitment: the root, the natural domain of the columns' length,
 /// their coefficients, and their values on the larger coset, a matrix of rows for each matrix, with
@@ -178,55 +181,55 @@ fn rows_at<F: Copy>(
     Ok(rows)
 }
 
-/// How many bytes the rows of the matrices take: each element's, and 8 for each row's length and
-/// for the number of rows.
-fn room_of_rows<F: PrimeField64>(extended: &[RowMajorMatrix<F>]) -> usize {
-    let mut room: usize = 8;
-    for matrix in extended {
-        let elements = matrix.width.saturating_mul(F::BYTES);
-        room = room.saturating_add(8).saturating_add(elements);
-    }
-    room
-}
-
-/// The bytes of row `place` of each matrix, which its leaf commits to; `room` as `room_of_rows`
-/// answers it, so that memory is asked for once.
-fn bytes_at<F: PrimeField64>(
-    alloc: Global,
+/// Writes the bytes of row `place` of each matrix, which its leaf commits to. What the bytes held
+/// is gone, and its memory serves again.
+fn write_rows_at<F: PrimeField64>(
+    bytes: &mut Vec<u8>,
     extended: &[RowMajorMatrix<F>],
-    room: usize,
     place: usize,
-) -> Result<Vec<u8>, AllocError>
+) -> Result<(), AllocError>
     requires { AllByRecursion (HasRow place) extended.now }
-    ensures { IfOk result (λ bytes.
-        bytes.items ≡ row_bytes_of (element_bytes F.BYTES F.number_of)
-        (map (row_of place) extended.now)) }
+    ensures { OnOk result (bytes.new.items
+        ≡ text_at (element_bytes F.BYTES F.number_of) extended.now place) }
 {
-    let mut bytes = begin_rows(alloc, extended.len(), room)?;
+    begin_rows(&mut *bytes, extended.len())?;
     for matrix in extended {
         let start = place * matrix.width;
-        push_row(&mut bytes, &matrix.values[start..start + matrix.width])?;
+        push_row(&mut *bytes, &matrix.values[start..start + matrix.width])?;
     }
-    Ok(bytes)
+    Ok(())
 }
 
-/// The leaves over four rows, from row `place` on.
-fn four_leaves_of<F: PrimeField64, H: TreeHash>(
-    alloc: Global,
+/// Writes the bytes of eight rows, from row `place` on.
+fn write_eight_rows<F: PrimeField64>(
+    texts: &mut [Vec<u8>; 8],
     extended: &[RowMajorMatrix<F>],
-    room: usize,
     place: usize,
-) -> Result<[[u8; 32]; 4], AllocError>
-    requires word { place + 4 < 2 ^ 64 }
-    requires rows { HaveRows (place + 4) extended.now }
-    ensures { IfOk result (λ four. (j : ℕ) → j < 4 → slice_index_or four j []
+) -> Result<(), AllocError>
+    requires word { place + 8 < 2 ^ 64 }
+    requires rows { HaveRows (place + 8) extended.now }
+    ensures { OnOk result ((j : ℕ) → j < 8 → slice_index_or (map items_of texts.new) j []
+        ≡ text_at (element_bytes F.BYTES F.number_of) extended.now (place + j)) }
+{
+    for j in 0..8 {
+        write_rows_at(&mut texts[j], extended, place + j)?;
+    }
+    Ok(())
+}
+
+/// The leaves over eight rows, from row `place` on, whose bytes are written into `texts`.
+fn eight_leaves_of<F: PrimeField64, H: TreeHash>(
+    texts: &mut [Vec<u8>; 8],
+    extended: &[RowMajorMatrix<F>],
+    place: usize,
+) -> Result<[[u8; 32]; 8], AllocError>
+    requires word { place + 8 < 2 ^ 64 }
+    requires rows { HaveRows (place + 8) extended.now }
+    ensures { IfOk result (λ eight. (j : ℕ) → j < 8 → slice_index_or eight j []
         ≡ leaf_at H.digests (element_bytes F.BYTES F.number_of) extended.now (place + j)) }
 {
-    let one = bytes_at(alloc, extended, room, place)?;
-    let two = bytes_at(alloc, extended, room, place + 1)?;
-    let three = bytes_at(alloc, extended, room, place + 2)?;
-    let four = bytes_at(alloc, extended, room, place + 3)?;
-    Ok(H::four_leaves([&one, &two, &three, &four]))
+    write_eight_rows(&mut *texts, extended, place)?;
+    Ok(first_eight_leaves::<H>(texts))
 }
 
 /// The leaves over the first `count` rows.
@@ -240,17 +243,18 @@ fn leaves<F: PrimeField64, H: TreeHash>(
         leaves.items ≡ leaves_of H.digests (element_bytes F.BYTES F.number_of) extended.now
         count) }
 {
-    let room = room_of_rows(extended);
     let mut leaves = Vec::with_capacity(alloc, count)?;
-    let groups = count / 4;
+    let groups = count / 8;
+    let mut texts: [Vec<u8>; 8] = array::from_fn(|_place| Vec::new(alloc));
     for group in 0..groups {
-        let four = four_leaves_of::<F, H>(alloc, extended, room, 4 * group)?;
-        for j in 0..4 {
-            leaves.push(four[j])?;
+        let eight = eight_leaves_of::<F, H>(&mut texts, extended, 8 * group)?;
+        for j in 0..8 {
+            leaves.push(eight[j])?;
         }
     }
-    for place in 4 * groups..count {
-        let bytes = bytes_at(alloc, extended, room, place)?;
+    let mut bytes = Vec::new(alloc);
+    for place in 8 * groups..count {
+        write_rows_at(&mut bytes, extended, place)?;
         leaves.push(H::leaf(&bytes))?;
     }
     Ok(leaves)

@@ -1,18 +1,19 @@
 //! The layers of a folding: the words that are folded, and the trees over their pairs.
-ghost use Rattle.std.specs.Prelude.{◌≡◌, ◌+◌, ◌*◌, ◌/◌, ◌^◌, ◌<◌, ◌≤◌, IfOk, IfSome, IsSome, length, map};
+ghost use Rattle.std.specs.Prelude.{◌≡◌, ◌+◌, ◌*◌, ◌/◌, ◌^◌, ◌<◌, ◌≤◌, IfOk, IfSome, IsSome, OnOk, length, map};
 ghost use Rattle.stark_columns.specs.Columns.{columns_list};
 ghost use Rattle.stark_merkle.specs.Bytes.{element_bytes};
-ghost use Rattle.stark_merkle.specs.Tree.{digests_in};
+ghost use Rattle.stark_merkle.specs.Tree.{digests_in, items_of};
 ghost use Rattle.stark_fri_prover.specs.Words.{IsWordIn, coordinate_at, coordinate_columns, element_of, elements_of};
-ghost use Rattle.stark_fri_prover.specs.Layers.{AreFourLeaves, IsLayerOf, OpensPlace, OpensWay, pair_leaves_of, pair_of, pair_place};
+ghost use Rattle.stark_fri_prover.specs.Layers.{AreEightLeaves, AreEightPairs, IsLayerOf, OpensPlace, OpensWay, pair_leaves_of, pair_of, pair_place};
 
 use crate::commit::path_or_none;
 use stark_bench::Coset;
 use stark_columns::rows_on;
 use stark_fri_proof::LayerOpening;
-use stark_merkle::{Root, TreeHash, pair_bytes, root_in, tree_layers};
+use stark_merkle::{Root, TreeHash, first_eight_leaves, root_in, tree_layers, write_pair};
 use stark_support::{DomainShape, ExtensionField, PrimeField64, TwoAdicField};
 use std::alloc::{AllocError, Global};
+use std::array;
 
 /// A word, and the tree over its pairs: leaf `i` is that of the values at place `i` and half the
 /// word further.
@@ -110,37 +111,52 @@ pub(crate) fn values_of<F: TwoAdicField, EF: ExtensionField<F>>(
     Ok(word)
 }
 
-/// The bytes of the pair at a place: of the value there and the one half the word further.
-fn pair_at<F: PrimeField64, EF: ExtensionField<F>>(
-    alloc: Global,
+/// Writes the bytes of the pair at a place: of the value there and the one half the word further.
+/// What the bytes held is gone, and its memory serves again.
+fn write_pair_at<F: PrimeField64, EF: ExtensionField<F>>(
+    bytes: &mut Vec<u8>,
     values: &[EF],
     half: usize,
     place: usize,
-) -> Result<Vec<u8>, AllocError>
+) -> Result<(), AllocError>
     requires { half + place < length values.now }
-    ensures { IfOk result (λ bytes. bytes.items
+    ensures { OnOk result (bytes.new.items
         ≡ pair_of (element_bytes F.BYTES F.number_of) EF.coordinates EF.ring.zero values.now half
         place) }
 {
-    pair_bytes::<F, EF>(alloc, values[place], values[half + place])
+    write_pair::<F, EF>(bytes, values[place], values[half + place])
 }
 
-/// The leaves over four pairs, from the place on.
-fn four_pair_leaves<F: PrimeField64, EF: ExtensionField<F>, H: TreeHash>(
-    alloc: Global,
+/// Writes the bytes of eight pairs, from the place on.
+fn write_eight_pairs<F: PrimeField64, EF: ExtensionField<F>>(
+    texts: &mut [Vec<u8>; 8],
     values: &[EF],
     half: usize,
     place: usize,
-) -> Result<[[u8; 32]; 4], AllocError>
-    requires { half + place + 4 ≤ length values.now }
-    ensures { IfOk result (AreFourLeaves (element_bytes F.BYTES F.number_of) EF.coordinates
+) -> Result<(), AllocError>
+    requires { half + place + 8 ≤ length values.now }
+    ensures { OnOk result (AreEightPairs (element_bytes F.BYTES F.number_of) EF.coordinates
+        EF.ring.zero values.now half place (map items_of texts.new)) }
+{
+    for j in 0..8 {
+        write_pair_at::<F, EF>(&mut texts[j], values, half, place + j)?;
+    }
+    Ok(())
+}
+
+/// The leaves over eight pairs, from the place on, whose bytes are written into `texts`.
+fn eight_pair_leaves<F: PrimeField64, EF: ExtensionField<F>, H: TreeHash>(
+    texts: &mut [Vec<u8>; 8],
+    values: &[EF],
+    half: usize,
+    place: usize,
+) -> Result<[[u8; 32]; 8], AllocError>
+    requires { half + place + 8 ≤ length values.now }
+    ensures { IfOk result (AreEightLeaves (element_bytes F.BYTES F.number_of) EF.coordinates
         EF.ring.zero H.digests values.now half place) }
 {
-    let one = pair_at::<F, EF>(alloc, values, half, place)?;
-    let two = pair_at::<F, EF>(alloc, values, half, place + 1)?;
-    let three = pair_at::<F, EF>(alloc, values, half, place + 2)?;
-    let four = pair_at::<F, EF>(alloc, values, half, place + 3)?;
-    Ok(H::four_leaves([&one, &two, &three, &four]))
+    write_eight_pairs::<F, EF>(&mut *texts, values, half, place)?;
+    Ok(first_eight_leaves::<H>(texts))
 }
 
 /// The leaves over a word's pairs, of a value in the first half and the one half the word further.
@@ -154,15 +170,17 @@ fn pair_leaves<F: PrimeField64, EF: ExtensionField<F>, H: TreeHash>(
 {
     let half = values.len() / 2;
     let mut leaves = Vec::with_capacity(alloc, half)?;
-    let groups = half / 4;
+    let groups = half / 8;
+    let mut texts: [Vec<u8>; 8] = array::from_fn(|_place| Vec::new(alloc));
     for group in 0..groups {
-        let four = four_pair_leaves::<F, EF, H>(alloc, values, half, 4 * group)?;
-        for j in 0..4 {
-            leaves.push(four[j])?;
+        let eight = eight_pair_leaves::<F, EF, H>(&mut texts, values, half, 8 * group)?;
+        for j in 0..8 {
+            leaves.push(eight[j])?;
         }
     }
-    for place in 4 * groups..half {
-        let bytes = pair_at::<F, EF>(alloc, values, half, place)?;
+    let mut bytes = Vec::new(alloc);
+    for place in 8 * groups..half {
+        write_pair_at::<F, EF>(&mut bytes, values, half, place)?;
         leaves.push(H::leaf(&bytes))?;
     }
     Ok(leaves)

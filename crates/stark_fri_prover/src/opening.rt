@@ -5,7 +5,7 @@ ghost use Rattle.stark_support.specs.Claims.{IfRefusal, opened_view, round_view}
 ghost use Rattle.stark_columns.specs.Columns.{columns_list};
 ghost use Rattle.stark_merkle.specs.Tree.{digests_in};
 ghost use Rattle.stark_fri_prover.specs.Calls.{FitRounds, IsProofOf, LacksWork, RefusesOpening};
-ghost use Rattle.stark_fri_prover.specs.Folds.{IfMade};
+ghost use Rattle.stark_columns.specs.Made.{IfMade};
 ghost use Rattle.stark_fri_prover.specs.Layers.{OpensEach, OpensRows, OpensWay};
 ghost use Rattle.stark_fri_prover.specs.OwnClaims.{opened_rounds};
 ghost use Rattle.stark_fri_prover.specs.Work.{IfNoneMade};

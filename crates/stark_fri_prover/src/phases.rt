@@ -1,7 +1,8 @@
 //! The folds' part of the transcript, as the prover plays it.
 ghost use Rattle.std.specs.Prelude.{◌≡◌, ◌-◌, ◌≤◌, IfNone, IfSome};
 ghost use Rattle.stark_merkle.specs.Bytes.{element_bytes};
-ghost use Rattle.stark_fri_prover.specs.Folds.{CommitsLayer, CommitsLayers, FoldsWord, IfMade, IsWitness, MakesFold, MakesFolds, WordsOf};
+ghost use Rattle.stark_columns.specs.Made.{IfMade};
+ghost use Rattle.stark_fri_prover.specs.Folds.{CommitsLayer, CommitsLayers, FoldsWord, IsWitness, MakesFold, MakesFolds, WordsOf};
 ghost use Rattle.stark_fri_prover.specs.Words.{IsWordIn};
 ghost use Rattle.stark_fri_prover.specs.Work.{NoFold, NoFolds, NonePasses};
 

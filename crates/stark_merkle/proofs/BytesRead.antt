@@ -47,7 +47,7 @@ same_rest (suc k) n m e =
     let behind : bytes_high_first k n ≡ bytes_high_first k m = (cc) in
     first_byte k n ∙ ap (λ b. b * 256 ^ k + n % 256 ^ k) front ∙ ap (λ r. byte_at k m * 256 ^ k + r) (same_rest k n m behind) ∙ sym (first_byte k m)
 
--- Numbers that so many bytes have room for with the same bytes are the same.
+-- Numbers that the bytes have room for are the same where their bytes are.
 same_number : (k n m : ℕ) → n < 256 ^ k → m < 256 ^ k → bytes_high_first k n ≡ bytes_high_first k m → n ≡ m
 same_number k n m h l e = sym (mod-eq_of_lt h) ∙ same_rest k n m e ∙ mod-eq_of_lt l
 
@@ -111,7 +111,7 @@ module _ {F : Type 0} (bytes_of : F → List ℕ) (size : ℕ) (sized : (x : F) 
       let second = read_elements (coordinates y) (coordinates other_y) [] [] (counted y ∙ sym (counted other_y)) (ap (λ t. t ++ []) first.1) in
       (injective x other_x first.0, injective y other_y second.0)
 
--- Of elements whose numbers so many bytes have room for.
+-- Of elements whose numbers the bytes have room for.
 module _ {F : Type 0} (size : ℕ) (number_of : F → ℕ) (of_number : ℕ → F) (order : ℕ) (below : (x : F) → number_of x < order) (fits : order ≤ 256 ^ size) (same : (x : F) → of_number (number_of x) ≡ x) where
   pub rows_stated : RowBytesTell (element_bytes size number_of)
   rows_stated = read_all_rows (element_bytes size number_of) size (length-element_bytes size number_of) (same_element size number_of of_number order below fits same)

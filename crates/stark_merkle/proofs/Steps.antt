@@ -1,6 +1,6 @@
 -- The steps of the loops over layers and paths.
-use Rattle.std.proofs.Common.{◌≡◌, ◌∙◌, ℕ, zero, suc, ◌+◌, ◌-◌, ◌*◌, ◌/◌, ◌%◌, ◌^◌, ◌<◌, ◌≤◌, ◌↔◌, cond, List, [], ◌∷◌, ◌++◌, length, get_or, drop, map, None, Some, inl, inr, sym, ap, refl, subst, arith, append_assoc}
-use Rattle.std.proofs.lemmas.List.{at_drop_all, at_drop_more, append-nil, get_or-map, length-drop, length-map}
+use Rattle.std.proofs.Common.{◌≡◌, ◌∙◌, ℕ, zero, suc, ◌+◌, ◌-◌, ◌*◌, ◌/◌, ◌%◌, ◌^◌, ◌<◌, ◌≤◌, ◌↔◌, cond, List, [], ◌∷◌, ◌++◌, length, get_or, drop, map, take, None, Some, inl, inr, sym, ap, refl, subst, arith, append_assoc}
+use Rattle.std.proofs.lemmas.List.{at_drop_all, at_drop_more, append-nil, drop-map, get_or-drop, get_or-map, get_or-take, length-drop, length-map, map-append, take-map, take_more}
 use Rattle.std.proofs.lemmas.Bool.Decides.{eqb_tells}
 use Rattle.std.proofs.lemmas.Nat.{pow_pos}
 use Rattle.std.proofs.Math.Nat.{div-lt_iff_lt-mul, pow-le-pow_right}
@@ -17,6 +17,24 @@ deep_has_place depth i deep small = let more = pow-le-pow_right {n = 2} (omega a
 
 pub place_of_no_rest : (depth i : ℕ) → i / 2 ^ depth ≡ 0 → i < 2 ^ depth
 place_of_no_rest depth i none = let one = (div-lt_iff_lt-mul {k = 2 ^ depth} {x = i} {y = 1} (pow_pos depth)).0 (omega (arith, none)) in omega (arith, one)
+
+-- ---- leaves
+
+-- One leaf more, over a row of those from a place on.
+pub leaf_more : {A : Type 0} (leaf : List ℕ → List ℕ) (rows : List (Vec ℕ A)) (at j rest : ℕ) (x : List ℕ) (before after : List (List ℕ)) → at + j < length rows → j < rest
+    → x ≡ leaf (get_or (map items_of (take rest (drop at rows))) j []) → after ≡ before ++ x ∷ [] → before ≡ map leaf (map items_of (take (at + j) rows))
+    → after ≡ map leaf (map items_of (take (at + (j + 1)) rows))
+leaf_more leaf rows at j rest x before after within small is pushed so_far =
+    let texts = map items_of rows in
+    let as_taken : (n : ℕ) → map items_of (take n rows) ≡ take n texts = λ n. sym (take-map items_of n rows) in
+    let here : get_or (map items_of (take rest (drop at rows))) j [] ≡ get_or texts (at + j) []
+    = ap (λ t. get_or t j []) (sym (take-map items_of rest (drop at rows)) ∙ ap (take rest) (sym (drop-map items_of at rows)))
+    ∙ get_or-take rest (drop at texts) j [] small ∙ get_or-drop at texts j [] in
+    let next : at + j + 1 ≡ at + (j + 1) = omega arith in
+    pushed ∙ ap (λ t. t ++ x ∷ []) (so_far ∙ ap (map leaf) (as_taken (at + j)))
+    ∙ ap (λ t. map leaf (take (at + j) texts) ++ t ∷ []) (is ∙ ap leaf here)
+    ∙ sym (map-append leaf (take (at + j) texts) (get_or texts (at + j) [] ∷ []))
+    ∙ ap (map leaf) (sym (take_more texts (at + j) [] (omega (arith, within, length-map rows items_of))) ∙ ap (λ n. take n texts) next ∙ sym (as_taken (at + (j + 1))))
 
 -- ---- paths and layers
 

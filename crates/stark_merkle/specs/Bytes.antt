@@ -5,7 +5,7 @@ use Rattle.std.specs.List.{AllByRecursion}
 use Rattle.stark_support.specs.Seed.{number}
 use Rattle.stark_merkle.specs.Tree.{HashCollision, IsDigest, LeadsTo, TreeDigests}
 
--- An element's number in so many bytes, the high one first.
+-- An element's number in `size` bytes, the high one first.
 unfoldable pub element_bytes : {F : Type 0} → ℕ → (F → ℕ) → F → List ℕ
 element_bytes size number_of x = bytes_high_first size (number_of x)
 

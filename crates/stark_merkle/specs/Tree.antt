@@ -18,9 +18,9 @@ pub record TreeDigests : Type 0 where
   pub leaf : List ℕ → List ℕ
   pub node : List ℕ → List ℕ → List ℕ
 
--- Nodes first to first + 3 of the layer above, side by side.
+-- Nodes first to first + 7 of the layer above, side by side.
 abbrev pub AreNodesOf : TreeDigests → List (List ℕ) → ℕ → List (List ℕ) → Type 0
-AreNodesOf hash layer first nodes = (i : ℕ) → i < 4
+AreNodesOf hash layer first nodes = (i : ℕ) → i < 8
     → slice_index_or nodes i [] ≡ hash.node (slice_index_or layer (2 * (first + i)) []) (slice_index_or layer (2 * (first + i) + 1) [])
 
 abbrev pub IsDigest : List ℕ → Type 0
@@ -61,12 +61,12 @@ paired node [] = []
 paired node (x ∷ []) = []
 paired node (x ∷ (y ∷ xs)) = node x y ∷ paired node xs
 
--- The layer so many layers above.
+-- The layer that lies d layers above.
 unfoldable pub layer_above : {H : Type 0} → (H → H → H) → ℕ → List H → List H
 layer_above node zero xs = xs
 layer_above node (suc d) xs = layer_above node d (paired node xs)
 
--- A layer and so many above it.
+-- A layer and the d layers above it.
 unfoldable pub layers_from : {H : Type 0} → (H → H → H) → ℕ → List H → List (List H)
 layers_from node zero xs = xs ∷ []
 layers_from node (suc d) xs = xs ∷ layers_from node d (paired node xs)

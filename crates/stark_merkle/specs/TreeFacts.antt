@@ -139,7 +139,7 @@ module _ {H : Type 0} (node : H → H → H) where
 -- ---- binding
 
 -- Two lists of numbers are the same or not.
-same_or_not : (xs ys : List ℕ) → (xs ≡ ys) ⊎ (xs ≢ ys)
+pub same_or_not : (xs ys : List ℕ) → (xs ≡ ys) ⊎ (xs ≢ ys)
 same_or_not [] [] = inl refl
 same_or_not [] (y ∷ ys) = inr (λ e. (cc))
 same_or_not (x ∷ xs) [] = inr (λ e. (cc))

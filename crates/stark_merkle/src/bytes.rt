@@ -49,19 +49,17 @@ fn push_coordinates<F: PrimeField64, EF: ExtensionField<F>>(
     Ok(())
 }
 
-/// How the bytes of so many rows begin, for `push_row` to go on: with their number. Memory is asked
-/// for `room` bytes at once, so that rows which fit need no more. It is Err only where memory was
-/// refused.
-pub fn begin_rows(alloc: Global, count: usize, room: usize) -> Result<Vec<u8>, AllocError>
-    ensures { IfOk result (λ bytes. bytes.items ≡ number count) }
+/// Begins the bytes of `count` rows, for `push_row` to go on: with their number. What the bytes
+/// held is gone, and its memory serves again. It is Err only where an allocation failed.
+pub fn begin_rows(bytes: &mut Vec<u8>, count: usize) -> Result<(), AllocError>
+    ensures { OnOk result (bytes.new.items ≡ number count) }
 {
-    let mut bytes = Vec::with_capacity(alloc, room)?;
-    push_number(&mut bytes, count as u64)?;
-    Ok(bytes)
+    bytes.clear();
+    push_number(bytes, count as u64)
 }
 
 /// Puts a row after the bytes: how many elements it has, and the elements' numbers. It is Err only
-/// where memory was refused.
+/// where an allocation failed.
 pub fn push_row<F: PrimeField64>(bytes: &mut Vec<u8>, row: &[F]) -> Result<(), AllocError>
     ensures { OnOk result (bytes.new.items
         ≡ bytes.old.items ++ (number (length row.now)
@@ -71,23 +69,50 @@ pub fn push_row<F: PrimeField64>(bytes: &mut Vec<u8>, row: &[F]) -> Result<(), A
     push_elements(bytes, row)
 }
 
+/// Writes the bytes of the rows that one leaf commits to, as `row_bytes` gives them. What the bytes
+/// held is gone, and its memory serves again. It is Err only where an allocation failed.
+pub fn write_rows<F: PrimeField64>(bytes: &mut Vec<u8>, rows: &[Vec<F>]) -> Result<(), AllocError>
+    ensures { OnOk result (bytes.new.items
+        ≡ row_bytes_of (element_bytes F.BYTES F.number_of) (map items_of rows.now)) }
+{
+    begin_rows(&mut *bytes, rows.len())?;
+    for row in rows {
+        push_row(&mut *bytes, row)?;
+    }
+    Ok(())
+}
+
 /// The bytes of the rows that one leaf commits to, a matrix each: how many there are, and for each
 /// how many elements it has, both in 8 bytes, and the elements' numbers, each in as many bytes as
-/// the field's numbers have room in; the high byte first. It is Err only where memory was refused.
+/// the field's numbers have room in; the high byte first. It is Err only where an allocation
+/// failed.
 pub fn row_bytes<F: PrimeField64>(alloc: Global, rows: &[Vec<F>]) -> Result<Vec<u8>, AllocError>
     ensures { IfOk result (λ bytes. bytes.items
         ≡ row_bytes_of (element_bytes F.BYTES F.number_of) (map items_of rows.now)) }
 {
-    let mut bytes = begin_rows(alloc, rows.len(), 8)?;
-    for row in rows {
-        push_row(&mut bytes, row)?;
-    }
+    let mut bytes = Vec::new(alloc);
+    write_rows(&mut bytes, rows)?;
     Ok(bytes)
+}
+
+/// Writes the bytes of a pair of elements of an extension, as `pair_bytes` gives them. What the
+/// bytes held is gone, and its memory serves again. It is Err only where an allocation failed.
+pub fn write_pair<F: PrimeField64, EF: ExtensionField<F>>(
+    bytes: &mut Vec<u8>,
+    first: EF,
+    second: EF,
+) -> Result<(), AllocError>
+    ensures { OnOk result (bytes.new.items
+        ≡ pair_bytes_of (element_bytes F.BYTES F.number_of) EF.coordinates first second) }
+{
+    bytes.clear();
+    push_coordinates::<F, EF>(&mut *bytes, first)?;
+    push_coordinates::<F, EF>(bytes, second)
 }
 
 /// The bytes of a pair of elements of an extension: the numbers of the first one's coordinates and
 /// then those of the second one's, each in as many bytes as the field's numbers have room in, the
-/// high one first. It is Err only where memory was refused.
+/// high one first. It is Err only where an allocation failed.
 pub fn pair_bytes<F: PrimeField64, EF: ExtensionField<F>>(
     alloc: Global,
     first: EF,
@@ -98,8 +123,7 @@ pub fn pair_bytes<F: PrimeField64, EF: ExtensionField<F>>(
 {
     let room = EF::DIMENSION.saturating_mul(2).saturating_mul(F::BYTES);
     let mut bytes = Vec::with_capacity(alloc, room)?;
-    push_coordinates::<F, EF>(&mut bytes, first)?;
-    push_coordinates::<F, EF>(&mut bytes, second)?;
+    write_pair::<F, EF>(&mut bytes, first, second)?;
     Ok(bytes)
 }
 

@@ -1,11 +1,11 @@
 //! What a tree hashes with.
-ghost use Rattle.std.specs.Prelude.{◌≡◌, ◌<◌, ◌+◌, ◌*◌, ◌≤◌, [], ℕ, length, slice_index_or};
+ghost use Rattle.std.specs.Prelude.{◌≡◌, ◌<◌, ◌+◌, ◌*◌, ◌≤◌, [], ℕ, length, map, slice_index_or};
 ghost use Rattle.stark_sha256.specs.Pieces.{piece};
-ghost use Rattle.stark_merkle.specs.Tree.{AreDigests, AreNodesOf, TreeDigests};
+ghost use Rattle.stark_merkle.specs.Tree.{AreDigests, AreNodesOf, TreeDigests, items_of};
 ghost use Rattle.stark_merkle.specs.Sha.{sha_are_digests, sha_digests};
 
 use sha2::{Digest, Sha256};
-use stark_sha256::{compress_pair, compress_pairs, sha256_lanes};
+use stark_sha256::{compress_eight, compress_pair, sha256_eight};
 
 /// The digests of leaves and of nodes, of 32 bytes each. A tree's laws hold of any; what they bind,
 /// they bind as far as nobody finds two texts with one leaf, or two pairs of digests with one node.
@@ -20,34 +20,36 @@ pub trait TreeHash {
     fn node(left: &[u8; 32], right: &[u8; 32]) -> [u8; 32]
         ensures { result ≡ digests.node left.now right.now };
 
-    /// Four leaves at once.
-    fn four_leaves(rows: [&[u8]; 4]) -> [[u8; 32]; 4]
-        ensures { (i : ℕ) → i < 4
-            → slice_index_or result i [] ≡ digests.leaf (piece rows.entry i) };
+    /// Eight leaves at once.
+    fn eight_leaves(rows: &[&[u8]; 8]) -> [[u8; 32]; 8]
+        ensures { (i : ℕ) → i < 8
+            → slice_index_or result i [] ≡ digests.leaf (piece rows.now i) };
 
-    /// Four nodes at once: of each its left digest and its right one.
-    fn four_nodes(left: [&[u8; 32]; 4], right: [&[u8; 32]; 4]) -> [[u8; 32]; 4]
-        ensures { (i : ℕ) → i < 4 → slice_index_or result i []
-            ≡ digests.node (piece left.entry i) (piece right.entry i) };
+    /// Eight nodes at once, over eight pairs of digests that lie one after the other.
+    fn eight_nodes(pairs: &[[u8; 32]]) -> [[u8; 32]; 8]
+        requires { 16 ≤ length pairs.now }
+        ensures { AreNodesOf digests pairs.now 0 result };
 
     ghost are_digests: { AreDigests digests };
 }
 
-/// Nodes `4 * group` to `4 * group + 3` of the layer above.
-pub(crate) fn nodes_over<H: TreeHash>(layer: &[[u8; 32]], group: usize) -> [[u8; 32]; 4]
-    requires { 8 * (group + 1) ≤ length layer.now }
-    ensures { AreNodesOf H.digests layer.now (4 * group) result }
+/// The leaves over the first eight rows, whose bytes are given.
+pub fn first_eight_leaves<H: TreeHash>(rows: &[Vec<u8>]) -> [[u8; 32]; 8]
+    requires { 8 ≤ length rows.now }
+    ensures { (i : ℕ) → i < 8 → slice_index_or result i []
+        ≡ H.digests.leaf (slice_index_or (map items_of rows.now) i []) }
 {
-    let at = 8 * group;
-    H::four_nodes(
-        [&layer[at], &layer[at + 2], &layer[at + 4], &layer[at + 6]],
-        [
-            &layer[at + 1],
-            &layer[at + 3],
-            &layer[at + 5],
-            &layer[at + 7],
-        ],
-    )
+    H::eight_leaves(&[
+        &rows[0], &rows[1], &rows[2], &rows[3], &rows[4], &rows[5], &rows[6], &rows[7],
+    ])
+}
+
+/// Nodes `8 * group` to `8 * group + 7` of the layer above.
+pub(crate) fn nodes_over<H: TreeHash>(layer: &[[u8; 32]], group: usize) -> [[u8; 32]; 8]
+    requires { 16 * (group + 1) ≤ length layer.now }
+    ensures { AreNodesOf H.digests layer.now (8 * group) result }
+{
+    H::eight_nodes(&layer[16 * group..])
 }
 
 /// Trees over SHA-256. A leaf is the SHA-256 digest of the byte 0 and a row's bytes after it. A
@@ -70,12 +72,13 @@ impl TreeHash for Sha256Tree {
         compress_pair(left, right)
     }
 
-    fn four_leaves(rows: [&[u8]; 4]) -> [[u8; 32]; 4] {
-        sha256_lanes([0; 4], rows, [&[], &[], &[], &[]])
+    fn eight_leaves(rows: &[&[u8]; 8]) -> [[u8; 32]; 8] {
+        let nothing: &[u8] = &[];
+        sha256_eight([0; 8], rows, &[nothing; 8])
     }
 
-    fn four_nodes(left: [&[u8; 32]; 4], right: [&[u8; 32]; 4]) -> [[u8; 32]; 4] {
-        compress_pairs(left, right)
+    fn eight_nodes(pairs: &[[u8; 32]]) -> [[u8; 32]; 8] {
+        compress_eight(pairs)
     }
 
     ghost are_digests = { sha_are_digests };

@@ -14,13 +14,13 @@ mod tree;
 
 pub use bytes::{
     begin_rows, opened_rows_bind, pair_bytes, pair_bytes_tell_pairs, push_row, row_bytes,
-    row_bytes_tell_rows,
+    row_bytes_tell_rows, write_pair, write_rows,
 };
-pub use hash::{Sha256Tree, TreeHash};
+pub use hash::{Sha256Tree, TreeHash, first_eight_leaves};
 pub use path::{
     full_trees_have_paths, full_trees_have_roots, is_path_to, own_rows_lead_to_roots, paths_bind,
     root_of_path, rows_bind, tops_are_roots, trees_lead_to_roots,
 };
-pub use paths::four_lead;
+pub use paths::eight_lead;
 pub use root::Root;
 pub use tree::{leaves, next_layer, path_in, root_in, tree_layers};

@@ -4,8 +4,8 @@ ghost use Rattle.stark_merkle.specs.Tree.{FullTreesHavePaths, FullTreesHaveRoots
 
 use crate::hash::TreeHash;
 
-/// Where a path leads from a digest at a place: at an even place the path's next digest stands
-/// behind, at an odd one before, and the next place is half of it.
+/// Where a path leads from a digest at a place: at an even place the path's next digest comes
+/// after, at an odd one before, and the next place is half of it.
 pub fn root_of_path<H: TreeHash>(start: [u8; 32], index: usize, path: &[[u8; 32]]) -> [u8; 32]
     ensures { result ≡ led H.digests.node index start path.now }
 {

@@ -32,8 +32,8 @@ impl JsonCodec for Root {
         }
     }
 
-    /// The text of its 64 digits, the letters in lower case. It is Err only where memory was
-    /// refused.
+    /// The text of its 64 digits, the letters in lower case. It is Err only where an allocation
+    /// failed.
     fn to_json(&self, alloc: Global) -> Result<Value, AllocError> {
         Ok(Value::from(hex::encode(alloc, self.bytes())?))
     }

@@ -2,7 +2,7 @@
 //! computed in Python with hashlib, and which altered claims are refused by a verifier written
 //! there.
 use crate::{
-    Root, Sha256Tree, TreeHash, four_lead, is_path_to, leaves, path_in, root_in, tree_layers,
+    Root, Sha256Tree, TreeHash, eight_lead, is_path_to, leaves, path_in, root_in, tree_layers,
 };
 use serde_json::Value;
 use stark_support::{JsonCodec, JsonFault, value_from_bytes};
@@ -138,12 +138,12 @@ fn row_at(alloc: Global, index: usize) -> Result<Vec<u8>, Fail> {
     Ok(format!(in alloc; "row {index}")?.into_bytes())
 }
 
-/// The depth of the tree with so many leaves.
+/// The depth of the tree with a number of leaves.
 fn depth_of(leaves: usize) -> usize {
     leaves.checked_ilog2().unwrap_or(0) as usize
 }
 
-/// The layers of the tree with so many leaves.
+/// The layers of the tree with a number of leaves.
 fn layers_of<H: TreeHash>(alloc: Global, count: usize) -> Result<Vec<Vec<[u8; 32]>>, Fail> {
     let mut rows = Vec::new(alloc);
     for index in 0..count {
@@ -165,7 +165,7 @@ fn claim_of<H: TreeHash>(alloc: Global, leaves: usize, index: usize) -> Result<C
     })
 }
 
-/// The bytes of two digests, one behind the other.
+/// The bytes of two digests, one after the other.
 fn both(alloc: Global, left: &[u8; 32], right: &[u8; 32]) -> Result<Vec<u8>, Fail> {
     let mut row = Vec::new(alloc);
     row.extend_from_slice(left)?;
@@ -248,23 +248,30 @@ fn claim_at<'a>(altered: &'a Claim, truth: &'a Claim, is_altered: bool) -> &'a C
     if is_altered { altered } else { truth }
 }
 
-/// Whether the altered claim and three times the true one are accepted at once, by the altered
+/// Whether the altered claim and seven times the true one are accepted at once, by the altered
 /// one's root and depth.
-fn lead_beside<H: TreeHash>(altered: &Claim, truth: &Claim, lane: usize) -> bool {
-    let first = claim_at(altered, truth, lane == 0);
-    let second = claim_at(altered, truth, lane == 1);
-    let third = claim_at(altered, truth, lane == 2);
-    let fourth = claim_at(altered, truth, lane == 3);
-    four_lead::<H>(
-        &altered.root,
-        altered.depth,
-        [first.index, second.index, third.index, fourth.index],
-        [&first.row, &second.row, &third.row, &fourth.row],
-        [&first.path, &second.path, &third.path, &fourth.path],
-    )
+fn lead_beside<'a, H: TreeHash>(
+    alloc: Global,
+    altered: &'a Claim,
+    truth: &'a Claim,
+    lane: usize,
+) -> Result<bool, Fail> {
+    let mut rows = Vec::new(alloc);
+    let mut indices = [0; 8];
+    let mut paths: [&[[u8; 32]]; 8] = [&truth.path; 8];
+    for i in 0..8 {
+        let claim = claim_at(altered, truth, i == lane);
+        rows.push(claim.row.clone()?)?;
+        indices[i] = claim.index;
+        paths[i] = &claim.path;
+    }
+    if rows.len() < 8 {
+        return Err(Fail::new("fewer than eight rows"));
+    }
+    Ok(eight_lead::<H>(&altered.root, altered.depth, &indices, &rows, &paths))
 }
 
-/// Whether the altered claim is accepted, alone and as each of four.
+/// Whether the altered claim is accepted, alone and as each of eight.
 fn judged<H: TreeHash>(
     alloc: Global,
     leaves: usize,
@@ -282,9 +289,9 @@ fn judged<H: TreeHash>(
         &altered.path,
     );
     let truth = claim_of::<H>(alloc, leaves, 0)?;
-    for lane in 0..4 {
-        if lead_beside::<H>(&altered, &truth, lane) != accepted {
-            return Err(Fail::new("four at once are judged otherwise"));
+    for lane in 0..8 {
+        if lead_beside::<H>(alloc, &altered, &truth, lane)? != accepted {
+            return Err(Fail::new("eight at once are judged otherwise"));
         }
     }
     Ok(String::from_str(alloc, if accepted { "accepted" } else { "refused" })?)

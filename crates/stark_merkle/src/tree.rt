@@ -2,32 +2,31 @@
 ghost use Rattle.std.specs.Prelude.{◌≡◌, ◌+◌, ◌<◌, ◌^◌, ◌↔◌, IfOk, IfSome, IsSome, map};
 ghost use Rattle.stark_merkle.specs.Tree.{HasPath, IsPathIn, digests_in, items_of, layers_from, neighbour, paired, sole, top_of};
 
-use crate::hash::{TreeHash, nodes_over};
+use crate::hash::{TreeHash, first_eight_leaves, nodes_over};
 use std::alloc::{AllocError, Global};
 
-/// The leaves over rows, of which the bytes are given, in order. It is Err only where memory was
-/// refused.
+/// The leaves over rows, whose bytes are given, in order. It is Err only where an allocation
+/// failed.
 pub fn leaves<H: TreeHash>(alloc: Global, rows: &[Vec<u8>]) -> Result<Vec<[u8; 32]>, AllocError>
     ensures { IfOk result (λ leaves.
         leaves.items ≡ map H.digests.leaf (map items_of rows.now)) }
 {
     let mut leaves = Vec::with_capacity(alloc, rows.len())?;
-    let groups = rows.len() / 4;
+    let groups = rows.len() / 8;
     for group in 0..groups {
-        let at = 4 * group;
-        let four = H::four_leaves([&rows[at], &rows[at + 1], &rows[at + 2], &rows[at + 3]]);
-        for j in 0..4 {
-            leaves.push(four[j])?;
+        let eight = first_eight_leaves::<H>(&rows[8 * group..]);
+        for j in 0..8 {
+            leaves.push(eight[j])?;
         }
     }
-    for i in 4 * groups..rows.len() {
+    for i in 8 * groups..rows.len() {
         leaves.push(H::leaf(&rows[i]))?;
     }
     Ok(leaves)
 }
 
 /// The layer above: for each two neighbours one node, the even place's digest first. A last digest
-/// without a neighbour is left out. It is Err only where memory was refused.
+/// without a neighbour is left out. It is Err only where an allocation failed.
 pub fn next_layer<H: TreeHash>(
     alloc: Global,
     layer: &[[u8; 32]],
@@ -35,14 +34,14 @@ pub fn next_layer<H: TreeHash>(
     ensures { IfOk result (λ above. above.items ≡ paired H.digests.node layer.now) }
 {
     let mut above = Vec::with_capacity(alloc, layer.len() / 2)?;
-    let groups = layer.len() / 8;
+    let groups = layer.len() / 16;
     for group in 0..groups {
         let nodes = nodes_over::<H>(layer, group);
-        for j in 0..4 {
+        for j in 0..8 {
             above.push(nodes[j])?;
         }
     }
-    for i in 4 * groups..layer.len() / 2 {
+    for i in 8 * groups..layer.len() / 2 {
         above.push(H::node(&layer[2 * i], &layer[2 * i + 1]))?;
     }
     Ok(above)
@@ -50,7 +49,7 @@ pub fn next_layer<H: TreeHash>(
 
 /// The leaves, and the `depth` layers above them, lowest first: the last of them is the root alone
 /// where there are 2^`depth` leaves. With fewer leaves the last ones are empty, so that `depth` is
-/// what the caller pays for. It is Err only where memory was refused.
+/// what the caller pays for. It is Err only where an allocation failed.
 pub fn tree_layers<H: TreeHash>(
     alloc: Global,
     leaves: Vec<[u8; 32]>,
@@ -103,7 +102,7 @@ fn neighbour(place: usize) -> usize
 /// The neighbours on the way up from the leaf at the place `index`, lowest first: one digest for
 /// each layer below the last. From layer to layer the place is halved. None exactly where there are
 /// no layers, one has no digest at the place, or one below the last has none beside it. It is Err
-/// only where memory was refused.
+/// only where an allocation failed.
 pub fn path_in(
     alloc: Global,
     layers: &[Vec<[u8; 32]>],

@@ -87,13 +87,13 @@ pub piece_at : (slices : List (Bor (List ℕ))) (j : ℕ)
     → piece slices j ≡ (slice_index_or slices j nothing).now
 piece_at slices j = get_or-map (λ slice. slice.now) slices j nothing
 
-pub length_in_lane : (texts : Texts) (j : ℕ) → j < 4 → length (text_in texts j) ≡ len_of texts
+pub length_in_lane : {n : ℕ} (texts : Texts n) (j : ℕ) → j < n → length (text_in texts j) ≡ len_of texts
 length_in_lane texts j low =
     omega (
       arith,
       texts.first_alike j low,
       texts.second_alike j low,
-      length_of_text (slice_index texts.tags j) (piece texts.first j) (piece texts.second j),
+      length_of_text (slice_index texts.tags.now j) (piece texts.first.now j) (piece texts.second.now j),
     )
 
 pub length_of_padded : (text : List ℕ) → length (padded_message text) ≡ padded_len (length text)
@@ -111,65 +111,65 @@ block_count n = omega arith
 
 -- ---- a byte in a lane
 
-pub first_byte : (texts : Texts) (j : ℕ) → slice_index (padded_in texts j) 0 ≡ slice_index texts.tags j
+pub first_byte : {n : ℕ} (texts : Texts n) (j : ℕ) → slice_index (padded_in texts j) 0 ≡ slice_index texts.tags.now j
 unfolding padded_in
 first_byte texts j = refl
 
-pub byte_in_first : (texts : Texts) (j at : ℕ) → j < 4 → 1 ≤ at → at < 1 + texts.first_len
-    → slice_index (padded_in texts j) at ≡ slice_index (piece texts.first j) (at - 1)
+pub byte_in_first : {n : ℕ} (texts : Texts n) (j at : ℕ) → j < n → 1 ≤ at → at < 1 + texts.first_len
+    → slice_index (padded_in texts j) at ≡ slice_index (piece texts.first.now j) (at - 1)
 unfolding padded_in
 byte_in_first texts j at low from to =
-    let first : List ℕ = piece texts.first j in
+    let first : List ℕ = piece texts.first.now j in
     let el : length first ≡ texts.first_len = texts.first_alike j low in
-    byte_of_first (slice_index texts.tags j) first (piece texts.second j) at (at - 1) (omega arith) (omega arith)
+    byte_of_first (slice_index texts.tags.now j) first (piece texts.second.now j) at (at - 1) (omega arith) (omega arith)
 
-pub byte_in_second : (texts : Texts) (j at : ℕ) → j < 4 → 1 + texts.first_len ≤ at
+pub byte_in_second : {n : ℕ} (texts : Texts n) (j at : ℕ) → j < n → 1 + texts.first_len ≤ at
     → at < len_of texts
     → slice_index (padded_in texts j) at
-    ≡ slice_index (piece texts.second j) (at - (1 + texts.first_len))
+    ≡ slice_index (piece texts.second.now j) (at - (1 + texts.first_len))
 unfolding padded_in
 byte_in_second texts j at low from to =
-    let first : List ℕ = piece texts.first j in
-    let second : List ℕ = piece texts.second j in
+    let first : List ℕ = piece texts.first.now j in
+    let second : List ℕ = piece texts.second.now j in
     let el : length first ≡ texts.first_len = texts.first_alike j low in
     let es : length second ≡ texts.second_len = texts.second_alike j low in
     let place : ℕ = at - (1 + texts.first_len) in
-    byte_of_second (slice_index texts.tags j) first second at place (omega arith) (omega arith)
+    byte_of_second (slice_index texts.tags.now j) first second at place (omega arith) (omega arith)
 
-pub byte_in_padding : (texts : Texts) (j at : ℕ) → j < 4 → len_of texts ≤ at
+pub byte_in_padding : {n : ℕ} (texts : Texts n) (j at : ℕ) → j < n → len_of texts ≤ at
     → slice_index (padded_in texts j) at ≡ slice_index (padding (len_of texts)) (at - len_of texts)
 unfolding padded_in
 byte_in_padding texts j at low from =
-    let first : List ℕ = piece texts.first j in
-    let second : List ℕ = piece texts.second j in
+    let first : List ℕ = piece texts.first.now j in
+    let second : List ℕ = piece texts.second.now j in
     let el : length first ≡ texts.first_len = texts.first_alike j low in
     let es : length second ≡ texts.second_len = texts.second_alike j low in
     let len : 1 + (length first + length second) ≡ len_of texts = omega arith in
-    byte_of_padding (slice_index texts.tags j) first second at (at - len_of texts) (omega arith)
+    byte_of_padding (slice_index texts.tags.now j) first second at (at - len_of texts) (omega arith)
     ∙ ap (λ (n : ℕ). slice_index (padding n) (at - len_of texts)) len
 
 -- ---- a word in a lane
 
-pub word_in_second : (texts : Texts) (j at : ℕ) → j < 4 → 1 + texts.first_len ≤ at
+pub word_in_second : {n : ℕ} (texts : Texts n) (j at : ℕ) → j < n → 1 + texts.first_len ≤ at
     → at + 4 ≤ len_of texts
-    → word_at (padded_in texts j) at ≡ word_at (piece texts.second j) (at - (1 + texts.first_len))
+    → word_at (padded_in texts j) at ≡ word_at (piece texts.second.now j) (at - (1 + texts.first_len))
 word_in_second texts j at low from to =
-    let second : List ℕ = piece texts.second j in
+    let second : List ℕ = piece texts.second.now j in
     let start : ℕ = 1 + texts.first_len in
     same_words (padded_in texts j) second at (at - start) (λ d small.
     let place : at + d - start ≡ at - start + d = omega arith in
     byte_in_second texts j (at + d) low (omega arith) (omega arith)
     ∙ ap (λ (k : ℕ). slice_index second k) place)
 
-pub word_in_first : (texts : Texts) (j at : ℕ) → j < 4 → 1 ≤ at → at + 4 ≤ 1 + texts.first_len
-    → word_at (padded_in texts j) at ≡ word_at (piece texts.first j) (at - 1)
+pub word_in_first : {n : ℕ} (texts : Texts n) (j at : ℕ) → j < n → 1 ≤ at → at + 4 ≤ 1 + texts.first_len
+    → word_at (padded_in texts j) at ≡ word_at (piece texts.first.now j) (at - 1)
 word_in_first texts j at low from to =
-    same_words (padded_in texts j) (piece texts.first j) at (at - 1) (λ d small.
+    same_words (padded_in texts j) (piece texts.first.now j) at (at - 1) (λ d small.
     let place : at + d - 1 ≡ at - 1 + d = omega arith in
     byte_in_first texts j (at + d) low (omega arith) (omega arith)
-    ∙ ap (λ (k : ℕ). slice_index (piece texts.first j) k) place)
+    ∙ ap (λ (k : ℕ). slice_index (piece texts.first.now j) k) place)
 
-pub word_in_padding : (texts : Texts) (j at : ℕ) → j < 4 → len_of texts ≤ at
+pub word_in_padding : {n : ℕ} (texts : Texts n) (j at : ℕ) → j < n → len_of texts ≤ at
     → word_at (padded_in texts j) at ≡ word_at (padding (len_of texts)) (at - len_of texts)
 word_in_padding texts j at low from =
     same_words (padded_in texts j) (padding (len_of texts)) at (at - len_of texts) (λ d small.

@@ -1,5 +1,5 @@
 -- The digest of two digests: SHA-256's compression function from a starting value of the trees' own.
-use Rattle.std.specs.Prelude.{ℕ, List, [], ◌∷◌, ◌++◌}
+use Rattle.std.specs.Prelude.{◌+◌, ◌*◌, ℕ, List, [], ◌∷◌, ◌++◌, slice_index_or}
 use Rattle.sha2.specs.Sha256.{compress, digest_bytes}
 
 -- The words of the digest by SHA-256 of the text "Voskligan: a node of a tree".
@@ -11,3 +11,7 @@ pair_start =
 -- The state after the block that two digests of 32 bytes are, in bytes, the high one of each word first.
 unfoldable pub pair_digest : List ℕ → List ℕ → List ℕ
 pair_digest left right = digest_bytes (compress pair_start (left ++ right)) 8
+
+-- The block of the pair in lane j: digests 2 * j and 2 * j + 1.
+abbrev pub pair_block : List (List ℕ) → ℕ → List ℕ
+pair_block digests j = slice_index_or digests (2 * j) [] ++ slice_index_or digests (2 * j + 1) []

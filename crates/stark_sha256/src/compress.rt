@@ -5,7 +5,7 @@ ghost use Rattle.stark_sha256.specs.Lanes.{AreWords, lane};
 ghost use Rattle.stark_sha256.specs.Rounds.{AdvanceFirstRounds, AdvanceRounds};
 
 use crate::words::{add, big_sigma0, big_sigma1, ch, maj, small_sigma0, small_sigma1};
-use std::simd::u32x4;
+use std::simd::Simd;
 
 /// The word that is added in each round.
 const CONSTANTS: [u32; 64] = [
@@ -21,21 +21,35 @@ const CONSTANTS: [u32; 64] = [
 
 /// One round on the working variables, in each lane.
 #[inline(always)]
-fn round(v: [u32x4; 8], constant: u32, word: u32x4) -> [u32x4; 8]
-    ensures { (j : ℕ) → j < 4 → lane j result ≡ round (lane j v) constant (slice_index word j) }
+fn round<const N: usize>(
+    v: [Simd<u32, N>; 8],
+    constant: u32,
+    word: Simd<u32, N>,
+) -> [Simd<u32, N>; 8]
+    ensures { (j : ℕ) → j < N
+        → lane j result ≡ round (lane j v.entry) constant (slice_index word.entry j) }
 {
     let [a, b, c, d, e, f, g, h] = v;
     let chosen = add(add(h, big_sigma1(e)), ch(e, f, g));
-    let temp1 = add(add(chosen, u32x4::splat(constant)), word);
+    let temp1 = add(add(chosen, Simd::splat(constant)), word);
     let temp2 = add(big_sigma0(a), maj(a, b, c));
-    [add(temp1, temp2), a, b, c, add(d, temp1), e, f, g]
+    let mut next = v;
+    next[0] = add(temp1, temp2);
+    next[1] = a;
+    next[2] = b;
+    next[3] = c;
+    next[4] = add(d, temp1);
+    next[5] = e;
+    next[6] = f;
+    next[7] = g;
+    next
 }
 
 /// The next word of the schedule, which takes the place of the word 16 before it.
 #[inline(always)]
-fn next_word(window: &mut [u32x4; 16], place: usize) -> u32x4
+fn next_word<const N: usize>(window: &mut [Simd<u32, N>; 16], place: usize) -> Simd<u32, N>
     requires { place < 16 }
-    ensures value { (j : ℕ) → j < 4 → slice_index result j ≡ window_word (lane j window.old) place }
+    ensures value { (j : ℕ) → j < N → slice_index result j ≡ window_word (lane j window.old) place }
     ensures window { window.new ≡ slice_set window.old place result }
 {
     let near = add(
@@ -52,11 +66,16 @@ fn next_word(window: &mut [u32x4; 16], place: usize) -> u32x4
 
 /// Round `16 * turn + place`, from the sixteenth on.
 #[inline(always)]
-fn step(window: &mut [u32x4; 16], v: [u32x4; 8], turn: usize, place: usize) -> [u32x4; 8]
+fn step<const N: usize>(
+    window: &mut [Simd<u32, N>; 16],
+    v: [Simd<u32, N>; 8],
+    turn: usize,
+    place: usize,
+) -> [Simd<u32, N>; 8]
     requires low { 1 ≤ turn }
     requires high { turn < 4 }
     requires place { place < 16 }
-    ensures { AdvanceRounds window.old v (16 * turn + place) window.new result
+    ensures { AdvanceRounds N window.old v.entry (16 * turn + place) window.new result
         (16 * turn + place + 1) }
 {
     let word = next_word(window, place);
@@ -65,19 +84,28 @@ fn step(window: &mut [u32x4; 16], v: [u32x4; 8], turn: usize, place: usize) -> [
 
 /// One of the first sixteen rounds, whose words are the block's.
 #[inline(always)]
-fn first_step(window: &[u32x4; 16], v: [u32x4; 8], place: usize) -> [u32x4; 8]
+fn first_step<const N: usize>(
+    window: &[Simd<u32, N>; 16],
+    v: [Simd<u32, N>; 8],
+    place: usize,
+) -> [Simd<u32, N>; 8]
     requires { place < 16 }
-    ensures { AdvanceFirstRounds window.now v place result (place + 1) }
+    ensures { AdvanceFirstRounds N window.now v.entry place result (place + 1) }
 {
     round(v, CONSTANTS[place], window[place])
 }
 
 #[inline(always)]
-fn four_steps(window: &mut [u32x4; 16], v: [u32x4; 8], turn: usize, place: usize) -> [u32x4; 8]
+fn four_steps<const N: usize>(
+    window: &mut [Simd<u32, N>; 16],
+    v: [Simd<u32, N>; 8],
+    turn: usize,
+    place: usize,
+) -> [Simd<u32, N>; 8]
     requires low { 1 ≤ turn }
     requires high { turn < 4 }
     requires place { place + 4 ≤ 16 }
-    ensures { AdvanceRounds window.old v (16 * turn + place) window.new result
+    ensures { AdvanceRounds N window.old v.entry (16 * turn + place) window.new result
         (16 * turn + place + 4) }
 {
     let v = step(window, v, turn, place);
@@ -88,10 +116,14 @@ fn four_steps(window: &mut [u32x4; 16], v: [u32x4; 8], turn: usize, place: usize
 
 /// Sixteen rounds, from the sixteenth on, with each word's place in the window a constant.
 #[inline(always)]
-fn sixteen_steps(window: &mut [u32x4; 16], v: [u32x4; 8], turn: usize) -> [u32x4; 8]
+fn sixteen_steps<const N: usize>(
+    window: &mut [Simd<u32, N>; 16],
+    v: [Simd<u32, N>; 8],
+    turn: usize,
+) -> [Simd<u32, N>; 8]
     requires low { 1 ≤ turn }
     requires high { turn < 4 }
-    ensures { AdvanceRounds window.old v (16 * turn) window.new result (16 * (turn + 1)) }
+    ensures { AdvanceRounds N window.old v.entry (16 * turn) window.new result (16 * (turn + 1)) }
 {
     let v = four_steps(window, v, turn, 0);
     let v = four_steps(window, v, turn, 4);
@@ -100,9 +132,13 @@ fn sixteen_steps(window: &mut [u32x4; 16], v: [u32x4; 8], turn: usize) -> [u32x4
 }
 
 #[inline(always)]
-fn first_four_steps(window: &[u32x4; 16], v: [u32x4; 8], place: usize) -> [u32x4; 8]
+fn first_four_steps<const N: usize>(
+    window: &[Simd<u32, N>; 16],
+    v: [Simd<u32, N>; 8],
+    place: usize,
+) -> [Simd<u32, N>; 8]
     requires { place + 4 ≤ 16 }
-    ensures { AdvanceFirstRounds window.now v place result (place + 4) }
+    ensures { AdvanceFirstRounds N window.now v.entry place result (place + 4) }
 {
     let v = first_step(window, v, place);
     let v = first_step(window, v, place + 1);
@@ -112,9 +148,12 @@ fn first_four_steps(window: &[u32x4; 16], v: [u32x4; 8], place: usize) -> [u32x4
 
 /// The first sixteen rounds.
 #[inline(always)]
-fn first_sixteen_steps(window: &[u32x4; 16], state: [u32x4; 8]) -> [u32x4; 8]
-    ensures { (j : ℕ) → j < 4 → (b : List ℕ) → IsWindow (lane j window.now) (schedule b 48) 16
-        → lane j result ≡ rounds (lane j state) (schedule b 48) 16 }
+fn first_sixteen_steps<const N: usize>(
+    window: &[Simd<u32, N>; 16],
+    state: [Simd<u32, N>; 8],
+) -> [Simd<u32, N>; 8]
+    ensures { (j : ℕ) → j < N → (b : List ℕ) → IsWindow (lane j window.now) (schedule b 48) 16
+        → lane j result ≡ rounds (lane j state.entry) (schedule b 48) 16 }
 {
     let v = first_four_steps(window, state, 0);
     let v = first_four_steps(window, v, 4);
@@ -124,25 +163,28 @@ fn first_sixteen_steps(window: &[u32x4; 16], state: [u32x4; 8]) -> [u32x4; 8]
 
 /// The hash values, with a word of each added to the working variables.
 #[inline(always)]
-fn add_state(state: [u32x4; 8], v: [u32x4; 8]) -> [u32x4; 8]
-    ensures { (j : ℕ) → j < 4 → lane j result ≡ add_state (lane j state) (lane j v) }
+fn add_state<const N: usize>(state: [Simd<u32, N>; 8], v: [Simd<u32, N>; 8]) -> [Simd<u32, N>; 8]
+    ensures { (j : ℕ) → j < N → lane j result ≡ add_state (lane j state.entry) (lane j v.entry) }
 {
-    [
-        add(state[0], v[0]),
-        add(state[1], v[1]),
-        add(state[2], v[2]),
-        add(state[3], v[3]),
-        add(state[4], v[4]),
-        add(state[5], v[5]),
-        add(state[6], v[6]),
-        add(state[7], v[7]),
-    ]
+    let mut sum = state;
+    sum[0] = add(state[0], v[0]);
+    sum[1] = add(state[1], v[1]);
+    sum[2] = add(state[2], v[2]);
+    sum[3] = add(state[3], v[3]);
+    sum[4] = add(state[4], v[4]);
+    sum[5] = add(state[5], v[5]);
+    sum[6] = add(state[6], v[6]);
+    sum[7] = add(state[7], v[7]);
+    sum
 }
 
-/// The hash values behind a block of each text, of which the words are given.
-pub(crate) fn compress(state: [u32x4; 8], words: [u32x4; 16]) -> [u32x4; 8]
-    ensures { (j : ℕ) → j < 4 → (b : List ℕ) → AreWords b (lane j words)
-        → lane j result ≡ compress (lane j state) b }
+/// The hash values after a block of each text, whose words are given.
+pub(crate) fn compress<const N: usize>(
+    state: [Simd<u32, N>; 8],
+    words: [Simd<u32, N>; 16],
+) -> [Simd<u32, N>; 8]
+    ensures { (j : ℕ) → j < N → (b : List ℕ) → AreWords b (lane j words.entry)
+        → lane j result ≡ compress (lane j state.entry) b }
 {
     let mut window = words;
     let mut v = first_sixteen_steps(&window, state);

@@ -9,43 +9,55 @@ use crate::blocks::block_words;
 use crate::compress::compress;
 use crate::texts::Texts;
 use sha2::{Digest, Sha256};
-use std::simd::u32x4;
+use std::array;
+use std::simd::Simd;
 
-/// How many texts are hashed at once.
-pub const LANES: usize = 4;
+/// The hash value before the first block.
+const INITIAL: [u32; 8] = [
+    0x6A09E667, 0xBB67AE85, 0x3C6EF372, 0xA54FF53A, 0x510E527F, 0x9B05688C, 0x1F83D9AB, 0x5BE0CD19,
+];
 
-/// The hash value before the first block, in each lane.
-fn initial_state() -> [u32x4; 8]
-    ensures { (j : ℕ) → j < 4 → lane j result ≡ initial_hash_256 }
+/// A hash value in each lane.
+#[inline(always)]
+pub(crate) fn in_each_lane<const N: usize>(value: &[u32; 8]) -> [Simd<u32, N>; 8]
+    ensures { (j : ℕ) → j < N → lane j result ≡ value.now }
 {
-    [
-        u32x4::splat(0x6A09E667),
-        u32x4::splat(0xBB67AE85),
-        u32x4::splat(0x3C6EF372),
-        u32x4::splat(0xA54FF53A),
-        u32x4::splat(0x510E527F),
-        u32x4::splat(0x9B05688C),
-        u32x4::splat(0x1F83D9AB),
-        u32x4::splat(0x5BE0CD19),
-    ]
+    let mut state = array::from_fn(|_place| Simd::splat(0));
+    for i in 0..8 {
+        state[i] = Simd::splat(value[i]);
+    }
+    state
 }
 
-/// Whether four slices have so many bytes each.
-fn have_length(len: usize, slices: [&[u8]; 4]) -> bool
-    ensures { IsTrue result → HaveLength len slices.entry }
+/// How many bytes the first of some slices has.
+fn len_of_first(slices: &[&[u8]]) -> usize {
+    if slices.is_empty() {
+        0
+    } else {
+        slices[0].len()
+    }
+}
+
+/// Whether each slice has `len` bytes.
+fn have_length<const N: usize>(len: usize, slices: &[&[u8]]) -> bool
+    requires { length slices.now ≡ N }
+    ensures { IsTrue result → HaveLength N len slices.now }
 {
-    slices[0].len() == len
-        && slices[1].len() == len
-        && slices[2].len() == len
-        && slices[3].len() == len
+    for j in 0..N {
+        if slices[j].len() != len {
+            return false;
+        }
+    }
+    true
 }
 
 /// The hash values of the padded texts.
-fn final_state(texts: &Texts) -> [u32x4; 8]
-    ensures { (j : ℕ) → j < 4
+fn final_state<const N: usize>(texts: &Texts<'_, '_, N>) -> [Simd<u32, N>; 8]
+    requires { N ≤ 64 }
+    ensures { (j : ℕ) → j < N
         → lane j result ≡ final_hash initial_hash_256 (text_in texts.now j) }
 {
-    let mut state = initial_state();
+    let mut state = in_each_lane(&INITIAL);
     for block in 0..(texts.first_len + texts.second_len + 9) / 64 + 1 {
         let words = block_words(texts, block);
         let next = compress(state, words);
@@ -55,8 +67,8 @@ fn final_state(texts: &Texts) -> [u32x4; 8]
 }
 
 /// The digest in one lane: its words, the high byte of each first.
-pub(crate) fn digest_in_lane(state: &[u32x4; 8], j: usize) -> [u8; 32]
-    requires { j < 4 }
+pub(crate) fn digest_in_lane<const N: usize>(state: &[Simd<u32, N>; 8], j: usize) -> [u8; 32]
+    requires { j < N }
     ensures { result ≡ digest_bytes (lane j state.now) 8 }
 {
     let mut digest = [0; 32];
@@ -67,17 +79,16 @@ pub(crate) fn digest_in_lane(state: &[u32x4; 8], j: usize) -> [u8; 32]
     digest
 }
 
-/// The digests of texts of one length.
-fn digests_of_one_length(texts: &Texts) -> [[u8; 32]; 4]
-    ensures { (j : ℕ) → j < 4 → slice_index_or result j [] ≡ sha256 (text_in texts.now j) }
+/// The digests in all lanes.
+pub(crate) fn digests_in_lanes<const N: usize>(state: &[Simd<u32, N>; 8]) -> [[u8; 32]; N]
+    ensures { (j : ℕ) → j < N
+        → slice_index_or result j [] ≡ digest_bytes (lane j state.now) 8 }
 {
-    let state = final_state(texts);
-    [
-        digest_in_lane(&state, 0),
-        digest_in_lane(&state, 1),
-        digest_in_lane(&state, 2),
-        digest_in_lane(&state, 3),
-    ]
+    let mut digests = [[0; 32]; N];
+    for j in 0..N {
+        digests[j] = digest_in_lane(state, j);
+    }
+    digests
 }
 
 /// The digest of one text.
@@ -91,42 +102,50 @@ fn digest(tag: u8, first: &[u8], second: &[u8]) -> [u8; 32]
     hasher.finalize()
 }
 
-/// The digests of four texts, one after the other.
-fn digests_one_by_one(tags: [u8; 4], first: [&[u8]; 4], second: [&[u8]; 4]) -> [[u8; 32]; 4]
-    ensures { (i : ℕ) → i < 4 → slice_index_or result i []
-        ≡ sha256 (text_of (slice_index tags i) (piece first.entry i) (piece second.entry i)) }
+/// The digests of texts, one after the other.
+fn digests_one_by_one<const N: usize>(
+    tags: [u8; N],
+    first: &[&[u8]],
+    second: &[&[u8]],
+) -> [[u8; 32]; N]
+    requires first { length first.now ≡ N }
+    requires second { length second.now ≡ N }
+    ensures { (i : ℕ) → i < N → slice_index_or result i []
+        ≡ sha256 (text_of (slice_index tags.entry i) (piece first.now i) (piece second.now i)) }
 {
-    [
-        digest(tags[0], first[0], second[0]),
-        digest(tags[1], first[1], second[1]),
-        digest(tags[2], first[2], second[2]),
-        digest(tags[3], first[3], second[3]),
-    ]
+    let mut digests = [[0; 32]; N];
+    for j in 0..N {
+        digests[j] = digest(tags[j], first[j], second[j]);
+    }
+    digests
 }
 
-/// The digests of four texts: of each its byte of `tags`, then its first piece, then its second
-/// one. Where the first pieces have one length, and the second ones too, they are computed side by
+/// The digests of N texts: of each its byte of `tags`, then its first piece, then its second one.
+/// Where the first pieces have one length, and the second ones too, they are computed side by
 /// side, else one after the other.
-pub fn sha256_lanes(
-    tags: [u8; LANES],
-    first: [&[u8]; LANES],
-    second: [&[u8]; LANES],
-) -> [[u8; 32]; LANES]
-    ensures { (i : ℕ) → i < 4 → slice_index_or result i []
-        ≡ sha256 (text_of (slice_index tags i) (piece first.entry i) (piece second.entry i)) }
+pub fn sha256_lanes<'a, const N: usize>(
+    tags: [u8; N],
+    first: &'a [&'a [u8]],
+    second: &'a [&'a [u8]],
+) -> [[u8; 32]; N]
+    requires lanes { N ≤ 64 }
+    requires first { length first.now ≡ N }
+    requires second { length second.now ≡ N }
+    ensures { (i : ℕ) → i < N → slice_index_or result i []
+        ≡ sha256 (text_of (slice_index tags.entry i) (piece first.now i) (piece second.now i)) }
 {
-    let first_len = first[0].len();
-    let second_len = second[0].len();
+    let first_len = len_of_first(first);
+    let second_len = len_of_first(second);
     let is_short = first_len < 1 << 38 && second_len < 1 << 38;
-    if is_short && have_length(first_len, first) && have_length(second_len, second) {
+    if is_short && have_length::<N>(first_len, first) && have_length::<N>(second_len, second) {
         let texts = Texts {
-            tags,
+            tags: &tags,
             first,
             second,
             first_len,
             second_len,
         };
-        digests_of_one_length(&texts)
+        digests_in_lanes(&final_state(&texts))
     } else {
         digests_one_by_one(tags, first, second)
     }

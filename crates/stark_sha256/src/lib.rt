@@ -4,6 +4,7 @@
 mod blocks;
 mod compress;
 mod digest;
+mod eight;
 mod padding;
 mod pairs;
 #[cfg(test)]
@@ -11,5 +12,6 @@ mod tests;
 mod texts;
 mod words;
 
-pub use digest::{LANES, sha256_lanes};
+pub use digest::sha256_lanes;
+pub use eight::{WIDTH, compress_eight, sha256_eight};
 pub use pairs::{compress_pair, compress_pairs};

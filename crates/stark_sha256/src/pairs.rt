@@ -1,79 +1,67 @@
 //! Pairs of digests, compressed.
-ghost use Rattle.std.specs.Prelude.{◌≡◌, ◌+◌, ◌*◌, ◌<◌, ◌++◌, ℕ, [], slice_index, slice_index_or};
+ghost use Rattle.std.specs.Prelude.{◌≡◌, ◌+◌, ◌*◌, ◌<◌, ◌≤◌, ℕ, [], length, slice_index, slice_index_or};
 ghost use Rattle.sha2.specs.Sha256.{word_at};
 ghost use Rattle.stark_sha256.specs.Lanes.{AreWords, lane};
-ghost use Rattle.stark_sha256.specs.Pairs.{pair_digest, pair_start};
-ghost use Rattle.stark_sha256.specs.Pieces.{HaveLength, piece};
+ghost use Rattle.stark_sha256.specs.Pairs.{pair_block, pair_digest, pair_start};
 
 use crate::blocks::word_in;
 use crate::compress::compress;
-use crate::digest::{LANES, digest_in_lane};
-use std::simd::u32x4;
+use crate::digest::{digests_in_lanes, in_each_lane};
+use crate::words::zeros;
+use std::simd::Simd;
 
-/// The hash value before a pair, in each lane.
-fn pair_state() -> [u32x4; 8]
-    ensures { (j : ℕ) → j < 4 → lane j result ≡ pair_start }
-{
-    [
-        u32x4::splat(0xDC2227CC),
-        u32x4::splat(0x1BDE2FE4),
-        u32x4::splat(0xACE08707),
-        u32x4::splat(0x6153B1DB),
-        u32x4::splat(0xE865567D),
-        u32x4::splat(0xE49A000B),
-        u32x4::splat(0x6D03969B),
-        u32x4::splat(0xC3605B12),
-    ]
-}
+/// The hash value before a pair.
+const PAIR_START: [u32; 8] = [
+    0xDC2227CC, 0x1BDE2FE4, 0xACE08707, 0x6153B1DB, 0xE865567D, 0xE49A000B, 0x6D03969B, 0xC3605B12,
+];
 
-/// The words at a place of four digests.
+/// The words at a place of every second digest, from digest `from` on.
 #[inline(always)]
-fn words_of_digests(digests: [&[u8; 32]; LANES], place: usize) -> u32x4
-    requires { place < 8 }
-    ensures words { (j : ℕ) → j < 4
-        → slice_index result j ≡ word_at (piece digests.entry j) (4 * place) }
-    ensures sized { HaveLength 32 digests.entry }
+fn words_of_digests<const N: usize>(digests: &[[u8; 32]], from: usize, place: usize) -> Simd<u32, N>
+    requires digests { 2 * N ≤ length digests.now }
+    requires from { from < 2 }
+    requires place { place < 8 }
+    ensures words { (j : ℕ) → j < N → slice_index result j
+        ≡ word_at (slice_index_or digests.now (2 * j + from) []) (4 * place) }
+    ensures sized { (j : ℕ) → j < N
+        → length (slice_index_or digests.now (2 * j + from) []) ≡ 32 }
 {
-    u32x4::from_array([
-        word_in(digests[0], 4 * place),
-        word_in(digests[1], 4 * place),
-        word_in(digests[2], 4 * place),
-        word_in(digests[3], 4 * place),
-    ])
+    let mut words = [0; N];
+    for j in 0..N {
+        words[j] = word_in(&digests[2 * j + from], 4 * place);
+    }
+    Simd::from_array(words)
 }
 
-/// The words of the blocks that four pairs are.
-fn words_of_pairs(left: [&[u8; 32]; LANES], right: [&[u8; 32]; LANES]) -> [u32x4; 16]
-    ensures { (j : ℕ) → j < 4
-        → AreWords (piece left.entry j ++ piece right.entry j) (lane j result) }
+/// The words of the blocks that N pairs are.
+fn words_of_pairs<const N: usize>(pairs: &[[u8; 32]]) -> [Simd<u32, N>; 16]
+    requires { 2 * N ≤ length pairs.now }
+    ensures { (j : ℕ) → j < N → AreWords (pair_block pairs.now j) (lane j result) }
 {
-    let mut words = [u32x4::splat(0); 16];
+    let mut words = zeros();
     for place in 0..8 {
-        words[place] = words_of_digests(left, place);
-        words[8 + place] = words_of_digests(right, place);
+        words[place] = words_of_digests(pairs, 0, place);
+        words[8 + place] = words_of_digests(pairs, 1, place);
     }
     words
 }
 
-/// The digests of four pairs of digests: of each the 64 bytes are one block, compressed by
-/// SHA-256's function (FIPS 180-4, 6.2.2) from a starting value of the trees' own. It is one
-/// compression, where SHA-256 of the 64 bytes is two.
-pub fn compress_pairs(left: [&[u8; 32]; LANES], right: [&[u8; 32]; LANES]) -> [[u8; 32]; LANES]
-    ensures { (j : ℕ) → j < 4 → slice_index_or result j []
-        ≡ pair_digest (piece left.entry j) (piece right.entry j) }
+/// The digests of N pairs of digests, which stand one after the other: of each the 64 bytes are one
+/// block, compressed by SHA-256's function (FIPS 180-4, 6.2.2) from a starting value of the trees'
+/// own. It is one compression, where SHA-256 of the 64 bytes is two.
+pub fn compress_pairs<const N: usize>(pairs: &[[u8; 32]]) -> [[u8; 32]; N]
+    requires lanes { N ≤ 64 }
+    requires pairs { 2 * N ≤ length pairs.now }
+    ensures { (j : ℕ) → j < N
+        → slice_index_or result j [] ≡ pair_digest (slice_index_or pairs.now (2 * j) [])
+        (slice_index_or pairs.now (2 * j + 1) []) }
 {
-    let state = compress(pair_state(), words_of_pairs(left, right));
-    [
-        digest_in_lane(&state, 0),
-        digest_in_lane(&state, 1),
-        digest_in_lane(&state, 2),
-        digest_in_lane(&state, 3),
-    ]
+    digests_in_lanes(&compress(in_each_lane(&PAIR_START), words_of_pairs(pairs)))
 }
 
 /// The digest of one pair of digests, as `compress_pairs` computes it.
 pub fn compress_pair(left: &[u8; 32], right: &[u8; 32]) -> [u8; 32]
     ensures { result ≡ pair_digest left.now right.now }
 {
-    compress_pairs([left; LANES], [right; LANES])[0]
+    compress_pairs::<1>(&[*left, *right])[0]
 }

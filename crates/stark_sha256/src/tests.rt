@@ -1,7 +1,7 @@
 //! Worked cases. Byte k of the text in lane j is (k mod 251) * (2 * j + 3), modulo 256. The digests
 //! were computed in Python: with hashlib, and those of pairs by the standard's compression function
 //! written there.
-use crate::{LANES, compress_pair, compress_pairs, sha256_lanes};
+use crate::{compress_eight, compress_pair, compress_pairs, sha256_eight, sha256_lanes};
 use std::alloc::Global;
 use std::test::Fail;
 
@@ -9,7 +9,7 @@ use std::test::Fail;
 // bytes the first piece and the second one have, and how many more the first piece has from lane to
 // lane => the first bytes of each digest.
 const CASES: &str = r#"
-# A leaf over so many bytes.
+# A leaf: a byte and one piece.
 0 0 0 0 => 6e340b9cffb37a98 4a64a107f0cb3253 8a331fdde7032f33 4e07408562bedb8b
 0 1 0 0 => 96a296d224f285c6 d94e7f1e9bb1f8a9 37aa3970b6801c9d ac11339ffa8f270c
 0 2 0 0 => f31b2b6ef48dff58 b3519306cf45e249 5bcb4dbb5b996968 040aafd5992d2854
@@ -57,7 +57,7 @@ const PAIRS: &str = r#"
 230 => f9c87fdb8f70bfd3 0e6bcb0740481665 60e24970374f0afa b3013b9e9370f5d0
 "#;
 
-/// The two pieces behind a text's first byte.
+/// The two pieces after a text's first byte.
 #[derive(Drop)]
 struct Pieces {
     first: Vec<u8>,
@@ -66,10 +66,10 @@ struct Pieces {
 
 /// The byte at a place of a lane's text.
 fn byte_at(lane: usize, place: usize) -> u8 {
-    ((place % 251) * (2 * (lane % LANES) + 3) % 256) as u8
+    ((place % 251) * (2 * (lane % 4) + 3) % 256) as u8
 }
 
-/// So many bytes of a text, from a place on.
+/// `len` bytes of a text, from a place on.
 fn bytes_of(alloc: Global, lane: usize, start: usize, len: usize) -> Result<Vec<u8>, Fail> {
     let mut bytes = Vec::new(alloc);
     for place in start..start.saturating_add(len) {
@@ -78,7 +78,7 @@ fn bytes_of(alloc: Global, lane: usize, start: usize, len: usize) -> Result<Vec<
     Ok(bytes)
 }
 
-/// The pieces of the text in a lane, of so many bytes.
+/// The pieces of the text in a lane, of these lengths.
 fn pieces_of(
     alloc: Global,
     lane: usize,
@@ -92,7 +92,7 @@ fn pieces_of(
 }
 
 /// The first bytes of each digest.
-fn shown(alloc: Global, digests: [[u8; 32]; LANES]) -> Result<String, Fail> {
+fn shown(alloc: Global, digests: [[u8; 32]; 4]) -> Result<String, Fail> {
     let mut text = String::new(alloc);
     for digest in &digests {
         if !text.is_empty() {
@@ -109,6 +109,16 @@ fn next_number(case: &str) -> Result<(usize, &str), Fail> {
     Ok((number.parse::<usize>()?, rest))
 }
 
+/// Whether eight digests are four in the opposite order, and then in theirs.
+fn is_twice(eight: &[[u8; 32]; 8], four: &[[u8; 32]; 4]) -> bool {
+    for lane in 0..4 {
+        if eight[3 - lane] != four[lane] || eight[4 + lane] != four[lane] {
+            return false;
+        }
+    }
+    true
+}
+
 /// The answer to a case.
 fn answer(alloc: Global, case: &str) -> Result<String, Fail> {
     let (tag, rest) = next_number(case)?;
@@ -122,19 +132,42 @@ fn answer(alloc: Global, case: &str) -> Result<String, Fail> {
     let three = pieces_of(alloc, 2, first_len.saturating_add(more_twice), second_len)?;
     let more_thrice = more.saturating_mul(3);
     let four = pieces_of(alloc, 3, first_len.saturating_add(more_thrice), second_len)?;
-    shown(
-        alloc,
-        sha256_lanes(
-            [
-                tag,
-                tag.wrapping_add(17),
-                tag.wrapping_add(34),
-                tag.wrapping_add(51),
-            ],
-            [&one.first, &two.first, &three.first, &four.first],
-            [&one.second, &two.second, &three.second, &four.second],
-        ),
-    )
+    let tags = [0, 17, 34, 51].map(|more| tag.wrapping_add(more));
+    let digests = sha256_lanes(
+        tags,
+        &[&one.first, &two.first, &three.first, &four.first],
+        &[&one.second, &two.second, &three.second, &four.second],
+    );
+    let [a, b, c, d] = tags;
+    let eight_tags = [d, c, b, a, a, b, c, d];
+    let first: [&[u8]; 8] = [
+        &four.first,
+        &three.first,
+        &two.first,
+        &one.first,
+        &one.first,
+        &two.first,
+        &three.first,
+        &four.first,
+    ];
+    let second: [&[u8]; 8] = [
+        &four.second,
+        &three.second,
+        &two.second,
+        &one.second,
+        &one.second,
+        &two.second,
+        &three.second,
+        &four.second,
+    ];
+    let eight = sha256_lanes(eight_tags, &first, &second);
+    if sha256_eight(eight_tags, &first, &second) != eight {
+        return Err(Fail::new("eight texts have other digests by the width"));
+    }
+    if !is_twice(&eight, &digests) {
+        return Err(Fail::new("eight texts have other digests than four"));
+    }
+    shown(alloc, digests)
 }
 
 /// The 32 bytes of a text from a place on.
@@ -150,13 +183,22 @@ fn digest_from(lane: usize, start: usize) -> [u8; 32] {
 fn pair_answer(alloc: Global, case: &str) -> Result<String, Fail> {
     let start = case.parse::<usize>()?;
     let middle = start.saturating_add(32);
-    let left = [0, 1, 2, 3].map(|lane| digest_from(lane, start));
-    let right = [0, 1, 2, 3].map(|lane| digest_from(lane, middle));
-    let digests = compress_pairs(
-        [&left[0], &left[1], &left[2], &left[3]],
-        [&right[0], &right[1], &right[2], &right[3]],
-    );
-    if compress_pair(&left[2], &right[2]) != digests[2] {
+    let mut pairs = [[0; 32]; 16];
+    for place in 0..8 {
+        let lane = if place < 4 { 3 - place } else { place - 4 };
+        pairs[2 * place] = digest_from(lane, start);
+        pairs[2 * place + 1] = digest_from(lane, middle);
+    }
+    let all = &pairs[..];
+    let digests = compress_pairs(&all[8..]);
+    let eight = compress_pairs(all);
+    if compress_eight(all) != eight {
+        return Err(Fail::new("eight pairs have other digests by the width"));
+    }
+    if !is_twice(&eight, &digests) {
+        return Err(Fail::new("eight pairs have other digests than four"));
+    }
+    if compress_pair(&pairs[12], &pairs[13]) != digests[2] {
         return Err(Fail::new("a pair alone has another digest"));
     }
     shown(alloc, digests)

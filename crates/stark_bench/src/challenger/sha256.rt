@@ -7,7 +7,7 @@ ghost use Rattle.stark_bench.specs.ChallengeFacts.{after_four_in_turn, four_in_t
 
 use crate::challenger::commitment::{ClearCommitment, observe_matrices};
 use crate::challenger::coordinates::sample_coordinates;
-use crate::challenger::trials::{first_of_four, leading, passes_behind};
+use crate::challenger::trials::{first_of_eight, leading, passes_after};
 use sha2::{Digest, Sha256};
 use stark_fields::{Ext4, Modulus, Residue};
 use stark_merkle::Root;
@@ -94,7 +94,7 @@ impl<M: Modulus, Kind> CanObserve<ClearCommitment<Residue<M, Kind>>>
 impl<M: Modulus, Kind> CanObserve<Root> for Sha256Challenger<Residue<M, Kind>> {
     ghost after_observe = { λ s root. absorbed s 3 root.bytes };
 
-    /// The 32 bytes, absorbed at once, behind a byte of their own that tells them from an element.
+    /// The 32 bytes, absorbed at once, after a byte of their own that no element begins with.
     fn observe(&mut self, value: &Root) {
         self.absorb(3, &value.bytes());
     }
@@ -168,18 +168,18 @@ impl<M: Modulus, Kind> GrindingChallenger for Sha256Challenger<Residue<M, Kind>>
 
     /// The first of the numbers 0, 1, .. below the modulus whose element passes, with the state
     /// after its check; None where no element passes, as is likely where `2^bits` is far above the
-    /// modulus. A number takes two digests, of four numbers side by side, and at `bits` bits one in
-    /// `2^bits` passes.
+    /// modulus. A number takes two digests, computed for eight numbers at a time, and at `bits`
+    /// bits one in `2^bits` passes.
     fn grind(&mut self, bits: usize) -> Option<Residue<M, Kind>> {
-        let groups = M::MODULUS / 4;
+        let groups = M::MODULUS / 8;
         for group in 0..groups {
-            if let Some(number) = first_of_four(&self.state, bits, 4 * group) {
+            if let Some(number) = first_of_eight(&self.state, bits, 8 * group) {
                 let witness = Residue::new(number);
                 self.check_witness(bits, witness);
                 return Some(witness);
             }
         }
-        for number in 4 * groups..M::MODULUS {
+        for number in 8 * groups..M::MODULUS {
             let witness = Residue::new(number);
             let mut trial = self.copied();
             if trial.check_witness(bits, witness) {
@@ -196,7 +196,7 @@ impl<M: Modulus, Kind> GrindingChallenger for Sha256Challenger<Residue<M, Kind>>
         }
         self.observe(&witness);
         self.absorb(2, &[]);
-        passes_behind(&self.state, bits)
+        passes_after(&self.state, bits)
     }
 
     ghost grinding = { sha_laws };

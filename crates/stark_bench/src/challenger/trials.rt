@@ -1,11 +1,11 @@
-//! Trials of witnesses, four side by side.
-ghost use Rattle.std.specs.Prelude.{◌≡◌, ◌+◌, ◌<◌, ◌^◌, ◌∷◌, ◌++◌, [], ℕ, slice_index_or};
+//! Trials of witnesses, eight at a time.
+ghost use Rattle.std.specs.Prelude.{◌≡◌, ◌+◌, ◌<◌, ◌^◌, ◌∷◌, ◌++◌, [], ℕ, slice_index, slice_index_or};
 ghost use Rattle.sha2.specs.Sha256.{sha256};
 ghost use Rattle.stark_sha256.specs.Pieces.{piece};
 ghost use Rattle.stark_support.specs.Seed.{number};
-ghost use Rattle.stark_bench.specs.Challenges.{IsFirstOfFour, after_trial, leading, passes_behind};
+ghost use Rattle.stark_bench.specs.Challenges.{IsFirstOfEight, after_trial, leading, passes_after};
 
-use stark_sha256::{LANES, sha256_lanes};
+use stark_sha256::sha256_eight;
 use stark_support::checked_pow2;
 
 /// The number that a state hands out: its first 8 bytes, the high one first.
@@ -18,8 +18,8 @@ pub fn leading(state: &[u8; 32]) -> u64
 }
 
 /// Whether the number that a state hands out is a multiple of `2^bits`, which is a word's.
-pub fn passes_behind(state: &[u8; 32], bits: usize) -> bool
-    ensures { result ≡ passes_behind state.now bits }
+pub fn passes_after(state: &[u8; 32], bits: usize) -> bool
+    ensures { result ≡ passes_after state.now bits }
 {
     match checked_pow2(bits) {
         Some(power) => leading(state) as usize % power == 0,
@@ -37,46 +37,60 @@ fn element_text(n: u64) -> [u8; 9]
     text
 }
 
-/// The states behind four states and a text each.
-fn absorbed_by(states: &[[u8; 32]; LANES], texts: [&[u8]; LANES]) -> [[u8; 32]; LANES]
-    ensures { (j : ℕ) → j < 4 → slice_index_or result j []
-        ≡ sha256 (slice_index_or states.now j [] ++ piece texts.entry j) }
+/// A state's bytes after the first.
+fn rest_of(state: &[u8; 32]) -> &[u8]
+    ensures { state.now ≡ slice_index state.now 0 ∷ result.now }
 {
-    sha256_lanes(
-        [states[0][0], states[1][0], states[2][0], states[3][0]],
-        [
-            &states[0][1..],
-            &states[1][1..],
-            &states[2][1..],
-            &states[3][1..],
+    &state[1..]
+}
+
+/// The states after eight states and a text each.
+fn absorbed_by(states: &[[u8; 32]; 8], texts: &[&[u8]; 8]) -> [[u8; 32]; 8]
+    ensures { (j : ℕ) → j < 8 → slice_index_or result j []
+        ≡ sha256 (slice_index_or states.now j [] ++ piece texts.now j) }
+{
+    let [a, b, c, d, e, f, g, h] = states;
+    sha256_eight(
+        [a[0], b[0], c[0], d[0], e[0], f[0], g[0], h[0]],
+        &[
+            rest_of(a),
+            rest_of(b),
+            rest_of(c),
+            rest_of(d),
+            rest_of(e),
+            rest_of(f),
+            rest_of(g),
+            rest_of(h),
         ],
         texts,
     )
 }
 
-/// The states behind the elements of four numbers, the first and those that follow it, and a draw
-/// of bits behind each.
-fn after_trials(state: &[u8; 32], first: u64) -> [[u8; 32]; LANES]
-    requires { first + 4 < 2 ^ 64 }
-    ensures { (j : ℕ) → j < 4
+/// The states after the elements of eight numbers, the first and those that follow it, and a draw
+/// of bits after each.
+fn after_trials(state: &[u8; 32], first: u64) -> [[u8; 32]; 8]
+    requires { first + 8 < 2 ^ 64 }
+    ensures { (j : ℕ) → j < 8
         → slice_index_or result j [] ≡ after_trial state.now (first + j) }
 {
-    let one = element_text(first);
-    let two = element_text(first + 1);
-    let three = element_text(first + 2);
-    let four = element_text(first + 3);
-    let elements = absorbed_by(&[*state; LANES], [&one, &two, &three, &four]);
-    absorbed_by(&elements, [&[2]; LANES])
+    let mut texts = [[0; 9]; 8];
+    for j in 0..8 {
+        texts[j] = element_text(first + j as u64);
+    }
+    let [a, b, c, d, e, f, g, h] = &texts;
+    let elements = absorbed_by(&[*state; 8], &[a, b, c, d, e, f, g, h]);
+    let bits: &[u8] = &[2];
+    absorbed_by(&elements, &[bits; 8])
 }
 
-/// The first of four numbers that passes; None where none does.
-pub fn first_of_four(state: &[u8; 32], bits: usize, first: u32) -> Option<u32>
-    requires { first + 4 < 2 ^ 32 }
-    ensures { IsFirstOfFour (λ n. passes_behind (after_trial state.now n) bits) first result }
+/// The first of eight numbers that passes; None where none does.
+pub fn first_of_eight(state: &[u8; 32], bits: usize, first: u32) -> Option<u32>
+    requires { first + 8 < 2 ^ 32 }
+    ensures { IsFirstOfEight (λ n. passes_after (after_trial state.now n) bits) first result }
 {
     let states = after_trials(state, u64::from(first));
-    for lane in 0..4u32 {
-        if passes_behind(&states[lane as usize], bits) {
+    for lane in 0..8u32 {
+        if passes_after(&states[lane as usize], bits) {
             return Some(first + lane);
         }
     }

@@ -3,7 +3,7 @@ use Rattle.std.specs.List.{zip}
 use Rattle.stark_fri.specs.Found.{FindsQueryFault}
 use Rattle.stark_fri.specs.Query.{QueryFails, QueryHolds}
 use Rattle.stark_fri.specs.Replayed.{target_of}
-use Rattle.stark_fri.proofs.FourSteps.{first_hold, first_passed}
+use Rattle.stark_fri.proofs.EightSteps.{first_hold, first_passed}
 use Rattle.stark_fri.proofs.ListSteps.{holds_end, holds_step, passed_with_step, passed_with_stop, zip_at, zip_ended}
 use Rattle.stark_fri.proofs.verify.first_query_fault.Invariants.{fields_of}
 use Rattle.stark_fri.proofs.verify.first_query_fault.Goals as goal

@@ -5,8 +5,8 @@ use Rattle.stark_merkle.proofs.tree.next_layer.Goals as goal
 pub loop-j-preserved : goal.loop-j-preserved
 loop-j-preserved g c =
     let node = g.H.TreeHash.digests.node in
-    let place = 4 * c.loop-group.group + c.loop-j.j in
-    let next : 4 * c.loop-group.group + (c.loop-j.j + 1) ≡ place + 1 = omega arith in
+    let place = 8 * c.loop-group.group + c.loop-j.j in
+    let next : 8 * c.loop-group.group + (c.loop-j.j + 1) ≡ place + 1 = omega arith in
     rw next (paired_more node c.args.layer.now place _ _ _ _ c.loop-j.above.items _ _ (omega arith)
     refl refl (c.nodes_over-nodes.ensures c.loop-j.j (omega arith)) c.in_ok-push.ensures.items c.loop-j.invariant)
 

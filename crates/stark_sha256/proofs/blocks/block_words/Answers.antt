@@ -6,7 +6,7 @@ use Rattle.stark_sha256.proofs.TextFacts.{word_of_block}
 use Rattle.stark_sha256.proofs.blocks.block_words.Goals as goal
 
 pub returns : goal.returns
-returns c j low = (
+returns g c j low = (
   length-map c.loop-place.words (λ word. slice_index word j) ∙ c.loop-place.invariant.0,
   λ i below.
       let within : i < c.loop-place.place = omega arith in

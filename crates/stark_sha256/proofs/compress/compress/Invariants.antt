@@ -4,5 +4,5 @@ use Rattle.stark_sha256.specs.Lanes.{AreWords, lane}
 use Rattle.stark_sha256.proofs.compress.compress.Given as goal
 
 abbrev pub invariant-loop-turn : goal.invariant-loop-turn
-invariant-loop-turn l = (j : ℕ) → j < 4 → (b : List ℕ) → AreWords b (lane j l.fn.words)
+invariant-loop-turn g l = (j : ℕ) → j < g.row.N → (b : List ℕ) → AreWords b (lane j l.fn.words)
     → IsRoundsAt b (lane j l.fn.state) (lane j l.window) (lane j l.v) (16 * l.turn)

@@ -3,7 +3,7 @@ use Rattle.sha2.specs.Sha256.{rounds, schedule}
 use Rattle.stark_sha256.proofs.compress.first_four_steps.Goals as goal
 
 pub returns : goal.returns
-returns c j low = λ b h window holding.
+returns g c j low = λ b h window holding.
     let after = rounds h (schedule b 48) in
     let one = c.first_step-v.ensures j low b h window holding in
     let two = c.first_step-v-2.ensures j low b h window one in

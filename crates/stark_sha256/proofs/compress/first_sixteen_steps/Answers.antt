@@ -5,7 +5,7 @@ use Rattle.stark_sha256.proofs.compress.first_sixteen_steps.Goals as goal
 
 pub returns : goal.returns
 unfolding rounds
-returns c j low = λ b window.
+returns g c j low = λ b window.
     let h = lane j c.args.state in
     let four = c.first_four_steps-v.ensures j low b h window refl in
     let eight = c.first_four_steps-v-2.ensures j low b h window four in

@@ -3,7 +3,7 @@ use Rattle.sha2.proofs.Schedule256.{IsRoundsAt_at}
 use Rattle.stark_sha256.proofs.compress.four_steps.Goals as goal
 
 pub returns : goal.returns
-returns c j low = λ b h holding.
+returns g c j low = λ b h holding.
     let one = c.step-v.ensures j low b h holding in
     let two = c.step-v-2.ensures j low b h (IsRoundsAt_at b h _ _ _ _ (omega arith) one) in
     let three = c.step-v-3.ensures j low b h (IsRoundsAt_at b h _ _ _ _ (omega arith) two) in

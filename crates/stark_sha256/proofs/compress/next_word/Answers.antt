@@ -3,7 +3,7 @@ use Rattle.stark_sha256.proofs.LaneFacts.{word_in_lane}
 use Rattle.stark_sha256.proofs.compress.next_word.Goals as goal
 
 pub returns-clause-value : goal.returns-clause-value
-returns-clause-value c j h =
+returns-clause-value g c j h =
     let at : c.args.place % 16 ≡ c.args.place = omega arith in
     rw (
       at,

@@ -10,10 +10,10 @@ use Rattle.stark_sha256.proofs.digest.digest_in_lane.Goals as goal
 
 pub loop-place-init : goal.loop-place-init
 unfolding digest_bytes
-loop-place-init c = search rules
+loop-place-init g c = search rules
 
 pub loop-place-preserved : goal.loop-place-preserved
-loop-place-preserved c =
+loop-place-preserved g c =
     let words = lane c.args.j c.args.state.now in
     let word = sym (word_in_lane c.args.j c.args.state.now c.loop-place.place) in (
       search (rules, overwrites),
@@ -23,6 +23,6 @@ loop-place-preserved c =
     )
 
 pub returns : goal.returns
-returns c =
+returns g c =
     let done : c.loop-place.place ≡ 8 = omega arith in
     sym (take_all 32 c.loop-place.digest (omega arith)) ∙ rw done at c.loop-place.invariant.1

@@ -4,5 +4,5 @@ use Rattle.stark_sha256.specs.Lanes.{lane}
 use Rattle.stark_sha256.proofs.digest.digest_in_lane.Given as goal
 
 abbrev pub invariant-loop-place : goal.invariant-loop-place
-invariant-loop-place l = (length l.digest ≡ 32)
+invariant-loop-place g l = (length l.digest ≡ 32)
     × (take (4 * l.place) l.digest ≡ digest_bytes (lane l.j l.state) l.place)

@@ -13,3 +13,4 @@ pub mod SelectorRows
 pub mod BalanceOfTrace
 pub mod HeightSteps
 pub mod RowCheckSteps
+pub mod RowValueSteps

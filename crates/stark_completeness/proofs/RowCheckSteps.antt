@@ -1,5 +1,5 @@
 -- A check of a trace's rows.
-use Rattle.std.proofs.Common.{◌≡◌, ◌≢◌, ◌∙◌, ap, sym, subst, arith, refl, add-one, ℕ, zero, suc, ◌+◌, ◌*◌, ◌^◌, ◌<◌, ◌≤◌, List, [], ◌∷◌, length, take, Some, None, inl, inr}
+use Rattle.std.proofs.Common.{◌≡◌, ◌≢◌, ◌∙◌, ap, sym, subst, arith, refl, add-one, ℕ, zero, suc, ◌+◌, ◌*◌, ◌^◌, ◌<◌, ◌≤◌, List, [], ◌∷◌, length, take, Option, Some, None, inl, inr}
 use Rattle.std.specs.List.{AllByRecursion, slice_get}
 use Rattle.std.proofs.lemmas.List.{take_all}
 use Rattle.std.proofs.lemmas.Bool.{cases_lt}
@@ -10,12 +10,15 @@ use Rattle.stark_support.specs.Selectors.{first_row_selector, last_row_selector}
 use Rattle.stark_support.specs.Subgroup.{group_of}
 use Rattle.stark_completeness.proofs.SelectorRows.{first_elsewhere, last_elsewhere}
 use Rattle.stark_support.specs.Operations.{ring_operations}
-use Rattle.stark_air.specs.Declaration.{next_width}
+use Rattle.stark_air.specs.Declaration.{Trace, next_width}
 use Rattle.stark_air.specs.Rows.{environment_of}
+use Rattle.stark_air.specs.Tree.{Constraint}
 use Rattle.stark_air.specs.Value.{Environment}
 use Rattle.stark_security.specs.ConstraintPolynomial.{AirInstance, height}
 use Rattle.stark_completeness.specs.RowSatisfaction.{TraceRows, HoldsInRow}
-use Rattle.stark_completeness.specs.RowCheck.{rows_in, IsBrokenIn, IsFirstNonzero, IsFirstViolation, IsFoundIn, IsRefusedOr, values_in}
+use Rattle.stark_completeness.specs.RowCheck.{base_air, rows_in, trace_rows, IsBrokenIn, IsFirstNonzero, IsFirstViolation, IsFoundIn, IsRefusedOr, values_in}
+use Rattle.stark_completeness.specs.CheckedRows.{IsGiven, checked_air, checked_rows}
+use Rattle.stark_completeness.specs.declared.check.CheckedTrace.{CheckedTrace}
 use Rattle.stark_completeness.specs.declared.violation.ConstraintViolation.{ConstraintViolation}
 use Rattle.stark_completeness.specs.declared.violation.ConstraintCheckError.{ConstraintCheckError}
 use Rattle.stark_completeness.specs.declared.violation.ConstraintCheckError.TheVariants.{OutOfMemory, Violation}
@@ -135,3 +138,10 @@ module _ {F : Type 0} where
 -- What is said of an AIR and rows, of the same AIR and rows.
 pub said_of_same : {I R : Type 0} (P : I → R → Type 0) {i j : I} {r s : R} → i ≡ j → r ≡ s → P i r → P j s
 said_of_same P {i} {j} {r} {s} same_air same_rows holds = subst (λ x. P x s) same_air (subst (P i) same_rows holds)
+
+-- What is said of what is checked, of what was given.
+pub said_of_given : {F : Type 0} (ring : RingOps F) (inverse : F → F) (root : ℕ → F) (constraints : List (Constraint F)) {columns : List (List F)} {trace : Trace F} {preprocessed : Option (Trace F)} {values : List F} {t : CheckedTrace F}
+    (P : AirInstance F F → TraceRows F → Type 0) → IsGiven columns trace preprocessed values t → (log_size : ℕ) → length trace.values ≡ 2 ^ log_size * trace.width
+    → P (checked_air ring inverse root constraints t) (checked_rows t) → P (base_air ring inverse root constraints columns log_size) (trace_rows trace preprocessed values)
+said_of_given ring inverse root constraints {columns = columns} {t = t} P given log_size number holds =
+    said_of_same P (ap (λ p. base_air ring inverse root constraints p t.log_height) given.periodic ∙ ap (base_air ring inverse root constraints columns) (given.height log_size number)) given.rows holds

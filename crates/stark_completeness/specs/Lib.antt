@@ -6,6 +6,7 @@ pub mod TrueOpenings
 pub mod CommittedQuotient
 pub mod RowSatisfaction
 pub mod RowCheck
+pub mod RowValues
 pub mod DebugBuilder
 pub mod RowSelectors
 pub mod CheckedRows

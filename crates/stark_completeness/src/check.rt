@@ -7,7 +7,7 @@ ghost use Rattle.stark_completeness.specs.RowSelectors.{AreSelectorsIn};
 ghost use Rattle.stark_support.specs.Scheme.{matrix_row};
 ghost use Rattle.stark_completeness.specs.RowSatisfaction.{HoldsInEachRow, HoldsInRow};
 ghost use Rattle.stark_completeness.specs.RowCheck.{IsBrokenIn, IsFirstViolation, IfViolation, IsFoundIn, entry_in_row, trace_of, values_in, trace_in};
-ghost use Rattle.stark_completeness.specs.CheckedRows.{FitsLayout, checked_air, checked_rows};
+ghost use Rattle.stark_completeness.specs.CheckedRows.{FitsLayout, IsGiven, checked_air, checked_rows};
 
 use crate::debug_builder::{RowLeaves, values_in_row};
 use crate::findings::RowChecks;
@@ -23,12 +23,12 @@ use std::mem;
 
 /// What is checked: the rows of a trace and of a preprocessed one, and what else constraints read.
 #[derive(Clone, Copy, Debug)]
-struct CheckedTrace<'a, F> {
+pub(crate) struct CheckedTrace<'a, F> {
     main: RowMajorMatrixView<'a, F>,
     preprocessed: RowMajorMatrixView<'a, F>,
     public_values: &'a [F],
-    periodic_columns: &'a [Vec<F>],
-    log_height: usize,
+    pub periodic_columns: &'a [Vec<F>],
+    pub log_height: usize,
 }
 
 /// Buffers that serve every row.
@@ -59,7 +59,7 @@ fn row_after(row: usize, height: usize) -> usize
 }
 
 /// The periodic columns' entries in a row, in a lent buffer, in place of what it has.
-fn periodic_entries<F: Field>(
+pub(crate) fn periodic_entries<F: Field>(
     columns: &[Vec<F>],
     row: usize,
     buffer: Vec<F>,
@@ -110,9 +110,32 @@ fn view_or_empty<'a, F>(matrix: Option<&'a RowMajorMatrix<F>>) -> RowMajorMatrix
     }
 }
 
+/// The rows of these matrices, with what else an AIR's constraints read.
+pub(crate) fn checked_trace<'a, F: TwoAdicField, A: Air<F>>(
+    air: &'a A,
+    trace: &'a RowMajorMatrix<F>,
+    preprocessed: Option<&'a RowMajorMatrix<F>>,
+    public_values: &'a [F],
+) -> CheckedTrace<'a, F>
+    requires columns { 0 < trace.now.width }
+    requires rows { (log_height : ℕ) × ⟦<A as RowChecks<F>>⟧.is_laid_out air.now log_height
+        (trace_of trace.now) (trace_in preprocessed) public_values.now }
+    ensures fits { FitsLayout (A.layout air.now) F.TWO_ADICITY result }
+    ensures given { IsGiven (A.periodic_columns air.now) (trace_of trace.now)
+        (trace_in preprocessed.entry) public_values.now result }
+{
+    CheckedTrace {
+        main: RowMajorMatrixView::new(trace.values.as_slice(), trace.width),
+        preprocessed: view_or_empty(preprocessed),
+        public_values,
+        periodic_columns: air.periodic_columns(),
+        log_height: log_height_of(trace),
+    }
+}
+
 /// The constraints' values in a row, with the periodic columns' entries there; `values` lends its
 /// room.
-fn values_of<F: TwoAdicField, A: Air<F>>(
+pub(crate) fn values_of<F: TwoAdicField, A: Air<F>>(
     air: &A,
     trace: &CheckedTrace<'_, F>,
     selectors: RowSelectors<F>,
@@ -237,12 +260,6 @@ pub fn check_constraints<'a, F: TwoAdicField, A: Air<F>>(
     ensures broken { IfViolation result (⟦<A as RowChecks<F>>⟧.is_first_violation air.now
         (trace_of trace.now) (trace_in preprocessed.entry) public_values.now) }
 {
-    let checked = CheckedTrace {
-        main: RowMajorMatrixView::new(trace.values.as_slice(), trace.width),
-        preprocessed: view_or_empty(preprocessed),
-        public_values,
-        periodic_columns: air.periodic_columns(),
-        log_height: log_height_of(trace),
-    };
+    let checked = checked_trace(air, trace, preprocessed, public_values);
     check_rows(alloc, air, &checked)
 }

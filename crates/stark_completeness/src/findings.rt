@@ -2,6 +2,7 @@
 ghost use Rattle.std.specs.Prelude.{ℕ, List, Option};
 ghost use Rattle.stark_air.specs.Declaration.{Trace};
 ghost use Rattle.stark_completeness.specs.RowCheck.{AreLaidOut, IsFirstOfTrace, IsSatisfiedByTrace};
+ghost use Rattle.stark_completeness.specs.RowValues.{AreValuesOfTrace};
 ghost use Rattle.stark_completeness.specs.declared.violation.ConstraintViolation.{ConstraintViolation};
 
 use stark_air::Air;
@@ -20,6 +21,9 @@ pub trait RowChecks<F: TwoAdicField>: Air<F> {
     /// It is the first row that breaks a constraint, and in it the first constraint.
     ghost is_first_violation: { Self → Trace F → Option (Trace F) → List F
         → ConstraintViolation F → Type 0 };
+
+    /// They are the constraints' values in each row, one row after the other.
+    ghost are_row_values: { Self → Trace F → Option (Trace F) → List F → List F → Type 0 };
 }
 
 impl<F: TwoAdicField, A: Air<F>> RowChecks<F> for A {
@@ -29,5 +33,8 @@ impl<F: TwoAdicField, A: Air<F>> RowChecks<F> for A {
         (A.constraints air) (A.periodic_columns air) };
 
     ghost is_first_violation = { λ air. IsFirstOfTrace F.ring F.inverse_of F.root F.TWO_ADICITY
+        (A.constraints air) (A.periodic_columns air) };
+
+    ghost are_row_values = { λ air. AreValuesOfTrace F.ring F.inverse_of F.root
         (A.constraints air) (A.periodic_columns air) };
 }

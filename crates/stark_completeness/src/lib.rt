@@ -12,6 +12,7 @@ mod height;
 mod laws;
 mod row_selectors;
 mod row_value;
+mod row_values;
 mod violation;
 
 pub use check::check_constraints;
@@ -21,4 +22,5 @@ pub use findings::RowChecks;
 pub use height::log_height_of;
 pub use laws::satisfaction_is_row_by_row;
 pub use row_value::RowValue;
+pub use row_values::constraint_values;
 pub use violation::{ConstraintCheckError, ConstraintViolation};

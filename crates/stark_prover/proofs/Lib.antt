@@ -16,3 +16,4 @@ pub mod SizedSteps
 pub mod AcceptableSteps
 pub mod CompletenessSteps
 pub mod CompletenessAnswer
+pub mod CommittedSteps

@@ -15,3 +15,4 @@ pub mod Acceptable
 pub mod SetUpFacts
 pub mod Completeness
 pub mod Proving
+pub mod CommittedProving

@@ -8,10 +8,12 @@ ghost use Rattle.stark_transcript.specs.declared.error.ProvingError.{ProvingErro
 ghost use Rattle.stark_transcript.specs.declared.shape.StarkShape.{StarkShape};
 ghost use Rattle.stark_transcript.specs.declared.transcript.prover.StarkProverTranscript.{StarkProverTranscript};
 ghost use Rattle.stark_proof.specs.declared.values.Proof.{Proof};
+ghost use Rattle.stark_prover.specs.CommittedProving.{CommittedCompleteness, IsAcceptableOfCommitted, IsCommitmentToSome, IsFaultOfCommitted, IsProofOfCommitted};
 ghost use Rattle.stark_prover.specs.ProverView.{ProverView, prover_view};
 ghost use Rattle.stark_prover.specs.Proving.{Completeness, IsAcceptableProof, IsFaultAt, IsFaultOf, IsProofAt, IsProofOf, IsProofWith};
 ghost use Rattle.stark_prover.specs.Stages.{AreDomainsOf, ArePreprocessedRows, AreQuotients, AreTraceRows, HasColumns, HasPreprocessedColumns, IsBound, IsCommitted, IsDomainFault, IsFault, IsFaultBehindColumns, IsOpened, IsProof, IsQuotientOf, IsRefusalOf, IsSeeded, columns_fault_at, described_at, domain_fault_at};
 ghost use Rattle.stark_prover.specs.declared.commit.Committed.{Committed};
+ghost use Rattle.stark_prover.specs.declared.committed.CommittedTrace.{CommittedTrace};
 ghost use Rattle.stark_prover.specs.declared.contracts.ProverInputs.{ProverInputs};
 ghost use Rattle.stark_prover.specs.declared.domains.ProverDomains.{ProverDomains};
 ghost use Rattle.stark_prover.specs.declared.open.OpenedProof.{OpenedProof};
@@ -131,6 +133,52 @@ where
         (⟦<SC as StarkProverView<A>>⟧.view i) };
 
     ghost fault_at = { λ i. IsFaultAt ⟦<SC as StarkOperations>⟧.operations
+        (⟦<SC as StarkProverView<A>>⟧.view i) };
+}
+
+/// What a prover answers, of its inputs, for a trace that is committed to already: the same of
+/// whatever trace the commitment is to.
+pub trait StarkCommitted<A>: StarkGenericConfig {
+    ghost Instance: { Type 0 };
+
+    ghost Committed: { Type 0 };
+
+    ghost Proof: { Type 0 };
+
+    ghost is_committed: { Instance → Committed → Type 0 };
+
+    ghost is_proof: { Instance → Committed → Proof → Type 0 };
+
+    ghost is_acceptable: { Instance → Committed → Proof → Type 0 };
+
+    ghost completeness: { Instance → Committed → Proof → Type 0 };
+
+    ghost fault: { Instance → Committed → ProvingError Self.Pcs.ProverError → Type 0 };
+}
+
+impl<SC: StarkGenericConfig, A: Air<Val<SC>>> StarkCommitted<A> for SC
+where
+    SC::Challenger: GrindingChallenger<Witness = Val<SC>>,
+{
+    ghost Instance = { ProverInputs SC A SC.Pcs.Domain.Val SC.Pcs.Commitment SC.Pcs.ProverData };
+
+    ghost Committed = { CommittedTrace SC.Pcs.Commitment SC.Pcs.ProverData };
+
+    ghost Proof = { Proof SC.Pcs.Commitment SC.Challenge SC.Pcs.Proof SC.Pcs.Domain.Val };
+
+    ghost is_committed = { λ i. IsCommitmentToSome ⟦<SC as StarkOperations>⟧.operations
+        (⟦<SC as StarkProverView<A>>⟧.view i) };
+
+    ghost is_proof = { λ i. IsProofOfCommitted ⟦<SC as StarkOperations>⟧.operations
+        (⟦<SC as StarkProverView<A>>⟧.view i) };
+
+    ghost is_acceptable = { λ i. IsAcceptableOfCommitted ⟦<SC as StarkOperations>⟧.operations
+        (⟦<SC as StarkProverView<A>>⟧.view i) };
+
+    ghost completeness = { λ i. CommittedCompleteness ⟦<SC as StarkOperations>⟧.operations
+        (⟦<SC as StarkProverView<A>>⟧.view i) (A.preprocessed_trace i.air.now) };
+
+    ghost fault = { λ i. IsFaultOfCommitted ⟦<SC as StarkOperations>⟧.operations
         (⟦<SC as StarkProverView<A>>⟧.view i) };
 }
 

@@ -3,6 +3,7 @@
 #![tactic(auto)]
 
 mod commit;
+mod committed;
 mod contracts;
 mod domains;
 mod open;
@@ -12,5 +13,6 @@ mod quotient;
 mod rounds;
 mod transcript;
 
-pub use contracts::StarkProving;
+pub use committed::{CommittedTrace, prove_committed};
+pub use contracts::{StarkCommitted, StarkProving};
 pub use prover::{prove, prove_with_preprocessed};

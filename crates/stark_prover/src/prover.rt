@@ -146,7 +146,7 @@ where
 
 /// The proof of a committed trace, over a transcript that begins with the configuration's first
 /// state.
-fn prove_over_transcript<SC: StarkGenericConfig, A: ProvableAir<SC>>(
+pub(crate) fn prove_over_transcript<SC: StarkGenericConfig, A: ProvableAir<SC>>(
     alloc: Global,
     instance: &ProverInstance<'_, SC, A>,
     domains: ProverDomains<Domain<SC>>,

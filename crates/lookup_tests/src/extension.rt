@@ -3,6 +3,7 @@ use stark_fields::{BabyBearField, Ext4};
 use stark_lookup_extension::{
     Direction, ExtensionError, Lookup, LookupInteraction, LookupList, extended_air,
 };
+use stark_lookup_rows::group_lookups;
 use stark_lookup_trace::{LookupDraws, TupleEntry, lookup_columns};
 use stark_support::{Element, ExtensionField, Field, PrimeField64};
 use stark_test_cases::{all_cases, apart, element, elements_in, numbers_in, shown};
@@ -168,17 +169,6 @@ fn push_groups(
     Ok(())
 }
 
-/// The number of each group's lookup.
-fn lookup_numbers(alloc: Global, given: &LookupList) -> Result<Vec<usize>, Fail> {
-    let mut numbers = Vec::new(alloc);
-    for (number, lookup) in given.lookups.iter().enumerate() {
-        for _ in &lookup.groups {
-            numbers.push(number)?;
-        }
-    }
-    Ok(numbers)
-}
-
 fn coordinates_in(alloc: Global, text: &str) -> Result<Above, Fail> {
     let coordinates = elements_in::<Base>(alloc, text)?;
     Ok(Above::from_basis_coefficients_slice(&coordinates).ok_or("other coordinates")?)
@@ -201,7 +191,7 @@ fn extended_rows(
     for row in rows {
         push_groups(alloc, &mut groups, row, given)?;
     }
-    let numbers = lookup_numbers(alloc, given)?;
+    let numbers = group_lookups(alloc, given)?;
     if rows.len().checked_mul(numbers.len()) != Some(groups.len()) {
         return Err(Fail::new("other groups"));
     }

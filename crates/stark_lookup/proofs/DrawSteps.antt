@@ -38,15 +38,21 @@ module _ {F E : Type 0} (f : F → E) (none : F) where
     next_block : (before : List F) (x : A) → length before + dimension ≡ length (before ++ coordinates x)
     next_block before x = ap (λ n. length before + n) (sym (count x)) ∙ sym (length-append before (coordinates x))
 
-    blocks_there : (before : List F) (xs : List A) → blocks_from (value_of (before ++ flat_map coordinates xs)) (length before) dimension (length xs) ≡ map (λ x. map f (coordinates x)) xs
-    blocks_there before [] = refl
-    blocks_there before (x ∷ xs) =
-        let all = before ++ (coordinates x ++ flat_map coordinates xs) in
-        ap (λ b. b ∷ blocks_from (value_of all) (length before + dimension) dimension (length xs)) (block_there before x (flat_map coordinates xs))
+    -- the blocks of elements, between other values
+    pub blocks_among : (before : List F) (xs : List A) (after : List F) → blocks_from (value_of (before ++ (flat_map coordinates xs ++ after))) (length before) dimension (length xs) ≡ map (λ x. map f (coordinates x)) xs
+    blocks_among before [] after = refl
+    blocks_among before (x ∷ xs) after =
+        let others = flat_map coordinates xs ++ after in
+        let all = before ++ (coordinates x ++ others) in
+        ap (λ vs. blocks_from (value_of (before ++ vs)) (length before) dimension (suc (length xs))) (append_assoc (coordinates x) (flat_map coordinates xs) after)
+        ∙ ap (λ b. b ∷ blocks_from (value_of all) (length before + dimension) dimension (length xs)) (block_there before x others)
         ∙ ap (λ bs. map f (coordinates x) ∷ bs)
         (ap (λ n. blocks_from (value_of all) n dimension (length xs)) (next_block before x)
-        ∙ ap (λ vs. blocks_from (value_of vs) (length (before ++ coordinates x)) dimension (length xs)) (sym (append_assoc before (coordinates x) (flat_map coordinates xs)))
-        ∙ blocks_there (before ++ coordinates x) xs)
+        ∙ ap (λ vs. blocks_from (value_of vs) (length (before ++ coordinates x)) dimension (length xs)) (sym (append_assoc before (coordinates x) others))
+        ∙ blocks_among (before ++ coordinates x) xs after)
+
+    blocks_there : (before : List F) (xs : List A) → blocks_from (value_of (before ++ flat_map coordinates xs)) (length before) dimension (length xs) ≡ map (λ x. map f (coordinates x)) xs
+    blocks_there before xs = ap (λ vs. blocks_from (value_of (before ++ vs)) (length before) dimension (length xs)) (sym (append-nil (flat_map coordinates xs))) ∙ blocks_among before xs []
 
     -- the first of them, and those after it
     pub first_there : (before : List F) (x : A) (xs : List A) (place : ℕ) → length before ≡ place → from_place (value_of (before ++ flat_map coordinates (x ∷ xs))) place dimension ≡ map f (coordinates x)

@@ -1,5 +1,5 @@
 -- The draws of lookups: what is observed before them, and the public values that they become.
-use Rattle.std.specs.Prelude.{ℕ, zero, suc, ◌-◌, List, [], ◌∷◌, flat_map, if◌then◌else◌, Option, Some, None}
+use Rattle.std.specs.Prelude.{◌≡◌, ℕ, zero, suc, ◌-◌, true, false, List, [], ◌∷◌, flat_map, if◌then◌else◌, Option, Some, None}
 use Rattle.std.specs.Option.{option_copied}
 use Rattle.stark_support.specs.Ring.{RingOps}
 use Rattle.stark_support.specs.Seed.{number}
@@ -38,6 +38,18 @@ module _ {C F E K : Type 0} (ops : SpongeOps C F E K) where
 
   abbrev pub after_bound_draws : LookupBinding K F → ℕ → F → C → C
   after_bound_draws b bits witness start = after_draws bits witness (bound_by b start)
+
+-- A witness is found, which is zero where no work is required; with it a check draws the same, and leaves the same state.
+pub record IsGroundWith {C F E K : Type 0} (ops : SpongeOps C F E K) (no_work : F) (b : LookupBinding K F) (bits : ℕ) (start : C) (draws : LookupDraws E) (witness : F) (end : C) : Type 0 where
+  pub canonical : bits ≡ 0 → witness ≡ no_work
+  pub works : ops.passes (bound_by ops b start) bits witness ≡ true
+  pub drawn : draws ≡ drawn_from ops.draw ops.after_draw (ops.after_check (bound_by ops b start) bits witness)
+  pub left : end ≡ after_both ops.after_draw (ops.after_check (bound_by ops b start) bits witness)
+
+-- Or no element is one.
+abbrev pub IsGround : {C F E K : Type 0} → SpongeOps C F E K → F → LookupBinding K F → ℕ → C → Option (LookupDraws E × F) → C → Type 0
+IsGround ops no_work b bits start (Some found) end = IsGroundWith ops no_work b bits start found.0 found.1 end
+IsGround {F = F} ops no_work b bits start None end = (witness : F) → ops.passes (bound_by ops b start) bits witness ≡ false
 
 -- x, x beta, x beta^2, .., a number of them
 abbrev pub powers_from : {E : Type 0} → RingOps E → E → E → ℕ → List E

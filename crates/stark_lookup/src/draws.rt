@@ -1,6 +1,6 @@
 //! The draws of lookups.
 ghost use Rattle.std.specs.Prelude.{◌≡◌};
-ghost use Rattle.stark_lookup.specs.LookupDraws.{after_both, after_bound_draws, bound_by, bound_draws, drawn_from};
+ghost use Rattle.stark_lookup.specs.LookupDraws.{IsGround, after_both, after_bound_draws, bound_by, bound_draws, drawn_from};
 
 use stark_lookup_trace::LookupDraws;
 use stark_support::{
@@ -81,4 +81,27 @@ where
         return None;
     }
     Some(draw(challenger))
+}
+
+/// The same beginning as a prover makes it: it searches for the witness of `bits` bits of work,
+/// which is zero where there are none, and answers it after the draws. None where no element is a
+/// witness.
+pub fn grind_lookups<C, F, EF, K>(
+    challenger: &mut C,
+    binding: &LookupBinding<'_, K, F>,
+    bits: usize,
+) -> Option<(LookupDraws<EF>, F)>
+where
+    F: PrimeField64,
+    EF: Copy,
+    C: CanObserve<F> + CanObserve<K> + CanSample<EF> + GrindingChallenger<Witness = F>,
+    ensures { IsGround ⟦<C as Sponge<F, EF, K>>⟧.sponge F.ring.zero binding.now bits challenger.old
+        result challenger.new }
+{
+    bind::<C, F, EF, K>(&mut *challenger, binding);
+    if bits == 0 {
+        return Some((draw(challenger), F::ZERO));
+    }
+    let witness = challenger.grind(bits)?;
+    Some((draw(challenger), witness))
 }

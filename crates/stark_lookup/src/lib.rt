@@ -11,9 +11,11 @@ mod values;
 mod verify;
 
 pub use air::LookupAir;
-pub use draws::{LookupBinding, draw_lookups};
+pub use draws::{LookupBinding, draw_lookups, grind_lookups};
 pub use error::LookupError;
 pub use extension::extended_is_with_lookups;
 pub use proof::LookupProof;
 pub use values::values_with_draws;
-pub use verify::{InPartsConfig, LookupVerdict, Plain, StarkLookups, verify_with_lookups};
+pub use verify::{
+    InPartsConfig, LookupVerdict, Plain, StarkLookups, in_parts, verify_with_lookups,
+};

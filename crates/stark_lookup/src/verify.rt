@@ -125,7 +125,10 @@ where
 }
 
 /// The configuration over the scheme in two parts, the first of `first_width` columns.
-fn in_parts<P, EF, C>(config: StarkConfig<P, EF, C>, first_width: usize) -> InPartsConfig<P, EF, C>
+pub fn in_parts<P, EF, C>(
+    config: StarkConfig<P, EF, C>,
+    first_width: usize,
+) -> InPartsConfig<P, EF, C>
     ensures { result ≡ in_parts_from config first_width config.challenger }
 {
     StarkConfig {

@@ -13,7 +13,7 @@ not_same : (b : Bool) (P : Type 0) → Decides b P → (P → ⊥) → b ≡ fal
 not_same true P decides other = absurd (other (decides.0 refl))
 not_same false P decides other = refl
 
--- Keys with other numbers are told apart.
+-- Keys with other numbers compare as different.
 apart : (xs ys : List ℕ) → (xs ≡ ys → ⊥) → is_at (slice_cmp nat_cmp xs) ys ≡ false
 apart xs ys other = sym (texts_ties xs ys) ∙ not_same (bytes_eq xs ys) (xs ≡ ys) (bytes_decides xs ys) other
 

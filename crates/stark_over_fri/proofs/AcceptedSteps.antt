@@ -63,7 +63,7 @@ not_none : (width : ℕ) → width ≡ 0 → (width == 0) ≡ false → ⊥
 not_none width e clear = grind (arith, e, clear)
 
 -- Without a key no preprocessed row is opened.
-no_key_no_rows : {E K : Type 0} (width : ℕ) (reads_next : Bool) (degree_bits : ℕ) (key : Option (PreprocessedVerifierKey K)) (rows : Option (PreprocessedView E))
+pub no_key_no_rows : {E K : Type 0} (width : ℕ) (reads_next : Bool) (degree_bits : ℕ) (key : Option (PreprocessedVerifierKey K)) (rows : Option (PreprocessedView E))
     → preprocessed_fault key width reads_next degree_bits rows ≡ None → key ≡ None → rows ≡ None
 no_key_no_rows width reads_next degree_bits (Some key) rows clear none = absurd (cc)
 no_key_no_rows width reads_next degree_bits None None clear none = refl
@@ -91,7 +91,7 @@ not_positive : (width : ℕ) → nat_lt 0 width ≡ true → width ≡ 0 → ⊥
 not_positive width e none = grind (arith, e, none)
 
 -- As many preprocessed values are opened as the AIR has preprocessed columns.
-preprocessed_wide : {E K : Type 0} (width : ℕ) (reads_next : Bool) (degree_bits : ℕ) (key : Option (PreprocessedVerifierKey K)) (rows : Option (PreprocessedView E))
+pub preprocessed_wide : {E K : Type 0} (width : ℕ) (reads_next : Bool) (degree_bits : ℕ) (key : Option (PreprocessedVerifierKey K)) (rows : Option (PreprocessedView E))
     → preprocessed_fault key width reads_next degree_bits rows ≡ None → length (preprocessed_local rows) ≡ width
 preprocessed_wide {E = E} {K = K} width reads_next degree_bits None None clear = sym (none_wide width (not_found (nat_lt 0 width) _ (first_none (preprocessed_rows_fault {E = E} width reads_next None) _ clear)))
 preprocessed_wide {E = E} {K = K} width reads_next degree_bits None (Some rows) clear =
@@ -110,23 +110,23 @@ preprocessed_wide {E = E} {K = K} width reads_next degree_bits (Some key) (Some 
     equal_widths (length rows.local) key.width own.0 ∙ equal_widths key.width width both.1
 
 -- The quotient's domain lies in the field, so H does.
-height_within : (log_chunks is_zk degree_bits adicity greatest : ℕ) → quotient_fault log_chunks is_zk degree_bits adicity greatest ≡ None → degree_bits - is_zk ≤ adicity
+pub height_within : (log_chunks is_zk degree_bits adicity greatest : ℕ) → quotient_fault log_chunks is_zk degree_bits adicity greatest ≡ None → degree_bits - is_zk ≤ adicity
 height_within log_chunks is_zk degree_bits adicity greatest clear =
     let last = later_none (fault_if (nat_le 64 (degree_bits + log_chunks)) _) _ (later_none (fault_if (nat_le 64 (log_chunks + is_zk)) _) _ clear) in
     let obtained : nat_lt adicity (degree_bits + log_chunks) ≡ false = not_found (nat_lt adicity (degree_bits + log_chunks)) _ last in
     grind (arith, obtained)
 
-no_random : {K R X : Type 0} (is_zk : Bool) (commitment : Option K) (row : Option R) → is_zk ≡ false → randomization_fault {X = X} is_zk commitment row ≡ None → commitment ≡ None
+pub no_random : {K R X : Type 0} (is_zk : Bool) (commitment : Option K) (row : Option R) → is_zk ≡ false → randomization_fault {X = X} is_zk commitment row ≡ None → commitment ≡ None
 no_random true commitment row plain clear = absurd (cc)
 no_random false None row plain clear = refl
 no_random false (Some commitment) row plain clear = absurd (cc)
 
 -- ---- places
 
-more_than_height : (e d n s : ℕ) → 2 * e + d < n → n ≤ s + e → suc d ≤ s
+pub more_than_height : (e d n s : ℕ) → 2 * e + d < n → n ≤ s + e → suc d ≤ s
 more_than_height e d n s h k = omega arith
 
-points_are_apart : {C F E : Type 0} (fri : FriOps C F E) (are : AreFields fri.fields) (asked : transcript.Instance C F E) → bits_of fri asked ≤ fri.fields.adicity → ArePointsApart (row_count fri asked) (row_point fri asked)
+pub points_are_apart : {C F E : Type 0} (fri : FriOps C F E) (are : AreFields fri.fields) (asked : transcript.Instance C F E) → bits_of fri asked ≤ fri.fields.adicity → ArePointsApart (row_count fri asked) (row_point fri asked)
 points_are_apart fri are asked within =
     points_apart are.base fri.fields.adicity fri.fields.root fri.fields.generator are.two_adic (extension_of fri.fields.generator (bits_of fri asked)) (record { shift_nonzero = are.two_adic.generator_nonzero; within = within })
 

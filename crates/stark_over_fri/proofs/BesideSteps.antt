@@ -19,7 +19,7 @@ use Rattle.stark_over_fri.specs.Tables.{ProverTables, columns_for, matrices_for,
 
 -- ---- lists
 
-all_at : {A : Type 0} (P : A → Type 0) (xs : List A) (filler : A) → AllByRecursion P xs → P filler → (place : ℕ) → P (slice_index_or xs place filler)
+pub all_at : {A : Type 0} (P : A → Type 0) (xs : List A) (filler : A) → AllByRecursion P xs → P filler → (place : ℕ) → P (slice_index_or xs place filler)
 all_at P [] filler all fills place = fills
 all_at P (x ∷ xs) filler all fills zero = all.0
 all_at P (x ∷ xs) filler all fills (suc place) = all_at P xs filler all.1 fills place
@@ -33,7 +33,7 @@ chosen (suc zero) matrix near known = near
 chosen (suc (suc round)) zero near known = known
 chosen (suc (suc round)) (suc matrix) near known = near
 
-abbrev picked : {F : Type 0} → List (List F) → ColumnIndex → List F
+abbrev pub picked : {F : Type 0} → List (List F) → ColumnIndex → List F
 picked known column = slice_index_or known column.number []
 
 -- The columns after the first are those of the list after it.
@@ -41,7 +41,7 @@ later_columns : {F E : Type 0} (first : List F) (known : List (List F)) (number 
 later_columns first known number [] = refl
 later_columns first known number (v ∷ row) = ap (λ cs. slice_index_or known number [] ∷ cs) (later_columns first known (suc number) row)
 
-all_columns : {F E : Type 0} (known : List (List F)) (row : List E) → length row ≡ length known → columns_for (picked known) 2 0 0 row ≡ known
+pub all_columns : {F E : Type 0} (known : List (List F)) (row : List E) → length row ≡ length known → columns_for (picked known) 2 0 0 row ≡ known
 all_columns [] [] same = refl
 all_columns [] (v ∷ row) same = absurd (omega (arith, same))
 all_columns (first ∷ known) [] same = absurd (omega (arith, same))
@@ -84,7 +84,7 @@ module _ {F E : Type 0} (fields : FriFields F E) (laws : FieldLaws fields.ring f
 
   module _ (point : ℕ → F) (n d : ℕ) (apart : ArePointsApart n point) (places : ℕ → Bool) (enough : d ≤ count n places) where
     -- Polynomials that agree at enough of the points are equal everywhere.
-    same_over : (p q : List F) → HasDegreeBelow d p → HasDegreeBelow d q → ((i : ℕ) → i < n → places i ≡ true → value fields.base p (point i) ≡ value fields.base q (point i))
+    pub same_over : (p q : List F) → HasDegreeBelow d p → HasDegreeBelow d q → ((i : ℕ) → i < n → places i ≡ true → value fields.base p (point i) ≡ value fields.base q (point i))
         → (z : E) → value_over fields.ring fields.embed p z ≡ value_over fields.ring fields.embed q z
     same_over p q below_p below_q same z =
         value_embedded fields.ring fields.embed p z

@@ -1,5 +1,5 @@
-mod TableSteps
-mod BesideSteps
+pub mod TableSteps
+pub mod BesideSteps
 pub mod AcceptedSteps
 mod DeclaredPaths
 mod DeclaredRows

@@ -4,4 +4,5 @@ pub mod Elements
 pub mod Roots
 pub mod FriBytes
 pub mod ClearBytes
+pub mod Parts
 pub mod ProofBytes

@@ -19,7 +19,7 @@ pub enum BytesFault {
     #[error("the bytes do not begin as a proof's")]
     Magic,
     /// There are bytes behind the value.
-    #[error("there are bytes behind the proof")]
+    #[error("there are bytes after the end")]
     TrailingBytes,
     /// Memory was refused.
     #[error("out of memory")]

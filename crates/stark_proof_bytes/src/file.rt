@@ -50,7 +50,7 @@ fn whole_proof<
 /// - `TooLong` where a list is said to have more members than there are bytes behind its length.
 /// - `OutOfRange` where an element's number is not below the modulus, or a byte for a value that
 ///   may be missing neither 0 nor 1.
-/// - `TrailingBytes` where bytes stand behind the proof.
+/// - `TrailingBytes` where bytes stand after the proof.
 /// - `OutOfMemory` wherever memory was refused. It is taken for what was read alone, whatever
 ///   lengths the bytes claim.
 pub fn proof_from_bytes<

@@ -9,11 +9,10 @@ mod file;
 mod fri;
 mod lists;
 mod options;
+mod parts;
 mod proof;
 mod reader;
 mod roots;
-#[cfg(test)]
-mod tests;
 
 pub use codec::BytesCodec;
 pub use fault::BytesFault;

@@ -1,12 +1,13 @@
 //! Worked cases of proofs as bytes.
-use crate::{BytesCodec, proof_from_bytes, proof_to_bytes};
 use stark_bench::ClearCommitment;
 use stark_clear::ClearProof;
 use stark_fields::{BabyBearField, Ext4, F12289};
 use stark_fri_proof::FriProof;
 use stark_merkle::Root;
 use stark_proof::Proof;
+use stark_proof_bytes::{ByteReader, BytesCodec, proof_from_bytes, proof_to_bytes};
 use stark_support::{Field, JsonCodec, NeverNull};
+use stark_two_part::InParts;
 use std::alloc::Global;
 use std::test::Fail;
 
@@ -20,7 +21,7 @@ clear |  => the bytes do not begin as a proof's
 clear | 766f736b6c6967616e2070726f6f662031 => the bytes do not begin as a proof's
 clear | 766f736b6c6967616e2070726f6f662032 => the bytes end too early
 clear | 766f736b6c6967616e2070726f6f66203200000000000000010000000000000002000000000000000200000003000000040000000000000002000000050000300000000000000000000100000000000000010000000000000001000000000000000100000001000000000000000000010000000000000001000000010000000000000000000000000100000000000000010000000200000000000000000000000000000000000000000100000000000000010000000000000000000000000000000100000000000000000100000002000000 => the bytes end too early
-clear | 766f736b6c6967616e2070726f6f662032000000000000000100000000000000020000000000000002000000030000000400000000000000020000000500003000000000000000000001000000000000000100000000000000010000000000000001000000010000000000000000000100000000000000010000000100000000000000000000000001000000000000000100000002000000000000000000000000000000000000000001000000000000000100000000000000000000000000000001000000000000000001000000020000000000 => there are bytes behind the proof
+clear | 766f736b6c6967616e2070726f6f662032000000000000000100000000000000020000000000000002000000030000000400000000000000020000000500003000000000000000000001000000000000000100000000000000010000000000000001000000010000000000000000000100000000000000010000000100000000000000000000000001000000000000000100000002000000000000000000000000000000000000000001000000000000000100000000000000000000000000000001000000000000000001000000020000000000 => there are bytes after the end
 clear | 766f736b6c6967616e2070726f6f66203280000000000000000000000000000000000000000000000000000000 => a list is longer than the bytes that are left
 clear | 766f736b6c6967616e2070726f6f66203200000000000000150000000000000000000000000000000000000000 => a list is longer than the bytes that are left
 clear | 766f736b6c6967616e2070726f6f662032000000000000000100000000000000010000000000000001000030010000000000000000000000000000000000000000 => a number is out of its range
@@ -89,5 +90,48 @@ fn cases_are_answered(rt: HostRuntime) -> Result<(), Fail> {
         }
     }
     assert_eq!(rt; count, 13);
+    Ok(())
+}
+
+// The digits of bytes => the JSON of the commitment in parts that they name, of elements of the
+// field of 12289, and how many bytes are left; or what is at fault.
+const IN_PARTS: &str = r#"
+0000000700 => [7], 0 left
+0000000701000030000000 => [7,12288], 2 left
+ => the bytes end too early
+00000007 => the bytes end too early
+0000000701000000 => the bytes end too early
+0000000702 => a number is out of its range
+0000300100 => a number is out of its range
+000000070100003001 => a number is out of its range
+"#;
+
+/// What the first bytes name.
+fn in_parts(alloc: Global, bytes: &[u8]) -> Result<String, Fail> {
+    let mut reader = ByteReader::new(bytes);
+    let parts: InParts<F12289> = match BytesCodec::read_from(alloc, &mut reader) {
+        Ok(parts) => parts,
+        Err(fault) => return Ok(format!(in alloc; "{fault}")?),
+    };
+    let left = reader.len();
+    let mut written = Vec::new(alloc);
+    parts.write_to(&mut written)?;
+    if !bytes.starts_with(&written) {
+        return Err(Fail::new("other bytes"));
+    }
+    let json = parts.to_json(alloc)?.to_string(alloc)?;
+    Ok(format!(in alloc; "{json}, {left} left")?)
+}
+
+#[test]
+fn parts_have_bytes(rt: HostRuntime) -> Result<(), Fail> {
+    let alloc = rt.alloc();
+    for case in IN_PARTS.lines() {
+        if let Some((digits, expected)) = case.split_once(" => ") {
+            let bytes = hex::decode(alloc, digits).ok().ok_or("no digits")?;
+            let actual = in_parts(alloc, &bytes)?;
+            assert_eq!(rt; actual.as_str(), expected, "{digits}");
+        }
+    }
     Ok(())
 }

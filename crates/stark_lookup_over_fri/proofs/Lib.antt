@@ -1,0 +1,3 @@
+pub mod PartSteps
+pub mod KnownSteps
+pub mod LookupTableSteps

@@ -1,0 +1,2 @@
+pub mod PlacesInParts
+pub mod LookupTables

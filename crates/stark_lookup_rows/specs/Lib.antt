@@ -1,0 +1,4 @@
+pub mod Places
+pub mod Cutting
+pub mod Cut
+pub mod RowEntries

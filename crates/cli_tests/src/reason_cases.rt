@@ -23,6 +23,8 @@ check | <two rows> | [[5],[6]] => [[5],[{"a":[1]}]] | the trace: row 1, column 0
 check | <two rows> | [[5],[6]] => [[5],[null]] | the trace: row 1, column 0: null is no whole number below 12289
 check | <two rows> | [[5],[6]] => [[5],["\(39 x)"]] | the trace: row 1, column 0: "\(39 x).. is no whole number below 12289
 check | <two rows> | [[5],[6]] => [[5],["\(38 x)"]] | the trace: row 1, column 0: "\(38 x)" is no whole number below 12289
+check | <two rows> | [[5],[6]] => [[5],["\(14 €)"]] | the trace: row 1, column 0: "\(13 €).. is no whole number below 12289
+check | <two rows> | [[5],[6]] => [[5],["x\(14 €)"]] | the trace: row 1, column 0: "x\(12 €).. is no whole number below 12289
 check | <example counter> | \1e[[5],[6],[7],[8],[9],[10],[11],[12]] => \1e[[5],[2013265921]] | the trace: row 1, column 0: 2013265921 is no whole number below 2013265921
 
 # Traces that are no rows, and rows of different lengths.

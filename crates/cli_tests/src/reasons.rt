@@ -39,6 +39,6 @@ fn reasons_are_told(rt: HostRuntime) -> Result<(), Fail> {
         assert_eq!(rt; reason.as_slice(), expected.as_slice(), "{}", case.written);
         count = count.saturating_add(1);
     }
-    assert_eq!(rt; count, 42);
+    assert_eq!(rt; count, 44);
     Ok(())
 }

@@ -21,7 +21,7 @@ A path that begins with -- is written ./--NAME.
   --unchecked      proves a trace whether or not it satisfies the AIR
   --binary         writes the proof as bytes, which verify takes as well, in place of JSON
   --output FILE    writes the proof to FILE, whole or not at all, in place of standard output
-  --quiet          tells no stages, which are else told on standard error where that is a terminal
+  --quiet          prints no stages; without it, each goes to standard error where that is a terminal
 Status 0: accepted, proved, satisfied, shown, a key made. 1: refused, a constraint broken. 2: not judged.
 Status 4: not judged, since fewer bits are proved.
 ";

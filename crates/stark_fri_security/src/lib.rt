@@ -8,8 +8,6 @@ mod field;
 mod listed;
 mod proved;
 mod regime;
-#[cfg(test)]
-mod tests;
 
 pub use bits::conjectured_security_bits;
 pub use errors::fri_error_bound;

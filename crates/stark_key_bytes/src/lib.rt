@@ -4,8 +4,6 @@
 
 mod file;
 mod key;
-#[cfg(test)]
-mod tests;
 
 pub use file::{key_from_bytes, key_to_bytes};
 pub use key::StatementKey;

@@ -4,8 +4,6 @@
 
 mod judging;
 mod making;
-#[cfg(test)]
-mod tests;
 mod words;
 
 pub use judging::run_with_key;

@@ -25,7 +25,7 @@ use Rattle.stark_service.specs.Statements.{ReadsDeclared, verdict_without}
 use Rattle.stark_service.proofs.StatementSteps.{said_unjudged}
 use Rattle.stark_keys.specs.Keys.{IsOfStatement, IsVerdictByKey, IsVerdictByRead, IsVerdictWithKeyOn}
 
--- The verdict of an exact answer tells of the proof, unless memory was wanting.
+-- The verdict of an exact answer is one on the proof, unless memory was wanting.
 answer_tells : {X : Type 0} (Holds : Type 0) (Fault : VerificationError X → Type 0) (answer : Result (Unit {0}) (VerificationError X)) (v : Verdict) → v ≡ verdict_of_answer answer
     → IfOk answer (λ _. Holds) → IfErr answer (λ e. (e ≡ error.OutOfMemory) ⊎ Fault e) → (v ≡ verdict.Refused refusal.OutOfMemory) ⊎ TellsProof Holds Fault v
 answer_tells Holds Fault (Ok unit) v is holds fault = inr (subst (λ w. TellsProof Holds Fault w) (sym is) holds)
@@ -35,14 +35,14 @@ answer_tells Holds Fault (Err e) v is holds (inr fault) = inr (subst (λ w. Tell
 module _ {S F E C K T P X Y : Type 0} (ops : ServiceOps S F E C K T P X Y) (scheme : S) (first_state : C) (s : StatementView F) where
   -- ---- with a key
 
-  abbrev told : Option (PreprocessedVerifierKey K) → CheckedAir F → List F → ℕ → ℕ → ProofView K E P F → Verdict → Type 0
-  told key air public_values ood_bits alpha_bits p u =
+  abbrev verdict_with : Option (PreprocessedVerifierKey K) → CheckedAir F → List F → ℕ → ℕ → ProofView K E P F → Verdict → Type 0
+  verdict_with key air public_values ood_bits alpha_bits p u =
       TellsProof (Accepted ops.protocol (instance_of air scheme first_state ood_bits alpha_bits public_values key) p)
       (FirstFault ops.protocol (instance_of air scheme first_state ood_bits alpha_bits public_values key) p) u
 
   module _ (key : Option (PreprocessedVerifierKey K)) (read : Option (ProofView K E P F)) where
-    abbrev tells : CheckedAir F → List F → ℕ → ℕ → ProofView K E P F → Verdict → Type 0
-    tells air public_values ood_bits alpha_bits p u = told key air public_values ood_bits alpha_bits p u
+    abbrev says_of : CheckedAir F → List F → ℕ → ℕ → ProofView K E P F → Verdict → Type 0
+    says_of air public_values ood_bits alpha_bits p u = verdict_with key air public_values ood_bits alpha_bits p u
 
     -- What is said of the proof that was read is said of the file.
     pub by_key_of_read : (given : Option (PreprocessedVerifierKey K)) → given ≡ key → (air : CheckedAir F) (p : ProofView K E P F) (public_values : List F) (ood_bits alpha_bits : ℕ) (answer : Result (Unit {0}) (VerificationError X)) (v w : Verdict)
@@ -54,13 +54,13 @@ module _ {S F E C K T P X Y : Type 0} (ops : ServiceOps S F E C K T P X Y) (sche
     unfolding IsVerdictByKey
     by_key_of_read given same air p public_values ood_bits alpha_bits answer v w fixed is declares lists asks asks_first says unless holds fault =
         subst (λ r. (w ≡ verdict.OutOfMemory) ⊎ IsVerdictByKey ops scheme first_state s key r w) (sym is)
-        (subst (λ found. (w ≡ verdict.OutOfMemory) ⊎ UnlessOfOtherHeight found (λ u. tells (declared_of s.air) s.public_values s.ood_bits s.alpha_bits p u) w) (sym fixed)
-        (subst (λ a. (w ≡ verdict.OutOfMemory) ⊎ tells a s.public_values s.ood_bits s.alpha_bits p w) declares
-        (subst (λ ps. (w ≡ verdict.OutOfMemory) ⊎ tells air ps s.ood_bits s.alpha_bits p w) lists
-        (subst (λ n. (w ≡ verdict.OutOfMemory) ⊎ tells air public_values n s.alpha_bits p w) asks
-        (subst (λ n. (w ≡ verdict.OutOfMemory) ⊎ tells air public_values ood_bits n p w) asks_first
-        (said_unjudged (λ u. tells air public_values ood_bits alpha_bits p u) v w unless
-        (subst (λ k. (v ≡ verdict.Refused refusal.OutOfMemory) ⊎ told k air public_values ood_bits alpha_bits p v) same (answer_tells _ _ answer v says holds fault))))))))
+        (subst (λ found. (w ≡ verdict.OutOfMemory) ⊎ UnlessOfOtherHeight found (λ u. says_of (declared_of s.air) s.public_values s.ood_bits s.alpha_bits p u) w) (sym fixed)
+        (subst (λ a. (w ≡ verdict.OutOfMemory) ⊎ says_of a s.public_values s.ood_bits s.alpha_bits p w) declares
+        (subst (λ ps. (w ≡ verdict.OutOfMemory) ⊎ says_of air ps s.ood_bits s.alpha_bits p w) lists
+        (subst (λ n. (w ≡ verdict.OutOfMemory) ⊎ says_of air public_values n s.alpha_bits p w) asks
+        (subst (λ n. (w ≡ verdict.OutOfMemory) ⊎ says_of air public_values ood_bits n p w) asks_first
+        (said_unjudged (λ u. says_of air public_values ood_bits alpha_bits p u) v w unless
+        (subst (λ k. (v ≡ verdict.Refused refusal.OutOfMemory) ⊎ verdict_with k air public_values ood_bits alpha_bits p v) same (answer_tells _ _ answer v says holds fault))))))))
 
     -- A proof of another height than the statement fixes is refused for it.
     pub by_key_of_other_height : (p : ProofView K E P F) (fault : InvalidProofShapeError) (w : Verdict) → read ≡ Some p → height_fault s.log_height p.degree_bits ≡ Some fault
@@ -68,7 +68,7 @@ module _ {S F E C K T P X Y : Type 0} (ops : ServiceOps S F E C K T P X Y) (sche
     unfolding IsVerdictByKey
     by_key_of_other_height p fault w is other refuses =
         inr (subst (λ r. IsVerdictByKey ops scheme first_state s key r w) (sym is)
-        (subst (λ found. UnlessOfOtherHeight found (λ u. tells (declared_of s.air) s.public_values s.ood_bits s.alpha_bits p u) w) (sym other) refuses))
+        (subst (λ found. UnlessOfOtherHeight found (λ u. says_of (declared_of s.air) s.public_values s.ood_bits s.alpha_bits p u) w) (sym other) refuses))
 
     -- A file that spells none is bad input.
     pub by_key_without_proof : (w : Verdict) → (w ≡ verdict.OutOfMemory) ⊎ ((read ≡ None) × (w ≡ verdict.BadInput)) → (w ≡ verdict.OutOfMemory) ⊎ IsVerdictByKey ops scheme first_state s key read w

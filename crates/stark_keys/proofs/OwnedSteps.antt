@@ -27,7 +27,7 @@ module _ {S F E C K T P X Y : Type 0} (ops : ServiceOps S F E C K T P X Y) (sche
         → TellsProof (Accepted ops.protocol (judged_with ops scheme first_state s key) p) (FirstFault ops.protocol (judged_with ops scheme first_state s key) p) v
         → IsVerdict ops.protocol log_rows scheme first_state (declared_of s.air) p s.public_values s.ood_bits s.alpha_bits v
     unfolding IsVerdict
-    verdict_by_own p v tells = inl (key, own, tells)
+    verdict_by_own p v says = inl (key, own, says)
 
     owned_with_rows : (read : Option (ProofView K E P F)) (v : Verdict) → IsVerdictByKey ops scheme first_state s key read v → IsVerdictWithRows ops scheme first_state s log_rows read v
     unfolding IsVerdictByKey IsVerdictWithRows

@@ -206,11 +206,11 @@ pub fn statement_key(alloc: Global, statement: &[u8]) -> Result<Vec<u8>, Report<
 /// memory than there are bytes.
 ///
 /// The key is the owner's word for the preprocessed columns, as the statement is for all else: its
-/// digest tells it from keys of other statements, and nothing tells it from another key that claims
-/// to be of this one. What is accepted is accepted by the verifier with this key, whatever it is
-/// (`verdict`). Where the bytes are those that `statement_key` makes of the statement, the verdict
-/// is one of `verify_statement` (`owned`), and what is accepted is sound as it says (`sound`). Of
-/// any other key nothing is said of the preprocessed columns.
+/// digest sets it apart from keys of other statements, and nothing sets it apart from another key
+/// that claims to be of this one. What is accepted is accepted by the verifier with this key,
+/// whatever it is (`verdict`). Where the bytes are those that `statement_key` makes of the
+/// statement, the verdict is one of `verify_statement` (`owned`), and what is accepted is sound as
+/// it says (`sound`). Of any other key nothing is said of the preprocessed columns.
 pub fn verify_statement_with_key(
     alloc: Global,
     statement: &[u8],

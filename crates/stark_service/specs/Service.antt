@@ -56,7 +56,7 @@ pub record CanBeAccepted {S F E C K T P X Y : Type 0} (ops : ServiceOps S F E C 
   pub one_key : SetsUpOnce ops.protocol.opening.scheme scheme ops.protocol.opening.fields.base ops.protocol.opening.fields.root ops.protocol.opening.is_zk
   pub shallow : NestsWithin max_depth ops.writing
 
--- Both.
+-- A trace of the statement can be proved: it can be checked, and the scheme can prove.
 pub record CanProveFor {S F E C K T P X Y : Type 0} (ops : ServiceOps S F E C K T P X Y) (scheme : S) (ood_bits alpha_bits : ℕ) (s : StatementView F) : Type 0 where
   pub ready : IsReady ops scheme ood_bits alpha_bits s
   pub able : CanProve ops scheme

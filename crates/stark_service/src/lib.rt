@@ -22,12 +22,8 @@ mod security;
 mod service;
 mod showing;
 mod statement;
-#[cfg(test)]
-mod tests;
 mod words;
 mod worth;
-#[cfg(test)]
-mod worth_tests;
 
 pub use bounds::{
     JudgingConfig, ProvingConfig, ServiceConfig, StatementChallenger, StatementExtension,

@@ -11,8 +11,6 @@ mod fields;
 mod limits;
 mod repeats;
 mod statement;
-#[cfg(test)]
-mod tests;
 mod words;
 mod writing;
 

@@ -110,7 +110,7 @@ fn a_proof_as_bytes_is_whole(rt: HostRuntime) -> Result<(), Fail> {
     longer.push(0)?;
     let unread = voskligan_verify(rt.alloc(), IN_THE_CLEAR, &longer, &mut message);
     assert_eq!(rt; unread, 2);
-    assert!(rt; message.starts_with(b"bad input\nthe proof: there are bytes behind the proof\n\0"));
+    assert!(rt; message.starts_with(b"bad input\nthe proof: there are bytes after the end\n\0"));
     // Another version is neither bytes nor JSON.
     let unread = voskligan_verify(rt.alloc(), IN_THE_CLEAR, b"voskligan proof 2", &mut message);
     assert_eq!(rt; unread, 2);

@@ -1,6 +1,8 @@
 //! What proofs are worth, by a model in Python; and a floor.
-use crate::{FloorVerdict, SecurityBits, SecurityError, statement_security, verify_at_least};
 use stark_answers::Verdict;
+use stark_service::{
+    FloorVerdict, SecurityBits, SecurityError, statement_security, verify_at_least,
+};
 use std::test::Fail;
 
 // A column that begins at 5 and goes up by one: by default, by set and in the clear.

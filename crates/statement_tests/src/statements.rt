@@ -1,8 +1,8 @@
 //! Worked cases: configurations in JSON, the limits under a scheme, and the digest of a statement.
-use crate::{AirLimits, Configuration, FieldName, SchemeChoice, Statement};
 use sha2::{Digest, Sha256};
 use stark_fields::F12289;
 use stark_fri_proof::FriParameters;
+use stark_statement::{AirLimits, Configuration, FieldName, SchemeChoice, Statement};
 use stark_support::value_from_bytes;
 use std::alloc::Global;
 use std::test::Fail;

@@ -1,8 +1,8 @@
 //! Conjectured and proved bits, worked apart from the code.
-use crate::{
+use stark_fri_proof::FriParameters;
+use stark_fri_security::{
     conjectured_security_bits, field_bits, fri_regime, listed_security_bits, proved_security_bits,
 };
-use stark_fri_proof::FriParameters;
 use stark_security::StarkSecurityParams;
 use std::test::Fail;
 

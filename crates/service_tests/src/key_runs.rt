@@ -1,8 +1,8 @@
 //! Words about keys, and a key that is made and taken.
-use crate::{KeyRequest, key_request_of, run_key, run_with_key};
 use stark_answers::{ProofForm, RunEnd, TraceTask};
 use stark_cli::statements::{Verb, run};
 use stark_cli::{InputWord, WatchedReader, WatchedWriter};
+use stark_key_runs::{KeyRequest, key_request_of, run_key, run_with_key};
 use stark_service::{NamedFields, Silent};
 use std::alloc::{AllocError, Global};
 use std::test::Fail;

@@ -1,0 +1,5 @@
+pub mod Grammars
+pub mod Many
+pub mod Naming
+pub mod Reading
+pub mod Scanning

@@ -1,0 +1,9 @@
+pub mod Cursor
+pub mod Expressions
+pub mod Faults
+pub mod Grammar
+pub mod Lines
+pub mod Lists
+pub mod Nodes
+pub mod Tokens
+pub mod Words

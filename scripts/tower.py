@@ -55,6 +55,17 @@ def copy(to, names, words=None):
     list_crates(to, names, words)
 
 
+def widen(to):
+    """Sets in a folder's stark_sha256 how many texts are hashed side by side: 8, for a processor with AVX2."""
+    path, line = f"{to}/crates/stark_sha256/src/eight.rt", "pub const WIDTH: usize = 4;\n"
+    with open(path, encoding="utf-8") as file:
+        text = file.read()
+    if text.count(line) != 1:
+        raise SystemExit(f"{path}: not exactly one line {line.strip()!r}")
+    with open(path, "w", encoding="utf-8") as file:
+        file.write(text.replace(line, line.replace("4", "8")))
+
+
 def list_crates(to, names, words=None):
     """Writes a folder's crates.txt, of these crates alone."""
     listed, words = crates(), words or {}
